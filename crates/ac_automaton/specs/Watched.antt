@@ -1,0 +1,112 @@
+-- What a contract sees of a watched device, and what a read, a write and a flush do to it.
+use Rattle.std.specs.Prelude.{◌≡◌, ℕ, ◌+◌, ◌<◌, ◌≤◌, ◌↔◌, Bool, false, true, IsTrue, Option, List, [], ◌∷◌, ◌++◌, length, take}
+use Rattle.std.specs.Io.KnownBytes.{Appends}
+use Rattle.ac_automaton.specs.declared.watched.Watched.{Watched}
+use Rattle.ac_automaton.specs.declared.error.StreamError.{StreamError}
+use Rattle.ac_automaton.specs.declared.error.StreamError.TheVariants.{Config, Read, Write, WriteZero, Memory, Position}
+
+-- how many of its calls failed
+abbrev pub failures_of : {T : Type 0} → Watched T → ℕ
+failures_of watched = watched.failures.value
+
+-- how many of its writes stalled: they were handed bytes and took none; each is a failure too
+abbrev pub stalls_of : {T : Type 0} → Watched T → ℕ
+stalls_of watched = watched.stalls.value
+
+-- what its reads gave, each a piece, in order
+abbrev pub pieces_of : {T : Type 0} → Watched T → List (List ℕ)
+pieces_of watched = watched.pieces.items
+
+-- the bytes that its writes took, in order
+abbrev pub taken_of : {T : Type 0} → Watched T → List ℕ
+taken_of watched = watched.taken.bytes
+
+-- whether its input has ended
+abbrev pub has_ended : {T : Type 0} → Watched T → Bool
+has_ended watched = watched.ended
+
+-- the device itself
+abbrev pub inner_of : {T : Type 0} → Watched T → T
+inner_of watched = watched.inner
+
+-- nothing happened in between
+abbrev pub IsUntouched : {T : Type 0} → Watched T → Watched T → Type 0
+IsUntouched old new = new ≡ old
+
+-- nothing happened yet
+pub record IsFresh {T : Type 0} (watched : Watched T) : Type 0 where
+  pub failures : failures_of watched ≡ 0
+  pub stalls : stalls_of watched ≡ 0
+  pub pieces : pieces_of watched ≡ []
+  pub taken : taken_of watched ≡ []
+  pub ended : has_ended watched ≡ false
+
+-- a read gave the first n bytes of the buffer, and the input has ended where there are none
+pub record ReadGave {T : Type 0} (old new : Watched T) (buffer : List ℕ) (n : ℕ) : Type 0 where
+  pub within : n ≤ length buffer
+  pub pieces : pieces_of new ≡ pieces_of old ++ take n buffer ∷ []
+  pub ended : IsTrue (has_ended new) ↔ (n ≡ 0)
+  pub failures : failures_of new ≡ failures_of old
+
+-- a read failed: its piece is empty, and the input has ended
+pub record ReadFailed {T : Type 0} (old new : Watched T) : Type 0 where
+  pub pieces : pieces_of new ≡ pieces_of old ++ [] ∷ []
+  pub ended : has_ended new ≡ true
+  pub failures : failures_of new ≡ failures_of old + 1
+
+-- no read was made in between
+pub record NoneRead {T : Type 0} (old new : Watched T) : Type 0 where
+  pub pieces : pieces_of new ≡ pieces_of old
+  pub ended : has_ended new ≡ has_ended old
+
+-- no write took a byte in between, and none stalled
+pub record NoneTaken {T : Type 0} (old new : Watched T) : Type 0 where
+  pub taken : taken_of new ≡ taken_of old
+  pub stalls : stalls_of new ≡ stalls_of old
+
+-- no call failed in between
+pub record NoneFailed {T : Type 0} (old new : Watched T) : Type 0 where
+  pub failures : failures_of new ≡ failures_of old
+  pub stalls : stalls_of new ≡ stalls_of old
+
+-- one write stalled in between, and no other call failed
+pub record HasStalled {T : Type 0} (old new : Watched T) : Type 0 where
+  pub failures : failures_of new ≡ failures_of old + 1
+  pub stalls : stalls_of new ≡ stalls_of old + 1
+
+-- a write took the first n of the bytes, and stalled where there were some and it took none
+pub record WriteTook {T : Type 0} (old new : Watched T) (bytes : List ℕ) (n : ℕ) : Type 0 where
+  pub within : n ≤ length bytes
+  pub taken : taken_of new ≡ taken_of old ++ take n bytes
+  pub some_taken : 0 < n → NoneFailed old new
+  pub none_given : length bytes ≡ 0 → NoneFailed old new
+  pub none_taken : n ≡ 0 → 0 < length bytes → HasStalled old new
+
+-- a call failed that took no byte
+pub record TookNone {T : Type 0} (old new : Watched T) : Type 0 where
+  pub nothing : NoneTaken old new
+  pub failures : failures_of new ≡ failures_of old + 1
+
+-- all the bytes were taken, and no call failed
+pub record TookAll {T : Type 0} (old new : Watched T) (bytes : List ℕ) : Type 0 where
+  pub taken : taken_of new ≡ taken_of old ++ bytes
+  pub fine : NoneFailed old new
+
+-- the bytes were taken up to the one call that failed, with some bytes left; contents is what the device tells that it holds
+pub record TookFront {T : Type 0} (contents : T → Option (List ℕ)) (old new : Watched T) (bytes : List ℕ) : Type 0 where
+  pub front : List ℕ
+  pub rest : List ℕ
+  pub split : bytes ≡ front ++ rest
+  pub left : 0 < length rest
+  pub taken : taken_of new ≡ taken_of old ++ front
+  pub failures : failures_of new ≡ failures_of old + 1
+  pub device : Appends (contents (inner_of old)) (contents (inner_of new)) front
+
+-- the error is of the write that failed: that it took no byte exactly where it stalled
+abbrev pub IsOfWrite : {T : Type 0} → Watched T → Watched T → StreamError → Type 0
+IsOfWrite old new (Config error) = ⊥
+IsOfWrite old new (Read error) = ⊥
+IsOfWrite old new (Write error) = stalls_of new ≡ stalls_of old
+IsOfWrite old new WriteZero = stalls_of new ≡ stalls_of old + 1
+IsOfWrite old new Memory = ⊥
+IsOfWrite old new Position = ⊥

@@ -1,0 +1,225 @@
+//! Why a search is refused, and why a search of a stream stops.
+//!
+//! A search is refused before it looks at a byte: the automaton wasn't built for it, or what it asks has no meaning for the
+//! automaton's kind. A [`MatchError`] says which. A search of a stream can stop also because reading, writing or memory
+//! failed; a [`StreamError`] tells these apart, so that a caller knows which side of a copy to blame.
+ghost use Rattle.std.specs.Prelude.{◌≡◌, Some};
+ghost use Rattle.ac_automaton.specs.declared.error.StreamError.TheVariants.{Memory};
+ghost use Rattle.ac_automaton.specs.Errors.{match_error_text, stream_error_text};
+
+use ac_input::search::MatchKind;
+use std::alloc::AllocError;
+use std::error::Error;
+use std::marker::Model;
+use std::{fmt, io};
+
+/// Why a search is refused.
+#[derive(Clone, Copy, Debug, PartialEq, Eq)]
+pub enum MatchErrorKind {
+    /// An anchored search, of an automaton that was built for unanchored ones alone.
+    InvalidInputAnchored,
+    /// An unanchored search, of an automaton that was built for anchored ones alone.
+    InvalidInputUnanchored,
+    /// A search of a stream, of an automaton of a leftmost kind. Such a match can be settled only by bytes arbitrarily far behind it.
+    UnsupportedStream {
+        /// The automaton's kind.
+        got: MatchKind,
+    },
+    /// A search for overlapping matches, of an automaton of a leftmost kind, which drops the overlapped ones when it is built.
+    UnsupportedOverlapping {
+        /// The automaton's kind.
+        got: MatchKind,
+    },
+    /// A search of a stream, of an automaton with an empty pattern.
+    UnsupportedEmpty,
+}
+
+/// A refused search.
+///
+/// It is a plain value, and making one allocates nothing. A contract sees its kind in its place.
+#[derive(Clone, Debug, PartialEq, Eq, Drop)]
+pub struct MatchError {
+    kind: MatchErrorKind,
+}
+
+impl Model for MatchError {
+    ghost use Rattle.ac_automaton.specs.declared.error.MatchErrorKind.{MatchErrorKind};
+
+    ghost Value = { MatchErrorKind };
+
+    ghost view = { λ error. error.kind };
+
+    ghost inverse = { λ kind. record { kind = kind } };
+}
+
+impl MatchError {
+    /// A search that is refused for this reason.
+    pub fn new(kind: MatchErrorKind) -> MatchError
+        ensures { result ≡ kind }
+    {
+        MatchError { kind }
+    }
+
+    /// Why it is refused.
+    pub fn kind(&self) -> &MatchErrorKind
+        ensures { result.now ≡ self.now }
+    {
+        &self.kind
+    }
+
+    /// An anchored search that isn't supported.
+    pub fn invalid_input_anchored() -> MatchError
+        ensures { result ≡ MatchErrorKind.InvalidInputAnchored }
+    {
+        MatchError::new(MatchErrorKind::InvalidInputAnchored)
+    }
+
+    /// An unanchored search that isn't supported.
+    pub fn invalid_input_unanchored() -> MatchError
+        ensures { result ≡ MatchErrorKind.InvalidInputUnanchored }
+    {
+        MatchError::new(MatchErrorKind::InvalidInputUnanchored)
+    }
+
+    /// A search of a stream by an automaton of this kind.
+    pub fn unsupported_stream(got: MatchKind) -> MatchError
+        ensures { result ≡ MatchErrorKind.UnsupportedStream got }
+    {
+        MatchError::new(MatchErrorKind::UnsupportedStream { got })
+    }
+
+    /// A search for overlapping matches by an automaton of this kind.
+    pub fn unsupported_overlapping(got: MatchKind) -> MatchError
+        ensures { result ≡ MatchErrorKind.UnsupportedOverlapping got }
+    {
+        MatchError::new(MatchErrorKind::UnsupportedOverlapping { got })
+    }
+
+    /// A search of a stream by an automaton with an empty pattern.
+    pub fn unsupported_empty() -> MatchError
+        ensures { result ≡ MatchErrorKind.UnsupportedEmpty }
+    {
+        MatchError::new(MatchErrorKind::UnsupportedEmpty)
+    }
+}
+
+impl fmt::Display for MatchError {
+    ghost output = { λ error. Some (match_error_text error) };
+
+    fn fmt<W: fmt::Write>(&self, f: &mut fmt::Formatter<W>) -> fmt::Result {
+        match self.kind {
+            MatchErrorKind::InvalidInputAnchored => {
+                write!(f, "anchored search is not supported")
+            }
+            MatchErrorKind::InvalidInputUnanchored => {
+                write!(f, "unanchored search is not supported")
+            }
+            MatchErrorKind::UnsupportedStream { .. } => {
+                write!(f, "stream search needs the standard kind")
+            }
+            MatchErrorKind::UnsupportedOverlapping { .. } => {
+                write!(f, "overlapping search needs the standard kind")
+            }
+            MatchErrorKind::UnsupportedEmpty => {
+                write!(f, "stream search takes no empty pattern")
+            }
+        }
+    }
+}
+
+impl Error for MatchError {}
+
+/// Why a search of a stream stopped.
+///
+/// It is never taken back: what was read up to then is lost to the search, and what was written stays written.
+#[derive(Debug, Drop)]
+pub enum StreamError {
+    /// The search was refused, before anything was read or written.
+    Config(MatchError),
+    /// A read failed, with this error.
+    Read(io::Error),
+    /// A write failed, with this error.
+    Write(io::Error),
+    /// A write was handed bytes and took none, as a full device may.
+    WriteZero,
+    /// There was no memory for the buffer.
+    Memory,
+    /// The input is longer than places can be counted.
+    Position,
+}
+
+impl From<AllocError> for StreamError {
+    ghost from_gives = { λ _ error. error ≡ Memory };
+
+    fn from(_error: AllocError) -> StreamError {
+        StreamError::Memory
+    }
+}
+
+impl fmt::Display for StreamError {
+    ghost output = { stream_error_text };
+
+    fn fmt<W: fmt::Write>(&self, f: &mut fmt::Formatter<W>) -> fmt::Result {
+        match self {
+            StreamError::Config(error) => write!(f, "{error}"),
+            StreamError::Read(error) => write!(f, "read failed: {error}"),
+            StreamError::Write(error) => write!(f, "write failed: {error}"),
+            StreamError::WriteZero => write!(f, "write took no byte"),
+            StreamError::Memory => write!(f, "out of memory"),
+            StreamError::Position => write!(f, "input too long"),
+        }
+    }
+}
+
+impl Error for StreamError {}
+
+#[cfg(test)]
+mod tests {
+    use super::{MatchError, MatchErrorKind, StreamError};
+    use ac_input::search::MatchKind;
+    use std::test::Fail;
+
+    #[test]
+    fn says_why(rt: HostRuntime) -> Result<(), Fail> {
+        for (error, text) in [
+            (
+                MatchError::invalid_input_anchored(),
+                "anchored search is not supported",
+            ),
+            (
+                MatchError::invalid_input_unanchored(),
+                "unanchored search is not supported",
+            ),
+            (
+                MatchError::unsupported_stream(MatchKind::LeftmostFirst),
+                "stream search needs the standard kind",
+            ),
+            (
+                MatchError::unsupported_overlapping(MatchKind::LeftmostLongest),
+                "overlapping search needs the standard kind",
+            ),
+            (
+                MatchError::unsupported_empty(),
+                "stream search takes no empty pattern",
+            ),
+        ] {
+            let said = error.to_string(rt.alloc())?;
+            assert_eq!(rt; said.as_str(), text);
+        }
+        Ok(())
+    }
+
+    #[test]
+    fn tells_the_kind(rt: HostRuntime) -> Result<(), Fail> {
+        let kind = MatchErrorKind::UnsupportedStream {
+            got: MatchKind::LeftmostFirst,
+        };
+        let error = MatchError::new(kind);
+        assert_eq!(rt; *error.kind(), kind);
+        assert!(rt; error != MatchError::unsupported_empty());
+        let outcome = StreamError::Config(error);
+        let said = outcome.to_string(rt.alloc())?;
+        assert_eq!(rt; said.as_str(), "stream search needs the standard kind");
+        Ok(())
+    }
+}

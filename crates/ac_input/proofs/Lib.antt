@@ -1,0 +1,10 @@
+pub mod PairingLemmas
+pub mod ContainsLemmas
+pub mod OrderLemmas
+pub mod RisingLemmas
+pub mod BestLemmas
+pub mod WalkLemmas
+pub mod ListingLemmas
+pub mod TextLemmas
+pub mod RuleLemmas
+pub mod Rows

@@ -1,0 +1,178 @@
+-- Laws of the rule file's grammar.
+use Rattle.std.proofs.Common.{◌≡◌, ◌≢◌, ℕ, ◌+◌, ◌*◌, ◌≤◌, List, [], ◌∷◌, ◌++◌, length, refl, sym, ap, ◌∙◌, subst, append_assoc, length-append, arith}
+use Rattle.ac_input.specs.Rules.{IsDigit, Spells, Rule, BeginsWithRule, IsRuleFile, FirstBadLine, BeginsWithNoRule}
+
+-- ---- digits and what they spell
+
+-- a digit has one value
+pub IsDigit-one : (c v w : ℕ) → IsDigit c v → IsDigit c w → v ≡ w
+IsDigit-one c v w p q = grind arith
+
+-- a digit is neither TAB nor LF
+pub IsDigit-apart : (c v : ℕ) → IsDigit c v → (c ≢ 9) × (c ≢ 10)
+IsDigit-apart c v p = grind arith
+
+-- a byte is not in a list
+abbrev pub Without : ℕ → List ℕ → Type 0
+Without b [] = Unit {0}
+Without b (x ∷ xs) = (x ≢ b) × Without b xs
+
+-- a text spells one list of bytes at most
+pub Spells-one : (text one other : List ℕ) → Spells text one → Spells text other → one ≡ other
+Spells-one [] [] [] p q = refl
+Spells-one [] [] (y ∷ ys) p q = absurd q
+Spells-one [] (x ∷ xs) other p q = absurd p
+Spells-one (h ∷ []) [] other p q = absurd p
+Spells-one (h ∷ []) (x ∷ xs) other p q = absurd p
+Spells-one (h ∷ l ∷ text) [] other p q = absurd p
+Spells-one (h ∷ l ∷ text) (x ∷ xs) [] p q = absurd q
+Spells-one (h ∷ l ∷ text) (x ∷ xs) (y ∷ ys) p q =
+    let high = IsDigit-one h p.0 q.0 p.2 q.2 in
+    let low = IsDigit-one l p.1 q.1 p.3 q.3 in
+    let rest = Spells-one text xs ys p.5 q.5 in
+    let byte : x ≡ y = omega (arith, p.4, q.4, high, low) in
+    cc
+
+-- what spells bytes has neither TAB nor LF
+pub Spells-apart : (text bytes : List ℕ) → Spells text bytes → Without 9 text × Without 10 text
+Spells-apart [] bytes p = (tt, tt)
+Spells-apart (h ∷ []) [] p = absurd p
+Spells-apart (h ∷ []) (x ∷ xs) p = absurd p
+Spells-apart (h ∷ l ∷ text) [] p = absurd p
+Spells-apart (h ∷ l ∷ text) (x ∷ xs) p =
+    let high = IsDigit-apart h p.0 p.2 in
+    let low = IsDigit-apart l p.1 p.3 in
+    let rest = Spells-apart text xs p.5 in
+    ((high.0, (low.0, rest.0)), (high.1, (low.1, rest.1)))
+
+-- ---- one rule
+
+-- the first place of a byte splits a text in one way
+pub split_one : (b : ℕ) (p q r s : List ℕ) → Without b p → Without b r → p ++ b ∷ q ≡ r ++ b ∷ s → (p ≡ r) × (q ≡ s)
+split_one b [] q [] s hp hr e = (refl, cc)
+split_one b [] q (y ∷ r) s hp hr e = absurd (hr.0 (cc))
+split_one b (x ∷ p) q [] s hp hr e = absurd (hp.0 (cc))
+split_one b (x ∷ p) q (y ∷ r) s hp hr e =
+    let ih = split_one b p q r s hp.1 hr.1 (cc) in (cc, ih.1)
+
+-- a text begins with one rule and one rest at most
+pub BeginsWithRule-one : (text : List ℕ) (one other : Rule) (m n : List ℕ) → BeginsWithRule text one m → BeginsWithRule text other n → (one ≡ other) × (m ≡ n)
+BeginsWithRule-one text one other m n p q =
+    let tab = split_one 9 p.0 (p.1 ++ 10 ∷ m) q.0 (q.1 ++ 10 ∷ n) (Spells-apart p.0 one.0 p.2).0 (Spells-apart q.0 other.0 q.2).0 (sym p.4 ∙ q.4) in
+    let feed = split_one 10 p.1 m q.1 n (Spells-apart p.1 one.1 p.3).1 (Spells-apart q.1 other.1 q.3).1 tab.1 in
+    let pattern = Spells-one q.0 one.0 other.0 (subst (λ (t : List ℕ). Spells t one.0) tab.0 p.2) q.2 in
+    let replacement = Spells-one q.1 one.1 other.1 (subst (λ (t : List ℕ). Spells t one.1) feed.0 p.3) q.3 in
+    let same : one ≡ other = ap (λ (x : List ℕ). let r : Rule = (x, one.1) in r) pattern ∙ ap (λ (x : List ℕ). let r : Rule = (other.0, x) in r) replacement in
+    (same, feed.1)
+
+-- nothing is the list that ends in a byte and more
+append_cons-filled : (p : List ℕ) (b : ℕ) (q : List ℕ) → p ++ b ∷ q ≢ []
+append_cons-filled [] b q e = cc
+append_cons-filled (x ∷ p) b q e = cc
+
+-- what begins with a rule is not empty
+pub BeginsWithRule-filled : (text : List ℕ) (rule : Rule) (more : List ℕ) → BeginsWithRule text rule more → text ≢ []
+BeginsWithRule-filled text rule more p e = append_cons-filled p.0 9 (p.1 ++ 10 ∷ more) (sym p.4 ∙ e)
+
+-- a rule takes at least two bytes
+pub BeginsWithRule-length : (text : List ℕ) (rule : Rule) (more : List ℕ) → BeginsWithRule text rule more → length more + 2 ≤ length text
+BeginsWithRule-length text rule more p = omega (arith, simp length-append at (ap length p.4))
+
+-- more after a text that begins with a rule
+pub BeginsWithRule-append : (text : List ℕ) (rule : Rule) (more after : List ℕ) → BeginsWithRule text rule more → BeginsWithRule (text ++ after) rule (more ++ after)
+BeginsWithRule-append text rule more after p = (p.0, p.1, p.2, p.3, ap (λ (t : List ℕ). t ++ after) p.4 ∙ simp append_assoc)
+
+-- ---- rules one after another
+
+-- the text begins with these rules, in their order, and goes on with this
+abbrev pub BeginsWithRules : List ℕ → List Rule → List ℕ → Type 0
+BeginsWithRules text [] more = text ≡ more
+BeginsWithRules text (rule ∷ rules) more = (rest : List ℕ) × BeginsWithRule text rule rest × BeginsWithRules rest rules more
+
+-- a rule more
+pub BeginsWithRules-push : (text : List ℕ) (rules : List Rule) (more : List ℕ) (rule : Rule) (rest : List ℕ) → BeginsWithRules text rules more → BeginsWithRule more rule rest → BeginsWithRules text (rules ++ rule ∷ []) rest
+BeginsWithRules-push text [] more rule rest p q = (rest, rw p q, refl)
+BeginsWithRules-push text (r ∷ rules) more rule rest p q = (p.0, p.1, BeginsWithRules-push p.0 rules more rule rest p.2 q)
+
+-- rules take at least two bytes each
+pub BeginsWithRules-length : (text : List ℕ) (rules : List Rule) (more : List ℕ) → BeginsWithRules text rules more → length more + 2 * length rules ≤ length text
+BeginsWithRules-length text [] more p = omega (arith, ap length p)
+BeginsWithRules-length text (r ∷ rules) more p =
+    omega (arith, BeginsWithRule-length text r p.0 p.1, BeginsWithRules-length p.0 rules more p.2)
+
+-- a text that its rules use up is a rule file
+pub IsRuleFile-from_rules : (text : List ℕ) (rules : List Rule) → BeginsWithRules text rules [] → IsRuleFile text rules
+IsRuleFile-from_rules text [] p = p
+IsRuleFile-from_rules text (r ∷ rules) p = (p.0, p.1, IsRuleFile-from_rules p.0 rules p.2)
+
+-- a rule file, and more after it
+pub BeginsWithRules-append : (front : List ℕ) (rules : List Rule) (more : List ℕ) → IsRuleFile front rules → BeginsWithRules (front ++ more) rules more
+BeginsWithRules-append front [] more p = rw p refl
+BeginsWithRules-append front (r ∷ rules) more p =
+    (p.0 ++ more, BeginsWithRule-append front r p.0 more p.1, BeginsWithRules-append p.0 rules more p.2)
+
+-- what follows a line, in two parts
+line_append : (pattern replacement rest front more : List ℕ) → rest ≡ front ++ more → pattern ++ 9 ∷ (replacement ++ 10 ∷ rest) ≡ (pattern ++ 9 ∷ (replacement ++ 10 ∷ front)) ++ more
+line_append pattern replacement rest front more e = rw e (simp append_assoc)
+
+-- the part of a text that its rules take
+pub front_of_rules : (text : List ℕ) (rules : List Rule) (more : List ℕ) → BeginsWithRules text rules more → (front : List ℕ) × (text ≡ front ++ more) × IsRuleFile front rules
+front_of_rules text [] more p = ([], p, refl)
+front_of_rules text (r ∷ rules) more p =
+    let rest = front_of_rules p.0 rules more p.2 in
+    let line = p.1 in
+    let front : List ℕ = line.0 ++ 9 ∷ (line.1 ++ 10 ∷ rest.0) in
+    let whole : text ≡ front ++ more = line.4 ∙ line_append line.0 line.1 p.0 rest.0 more rest.1 in
+    (front, whole, (rest.0, (line.0, line.1, line.2, line.3, refl), rest.2))
+
+-- ---- whole files
+
+-- rules one after another, twice over: both go on, or one ends where the other begins with no rule
+rules_one_until : (text : List ℕ) (one other : List Rule) (m n : List ℕ) → BeginsWithRules text one m → BeginsWithRules text other n → BeginsWithNoRule m → BeginsWithNoRule n → (one ≡ other) × (m ≡ n)
+rules_one_until text [] [] m n p q x y = (refl, sym p ∙ q)
+rules_one_until text [] (s ∷ other) m n p q x y = absurd (x s q.0 (rw p at q.1))
+rules_one_until text (r ∷ one) [] m n p q x y = absurd (y r p.0 (rw q at p.1))
+rules_one_until text (r ∷ one) (s ∷ other) m n p q x y =
+    let same = BeginsWithRule-one text r s p.0 q.0 p.1 q.1 in
+    let ih = rules_one_until p.0 one other m n p.2 (rw (← same.1) at q.2) x y in
+    (cc, ih.1)
+
+-- nothing begins with no rule
+pub BeginsWithNoRule-nil : BeginsWithNoRule []
+BeginsWithNoRule-nil rule rest p = BeginsWithRule-filled [] rule rest p refl
+
+-- a rule file begins with its rules, and goes on with nothing
+pub BeginsWithRules-from_file : (text : List ℕ) (rules : List Rule) → IsRuleFile text rules → BeginsWithRules text rules []
+BeginsWithRules-from_file text [] p = p
+BeginsWithRules-from_file text (r ∷ rules) p = (p.0, p.1, BeginsWithRules-from_file p.0 rules p.2)
+
+-- a text is a rule file in one way at most
+pub IsRuleFile-one : (text : List ℕ) (one other : List Rule) → IsRuleFile text one → IsRuleFile text other → one ≡ other
+IsRuleFile-one text one other p q =
+    (rules_one_until text one other [] [] (BeginsWithRules-from_file text one p) (BeginsWithRules-from_file text other q) BeginsWithNoRule-nil BeginsWithNoRule-nil).0
+
+-- a text has one first bad line at most
+pub FirstBadLine-one : (text : List ℕ) (one other : ℕ) → FirstBadLine text one → FirstBadLine text other → one ≡ other
+FirstBadLine-one text one other p q =
+    let first = BeginsWithRules-append p.0 p.2 p.1 p.4 in
+    let second = BeginsWithRules-append q.0 q.2 q.1 q.4 in
+    let same = rules_one_until text p.2 q.2 p.1 q.1 (rw p.3 first) (rw q.3 second) p.7 q.7 in
+    p.5 ∙ ap (λ (rs : List Rule). length rs + 1) same.0 ∙ sym q.5
+
+-- a rule file has no bad line
+pub FirstBadLine-none : (text : List ℕ) (n : ℕ) (rules : List Rule) → IsRuleFile text rules → ¬ FirstBadLine text n
+FirstBadLine-none text n rules p q =
+    let second = BeginsWithRules-append q.0 q.2 q.1 q.4 in
+    let same = rules_one_until text rules q.2 [] q.1 (BeginsWithRules-from_file text rules p) (rw q.3 second) BeginsWithNoRule-nil q.7 in
+    q.6 (sym same.1)
+
+-- where a text begins with rules, and what follows is something that begins with none, the line after them is the first bad one
+pub FirstBadLine-from_rules : (text : List ℕ) (rules : List Rule) (more : List ℕ) → BeginsWithRules text rules more → more ≢ [] → BeginsWithNoRule more → FirstBadLine text (length rules + 1)
+FirstBadLine-from_rules text rules more p filled none =
+    let front = front_of_rules text rules more p in (front.0, more, rules, front.1, front.2, refl, filled, none)
+
+-- in a rule file, the rules that come before something that begins with none are all of them
+pub IsRuleFile-from_none : (text : List ℕ) (all rules : List Rule) (more : List ℕ) → IsRuleFile text all → BeginsWithRules text rules more → BeginsWithNoRule more → IsRuleFile text rules
+IsRuleFile-from_none text all rules more p q none =
+    let same = rules_one_until text all rules [] more (BeginsWithRules-from_file text all p) q BeginsWithNoRule-nil none in
+    subst (λ (rs : List Rule). IsRuleFile text rs) same.0 p

@@ -1,0 +1,5 @@
+use Rattle.ac_input.proofs.OrderLemmas.{preference-total}
+use Rattle.ac_input.proofs.laws.preference_is_order.Goals as goal
+
+pub returns : goal.returns
+returns c = preference-total

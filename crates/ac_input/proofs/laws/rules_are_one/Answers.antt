@@ -1,0 +1,5 @@
+use Rattle.ac_input.proofs.RuleLemmas.{IsRuleFile-one}
+use Rattle.ac_input.proofs.laws.rules_are_one.Goals as goal
+
+pub returns : goal.returns
+returns c = IsRuleFile-one

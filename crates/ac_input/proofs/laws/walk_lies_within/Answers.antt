@@ -1,0 +1,5 @@
+use Rattle.ac_input.proofs.WalkLemmas.{walk-within}
+use Rattle.ac_input.proofs.laws.walk_lies_within.Goals as goal
+
+pub returns : goal.returns
+returns c = walk-within

@@ -1,0 +1,9 @@
+-- Where a text may be cut, so that what comes before is final.
+use Rattle.std.specs.Prelude.{ℕ, ◌<◌, ◌≤◌, List, length, Contains, None, false}
+use Rattle.ac_input.specs.Occurrence.{Occurrence}
+use Rattle.ac_input.specs.Walk.{IsWalk}
+use Rattle.ac_input.specs.Machine.{Machine, whole}
+
+-- no pick of the walk of the text lies across the place
+abbrev pub IsCut : Machine → List ℕ → ℕ → Type 0
+IsCut m x k = (k ≤ length x) × ((os : List Occurrence) → IsWalk m.kind (whole m x false) 0 None os → (o : Occurrence) → Contains os o → o.start < k → o.end ≤ k)

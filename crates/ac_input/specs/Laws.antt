@@ -1,0 +1,101 @@
+-- The laws: what holds of the definitions, whatever the patterns and the text. Most ask that the span lies within the haystack.
+use Rattle.std.specs.Prelude.{◌≡◌, ◌≢◌, ◌↔◌, ℕ, ◌<◌, ◌≤◌, false, List, [], ◌∷◌, ◌++◌, length, Contains, Option, None}
+use Rattle.std.specs.Cmp.{IsTotalOrder}
+use Rattle.std.specs.declared.cmp.Ordering.TheVariants.{Greater}
+use Rattle.ac_input.specs.declared.search.MatchKind.{MatchKind}
+use Rattle.ac_input.specs.Same.{IsUnpaired}
+use Rattle.ac_input.specs.Occurrence.{Search, Occurrence, Occurs, starting_at}
+use Rattle.ac_input.specs.Best.{preference, IsBest}
+use Rattle.ac_input.specs.Walk.{IsPick, IsWalk}
+use Rattle.ac_input.specs.Listing.{IsListing}
+use Rattle.ac_input.specs.Text.{replaced_from, listed}
+use Rattle.ac_input.specs.Rules.{Rule, IsRuleFile, FirstBadLine}
+use Rattle.ac_input.specs.Computed.{occurrences, best_of, pick_of, walk_after, listing_of}
+
+-- Each begins where the one before it ended or later, and later than that one began; none is empty and just where the one
+-- before it ended.
+abbrev pub IsApart : List Occurrence → Type 0
+IsApart [] = Unit {0}
+IsApart (p ∷ []) = Unit {0}
+IsApart (p ∷ q ∷ os) = (p.end ≤ q.start) × (p.start < q.start) × (¬ ((q.start ≡ p.end) × (q.end ≡ p.end))) × IsApart (q ∷ os)
+
+-- The span ends within the haystack. Past its end one text could have many ends, and an occurrence many likes.
+abbrev pub IsInside : Search → Type 0
+IsInside s = s.end ≤ length s.haystack
+
+-- each kind orders what it chooses from
+abbrev pub PreferenceIsOrder : Type 0
+PreferenceIsOrder = (kind : MatchKind) → IsTotalOrder (preference kind)
+
+-- of two occurrences of one search each kind prefers one
+abbrev pub PreferenceTellsApart : Type 0
+PreferenceTellsApart = (kind : MatchKind) (s : Search) (a b : Occurrence) → IsInside s → Occurs s a → Occurs s b → preference kind a b ≢ Greater → preference kind b a ≢ Greater → a ≡ b
+
+-- exactly what occurs is listed
+abbrev pub OccurrencesAreListed : Type 0
+OccurrencesAreListed = (s : Search) (o : Occurrence) → IsInside s → Contains (occurrences s) o ↔ Occurs s o
+
+-- the best is one, and the computed one
+abbrev pub BestIsOne : Type 0
+BestIsOne = (kind : MatchKind) (s : Search) (r : Option Occurrence) → IsInside s → IsBest kind s r ↔ (r ≡ best_of kind s)
+
+-- the next pick is one, and the computed one
+abbrev pub PickIsOne : Type 0
+PickIsOne = (kind : MatchKind) (s : Search) (at : ℕ) (last : Option ℕ) (r : Option Occurrence) → IsInside s → IsPick kind s at last r ↔ (r ≡ pick_of kind s at last)
+
+-- the walk from a place is one, and the computed one
+abbrev pub WalkIsOne : Type 0
+WalkIsOne = (kind : MatchKind) (s : Search) (at : ℕ) (last : Option ℕ) (os : List Occurrence) → IsInside s → IsWalk kind s at last os ↔ (os ≡ walk_after kind s at last)
+
+-- the picks of a walk lie apart
+abbrev pub WalkIsApart : Type 0
+WalkIsApart = (kind : MatchKind) (s : Search) (at : ℕ) (last : Option ℕ) (os : List Occurrence) → IsInside s → IsWalk kind s at last os → IsApart os
+
+-- each pick lies within the span, from the place of the walk on
+abbrev pub WalkLiesWithin : Type 0
+WalkLiesWithin = (kind : MatchKind) (s : Search) (at : ℕ) (last : Option ℕ) (os : List Occurrence) (o : Occurrence) → IsWalk kind s at last os → Contains os o → (at ≤ o.start) × (o.start ≤ o.end) × (o.end ≤ s.end)
+
+-- each pick of a search that isn't anchored occurs in it, from the place of the walk on
+abbrev pub WalkOccurs : Type 0
+WalkOccurs = (kind : MatchKind) (s : Search) (at : ℕ) (last : Option ℕ) (os : List Occurrence) (o : Occurrence) → s.anchored ≡ false → IsWalk kind s at last os → Contains os o → Occurs (starting_at s at) o
+
+-- an occurrence stands exactly once in a list
+abbrev pub StandsOnce : List Occurrence → Occurrence → Type 0
+StandsOnce os o = (front rest : List Occurrence) × (os ≡ front ++ o ∷ rest) × (¬ Contains front o) × (¬ Contains rest o)
+
+-- a search has at most one overlapping listing
+abbrev pub ListingIsOne : Type 0
+ListingIsOne = (s : Search) (xs ys : List Occurrence) → IsListing s xs → IsListing s ys → xs ≡ ys
+
+-- the overlapping listing of a search within its haystack is the computed one
+abbrev pub ListingIsComputed : Type 0
+ListingIsComputed = (s : Search) (os : List Occurrence) → IsInside s → IsListing s os ↔ (os ≡ listing_of s)
+
+-- each occurrence stands once in the overlapping listing
+abbrev pub ListingHasEachOnce : Type 0
+ListingHasEachOnce = (s : Search) (all : List Occurrence) (o : Occurrence) → IsListing s all → Occurs s o → StandsOnce all o
+
+-- whatever the kind, each pick of the walk is one of the overlapping listing
+abbrev pub PicksAreListed : Type 0
+PicksAreListed = (kind : MatchKind) (s : Search) (picks all : List Occurrence) (o : Occurrence) → s.anchored ≡ false → IsWalk kind s s.start None picks → IsListing s all → Contains picks o → Contains all o
+
+-- where no byte is paired, a text whose patterns are replaced by themselves stays as it is
+abbrev pub ReplacingByItselfChangesNothing : Type 0
+ReplacingByItselfChangesNothing = (kind : MatchKind) (s : Search) (picks : List Occurrence) → IsUnpaired s.pairing → IsWalk kind s 0 None picks → replaced_from 0 s.haystack s.patterns picks ≡ s.haystack
+
+-- with no patterns the text stays as it is, and nothing is listed
+abbrev pub NoRulesChangeNothing : Type 0
+NoRulesChangeNothing =
+    (kind : MatchKind) (s : Search) (picks all : List Occurrence) (replacements : List (List ℕ)) → s.patterns ≡ []
+    → IsWalk kind s s.start None picks → IsListing s all
+    → (replaced_from 0 s.haystack replacements picks ≡ s.haystack) × (listed picks ≡ []) × (listed all ≡ [])
+
+-- a text is a rule file in one way at most
+abbrev pub RulesAreOne : Type 0
+RulesAreOne = (text : List ℕ) (one other : List Rule) → IsRuleFile text one → IsRuleFile text other → one ≡ other
+
+-- A text has one first bad line at most, and none where it is a rule file.
+abbrev pub BadLineIsOne : Type 0
+BadLineIsOne =
+    ((text : List ℕ) (one other : ℕ) → FirstBadLine text one → FirstBadLine text other → one ≡ other)
+    × ((text : List ℕ) (n : ℕ) (rules : List Rule) → IsRuleFile text rules → ¬ FirstBadLine text n)

@@ -1,0 +1,15 @@
+pub mod Same
+pub mod Pairing
+pub mod Occurrence
+pub mod Best
+pub mod Walk
+pub mod Listing
+pub mod Text
+pub mod Machine
+pub mod Tells
+pub mod Candidate
+pub mod Cut
+pub mod Chain
+pub mod Rules
+pub mod Computed
+pub mod Laws

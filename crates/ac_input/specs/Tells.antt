@@ -1,0 +1,35 @@
+-- What the list of a state says of the text after which it was reached.
+use Rattle.std.specs.Prelude.{◌≡◌, ◌↔◌, ℕ, ◌-◌, List, [], ◌∷◌, length, Option, Some, None, map, get_or, false, true, ◌==◌}
+use Rattle.std.specs.List.{filter}
+use Rattle.ac_input.specs.declared.search.MatchKind.{MatchKind}
+use Rattle.ac_input.specs.declared.search.MatchKind.TheVariants.{Standard}
+use Rattle.ac_input.specs.Occurrence.{Occurrence, Occurs}
+use Rattle.ac_input.specs.Best.{IsBest}
+use Rattle.ac_input.specs.Listing.{ListsAll}
+use Rattle.ac_input.specs.Machine.{Machine, IsEntered, whole}
+
+-- a pattern at the end of a text
+abbrev pub ending : Machine → List ℕ → ℕ → Occurrence
+ending m text n = record { pattern = n; start = length text - length (get_or m.patterns n []); end = length text }
+
+-- all but the last byte
+abbrev pub before_last : List ℕ → List ℕ
+before_last [] = []
+before_last (b ∷ []) = []
+before_last (b ∷ c ∷ bs) = b ∷ before_last (c ∷ bs)
+
+-- From the unanchored start. Under standard the list is all patterns that the text ends in, the longest first, then by
+-- number. Under a leftmost kind a list that isn't empty begins with the best of the text, which ends where the text
+-- ends; under an empty one the best is what it was before the last byte, and none where the text is empty.
+abbrev pub TellsUnanchored : MatchKind → Machine → List ℕ → List ℕ → Type 0
+TellsUnanchored Standard m text ns = ListsAll (λ o. Occurs (whole m text false) o × (o.end ≡ length text)) (map (ending m text) ns)
+TellsUnanchored kind m [] [] = IsBest kind (whole m [] false) None
+TellsUnanchored kind m (b ∷ bs) [] = (r : Option Occurrence) → IsBest kind (whole m (before_last (b ∷ bs)) false) r ↔ IsBest kind (whole m (b ∷ bs) false) r
+TellsUnanchored kind m text (n ∷ ns) = IsBest kind (whole m text false) (Some (ending m text n))
+
+-- From the anchored start: those entries that are as long as the text are the entered patterns that are the whole of it, by
+-- number, each once. Entries of another length come from failure states and do not count.
+abbrev pub TellsAnchored : Machine → List ℕ → List ℕ → Type 0
+TellsAnchored m text ns =
+    ListsAll (λ o. Occurs (whole m text true) o × (o.end ≡ length text) × ((p : List ℕ) × IsEntered m o.pattern p))
+    (map (ending m text) (filter (λ n. length (get_or m.patterns n []) == length text) ns))

@@ -1,0 +1,95 @@
+//! The laws of the definitions: what holds of each search, walk, listing and rule file, whatever the patterns, the kind and the
+//! text.
+//!
+//! What the best, the next pick, the walk and the listing of a search are is settled by their definitions alone, and can be
+//! computed. None of these functions does anything: each states one law as its contract, and that it checks is the proof of
+//! it. A caller who needs one calls it, at no cost.
+ghost use Rattle.ac_input.specs.Laws.{PreferenceIsOrder, PreferenceTellsApart, OccurrencesAreListed, BestIsOne, PickIsOne, WalkIsOne, WalkIsApart, WalkLiesWithin, WalkOccurs, ListingIsOne, ListingIsComputed, ListingHasEachOnce, PicksAreListed, ReplacingByItselfChangesNothing, NoRulesChangeNothing, RulesAreOne, BadLineIsOne};
+
+/// The preference of each kind is a total order.
+pub fn preference_is_order()
+    ensures { PreferenceIsOrder }
+{}
+
+/// Two occurrences of one search of which neither is preferred are the same.
+pub fn preference_tells_apart()
+    ensures { PreferenceTellsApart }
+{}
+
+/// The computed list of the occurrences has exactly those that occur.
+pub fn occurrences_are_listed()
+    ensures { OccurrencesAreListed }
+{}
+
+/// A search has one best, which the definition computes.
+pub fn best_is_one()
+    ensures { BestIsOne }
+{}
+
+/// A walk that stands at a place has one next pick, which the definition computes.
+pub fn pick_is_one()
+    ensures { PickIsOne }
+{}
+
+/// There is one walk from a place, which the definition computes.
+pub fn walk_is_one()
+    ensures { WalkIsOne }
+{}
+
+/// The picks of a walk never overlap, and each begins later than the one before it.
+pub fn walk_is_apart()
+    ensures { WalkIsApart }
+{}
+
+/// No pick of a walk begins before the place from which the walk was asked, and none ends behind the span.
+pub fn walk_lies_within()
+    ensures { WalkLiesWithin }
+{}
+
+/// Each pick of a walk that isn't anchored is an occurrence, from the place of the walk on.
+pub fn walk_occurs()
+    ensures { WalkOccurs }
+{}
+
+/// A search has at most one overlapping listing.
+pub fn listing_is_one()
+    ensures { ListingIsOne }
+{}
+
+/// A list is the overlapping listing of a search within its haystack exactly where it is the one that is computed.
+pub fn listing_is_computed()
+    ensures { ListingIsComputed }
+{}
+
+/// Each occurrence stands once in the overlapping listing.
+pub fn listing_has_each_once()
+    ensures { ListingHasEachOnce }
+{}
+
+/// Whatever the kind, each pick of the walk is one of the overlapping listing.
+pub fn picks_are_listed()
+    ensures { PicksAreListed }
+{}
+
+/// Where no byte is paired, a text whose patterns are replaced by themselves stays as it is.
+pub fn replacing_by_itself_changes_nothing()
+    ensures { ReplacingByItselfChangesNothing }
+{}
+
+/// With no patterns the text stays as it is, and nothing is listed.
+pub fn no_rules_change_nothing()
+    ensures { NoRulesChangeNothing }
+{}
+
+/// A text is a rule file in one way at most: its rules are fixed.
+pub fn rules_are_one()
+    ensures { RulesAreOne }
+{}
+
+/// A text has one first bad line at most, and none where it is a rule file.
+pub fn bad_line_is_one()
+    ensures { BadLineIsOne }
+{}
+
+#[cfg(test)]
+mod tests;

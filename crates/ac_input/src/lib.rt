@@ -1,0 +1,13 @@
+//! The vocabulary of multi-pattern search: what is searched for and where, what an answer is, and all definitions that the
+//! contracts of the layers above cite.
+//!
+//! The definitions are in `specs/`. They name no trie, hash or buffer: an occurrence is a pattern that lies in a span of the
+//! haystack, the best one is the least in the order of the kind, a walk takes the best from where it stands. The laws about
+//! them are the contracts of the functions of [`laws`].
+#![tactic(auto)]
+
+pub mod history;
+pub mod laws;
+pub mod pairing;
+pub mod primitives;
+pub mod search;

@@ -1,0 +1,10 @@
+pub mod SpellingLemmas
+pub mod LineLemmas
+pub mod OutputLemmas
+pub mod InputLemmas
+pub mod RewriteLemmas
+pub mod RunLemmas
+pub mod PairsLemmas
+pub mod ParseLemmas
+pub mod PlaceLemmas
+pub mod TypedLemmas

@@ -1,0 +1,9 @@
+use Rattle.std.proofs.Common.{length}
+use Rattle.acsub.proofs.LineLemmas.{BeginsWithRuleCount}
+use Rattle.acsub.proofs.rules.count_rules.Given as goal
+
+abbrev pub invariant-loop-line : goal.invariant-loop-line
+invariant-loop-line l = BeginsWithRuleCount l.bytes l.count l.rest
+
+abbrev pub decreases-loop-line : goal.decreases-loop-line
+decreases-loop-line l = length l.rest

@@ -1,0 +1,72 @@
+-- The command line of the program, as data.
+use Rattle.std.specs.Prelude.{◌≡◌, List, [], ◌∷◌, Some, true, codes, map}
+use Rattle.std.specs.Borrow.{Bor}
+use Rattle.clap.specs.Words.{App, Rule, Text, new_app, new_rule, with_rule}
+use Rattle.clap.specs.Walk.{texts}
+use Rattle.clap.specs.declared.builder.action.ArgAction.TheVariants.{Set, SetTrue}
+use Rattle.clap.specs.declared.builder.value_parser.ValueParser.TheVariants as parser
+
+-- the values that three of the arguments take
+abbrev pub mode_names : List Text
+mode_names = codes "replace" ∷ codes "list" ∷ codes "overlap" ∷ []
+
+abbrev pub kind_names : List Text
+kind_names = codes "standard" ∷ codes "leftmost-first" ∷ codes "leftmost-longest" ∷ []
+
+abbrev pub engine_names : List Text
+engine_names = codes "auto" ∷ codes "noncontiguous" ∷ codes "contiguous" ∷ codes "dfa" ∷ codes "packed" ∷ []
+
+-- A list of names as clap's data holds it: references, of which clap reads the texts alone.
+abbrev pub Names : Type 0
+Names = Bor (List (Bor Text))
+
+-- these names, by references that all lie at one place
+abbrev pub as_names : List Text → Names
+as_names words = record { ref_ptr = (0, 0); now = map (λ (word : Text). let name : Bor Text = record { ref_ptr = (0, 0); now = word } in name) words }
+
+-- the lists of the three arguments
+pub record Lists : Type 0 where
+  pub modes : Names
+  pub kinds : Names
+  pub engines : Names
+
+-- the three lists hold these names, wherever they lie
+pub record HasNames (lists : Lists) : Type 0 where
+  pub modes : texts lists.modes.now ≡ mode_names
+  pub kinds : texts lists.kinds.now ≡ kind_names
+  pub engines : texts lists.engines.now ≡ engine_names
+
+-- a word that has its place: the first or the second that belongs to no option
+abbrev pub placed : Text → Rule
+placed id = record (new_rule id) { action = Some Set; required = true; value_names = 1 }
+
+-- `--id VALUE`
+abbrev pub option : Text → Rule
+option id = record (new_rule id) { long = Some id; action = Some Set; value_names = 1 }
+
+-- `--id`
+abbrev pub flag : Text → Rule
+flag id = record (new_rule id) { long = Some id; action = Some SetTrue }
+
+abbrev pub mode_rule : Names → Rule
+mode_rule names = record (placed (codes "mode")) { parser = Some (parser.Names names) }
+
+abbrev pub kind_rule : Names → Rule
+kind_rule names = record (option (codes "kind")) { defaults = codes "standard" ∷ []; parser = Some (parser.Names names) }
+
+abbrev pub engine_rule : Names → Rule
+engine_rule names = record (option (codes "engine")) { defaults = codes "auto" ∷ []; parser = Some (parser.Names names) }
+
+abbrev pub depth_rule : Rule
+depth_rule = record (option (codes "dense-depth")) { parser = Some (parser.Unsigned 0 2147483646) }
+
+abbrev pub command_with : Lists → App
+command_with lists =
+    with_rule (with_rule (with_rule (with_rule (with_rule (with_rule (with_rule (with_rule (with_rule (new_app (codes "acsub"))
+    (mode_rule lists.modes)) (placed (codes "rules")))
+    (kind_rule lists.kinds)) (flag (codes "fold"))) (option (codes "pairs")))
+    (engine_rule lists.engines)) (flag (codes "no-prefilter"))) depth_rule) (flag (codes "no-byte-classes"))
+
+-- acsub MODE RULES [--kind K] [--fold] [--pairs HEX] [--engine E] [--no-prefilter] [--dense-depth N] [--no-byte-classes]
+abbrev pub command : App
+command = command_with (record { modes = as_names mode_names; kinds = as_names kind_names; engines = as_names engine_names })

@@ -1,0 +1,10 @@
+pub mod Lines
+pub mod Sides
+pub mod Settings
+pub mod Output
+pub mod Input
+pub mod Run
+pub mod Rewrite
+pub mod Command
+pub mod Words
+pub mod Tool

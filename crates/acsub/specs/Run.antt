@@ -1,0 +1,144 @@
+-- What a run writes, and what its answers say.
+use Rattle.std.specs.Prelude.{◌≡◌, ◌≢◌, ℕ, ◌+◌, ◌<◌, List, [], ◌++◌, length, false, Result, Option, Ok, Err}
+use Rattle.std.specs.Io.KnownBytes.{Appends, Consumes, IsAtEnd}
+use Rattle.std.specs.List.{concat}
+use Rattle.ac_input.specs.declared.search.MatchKind.{MatchKind}
+use Rattle.ac_input.specs.Occurrence.{Search}
+use Rattle.ac_input.specs.Text.{replaced_from, listed}
+use Rattle.ac_input.specs.Rules.{Rule, IsRuleFile, FirstBadLine}
+use Rattle.ac_input.specs.Computed.{walk_of, listing_of}
+use Rattle.ac_automaton.specs.Watched.{failures_of, stalls_of, pieces_of, taken_of, inner_of}
+use Rattle.ac_automaton.specs.declared.watched.Watched.{Watched}
+use Rattle.acsub.specs.declared.rules.RuleError.TheVariants as rule_errors
+use Rattle.acsub.specs.declared.error.RunError.{RunError}
+use Rattle.acsub.specs.declared.error.RunError.TheVariants as errors
+use Rattle.acsub.specs.declared.settings.Mode.{Mode}
+use Rattle.acsub.specs.declared.settings.Mode.TheVariants as modes
+use Rattle.acsub.specs.declared.settings.Settings.{Settings}
+use Rattle.acsub.specs.Input.{AreFilled, AreWhole}
+use Rattle.acsub.specs.Settings.{IsAccepted, IsFirstExclusion}
+use Rattle.acsub.specs.Sides.{patterns_of, replacements_of}
+
+-- the whole of an input, searched for the patterns of the rules
+abbrev pub search_of : Settings → List Rule → List ℕ → Search
+search_of settings rules input = record { patterns = patterns_of rules; pairing = settings.pairing; haystack = input; start = 0; end = length input; anchored = false }
+
+-- the text that a mode makes of a search
+abbrev pub text_in : Mode → MatchKind → List (List ℕ) → Search → List ℕ
+text_in modes.Replace kind replacements s = replaced_from 0 s.haystack replacements (walk_of kind s)
+text_in modes.List kind replacements s = listed (walk_of kind s)
+text_in modes.Overlap kind replacements s = listed (listing_of s)
+
+-- The text that settings and rules make of an input. The engine, its prefilter, dense depth and byte classes are not in it.
+abbrev pub text_of : Settings → List Rule → List ℕ → List ℕ
+text_of settings rules input = text_in settings.mode settings.kind (replacements_of rules) (search_of settings rules input)
+
+-- what a run moved: the pieces that its reads gave, how many reads failed, the bytes that its writes took, how many writes
+-- failed, and how many of those were handed bytes and took none
+pub record Moved : Type 0 where
+  pub pieces : List (List ℕ)
+  pub failed_reads : ℕ
+  pub taken : List ℕ
+  pub failed_writes : ℕ
+  pub stalled_writes : ℕ
+
+-- A reader and a writer, before and after, tell that this was moved. A device in memory tells it by its bytes too: what is left
+-- to read lost what was read, and is at its end where that was all; what the writer holds grew by what was written.
+pub record Tells {R W : Type 0} (remaining : R → Option (List ℕ)) (contents : W → Option (List ℕ)) (reader_before reader_after : Watched R) (writer_before writer_after : Watched W) (m : Moved) : Type 0 where
+  pub pieces : pieces_of reader_after ≡ pieces_of reader_before ++ m.pieces
+  pub failed_reads : failures_of reader_after ≡ failures_of reader_before + m.failed_reads
+  pub taken : taken_of writer_after ≡ taken_of writer_before ++ m.taken
+  pub failed_writes : failures_of writer_after ≡ failures_of writer_before + m.failed_writes
+  pub stalled_writes : stalls_of writer_after ≡ stalls_of writer_before + m.stalled_writes
+  pub reader_device : Consumes (remaining (inner_of reader_before)) (remaining (inner_of reader_after)) (concat m.pieces)
+  pub reader_end : m.failed_reads ≡ 0 → AreWhole m.pieces → IsAtEnd (remaining (inner_of reader_after))
+  pub writer_device : Appends (contents (inner_of writer_before)) (contents (inner_of writer_after)) m.taken
+
+-- a beginning of a text
+abbrev pub IsBeginning : List ℕ → List ℕ → Type 0
+IsBeginning front text = (more : List ℕ) × (text ≡ front ++ more)
+
+-- so many reads failed, so many writes, and so many of those took no byte
+abbrev pub Failed : Moved → ℕ → ℕ → ℕ → Type 0
+Failed m reads writes stalls = (m.failed_reads ≡ reads) × (m.failed_writes ≡ writes) × (m.stalled_writes ≡ stalls)
+
+-- The rules are in the grammar and go with the settings, the input was read to its end, and the text of all of it was written.
+pub record RanWhole (settings : Settings) (file : List ℕ) (m : Moved) : Type 0 where
+  pub rules : List Rule
+  pub grammar : IsRuleFile file rules
+  pub accepted : IsAccepted settings rules
+  pub whole : AreWhole m.pieces
+  pub written : m.taken ≡ text_of settings rules (concat m.pieces)
+  pub failed : Failed m 0 0 0
+
+-- A read failed, and nothing was written.
+pub record ReadFailed (settings : Settings) (file : List ℕ) (m : Moved) : Type 0 where
+  pub rules : List Rule
+  pub grammar : IsRuleFile file rules
+  pub accepted : IsAccepted settings rules
+  pub written : m.taken ≡ []
+  pub failed : Failed m 1 0 0
+
+-- A write failed, or was handed bytes and took none, when the input had been read to its end; a beginning of its text was
+-- written.
+pub record WriteFailed (settings : Settings) (file : List ℕ) (m : Moved) (stalls : ℕ) : Type 0 where
+  pub rules : List Rule
+  pub grammar : IsRuleFile file rules
+  pub accepted : IsAccepted settings rules
+  pub whole : AreWhole m.pieces
+  pub written : IsBeginning m.taken (text_of settings rules (concat m.pieces))
+  pub failed : Failed m 0 1 stalls
+
+-- There was no memory: nothing was written, and the end of the input was not read. Nothing was read at all unless the
+-- settings are accepted.
+pub record MemoryFailed (settings : Settings) (file : List ℕ) (m : Moved) : Type 0 where
+  pub rules : List Rule
+  pub grammar : IsRuleFile file rules
+  pub accepted : m.pieces ≢ [] → IsAccepted settings rules
+  pub filled : AreFilled m.pieces
+  pub written : m.taken ≡ []
+  pub failed : Failed m 0 0 0
+
+-- The input is longer than places can be counted; a beginning of its text was written.
+pub record PositionFailed (settings : Settings) (file : List ℕ) (m : Moved) : Type 0 where
+  pub rules : List Rule
+  pub grammar : IsRuleFile file rules
+  pub accepted : IsAccepted settings rules
+  pub long : 18446744073709551615 < length (concat m.pieces)
+  pub written : IsBeginning m.taken (text_of settings rules (concat m.pieces))
+  pub failed : Failed m 0 0 0
+
+-- what an answer of a run says of the settings, the rule file, and what was moved
+abbrev pub Answers : Settings → List ℕ → Moved → Result (Unit {0}) RunError → Type 0
+Answers settings file m (Ok done) = RanWhole settings file m
+Answers settings file m (Err (errors.Rule (rule_errors.Line n))) = FirstBadLine file n
+Answers settings file m (Err (errors.Rule rule_errors.Memory)) = ⊥
+Answers settings file m (Err (errors.Setting e)) = (rules : List Rule) × IsRuleFile file rules × IsFirstExclusion settings rules e
+Answers settings file m (Err (errors.Read e)) = ReadFailed settings file m
+Answers settings file m (Err (errors.Write e)) = WriteFailed settings file m 0
+Answers settings file m (Err errors.WriteZero) = WriteFailed settings file m 1
+Answers settings file m (Err errors.Memory) = MemoryFailed settings file m
+Answers settings file m (Err errors.Position) = PositionFailed settings file m
+
+-- the rules or the settings were refused
+abbrev pub IsRefusal : Result (Unit {0}) RunError → Type 0
+IsRefusal (Ok done) = ⊥
+IsRefusal (Err (errors.Rule e)) = Unit {0}
+IsRefusal (Err (errors.Setting e)) = Unit {0}
+IsRefusal (Err (errors.Read e)) = ⊥
+IsRefusal (Err (errors.Write e)) = ⊥
+IsRefusal (Err errors.WriteZero) = ⊥
+IsRefusal (Err errors.Memory) = ⊥
+IsRefusal (Err errors.Position) = ⊥
+
+-- The rules of the file, which go with the settings; or why there are none.
+abbrev pub Prepares : Settings → List ℕ → Result (List Rule) RunError → Type 0
+Prepares settings file (Ok rules) = IsRuleFile file rules × IsAccepted settings rules
+Prepares settings file (Err (errors.Rule (rule_errors.Line n))) = FirstBadLine file n
+Prepares settings file (Err (errors.Rule rule_errors.Memory)) = ⊥
+Prepares settings file (Err (errors.Setting e)) = (rules : List Rule) × IsRuleFile file rules × IsFirstExclusion settings rules e
+Prepares settings file (Err (errors.Read e)) = ⊥
+Prepares settings file (Err (errors.Write e)) = ⊥
+Prepares settings file (Err errors.WriteZero) = ⊥
+Prepares settings file (Err errors.Memory) = (rules : List Rule) × IsRuleFile file rules
+Prepares settings file (Err errors.Position) = ⊥

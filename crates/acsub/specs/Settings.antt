@@ -1,0 +1,39 @@
+-- Which settings are accepted.
+use Rattle.std.specs.Prelude.{◌≡◌, ◌≢◌, ℕ, ◌<◌, List, [], length, ◌⊎◌}
+use Rattle.ac_input.specs.Same.{IsUnpaired}
+use Rattle.ac_input.specs.Rules.{Rule}
+use Rattle.ac_input.specs.declared.search.MatchKind.TheVariants.{Standard}
+use Rattle.acsub.specs.Lines.{rule_at}
+use Rattle.acsub.specs.declared.settings.Settings.{Settings}
+use Rattle.acsub.specs.declared.settings.Mode.TheVariants.{Overlap}
+use Rattle.acsub.specs.declared.settings.Engine.TheVariants.{Packed}
+use Rattle.acsub.specs.declared.settings.SettingError.{SettingError}
+use Rattle.acsub.specs.declared.settings.SettingError.TheVariants.{OverlapLeftmost, PackedStandard, PackedFold, PackedEmpty, PackedCount}
+
+-- some pattern is empty
+abbrev pub HasEmptyPattern : List Rule → Type 0
+HasEmptyPattern rules = (i : ℕ) × (i < length rules) × ((rule_at rules i).0 ≡ [])
+
+-- what excludes settings, with these rules
+abbrev pub IsExcluded : Settings → List Rule → SettingError → Type 0
+IsExcluded s rules OverlapLeftmost = (s.mode ≡ Overlap) × (s.kind ≢ Standard)
+IsExcluded s rules PackedStandard = (s.engine ≡ Packed) × (s.kind ≡ Standard)
+IsExcluded s rules PackedFold = (s.engine ≡ Packed) × ¬ IsUnpaired s.pairing
+IsExcluded s rules PackedEmpty = (s.engine ≡ Packed) × HasEmptyPattern rules
+IsExcluded s rules PackedCount = (s.engine ≡ Packed) × ((length rules ≡ 0) ⊎ (128 < length rules))
+
+-- the order in which reasons are told
+abbrev pub place_of : SettingError → ℕ
+place_of OverlapLeftmost = 0
+place_of PackedStandard = 1
+place_of PackedFold = 2
+place_of PackedEmpty = 3
+place_of PackedCount = 4
+
+-- nothing excludes the settings
+abbrev pub IsAccepted : Settings → List Rule → Type 0
+IsAccepted s rules = (e : SettingError) → ¬ IsExcluded s rules e
+
+-- the first reason that excludes the settings
+abbrev pub IsFirstExclusion : Settings → List Rule → SettingError → Type 0
+IsFirstExclusion s rules e = IsExcluded s rules e × ((earlier : SettingError) → place_of earlier < place_of e → ¬ IsExcluded s rules earlier)

@@ -1,0 +1,80 @@
+-- The lines that the program writes where something is wrong, and the statuses with which it ends.
+use Rattle.std.specs.Prelude.{◌≡◌, ℕ, List, ◌++◌, ◌⊎◌, Option, Ok, Err, codes, decimal}
+use Rattle.std.specs.declared.io.ErrorKind.{ErrorKind}
+use Rattle.std.specs.declared.io.ErrorKind.TheVariants as kind
+use Rattle.clap.specs.declared.error.Error.{Error}
+use Rattle.ac_input.specs.Pairing.{twice_of}
+use Rattle.ac_automaton.specs.declared.watched.Watched.{Watched}
+use Rattle.acsub.specs.declared.error.RunError.{RunError}
+use Rattle.acsub.specs.declared.error.RunError.TheVariants as errors
+use Rattle.acsub.specs.declared.rules.RuleError.{RuleError}
+use Rattle.acsub.specs.declared.rules.RuleError.TheVariants as rule_errors
+use Rattle.acsub.specs.declared.settings.SettingError.{SettingError}
+use Rattle.acsub.specs.declared.settings.SettingError.TheVariants.{OverlapLeftmost, PackedStandard, PackedFold, PackedEmpty, PackedCount}
+use Rattle.acsub.specs.declared.words.Words.{Words}
+use Rattle.acsub.specs.declared.words.WordsFault.TheVariants.{Help}
+use Rattle.acsub.specs.Run.{Moved, Tells, RanWhole}
+use Rattle.acsub.specs.Words.{Reads}
+use Rattle.acsub.specs.declared.tool.Fault.{Fault}
+use Rattle.acsub.specs.declared.tool.Fault.TheVariants as faults
+
+abbrev pub setting_text : SettingError → List ℕ
+setting_text OverlapLeftmost = codes "overlap needs the standard kind"
+setting_text PackedStandard = codes "packed needs a leftmost kind"
+setting_text PackedFold = codes "packed keeps case"
+setting_text PackedEmpty = codes "packed takes no empty pattern"
+setting_text PackedCount = codes "packed takes 1 to 128 patterns"
+
+abbrev pub rule_text : RuleError → List ℕ
+rule_text (rule_errors.Line n) = codes "line " ++ decimal n
+rule_text rule_errors.Memory = codes "out of memory"
+
+abbrev pub run_text : RunError → List ℕ
+run_text (errors.Rule e) = codes "rules: " ++ rule_text e
+run_text (errors.Setting e) = codes "setting: " ++ setting_text e
+run_text (errors.Read e) = codes "read failed"
+run_text (errors.Write e) = codes "write failed"
+run_text errors.WriteZero = codes "write took no byte"
+run_text errors.Memory = codes "out of memory"
+run_text errors.Position = codes "input too long"
+
+-- what is said of a fault, behind the program's name
+abbrev pub fault_text : Fault → List ℕ
+fault_text faults.Words = codes "bad words"
+fault_text (faults.Pairs e) = codes "setting: " ++ (codes "byte " ++ decimal (twice_of e) ++ codes " is named twice")
+fault_text faults.RuleFile = codes "rules: file cannot be read"
+fault_text (faults.Run e) = run_text e
+fault_text faults.Flush = codes "flush failed"
+
+abbrev pub run_status : RunError → ℕ
+run_status (errors.Rule e) = 3
+run_status (errors.Setting e) = 2
+run_status (errors.Read e) = 5
+run_status (errors.Write e) = 6
+run_status errors.WriteZero = 6
+run_status errors.Memory = 7
+run_status errors.Position = 8
+
+-- the status with which the program ends
+abbrev pub status_of : Fault → ℕ
+status_of faults.Words = 2
+status_of (faults.Pairs e) = 2
+status_of faults.RuleFile = 3
+status_of (faults.Run e) = run_status e
+status_of faults.Flush = 6
+
+-- 0, or that of a fault
+abbrev pub IsStatus : ℕ → Type 0
+IsStatus status = (status ≡ 0) ⊎ ((fault : Fault) × (status ≡ status_of fault))
+
+-- what is told of an error of the system: want of memory, or this
+abbrev pub IsFaultOf : ErrorKind → Fault → Fault → Type 0
+IsFaultOf kind.OutOfMemory other fault = fault ≡ faults.Run errors.Memory
+IsFaultOf _ other fault = fault ≡ other
+
+-- The words ask for a run, the rule file gave some bytes, and for them the run wrote the text of all that was read; or help
+-- was asked for, and nothing was read.
+abbrev pub IsDone : {R W : Type 0} → (R → Option (List ℕ)) → (W → Option (List ℕ)) → List (List ℕ) → Watched R → Watched R → Watched W → Watched W → Type 0
+IsDone remaining contents words reader_before reader_after writer_before writer_after =
+    ((w : Words) × Reads words (Ok w) × (file : List ℕ) × (m : Moved) × Tells remaining contents reader_before reader_after writer_before writer_after m × RanWhole w.settings file m)
+    ⊎ ((help : Error) × Reads words (Err (Help help)) × (reader_after ≡ reader_before))

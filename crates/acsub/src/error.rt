@@ -1,0 +1,57 @@
+//! Why a run stops.
+ghost use Rattle.std.specs.Prelude.{◌≡◌};
+ghost use Rattle.acsub.specs.declared.error.RunError.TheVariants.{Memory};
+
+use crate::rules::RuleError;
+use crate::settings::SettingError;
+use std::alloc::AllocError;
+use std::error::Error;
+use std::{fmt, io};
+
+/// Why a run stopped.
+#[derive(Debug, Drop)]
+pub enum RunError {
+    /// The rules are no rule file. Want of memory for them is [`RunError::Memory`], and stands in no other kind.
+    Rule(RuleError),
+    /// The settings exclude one another, or don't go with the rules.
+    Setting(SettingError),
+    /// A read failed.
+    Read(io::Error),
+    /// A write failed.
+    Write(io::Error),
+    /// A write was handed bytes and took none.
+    WriteZero,
+    /// There was not the memory.
+    Memory,
+    /// The input is longer than places can be counted.
+    Position,
+}
+
+impl fmt::Display for RunError {
+    ghost use Rattle.std.specs.Prelude.{Some};
+    ghost use Rattle.acsub.specs.Tool.{run_text};
+
+    ghost output = { λ error. Some (run_text error) };
+
+    fn fmt<W: fmt::Write>(&self, f: &mut fmt::Formatter<W>) -> fmt::Result {
+        match self {
+            RunError::Rule(error) => write!(f, "rules: {error}"),
+            RunError::Setting(error) => write!(f, "setting: {error}"),
+            RunError::Read(_) => write!(f, "read failed"),
+            RunError::Write(_) => write!(f, "write failed"),
+            RunError::WriteZero => write!(f, "write took no byte"),
+            RunError::Memory => write!(f, "out of memory"),
+            RunError::Position => write!(f, "input too long"),
+        }
+    }
+}
+
+impl Error for RunError {}
+
+impl From<AllocError> for RunError {
+    ghost from_gives = { λ _ error. error ≡ Memory };
+
+    fn from(_error: AllocError) -> RunError {
+        RunError::Memory
+    }
+}

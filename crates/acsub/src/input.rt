@@ -1,0 +1,50 @@
+//! The whole input in memory.
+ghost use Rattle.std.specs.Prelude.{◌≡◌, ◌+◌, ◌≤◌, false, take, vec_len, OnOk};
+ghost use Rattle.ac_automaton.specs.Watched.{has_ended};
+ghost use Rattle.acsub.specs.Input.{ReadsWhole};
+
+use crate::error::RunError;
+use ac_automaton::watched::Watched;
+use std::alloc::{AllocError, Global};
+use std::io::Read;
+
+/// How many bytes a read has room for, at least.
+const PIECE: usize = 65536;
+
+/// Reads up to the first empty read, by pieces of at least 64 KiB. The room for a read is taken before it, so that nothing is
+/// taken after the empty one. It takes at most about three times the memory of the input at once, and each byte is moved a
+/// few times at most.
+pub fn read_whole<R: Read>(alloc: Global, reader: &mut Watched<R>) -> Result<Vec<u8>, RunError>
+    requires { has_ended reader.old ≡ false }
+    ensures { ReadsWhole R.remaining reader.old reader.new result }
+{
+    let mut input = Vec::new(alloc);
+    let mut filled = 0;
+    loop {
+        make_room(&mut input, filled)?;
+        let n = match reader.read(&mut input[filled..]) {
+            Ok(n) => n,
+            Err(error) => return Err(RunError::Read(error)),
+        };
+        if n == 0 {
+            input.truncate(filled);
+            return Ok(input);
+        }
+        filled += n;
+    }
+}
+
+/// Makes room for one more piece behind those bytes that are filled.
+fn make_room(input: &mut Vec<u8>, filled: usize) -> Result<(), AllocError>
+    requires { filled ≤ vec_len input.old }
+    ensures kept { take filled input.new.items ≡ take filled input.old.items }
+    ensures room { OnOk result (filled + 65536 ≤ vec_len input.new) }
+    ensures grows { vec_len input.old ≤ vec_len input.new }
+{
+    let len = input.len();
+    if len - filled >= PIECE {
+        return Ok(());
+    }
+    let more = if len < PIECE { PIECE } else { len };
+    input.resize(len + more, 0)
+}

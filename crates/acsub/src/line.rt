@@ -1,0 +1,68 @@
+//! The lines of a list.
+//!
+//! A line tells an occurrence: the number of its pattern, its start and its end, in decimal, with a space between two of them and
+//! a line feed behind the last. It is put together in an array, from its end, so that nothing is moved.
+ghost use Rattle.std.specs.Prelude.{◌≡◌, ◌+◌, ◌<◌, ◌≤◌, ◌∷◌, ◌++◌, drop, length, decimal};
+ghost use Rattle.ac_input.specs.Text.{line};
+
+use ac_plain::plain::Found;
+use itoa::write_digits;
+use std::marker::Model;
+
+/// How long a line can be: three numbers of at most 20 digits, and three bytes.
+const LONGEST: usize = 63;
+
+/// A line of a list. A contract sees its bytes.
+#[derive(Drop)]
+pub struct Line {
+    bytes: [u8; 63],
+    start: usize,
+}
+
+impl Model for Line {
+    ghost use Rattle.std.specs.Prelude.{ℕ, ◌≡◌, ◌≤◌, List, length, drop};
+
+    ghost Value = { List ℕ };
+
+    ghost view = { λ it. drop it.start it.bytes };
+
+    ghost invariant = { λ it. (it.start ≤ 63) × (length it.bytes ≡ 63) };
+}
+
+impl Line {
+    /// The line that tells an occurrence.
+    pub fn new(found: Found) -> Line
+        ensures { result ≡ line found }
+    {
+        let mut bytes = [0u8; LONGEST];
+        let end = put_number(&mut bytes, LONGEST, found.end, b'\n');
+        let start = put_number(&mut bytes, end, found.start, b' ');
+        let pattern = put_number(&mut bytes, start, found.pattern, b' ');
+        Line {
+            bytes,
+            start: pattern,
+        }
+    }
+
+    /// Its bytes, the line feed too.
+    pub fn as_bytes(&self) -> &[u8]
+        ensures { result.now ≡ self.now }
+    {
+        &self.bytes[self.start..]
+    }
+}
+
+/// Puts a number and a byte before the place, and tells where they begin.
+fn put_number(bytes: &mut [u8], end: usize, number: usize, behind: u8) -> usize
+    requires room { 21 ≤ end }
+    requires within { end ≤ length bytes.old }
+    ensures begins { result + length (decimal number) + 1 ≡ end }
+    ensures room { end ≤ result + 21 }
+    ensures written { drop result bytes.new ≡ decimal number ++ behind ∷ drop end bytes.old }
+{
+    bytes[end - 1] = behind;
+    write_digits(number as u64, bytes, end - 1)
+}
+
+#[cfg(test)]
+mod tests;

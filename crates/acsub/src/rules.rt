@@ -1,0 +1,294 @@
+//! The rule file, and its reader.
+//!
+//! A rule file is text: each line is `pattern TAB replacement LF`, both sides in hex, two digits of either case a byte.
+//! Either side may be empty. Anything else, as CR, a space, an empty line, a third column or a last line without LF,
+//! makes the line a bad one.
+//!
+//! The file is read twice. The first pass looks for a bad line and counts the rules; it takes no memory, so which line is
+//! reported never depends on memory. The second pass runs only over a rule file: it decodes the sides, and can fail only
+//! for memory. Each pass looks at each byte a few times and never goes back.
+
+ghost use Rattle.std.specs.Prelude.{◌≡◌, ◌↔◌, ◌==◌, ◌<◌, ℕ, List, ◌∷◌, ◌++◌, length, map, Contains, IsTrue, IfOk, IfErr, MatchOption, MatchResult};
+ghost use Rattle.ac_input.specs.Rules.{Rule, Spells, IsRuleFile, FirstBadLine, BeginsWithNoRule};
+ghost use Rattle.acsub.specs.Lines.{IsSpelling, BeginsWithLine, rule_at};
+ghost use Rattle.acsub.specs.Sides.{patterns_of};
+ghost use Rattle.acsub.specs.declared.rules.RuleError.TheVariants.{Memory};
+
+use memchr::memchr;
+use std::alloc::{AllocError, AllocFailed, Global};
+use std::error::Error;
+use std::fmt;
+use std::marker::Model;
+
+/// Why bytes were not read as a rule file.
+#[derive(Clone, Copy, Debug, PartialEq, Eq)]
+pub enum RuleError {
+    /// The first line that is no rule, counted from 1.
+    Line(usize),
+    /// The bytes are a rule file, but there is not the memory to keep its rules.
+    Memory,
+}
+
+impl fmt::Display for RuleError {
+    ghost use Rattle.std.specs.Prelude.{Some};
+    ghost use Rattle.acsub.specs.Tool.{rule_text};
+
+    ghost output = { λ error. Some (rule_text error) };
+
+    fn fmt<W: fmt::Write>(&self, f: &mut fmt::Formatter<W>) -> fmt::Result {
+        match self {
+            RuleError::Line(line) => write!(f, "line {line}"),
+            RuleError::Memory => write!(f, "out of memory"),
+        }
+    }
+}
+
+impl Error for RuleError {}
+
+impl From<AllocError> for RuleError {
+    ghost from_gives = { λ _ e. e ≡ Memory };
+
+    fn from(_e: AllocError) -> RuleError {
+        RuleError::Memory
+    }
+}
+
+impl<T: Drop> From<AllocFailed<T>> for RuleError {
+    ghost from_gives = { λ _ e. e ≡ Memory };
+
+    fn from(_e: AllocFailed<T>) -> RuleError {
+        RuleError::Memory
+    }
+}
+
+/// A rule, decoded.
+#[derive(Drop)]
+struct Sides {
+    pattern: Vec<u8>,
+    replacement: Vec<u8>,
+}
+
+/// The rules of a file, in the order of its lines. A rule is known by its number, which counts from 0.
+#[derive(Drop)]
+pub struct Rules {
+    sides: Vec<Sides>,
+}
+
+impl Model for Rules {
+    ghost use Rattle.std.specs.Prelude.{ℕ, List};
+    ghost use Rattle.acsub.specs.Sides.{rules_of};
+
+    ghost Value = { List (List ℕ × List ℕ) };
+
+    ghost view = { λ r. rules_of r.sides.items };
+}
+
+impl Rules {
+    /// How many rules there are.
+    pub fn len(&self) -> usize
+        ensures { result ≡ length self.now }
+    {
+        self.sides.len()
+    }
+
+    /// Whether there are no rules, as in an empty file.
+    pub fn is_empty(&self) -> bool
+        ensures { result ≡ (length self.now == 0) }
+    {
+        self.sides.is_empty()
+    }
+
+    /// The bytes that a rule looks for.
+    pub fn pattern(&self, i: usize) -> &[u8]
+        requires { i < length self.now }
+        ensures { result.now ≡ (rule_at self.now i).0 }
+    {
+        self.sides[i].pattern.as_slice()
+    }
+
+    /// All patterns in their order, as slices. It takes memory for the slices alone.
+    pub fn patterns(&self, alloc: Global) -> Result<Vec<&[u8]>, AllocError>
+        ensures { IfOk result (λ patterns. map (λ pattern. pattern.now) patterns.items ≡ patterns_of self.now) }
+    {
+        let mut patterns = Vec::with_capacity(alloc, self.len())?;
+        for sides in &self.sides {
+            patterns.push(sides.pattern.as_slice())?;
+        }
+        Ok(patterns)
+    }
+
+    /// The bytes that a rule puts in their place.
+    pub fn replacement(&self, i: usize) -> &[u8]
+        requires { i < length self.now }
+        ensures { result.now ≡ (rule_at self.now i).1 }
+    {
+        self.sides[i].replacement.as_slice()
+    }
+}
+
+/// The rules that a rule file spells.
+///
+/// The work is linear in the bytes. Takes memory for the rules and nothing else, and none where a line is bad.
+pub fn read_rules(alloc: Global, bytes: &[u8]) -> Result<Rules, RuleError>
+    ensures rules { IfOk result (λ rules. IsRuleFile bytes.now rules) }
+    ensures bad { (n : ℕ) → (result ≡ Err (RuleError.Line n)) ↔ FirstBadLine bytes.now n }
+    ensures memory { result ≡ Err RuleError.Memory → (rules : List Rule) × IsRuleFile bytes.now rules }
+{
+    match count_rules(bytes) {
+        Ok(count) => decode_rules(alloc, bytes, count),
+        Err(line) => Err(RuleError::Line(line)),
+    }
+}
+
+/// The number of rules, or the number of the first bad line.
+fn count_rules(bytes: &[u8]) -> Result<usize, usize>
+    ensures { MatchResult result
+        (λ count. (rules : List Rule) × IsRuleFile bytes.now rules × (count ≡ length rules))
+        (λ line. FirstBadLine bytes.now line) }
+{
+    let mut count = 0;
+    let mut rest = bytes;
+    while let Some(line) = first_line(rest) {
+        count += 1;
+        rest = line.rest;
+    }
+    if rest.is_empty() {
+        Ok(count)
+    } else {
+        Err(count + 1)
+    }
+}
+
+/// The rules of bytes that are known to be a rule file, of which there are `count`.
+fn decode_rules(alloc: Global, bytes: &[u8], count: usize) -> Result<Rules, RuleError>
+    requires { (rules : List Rule) × IsRuleFile bytes.now rules × (count ≡ length rules) }
+    ensures rules { IfOk result (λ rules. IsRuleFile bytes.now rules) }
+    ensures memory { IfErr result (λ e. e ≡ RuleError.Memory) }
+{
+    let mut sides = Vec::with_capacity(alloc, count)?;
+    let mut rest = bytes;
+    while let Some(line) = first_line(rest) {
+        sides.push(decode_line(alloc, &line)?)?;
+        rest = line.rest;
+    }
+    Ok(Rules { sides })
+}
+
+/// A rule as it is written, and what follows its line.
+#[derive(Clone, Copy)]
+struct Line<'a> {
+    pattern: &'a [u8],
+    replacement: &'a [u8],
+    rest: &'a [u8],
+}
+
+/// The rule that the bytes begin with.
+fn first_line(bytes: &[u8]) -> Option<Line<'_>>
+    ensures { MatchOption result (BeginsWithNoRule bytes.now)
+        (λ line. BeginsWithLine bytes.now line.pattern.now line.replacement.now line.rest.now) }
+{
+    let (pattern, after) = split_at_byte(bytes, b'\t')?;
+    let (replacement, rest) = split_at_byte(after, b'\n')?;
+    if is_spelling(pattern) && is_spelling(replacement) {
+        Some(Line {
+            pattern,
+            replacement,
+            rest,
+        })
+    } else {
+        None
+    }
+}
+
+/// What stands before the first such byte, and what after it.
+fn split_at_byte(bytes: &[u8], separator: u8) -> Option<(&[u8], &[u8])>
+    ensures { MatchOption result (¬ Contains bytes.now separator)
+        (λ parts. (bytes.now ≡ parts.0.now ++ separator ∷ parts.1.now) × ¬ Contains parts.0.now separator) }
+{
+    let at = memchr(separator, bytes)?;
+    Some((&bytes[..at], &bytes[at + 1..]))
+}
+
+/// Whether a side is hex digits, two a byte.
+fn is_spelling(text: &[u8]) -> bool
+    ensures { IsTrue result ↔ IsSpelling text.now }
+{
+    text.len() % 2 == 0 && text.iter().all(|digit| digit.is_ascii_hexdigit())
+}
+
+/// Both sides of a line, decoded.
+fn decode_line(alloc: Global, line: &Line<'_>) -> Result<Sides, RuleError>
+    requires pattern { IsSpelling line.now.pattern.now }
+    requires replacement { IsSpelling line.now.replacement.now }
+    ensures pattern { IfOk result (λ sides. Spells line.now.pattern.now sides.pattern.items) }
+    ensures replacement { IfOk result (λ sides. Spells line.now.replacement.now sides.replacement.items) }
+    ensures memory { IfErr result (λ e. e ≡ RuleError.Memory) }
+{
+    Ok(Sides {
+        pattern: decode_side(alloc, line.pattern)?,
+        replacement: decode_side(alloc, line.replacement)?,
+    })
+}
+
+/// The bytes that a side spells.
+fn decode_side(alloc: Global, text: &[u8]) -> Result<Vec<u8>, RuleError>
+    requires { IsSpelling text.now }
+    ensures side { IfOk result (λ bytes. Spells text.now bytes.items) }
+    ensures memory { IfErr result (λ e. e ≡ RuleError.Memory) }
+{
+    // The text is known to be hex, so memory is all that can fail.
+    hex::decode(alloc, text).map_err(|_| RuleError::Memory)
+}
+
+#[cfg(test)]
+mod tests {
+    use super::*;
+    use std::test::Fail;
+
+    #[test]
+    fn names_the_first_bad_line(rt: HostRuntime) {
+        let files = [
+            ("7a7\t\n", 1),
+            ("61\t62\n63\t64", 2),
+            ("61\t62\n\n", 2),
+            ("61\t62\r\n", 1),
+            ("61\t62\t63\n", 1),
+            ("61 \t62\n", 1),
+            ("61\n62\t63\n", 1),
+            ("61\t62\n61\t6g\n6\t62\n", 2),
+        ];
+        for (file, line) in files {
+            let error = read_rules(rt.alloc(), file.as_bytes()).err();
+            assert_eq!(rt; error, Some(RuleError::Line(line)), "in {file:?}");
+        }
+    }
+
+    #[test]
+    fn reads_rules_in_order(rt: HostRuntime) -> Result<(), Fail> {
+        let files: [(&str, &[(&str, &str)]); 5] = [
+            ("", &[]),
+            ("\t\n", &[("", "")]),
+            ("6F\t4f\n", &[("o", "O")]),
+            ("61\t\n61\t\n", &[("a", ""), ("a", "")]),
+            ("666f6f\t626172\n\t2d\n", &[("foo", "bar"), ("", "-")]),
+        ];
+        for (file, sides) in files {
+            let rules = read_rules(rt.alloc(), file.as_bytes())?;
+            assert_eq!(rt; rules.len(), sides.len(), "in {file:?}");
+            assert_eq!(rt; rules.is_empty(), file.is_empty(), "in {file:?}");
+            for (i, (pattern, replacement)) in sides.iter().enumerate() {
+                assert_eq!(rt;
+                    rules.pattern(i),
+                    pattern.as_bytes(),
+                    "rule {i} in {file:?}"
+                );
+                assert_eq!(rt;
+                    rules.replacement(i),
+                    replacement.as_bytes(),
+                    "rule {i} in {file:?}"
+                );
+            }
+        }
+        Ok(())
+    }
+}

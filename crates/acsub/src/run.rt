@@ -1,0 +1,124 @@
+//! A run: rules and settings in, an input read to its end, its text written.
+//!
+//! [`run`] takes all the memory that it needs before the read that finds the end of the input, so want of memory is answered
+//! while nothing is written yet. Then it searches the input by the plain program and writes the text as it is found. The engine
+//! and its settings are checked, and change nothing of the text.
+ghost use Rattle.std.specs.Prelude.{◌≡◌, ℕ, ◌↔◌, List, [], false, map, IfErr, OnOk, OnErr};
+ghost use Rattle.ac_input.specs.Rules.{IsRuleFile, FirstBadLine};
+ghost use Rattle.ac_automaton.specs.Watched.{has_ended};
+ghost use Rattle.acsub.specs.Output.{Sent, Stopped, IsWriteFault};
+ghost use Rattle.acsub.specs.Run.{Moved, Tells, Answers, IsRefusal, Prepares, text_of};
+ghost use Rattle.acsub.specs.Settings.{IsAccepted};
+ghost use Rattle.acsub.specs.Sides.{patterns_of};
+
+use crate::error::RunError;
+use crate::input::read_whole;
+use crate::output::Output;
+use crate::rewrite::send_text;
+use crate::rules::{RuleError, Rules, read_rules};
+use crate::settings::{Settings, check};
+use ac_automaton::watched::Watched;
+use ac_input::search::{Anchored, Span};
+use ac_plain::plain::Plain;
+use std::alloc::Global;
+use std::io::{Read, Write};
+
+/// Reads the input to its end, and writes the text that settings and rules make of it.
+///
+/// It takes memory for the rules, for the whole input, and one buffer for the text; no text is kept. A run costs about the
+/// input times the patterns, and for overlapping occurrences times the longest pattern too. The writer isn't flushed.
+pub fn run<R: Read, W: Write>(
+    alloc: Global,
+    settings: &Settings,
+    rules: &[u8],
+    reader: &mut Watched<R>,
+    writer: &mut Watched<W>,
+) -> Result<(), RunError>
+    requires { has_ended reader.old ≡ false }
+    // What was read and written, and by which answer: Ok has written the text of all that was read.
+    ensures answered { (m : Moved) × Tells R.remaining W.contents reader.old reader.new writer.old writer.new m × Answers settings.now rules.now m result }
+    // The first bad line is answered whatever memory does.
+    ensures bad_line { (n : ℕ) → (result ≡ Err (RunError.Rule (RuleError.Line n))) ↔ FirstBadLine rules.now n }
+    // A refusal has touched nothing.
+    ensures untouched { IsRefusal result → (reader.new ≡ reader.old) × (writer.new ≡ writer.old) }
+{
+    match prepare(alloc, settings, rules) {
+        Ok(rules) => transform(alloc, settings, &rules, reader, writer),
+        Err(error) => Err(error),
+    }
+}
+
+/// The rules, where the settings go with them.
+fn prepare(alloc: Global, settings: &Settings, bytes: &[u8]) -> Result<Rules, RunError>
+    ensures { Prepares settings.now bytes.now result }
+{
+    let rules = match read_rules(alloc, bytes) {
+        Ok(rules) => rules,
+        Err(RuleError::Line(line)) => return Err(RunError::Rule(RuleError::Line(line))),
+        Err(RuleError::Memory) => return Err(RunError::Memory),
+    };
+    match check(settings, &rules) {
+        Ok(()) => Ok(rules),
+        Err(error) => Err(RunError::Setting(error)),
+    }
+}
+
+/// Reads the input, and writes its text.
+fn transform<R: Read, W: Write>(
+    alloc: Global,
+    settings: &Settings,
+    rules: &Rules,
+    reader: &mut Watched<R>,
+    writer: &mut Watched<W>,
+) -> Result<(), RunError>
+    requires open { has_ended reader.old ≡ false }
+    requires accepted { IsAccepted settings.now rules.now }
+    ensures { (m : Moved) × Tells R.remaining W.contents reader.old reader.new writer.old writer.new m × ((file : List ℕ) → IsRuleFile file rules.now → Answers settings.now file m result) }
+{
+    let patterns = rules.patterns(alloc)?;
+    let mut output = Output::new(alloc)?;
+    let input = read_whole(alloc, reader)?;
+    write_text(
+        settings,
+        rules,
+        patterns.as_slice(),
+        input.as_slice(),
+        &mut output,
+        writer,
+    )
+}
+
+/// Writes the text of an input.
+fn write_text<W: Write>(
+    settings: &Settings,
+    rules: &Rules,
+    patterns: &[&[u8]],
+    input: &[u8],
+    output: &mut Output,
+    writer: &mut Watched<W>,
+) -> Result<(), RunError>
+    requires patterns { map (λ pattern. pattern.now) patterns.now ≡ patterns_of rules.now }
+    requires fresh { output.old ≡ [] }
+    ensures sent { OnOk result (Sent W.contents writer.old writer.new [] [] (text_of settings.now rules.now input.now)) }
+    ensures stopped { OnErr result (Stopped W.contents writer.old writer.new [] (text_of settings.now rules.now input.now)) }
+    ensures kind { IfErr result (IsWriteFault writer.old writer.new) }
+{
+    let span = Span {
+        start: 0,
+        end: input.len(),
+    };
+    let search = Plain::new(patterns, settings.pairing, input, span, Anchored::No);
+    send_text(
+        settings.mode,
+        settings.kind,
+        &search,
+        input,
+        rules,
+        output,
+        writer,
+    )?;
+    output.send_held(writer)
+}
+
+#[cfg(test)]
+mod tests;

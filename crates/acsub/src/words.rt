@@ -1,0 +1,478 @@
+//! The words of the command line.
+//!
+//! `acsub MODE RULES [--kind K] [--fold] [--pairs HEX] [--engine E] [--no-prefilter] [--dense-depth N] [--no-byte-classes]`
+//!
+//! clap splits the words, names the values that an argument takes and writes the help; what a value means is said here. The
+//! command stands as data in `specs/Command.antt`, so the contract of `read_words` says of all words what comes of them, by
+//! clap's own account of which words such a command takes and which value each argument then has.
+ghost use Rattle.std.specs.Prelude.{◌≡◌, ◌∷◌, [], ◌++◌, ◌<◌, ℕ, List, Some, IfOk, MatchResult, false, length, map, option_map, string_bytes};
+ghost use Rattle.clap.specs.Words.{app_of, first_of, found_of, items_of, rows_of, rule_of};
+ghost use Rattle.ac_input.specs.Pairing.{named};
+ghost use Rattle.acsub.specs.Command.{HasNames, Lists, command_with, flag, option, placed};
+ghost use Rattle.acsub.specs.Words.{Answers, IsFaultOf, IsPairedBy, IsTyped, Misspells, Parses, Reads, SpellsPairs, Unpairs};
+ghost use Rattle.acsub.specs.Words.{engine_named, engine_of, hex_fault, is_given, kind_named, match_kind_of, mode_named, mode_of};
+
+use crate::settings::{Engine, Mode, Settings};
+use ac_input::pairing::{Pairing, PairingError};
+use ac_input::search::MatchKind;
+use clap::builder::ValueParser;
+use clap::error::ErrorKind;
+use clap::{Arg, ArgAction, ArgMatches, Command};
+use hex::FromHexError;
+use std::alloc::{AllocError, Global};
+
+static MODES: [&str; 3] = ["replace", "list", "overlap"];
+
+static KINDS: [&str; 3] = ["standard", "leftmost-first", "leftmost-longest"];
+
+static ENGINES: [&str; 5] = ["auto", "noncontiguous", "contiguous", "dfa", "packed"];
+
+/// The greatest number that `--dense-depth` takes.
+const MOST_DEPTH: u64 = 2147483646;
+
+/// What a command line asks for.
+#[derive(Clone, Copy)]
+pub struct Words<'a> {
+    pub settings: Settings,
+    /// The path of the rule file.
+    pub rules: &'a str,
+}
+
+/// Why a command line asks for no run.
+#[derive(Debug, Drop)]
+pub enum WordsFault {
+    /// Help was asked for. The error is its text: `print` shows it.
+    Help(clap::Error),
+    /// The words are no command line of this program.
+    Bad,
+    /// There was no memory to read them.
+    Memory,
+    /// All else is well, but the pairs make no pairing.
+    Pairing(PairingError),
+}
+
+impl From<AllocError> for WordsFault {
+    ghost use Rattle.acsub.specs.declared.words.WordsFault.TheVariants.{Memory};
+
+    ghost from_gives = { λ _ fault. fault ≡ Memory };
+
+    fn from(_error: AllocError) -> WordsFault {
+        WordsFault::Memory
+    }
+}
+
+/// Reads the words of the command line, of which the first is the program's name.
+///
+/// A number takes a `+` before its digits, as Rust's integers do. `--pairs` beside `--fold` is bad, and so are pairs that are
+/// none; whether pairs name a byte twice is looked at last.
+pub fn read_words<'a>(alloc: Global, words: &'a [String]) -> Result<Words<'a>, WordsFault>
+    ensures { Reads (map string_bytes words.entry.now) result }
+{
+    let matches = parse(alloc, words)?;
+    asked_for(alloc, &matches)
+}
+
+// clap's part: which words belong to which argument, and whether they may stand there.
+fn parse<'a>(alloc: Global, words: &'a [String]) -> Result<ArgMatches<'a>, WordsFault>
+    ensures { Parses (map string_bytes words.entry.now) result }
+{
+    match command(alloc)?.try_get_matches_from(words) {
+        Ok(matches) => Ok(matches),
+        Err(error) => Err(fault_of(error)),
+    }
+}
+
+fn fault_of(error: clap::Error) -> WordsFault
+    ensures { IsFaultOf error result }
+{
+    match error.kind() {
+        ErrorKind::DisplayHelp => WordsFault::Help(error),
+        ErrorKind::OutOfMemory => WordsFault::Memory,
+        _ => WordsFault::Bad,
+    }
+}
+
+// A word that has its place among those that belong to no option.
+fn placed<'a>(alloc: Global, id: &'a str, name: &'a str, help: &'a str) -> Arg<'a>
+    ensures rule { rule_of result ≡ placed id.entry.now }
+    ensures own { result.global ≡ false }
+    ensures shown { (items_of result.val_names ≡ name.entry ∷ []) × (result.help ≡ Some help.entry) }
+{
+    Arg::new(alloc, id)
+        .value_name(name)
+        .help(help)
+        .action(ArgAction::Set)
+        .required(true)
+}
+
+// `--id NAME`
+fn option<'a>(alloc: Global, id: &'a str, name: &'a str, help: &'a str) -> Arg<'a>
+    ensures rule { rule_of result ≡ option id.entry.now }
+    ensures own { result.global ≡ false }
+    ensures shown { (items_of result.val_names ≡ name.entry ∷ []) × (result.help ≡ Some help.entry) }
+{
+    Arg::new(alloc, id)
+        .long(id)
+        .value_name(name)
+        .help(help)
+        .action(ArgAction::Set)
+}
+
+// `--id`
+fn flag<'a>(alloc: Global, id: &'a str, help: &'a str) -> Arg<'a>
+    ensures rule { rule_of result ≡ flag id.entry.now }
+    ensures own { result.global ≡ false }
+    ensures shown { result.help ≡ Some help.entry }
+{
+    Arg::new(alloc, id)
+        .long(id)
+        .help(help)
+        .action(ArgAction::SetTrue)
+}
+
+// The command line, as clap's builder makes it.
+fn command<'a>(alloc: Global) -> Result<Command<'a>, AllocError>
+    ensures { IfOk result (λ c. (lists : Lists) × HasNames lists × (app_of c ≡ command_with lists)) }
+{
+    let mode = placed(alloc, "mode", "MODE", "What to write").value_parser(MODES.as_slice());
+    let rules = placed(alloc, "rules", "RULES", "The rule file");
+    let kind = option(alloc, "kind", "K", "Which match is taken")
+        .value_parser(KINDS.as_slice())
+        .default_value("standard");
+    let fold = flag(alloc, "fold", "Match ASCII letters in either case");
+    let pairs = option(alloc, "pairs", "HEX", "Bytes that match each other");
+    let engine = option(alloc, "engine", "E", "What searches")
+        .value_parser(ENGINES.as_slice())
+        .default_value("auto");
+    let no_prefilter = flag(alloc, "no-prefilter", "Look at each place");
+    let depth = option(alloc, "dense-depth", "N", "States less deep are dense").value_parser(
+        ValueParser::unsigned(0, MOST_DEPTH),
+    );
+    let no_byte_classes = flag(alloc, "no-byte-classes", "Give each byte its own class");
+    Command::new(alloc, "acsub")
+        .about("Replaces, or lists, what the patterns of a rule file match in the input")
+        .arg(mode)?
+        .arg(rules)?
+        .arg(kind)?
+        .arg(fold)?
+        .arg(pairs)?
+        .arg(engine)?
+        .arg(no_prefilter)?
+        .arg(depth)?
+        .arg(no_byte_classes)
+}
+
+// What the matches ask for.
+fn asked_for<'a>(alloc: Global, matches: &ArgMatches<'a>) -> Result<Words<'a>, WordsFault>
+    requires { IsTyped (rows_of (found_of matches.now)) }
+    ensures { Answers (rows_of (found_of matches.now)) result }
+{
+    let settings = Settings {
+        mode: mode_of(matches).unwrap(),
+        kind: match_kind_of(matches).unwrap(),
+        pairing: pairing_of(alloc, matches)?,
+        engine: engine_of(matches).unwrap(),
+        prefilter: !is_given(matches, "no-prefilter"),
+        dense_depth: matches.get_one::<usize>("dense-depth"),
+        byte_classes: !is_given(matches, "no-byte-classes"),
+    };
+    Ok(Words {
+        settings,
+        rules: text_of(matches, "rules").unwrap(),
+    })
+}
+
+// The first value of an argument.
+fn text_of<'a>(matches: &ArgMatches<'a>, id: &str) -> Option<&'a str>
+    ensures { option_map (λ text. text.now) result ≡ first_of id.now (rows_of (found_of matches.now)) }
+{
+    matches.get_str(id)
+}
+
+fn mode_of(matches: &ArgMatches<'_>) -> Option<Mode>
+    ensures { result ≡ mode_of (rows_of (found_of matches.now)) }
+{
+    mode_named(text_of(matches, "mode")?)
+}
+
+fn match_kind_of(matches: &ArgMatches<'_>) -> Option<MatchKind>
+    ensures { result ≡ match_kind_of (rows_of (found_of matches.now)) }
+{
+    kind_named(text_of(matches, "kind")?)
+}
+
+fn engine_of(matches: &ArgMatches<'_>) -> Option<Engine>
+    ensures { result ≡ engine_of (rows_of (found_of matches.now)) }
+{
+    engine_named(text_of(matches, "engine")?)
+}
+
+fn mode_named(word: &str) -> Option<Mode>
+    ensures { result ≡ mode_named word.now }
+{
+    match word {
+        "replace" => Some(Mode::Replace),
+        "list" => Some(Mode::List),
+        "overlap" => Some(Mode::Overlap),
+        _ => None,
+    }
+}
+
+fn kind_named(word: &str) -> Option<MatchKind>
+    ensures { result ≡ kind_named word.now }
+{
+    match word {
+        "standard" => Some(MatchKind::Standard),
+        "leftmost-first" => Some(MatchKind::LeftmostFirst),
+        "leftmost-longest" => Some(MatchKind::LeftmostLongest),
+        _ => None,
+    }
+}
+
+fn engine_named(word: &str) -> Option<Engine>
+    ensures { result ≡ engine_named word.now }
+{
+    match word {
+        "auto" => Some(Engine::Auto),
+        "noncontiguous" => Some(Engine::Noncontiguous),
+        "contiguous" => Some(Engine::Contiguous),
+        "dfa" => Some(Engine::Dfa),
+        "packed" => Some(Engine::Packed),
+        _ => None,
+    }
+}
+
+// Whether the flag was given.
+fn is_given(matches: &ArgMatches<'_>, id: &str) -> bool
+    ensures { result ≡ is_given id.now (rows_of (found_of matches.now)) }
+{
+    match text_of(matches, id) {
+        Some(text) => text == "true",
+        None => false,
+    }
+}
+
+fn pairing_of(alloc: Global, matches: &ArgMatches<'_>) -> Result<Pairing, WordsFault>
+    ensures { let rows = rows_of (found_of matches.now) in MatchResult result (IsPairedBy rows) (Unpairs rows) }
+{
+    match (is_given(matches, "fold"), text_of(matches, "pairs")) {
+        (false, None) => Ok(Pairing::none()),
+        (true, None) => Ok(Pairing::ascii()),
+        (true, Some(_)) => Err(WordsFault::Bad),
+        (false, Some(hex)) => {
+            let pairs = pairs_of(alloc, hex)?;
+            Pairing::new(pairs.as_slice()).map_err(WordsFault::Pairing)
+        }
+    }
+}
+
+// The pairs that hex spells.
+fn pairs_of(alloc: Global, hex: &str) -> Result<Vec<(u8, u8)>, WordsFault>
+    ensures { MatchResult result (λ pairs. SpellsPairs hex.now pairs.items) (Misspells hex.now) }
+{
+    let bytes = match hex::decode(alloc, hex.as_bytes()) {
+        Ok(bytes) => bytes,
+        Err(error) => return Err(fault_of_hex(error)),
+    };
+    let count = bytes.len();
+    if count == 0 || count % 2 == 1 {
+        return Err(WordsFault::Bad);
+    }
+    Ok(two_by_two(alloc, bytes.as_slice())?)
+}
+
+fn fault_of_hex(error: FromHexError) -> WordsFault
+    ensures { result ≡ hex_fault error }
+{
+    match error {
+        FromHexError::OutOfMemory => WordsFault::Memory,
+        _ => WordsFault::Bad,
+    }
+}
+
+// The bytes two by two, and one that is left over.
+fn two_by_two(alloc: Global, bytes: &[u8]) -> Result<Vec<(u8, u8)>, AllocError>
+    ensures { IfOk result (λ pairs. (rest : List ℕ) × (bytes.now ≡ named pairs.items ++ rest) × (length rest < 2)) }
+{
+    let mut pairs = Vec::new(alloc);
+    let mut rest = bytes;
+    while let [a, b, more @ ..] = rest {
+        pairs.push((*a, *b))?;
+        rest = more;
+    }
+    Ok(pairs)
+}
+
+#[cfg(test)]
+mod tests {
+    use super::*;
+    use std::test::Fail;
+
+    // The words after the program's name, as the system hands them over.
+    fn line(alloc: Global, words: &[&str]) -> Result<Vec<String>, AllocError> {
+        let mut line = Vec::new(alloc);
+        line.push(String::from_str(alloc, "acsub")?)?;
+        for word in words {
+            line.push(String::from_str(alloc, word)?)?;
+        }
+        Ok(line)
+    }
+
+    // The settings of a line that asks for a run.
+    fn settings(rt: &HostRuntime, words: &[&str]) -> Result<Option<Settings>, AllocError> {
+        let line = line(rt.alloc(), words)?;
+        match read_words(rt.alloc(), line.as_slice()) {
+            Ok(read) => Ok(Some(read.settings)),
+            Err(_) => Ok(None),
+        }
+    }
+
+    fn is_bad(rt: &HostRuntime, words: &[&str]) -> Result<bool, AllocError> {
+        let line = line(rt.alloc(), words)?;
+        Ok(matches!(
+            read_words(rt.alloc(), line.as_slice()),
+            Err(WordsFault::Bad)
+        ))
+    }
+
+    // The byte that the pairs of a line name twice.
+    fn twice(rt: &HostRuntime, hex: &str) -> Result<Option<u8>, AllocError> {
+        let line = line(rt.alloc(), &["list", "rules", "--pairs", hex])?;
+        match read_words(rt.alloc(), line.as_slice()) {
+            Err(WordsFault::Pairing(PairingError::Twice(byte))) => Ok(Some(byte)),
+            _ => Ok(None),
+        }
+    }
+
+    #[test]
+    fn reads_the_defaults(rt: HostRuntime) -> Result<(), Fail> {
+        let line = line(rt.alloc(), &["replace", "some/rules"])?;
+        let read = match read_words(rt.alloc(), line.as_slice()) {
+            Ok(read) => read,
+            Err(_) => return Err(Fail::from("refused")),
+        };
+        assert!(rt; read.rules == "some/rules");
+        assert!(rt;
+            read.settings
+                == Settings {
+                    mode: Mode::Replace,
+                    kind: MatchKind::Standard,
+                    pairing: Pairing::none(),
+                    engine: Engine::Auto,
+                    prefilter: true,
+                    dense_depth: None,
+                    byte_classes: true,
+                }
+        );
+        Ok(())
+    }
+
+    #[test]
+    fn reads_each_name(rt: HostRuntime) -> Result<(), Fail> {
+        let modes = [
+            ("replace", Mode::Replace),
+            ("list", Mode::List),
+            ("overlap", Mode::Overlap),
+        ];
+        for (word, mode) in modes {
+            let read = settings(&rt, &[word, "rules"])?.ok_or("a mode")?;
+            assert!(rt; read.mode == mode, "{word}");
+        }
+        let kinds = [
+            ("standard", MatchKind::Standard),
+            ("leftmost-first", MatchKind::LeftmostFirst),
+            ("leftmost-longest", MatchKind::LeftmostLongest),
+        ];
+        for (word, kind) in kinds {
+            let read = settings(&rt, &["list", "rules", "--kind", word])?.ok_or("a kind")?;
+            assert!(rt; read.kind == kind, "{word}");
+        }
+        let engines = [
+            ("auto", Engine::Auto),
+            ("noncontiguous", Engine::Noncontiguous),
+            ("contiguous", Engine::Contiguous),
+            ("dfa", Engine::Dfa),
+            ("packed", Engine::Packed),
+        ];
+        for (word, engine) in engines {
+            let read = settings(&rt, &["list", "--engine", word, "rules"])?.ok_or("an engine")?;
+            assert!(rt; read.engine == engine, "{word}");
+        }
+        Ok(())
+    }
+
+    #[test]
+    fn reads_the_flags(rt: HostRuntime) -> Result<(), Fail> {
+        let read = settings(&rt, &["--no-prefilter", "list", "--fold", "rules"])?.ok_or("flags")?;
+        assert!(rt; !read.prefilter && read.byte_classes && read.pairing == Pairing::ascii());
+        let read = settings(&rt, &["list", "rules", "--no-byte-classes"])?.ok_or("a flag")?;
+        assert!(rt; read.prefilter && !read.byte_classes && read.pairing == Pairing::none());
+        Ok(())
+    }
+
+    #[test]
+    fn reads_a_depth(rt: HostRuntime) -> Result<(), Fail> {
+        for (word, depth) in [("0", 0), ("2147483646", 2147483646), ("+5", 5), ("007", 7)] {
+            let read = settings(&rt, &["list", "rules", "--dense-depth", word])?.ok_or("a depth")?;
+            assert!(rt; read.dense_depth == Some(depth), "{word}");
+        }
+        for word in ["2147483647", "-1", "x", "", "18446744073709551616"] {
+            assert!(rt;
+                is_bad(&rt, &["list", "rules", "--dense-depth", word])?,
+                "{word}"
+            );
+        }
+        Ok(())
+    }
+
+    #[test]
+    fn reads_pairs(rt: HostRuntime) -> Result<(), Fail> {
+        let read = settings(&rt, &["list", "rules", "--pairs", "3031fFaB"])?.ok_or("pairs")?;
+        for (byte, partner) in [
+            (0x30, 0x31),
+            (0x31, 0x30),
+            (0xff, 0xab),
+            (0xab, 0xff),
+            (0x32, 0x32),
+        ] {
+            assert!(rt; read.pairing.other(byte) == partner, "{byte}");
+        }
+        assert!(rt; twice(&rt, "30313132")? == Some(49));
+        assert!(rt; twice(&rt, "3030")? == Some(48));
+        Ok(())
+    }
+
+    #[test]
+    fn refuses_bad_words(rt: HostRuntime) -> Result<(), Fail> {
+        for hex in ["303", "303132", "", "zz", "zzzz", "30 1"] {
+            assert!(rt; is_bad(&rt, &["list", "rules", "--pairs", hex])?, "{hex}");
+        }
+        assert!(rt; is_bad(&rt, &["list", "rules", "--pairs", "3031", "--fold"])?);
+        assert!(rt; is_bad(&rt, &["list", "rules", "--pairs", "3030", "--fold"])?);
+        assert!(rt;
+            is_bad(
+                &rt,
+                &["list", "rules", "--pairs", "3030", "--engine", "nope"]
+            )?
+        );
+        assert!(rt; is_bad(&rt, &[])?);
+        assert!(rt; is_bad(&rt, &["list"])?);
+        assert!(rt; is_bad(&rt, &["find", "rules"])?);
+        assert!(rt; is_bad(&rt, &["list", "rules", "more"])?);
+        assert!(rt; is_bad(&rt, &["list", "rules", "--fold", "--fold"])?);
+        assert!(rt; is_bad(&rt, &["list", "rules", "--kind", "longest"])?);
+        Ok(())
+    }
+
+    #[test]
+    fn shows_help(rt: HostRuntime) -> Result<(), Fail> {
+        for words in [&["--help"].as_slice(), &["list", "-h"].as_slice()] {
+            let line = line(rt.alloc(), words)?;
+            match read_words(rt.alloc(), line.as_slice()) {
+                Err(WordsFault::Help(error)) => assert!(rt; error.exit_code() == 0),
+                _ => return Err(Fail::from("no help")),
+            }
+        }
+        Ok(())
+    }
+}

@@ -7,4 +7,10 @@ pub mod WalkLemmas
 pub mod ListingLemmas
 pub mod TextLemmas
 pub mod RuleLemmas
+pub mod BeginningLemmas
+pub mod CutLemmas
+pub mod SameLemmas
+pub mod LiveLemmas
+pub mod ShiftLemmas
+pub mod StateLemmas
 pub mod Rows

@@ -13,3 +13,8 @@ pub mod Chain
 pub mod Rules
 pub mod Computed
 pub mod Laws
+pub mod BeginningLaws
+pub mod LiveLaws
+pub mod Number
+pub mod Steps
+pub mod Input

@@ -37,6 +37,15 @@ impl Count {
     {
         Self { times: PhantomData }
     }
+
+    /// It has happened so many times more.
+    pub fn more(&self, times: &usize) -> Count
+        ensures { result.value ≡ self.now.value + times.now }
+    {
+        Self {
+            times: PhantomData::<()>,
+        }
+    }
 }
 
 /// Pieces of bytes, in the order in which they came. It takes no memory.

@@ -3,11 +3,15 @@
 //!
 //! The definitions are in `specs/`. They name no trie, hash or buffer: an occurrence is a pattern that lies in a span of the
 //! haystack, the best one is the least in the order of the kind, a walk takes the best from where it stands. The laws about
-//! them are the contracts of the functions of [`laws`].
+//! them are the contracts of the functions of [`laws`], [`beginning_laws`] and [`live_laws`].
 #![tactic(auto)]
 
+pub mod alphabet;
+pub mod beginning_laws;
 pub mod history;
 pub mod laws;
+pub mod live_laws;
 pub mod pairing;
 pub mod primitives;
 pub mod search;
+pub mod steps;

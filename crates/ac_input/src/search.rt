@@ -2,11 +2,14 @@
 //!
 //! A haystack is searched within a [`Span`]. A pattern may lie at many places of it, and patterns may overlap: the [`MatchKind`]
 //! says which of them is the match. A [`Match`] tells the pattern by its number, and where it lies.
-ghost use Rattle.std.specs.Prelude.{◌≡◌, ◌+◌, ◌-◌, ◌^◌, ◌<◌, ◌≤◌, ◌↔◌, IsTrue, true, false};
+ghost use Rattle.std.specs.Prelude.{◌≡◌, ◌+◌, ◌-◌, ◌^◌, ◌<◌, ◌≤◌, ◌↔◌, length, slice_range, IsCharBoundary, IsTrue, true, false};
 ghost use Rattle.ac_input.specs.Occurrence.{Occurrence};
 ghost use Rattle.ac_input.specs.Best.{asked_kind};
 
+pub mod input;
+
 use crate::primitives::PatternID;
+pub use input::Input;
 use std::marker::Model;
 use std::ops::Range;
 
@@ -103,6 +106,25 @@ impl Span {
         self.start <= at && at < self.end
     }
 
+    /// The bytes of the haystack that are in it.
+    pub fn of<'h>(&self, haystack: &'h [u8]) -> &'h [u8]
+        requires order { self.now.start ≤ self.now.end }
+        requires within { self.now.end ≤ length haystack.now }
+        ensures { result.now ≡ slice_range haystack.now self.now.start self.now.end }
+    {
+        &haystack[self.start..self.end]
+    }
+
+    /// The text that is in it. It starts and ends between characters.
+    pub fn of_text<'h>(&self, text: &'h str) -> &'h str
+        requires order { self.now.start ≤ self.now.end }
+        requires start { IsCharBoundary text.now self.now.start }
+        requires end { IsCharBoundary text.now self.now.end }
+        ensures { result.now ≡ slice_range text.now self.now.start self.now.end }
+    {
+        &text[self.start..self.end]
+    }
+
     /// The span so many bytes further on.
     pub fn offset(&self, bytes: usize) -> Span
         requires start { self.now.start + bytes < 2 ^ 64 }
@@ -113,6 +135,25 @@ impl Span {
             start: self.start + bytes,
             end: self.end + bytes,
         }
+    }
+}
+
+impl From<Range<usize>> for Span {
+    ghost from_gives = { λ range span. span ≡ record { start = range.start; end = range.end } };
+
+    fn from(range: Range<usize>) -> Span {
+        Span {
+            start: range.start,
+            end: range.end,
+        }
+    }
+}
+
+impl From<Span> for Range<usize> {
+    ghost from_gives = { λ span range. range ≡ record { start = span.start; end = span.end } };
+
+    fn from(span: Span) -> Range<usize> {
+        span.range()
     }
 }
 
@@ -153,10 +194,7 @@ impl Match {
     {
         Match {
             pattern: PatternID::must(pattern),
-            span: Span {
-                start: range.start,
-                end: range.end,
-            },
+            span: Span::from(range),
         }
     }
 

@@ -2,6 +2,7 @@
 use Rattle.std.specs.Prelude.{◌≡◌, ◌≢◌, ℕ, ◌+◌, ◌<◌, List, [], ◌++◌, length, false, Result, Option, Ok, Err}
 use Rattle.std.specs.Io.KnownBytes.{Appends, Consumes, IsAtEnd}
 use Rattle.std.specs.List.{concat}
+use Rattle.ac_input.specs.BeginningLaws.{IsBeginning}
 use Rattle.ac_input.specs.declared.search.MatchKind.{MatchKind}
 use Rattle.ac_input.specs.Occurrence.{Search}
 use Rattle.ac_input.specs.Text.{replaced_from, listed}
@@ -53,10 +54,6 @@ pub record Tells {R W : Type 0} (remaining : R → Option (List ℕ)) (contents 
   pub reader_device : Consumes (remaining (inner_of reader_before)) (remaining (inner_of reader_after)) (concat m.pieces)
   pub reader_end : m.failed_reads ≡ 0 → AreWhole m.pieces → IsAtEnd (remaining (inner_of reader_after))
   pub writer_device : Appends (contents (inner_of writer_before)) (contents (inner_of writer_after)) m.taken
-
--- a beginning of a text
-abbrev pub IsBeginning : List ℕ → List ℕ → Type 0
-IsBeginning front text = (more : List ℕ) × (text ≡ front ++ more)
 
 -- so many reads failed, so many writes, and so many of those took no byte
 abbrev pub Failed : Moved → ℕ → ℕ → ℕ → Type 0

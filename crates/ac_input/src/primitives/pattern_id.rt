@@ -1,6 +1,8 @@
 //! The numbers of patterns.
-ghost use Rattle.std.specs.Prelude.{◌≡◌, ◌+◌, ◌≤◌, ◌↔◌, ◌++◌, IsOk, IfOk, IfErr, Some, codes, decimal};
+ghost use Rattle.std.specs.Prelude.{◌≡◌, ◌+◌, ◌<◌, ◌≤◌, ◌↔◌, ◌++◌, ◌≤ℤ◌, pos, length, slice_get, IsOk, IfOk, IfErr, Some, codes, decimal};
+ghost use Rattle.ac_input.specs.Number.{IsTried};
 
+use crate::primitives::SmallIndex;
 use std::error::Error;
 use std::fmt;
 use std::marker::Model;
@@ -88,12 +90,84 @@ impl PatternID {
         self.index
     }
 
+    /// The number as `i32`.
+    pub fn as_i32(&self) -> i32
+        ensures value { result ≡ pos self.now }
+        ensures fits { result ≤ℤ pos 2147483646 }
+    {
+        self.index as i32
+    }
+
+    /// What stands at this place in the slice.
+    pub fn of<'a, T>(&self, items: &'a [T]) -> &'a T
+        requires { self.now < length items.now }
+        ensures { Some result.now ≡ slice_get items.now self.now }
+    {
+        &items[self.as_usize()]
+    }
+
     /// The number after this one, which may be past the greatest.
     pub fn one_more(&self) -> usize
         ensures value { result ≡ self.now + 1 }
         ensures fits { result ≤ 2147483647 }
     {
         self.index as usize + 1
+    }
+}
+
+impl From<u8> for PatternID {
+    ghost from_gives = { λ byte made. made ≡ byte };
+
+    fn from(byte: u8) -> PatternID {
+        PatternID::must(byte as usize)
+    }
+}
+
+impl TryFrom<u16> for PatternID {
+    type Error = PatternIDError;
+
+    ghost try_from_gives = { IsTried };
+
+    fn try_from(number: u16) -> Result<PatternID, PatternIDError> {
+        PatternID::new(number as usize)
+    }
+}
+
+impl TryFrom<u32> for PatternID {
+    type Error = PatternIDError;
+
+    ghost try_from_gives = { IsTried };
+
+    fn try_from(number: u32) -> Result<PatternID, PatternIDError> {
+        PatternID::new(number as usize)
+    }
+}
+
+impl TryFrom<u64> for PatternID {
+    type Error = PatternIDError;
+
+    ghost try_from_gives = { IsTried };
+
+    fn try_from(number: u64) -> Result<PatternID, PatternIDError> {
+        PatternID::new(number as usize)
+    }
+}
+
+impl TryFrom<usize> for PatternID {
+    type Error = PatternIDError;
+
+    ghost try_from_gives = { IsTried };
+
+    fn try_from(number: usize) -> Result<PatternID, PatternIDError> {
+        PatternID::new(number)
+    }
+}
+
+impl From<SmallIndex> for PatternID {
+    ghost from_gives = { λ number made. made ≡ number };
+
+    fn from(number: SmallIndex) -> PatternID {
+        PatternID::must(number.as_usize())
     }
 }
 

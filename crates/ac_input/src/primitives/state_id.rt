@@ -1,6 +1,8 @@
 //! The numbers of states.
-ghost use Rattle.std.specs.Prelude.{◌≡◌, ◌+◌, ◌≤◌, ◌↔◌, ◌++◌, IsOk, IfOk, IfErr, Some, codes, decimal};
+ghost use Rattle.std.specs.Prelude.{◌≡◌, ◌+◌, ◌<◌, ◌≤◌, ◌↔◌, ◌++◌, ◌≤ℤ◌, pos, length, slice_get, IsOk, IfOk, IfErr, Some, codes, decimal};
+ghost use Rattle.ac_input.specs.Number.{IsTried};
 
+use crate::primitives::SmallIndex;
 use std::error::Error;
 use std::fmt;
 use std::marker::Model;
@@ -88,12 +90,84 @@ impl StateID {
         self.index
     }
 
+    /// The number as `i32`.
+    pub fn as_i32(&self) -> i32
+        ensures value { result ≡ pos self.now }
+        ensures fits { result ≤ℤ pos 2147483646 }
+    {
+        self.index as i32
+    }
+
+    /// What stands at this place in the slice.
+    pub fn of<'a, T>(&self, items: &'a [T]) -> &'a T
+        requires { self.now < length items.now }
+        ensures { Some result.now ≡ slice_get items.now self.now }
+    {
+        &items[self.as_usize()]
+    }
+
     /// The number after this one, which may be past the greatest.
     pub fn one_more(&self) -> usize
         ensures value { result ≡ self.now + 1 }
         ensures fits { result ≤ 2147483647 }
     {
         self.index as usize + 1
+    }
+}
+
+impl From<u8> for StateID {
+    ghost from_gives = { λ byte made. made ≡ byte };
+
+    fn from(byte: u8) -> StateID {
+        StateID::must(byte as usize)
+    }
+}
+
+impl TryFrom<u16> for StateID {
+    type Error = StateIDError;
+
+    ghost try_from_gives = { IsTried };
+
+    fn try_from(number: u16) -> Result<StateID, StateIDError> {
+        StateID::new(number as usize)
+    }
+}
+
+impl TryFrom<u32> for StateID {
+    type Error = StateIDError;
+
+    ghost try_from_gives = { IsTried };
+
+    fn try_from(number: u32) -> Result<StateID, StateIDError> {
+        StateID::new(number as usize)
+    }
+}
+
+impl TryFrom<u64> for StateID {
+    type Error = StateIDError;
+
+    ghost try_from_gives = { IsTried };
+
+    fn try_from(number: u64) -> Result<StateID, StateIDError> {
+        StateID::new(number as usize)
+    }
+}
+
+impl TryFrom<usize> for StateID {
+    type Error = StateIDError;
+
+    ghost try_from_gives = { IsTried };
+
+    fn try_from(number: usize) -> Result<StateID, StateIDError> {
+        StateID::new(number)
+    }
+}
+
+impl From<SmallIndex> for StateID {
+    ghost from_gives = { λ number made. made ≡ number };
+
+    fn from(number: SmallIndex) -> StateID {
+        StateID::must(number.as_usize())
     }
 }
 

@@ -118,3 +118,52 @@ fn state_past_the_greatest(rt: HostRuntime) -> Result<(), Fail> {
     assert_eq!(rt; refused.clone()?, refused);
     Ok(())
 }
+
+#[test]
+fn small_numbers_convert(rt: HostRuntime) -> Result<(), Fail> {
+    let index = SmallIndex::from(255u8);
+    assert_eq!(rt; index.as_usize(), 255);
+    assert_eq!(rt; index.as_i32(), 255);
+    assert_eq!(rt; SmallIndex::MAX.as_i32(), 2147483646);
+    assert_eq!(rt; PatternID::MAX.as_i32(), 2147483646);
+    assert_eq!(rt; StateID::MAX.as_i32(), 2147483646);
+    assert_eq!(rt; SmallIndex::try_from(65535u16)?, SmallIndex::must(65535));
+    assert_eq!(rt; PatternID::try_from(65535u16)?, PatternID::must(65535));
+    assert_eq!(rt; StateID::try_from(65535u16)?, StateID::must(65535));
+    assert_eq!(rt; PatternID::from(index), PatternID::from(255u8));
+    assert_eq!(rt; StateID::from(index), StateID::from(255u8));
+    assert_eq!(rt; SmallIndex::from(PatternID::MAX), SmallIndex::MAX);
+    assert_eq!(rt; SmallIndex::from(StateID::MAX), SmallIndex::MAX);
+    Ok(())
+}
+
+#[test]
+fn large_numbers_are_refused(rt: HostRuntime) {
+    for (number, fits) in [
+        (2147483646u32, true),
+        (2147483647, false),
+        (u32::MAX, false),
+    ] {
+        let wide = number as u64;
+        let size = number as usize;
+        assert_eq!(rt; SmallIndex::try_from(number).is_ok(), fits, "{number}");
+        assert_eq!(rt; PatternID::try_from(number).is_ok(), fits, "{number}");
+        assert_eq!(rt; StateID::try_from(number).is_ok(), fits, "{number}");
+        assert_eq!(rt; SmallIndex::try_from(wide).is_ok(), fits, "{number}");
+        assert_eq!(rt; PatternID::try_from(wide).is_ok(), fits, "{number}");
+        assert_eq!(rt; StateID::try_from(wide).is_ok(), fits, "{number}");
+        assert_eq!(rt; SmallIndex::try_from(size).is_ok(), fits, "{number}");
+        assert_eq!(rt; PatternID::try_from(size).is_ok(), fits, "{number}");
+        assert_eq!(rt; StateID::try_from(size).is_ok(), fits, "{number}");
+    }
+    let refused = PatternID::try_from(u64::MAX).err();
+    assert_eq!(rt; refused.map(|error| error.attempted()), Some(u64::MAX));
+}
+
+#[test]
+fn elements(rt: HostRuntime) {
+    let letters = ['a', 'b', 'c'];
+    assert_eq!(rt; *SmallIndex::must(0).of(&letters), 'a');
+    assert_eq!(rt; *PatternID::must(1).of(&letters), 'b');
+    assert_eq!(rt; *StateID::must(2).of(&letters), 'c');
+}

@@ -1,0 +1,5 @@
+use Rattle.ac_input.proofs.LiveLemmas.{dead-append}
+use Rattle.ac_input.proofs.live_laws.dead_stays_dead.Goals as goal
+
+pub returns : goal.returns
+returns c = dead-append

@@ -1,0 +1,53 @@
+//! What a search costs, as contracts count it.
+//!
+//! A counted call moves a [`Steps`] on: by the states that it looked at, the places that its byte scans covered, and the bytes
+//! that it copied within a stream's buffer. The counts are seen by contracts alone: they take no memory, and have no greatest
+//! value. So a bound on the work of a search is a clause like any other.
+ghost use Rattle.ac_input.specs.Steps.{AreNone, Done};
+
+use crate::history::Count;
+
+/// How much was done: states looked at, places scanned, bytes moved. It takes no memory.
+#[derive(Drop)]
+pub struct Steps {
+    looked: Count,
+    scanned: Count,
+    moved: Count,
+}
+
+impl Steps {
+    /// Nothing was done yet.
+    pub fn new() -> Steps
+        ensures { AreNone result }
+    {
+        Steps {
+            looked: Count::zero(),
+            scanned: Count::zero(),
+            moved: Count::zero(),
+        }
+    }
+
+    /// One more state was looked at, for a byte.
+    pub fn look(&mut self)
+        ensures { Done 1 0 0 self.old self.new }
+    {
+        self.looked = self.looked.next();
+    }
+
+    /// So many more places were covered by a byte scan.
+    pub fn scan(&mut self, places: usize)
+        ensures { Done 0 places 0 self.old self.new }
+    {
+        self.scanned = self.scanned.more(&places);
+    }
+
+    /// So many more bytes were copied within a stream's buffer.
+    pub fn shift(&mut self, bytes: usize)
+        ensures { Done 0 0 bytes self.old self.new }
+    {
+        self.moved = self.moved.more(&bytes);
+    }
+}
+
+#[cfg(test)]
+mod tests;

@@ -14,3 +14,4 @@ pub mod LiveLemmas
 pub mod ShiftLemmas
 pub mod StateLemmas
 pub mod Rows
+pub mod AlphabetLemmas

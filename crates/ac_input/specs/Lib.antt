@@ -18,3 +18,4 @@ pub mod LiveLaws
 pub mod Number
 pub mod Steps
 pub mod Input
+pub mod Alphabet

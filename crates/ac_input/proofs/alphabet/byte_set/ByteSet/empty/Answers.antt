@@ -1,0 +1,5 @@
+use Rattle.ac_input.proofs.AlphabetLemmas.{has-none}
+use Rattle.ac_input.proofs.alphabet.byte_set.ByteSet.empty.Goals as goal
+
+pub returns : goal.returns
+returns c = has-none 256

@@ -1,2 +1,10 @@
 pub mod Watched
 pub mod Errors
+pub mod Automaton
+pub mod Find
+pub mod Ahead
+pub mod Stretch
+pub mod Iter
+pub mod PlainAutomaton
+pub mod Overlapping
+pub mod OverlappingIter

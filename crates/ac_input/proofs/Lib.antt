@@ -12,6 +12,8 @@ pub mod CutLemmas
 pub mod SameLemmas
 pub mod LiveLemmas
 pub mod ShiftLemmas
+pub mod SpanLemmas
+pub mod UnpairedLemmas
 pub mod StateLemmas
 pub mod Rows
 pub mod AlphabetLemmas

@@ -14,6 +14,7 @@ use Rattle.ac_input.specs.Machine.{Machine, IsPattern, Begins, IsEntered, Begins
 use Rattle.ac_input.specs.Computed.{best_of}
 use Rattle.ac_input.specs.LiveLaws.{IsOwnInverse}
 use Rattle.ac_input.proofs.OrderLemmas.{preference-same, occurs-end}
+use Rattle.ac_input.proofs.BeginningLemmas.{occurs-longer, longer-occurs}
 use Rattle.ac_input.proofs.BestLemmas.{lying, IsLeast-stronger, best_of-best, best-unique}
 use Rattle.ac_input.proofs.SameLemmas.{same_text-take, same_text-back, same_text-transitive}
 
@@ -42,35 +43,13 @@ BeginsEntered-from m (b ∷ bs) n p e h = (n, p, e, h)
 
 -- ---- occurrences in a text and more
 
--- a part of a text is a part of the text and more
-slice_range-append : (text more : List ℕ) (a b : ℕ) → a ≤ b → b ≤ length text → slice_range (text ++ more) a b ≡ slice_range text a b
-slice_range-append text more a b g h =
-    let d = length-drop a text in
-    let e : drop a (text ++ more) ≡ drop a text ++ more = drop-append-le a text more (omega arith) in
-    ap (take (b - a)) e ∙ take-append-le (b - a) (drop a text) more (omega arith)
-
 -- what occurs in a text occurs in the text and more
 pub occurs-append : (m : Machine) (anchored : Bool) (text more : List ℕ) (o : Occurrence) → Occurs (whole m text anchored) o → Occurs (whole m (text ++ more) anchored) o
-occurs-append m anchored text more o h =
-    let both = length-append text more in
-    let w = h.within in
-    let part = slice_range-append text more o.start o.end w.1 w.2 in
-    record {
-      within = (w.0, w.1, omega arith);
-      same = (h.same.0, h.same.1, subst (λ (xs : List ℕ). IsTrue (same_text m.pairing h.same.0 xs)) (sym part) h.same.2);
-      anchor = h.anchor;
-    }
+occurs-append m anchored text more o h = occurs-longer (whole m text anchored) more (length (text ++ more)) o (omega arith) (omega (arith, length-append text more)) h
 
 -- what occurs in a text and more occurs in the text where it ends in it
 pub occurs-front : (m : Machine) (anchored : Bool) (text more : List ℕ) (o : Occurrence) → o.end ≤ length text → Occurs (whole m (text ++ more) anchored) o → Occurs (whole m text anchored) o
-occurs-front m anchored text more o inside h =
-    let w = h.within in
-    let part = slice_range-append text more o.start o.end w.1 inside in
-    record {
-      within = (w.0, w.1, inside);
-      same = (h.same.0, h.same.1, subst (λ (xs : List ℕ). IsTrue (same_text m.pairing h.same.0 xs)) part h.same.2);
-      anchor = h.anchor;
-    }
+occurs-front m anchored text more o inside h = longer-occurs (whole m text anchored) more (length (text ++ more)) o (omega arith) inside h
 
 -- a machine's whole text has a best or none
 pub whole-best : (kind : MatchKind) (m : Machine) (text : List ℕ) (anchored : Bool) → (r : Option Occurrence) × IsBest kind (whole m text anchored) r

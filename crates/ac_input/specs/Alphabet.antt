@@ -15,10 +15,6 @@ count_below set (suc n) = count_below set n + (if has set n then 1 else 0)
 unfoldable pub set_len : List Bool → ℕ
 set_len set = count_below set 256
 
--- A table of 256 flags says where classes end: behind a byte whose flag is up, so that the byte after it is in another class.
-abbrev pub is_boundary : List Bool → ℕ → Bool
-is_boundary boundaries byte = has boundaries byte
-
 -- a range, both of whose ends are in it, holds the byte
 abbrev pub is_within : ℕ → ℕ → ℕ → Bool
 is_within start end byte = nat_le start byte && nat_le byte end
@@ -41,11 +37,11 @@ pub record IsClasses (classes : List ℕ) : Type 0 where
   pub first : class classes 0 ≡ 0
   pub next : (b : ℕ) → b < 255 → (class classes (b + 1) ≡ class classes b) ⊎ (class classes (b + 1) ≡ class classes b + 1)
 
--- The classes that boundaries make: the class of byte 0 is 0, and a byte is in the class of the one before it where no boundary
--- is between them, else in the next.
+-- The classes that boundaries make. The boundaries are the set of the bytes behind which a class ends: the class of byte 0 is 0,
+-- and a byte is in the class of the one before it where that is no boundary, else in the next.
 pub record AreClassesOf (boundaries : List Bool) (classes : List ℕ) : Type 0 where
   pub first : class classes 0 ≡ 0
-  pub next : (b : ℕ) → b < 255 → class classes (b + 1) ≡ class classes b + (if is_boundary boundaries b then 1 else 0)
+  pub next : (b : ℕ) → b < 255 → class classes (b + 1) ≡ class classes b + (if has boundaries b then 1 else 0)
 
 -- how many classes there are: one more than the class of the last byte
 abbrev pub alphabet_len : List ℕ → ℕ

@@ -1,8 +1,10 @@
 -- What a search is asked.
-use Rattle.std.specs.Prelude.{ℕ, ◌+◌, ◌≤◌, Bool, false, List, length}
+use Rattle.std.specs.Prelude.{ℕ, ◌+◌, ◌≤◌, Bool, true, false, List, length}
 use Rattle.ac_input.specs.declared.search.Span.{Span}
 use Rattle.ac_input.specs.declared.search.Anchored.{Anchored}
-use Rattle.ac_input.specs.declared.search.Anchored.TheVariants.{No}
+use Rattle.ac_input.specs.declared.search.Anchored.TheVariants.{No, Yes}
+use Rattle.ac_input.specs.Occurrence.{Search}
+use Rattle.ac_input.specs.Machine.{Machine}
 
 -- a haystack, the span of it that is searched, whether a match starts where the span starts, and whether the first end will do
 pub record Asked : Type 0 where
@@ -18,3 +20,20 @@ IsSpanOf haystack span = (span.start ≤ span.end + 1) × (span.end ≤ length h
 -- at first the whole haystack is searched, a match may start anywhere, and the match of the kind is asked
 abbrev pub whole_of : List ℕ → Asked
 whole_of haystack = record { haystack = haystack; span = record { start = 0; end = length haystack }; anchored = No; earliest = false }
+
+-- whether a search has to match at its start
+abbrev pub is_anchored : Anchored → Bool
+is_anchored No = false
+is_anchored Yes = true
+
+-- the search of what is asked, for what the machine is made from
+abbrev pub search_in : Machine → Asked → Search
+search_in m asked =
+    record {
+      patterns = m.patterns;
+      pairing = m.pairing;
+      haystack = asked.haystack;
+      start = asked.span.start;
+      end = asked.span.end;
+      anchored = is_anchored asked.anchored;
+    }

@@ -10,7 +10,7 @@ use Rattle.ac_input.specs.Walk.{IsPick, IsWalk}
 use Rattle.ac_input.specs.Listing.{IsListing}
 use Rattle.ac_input.specs.Text.{replaced_from, listed}
 use Rattle.ac_input.specs.Rules.{Rule, IsRuleFile, FirstBadLine}
-use Rattle.ac_input.specs.Computed.{occurrences, best_of, pick_of, walk_after, listing_of}
+use Rattle.ac_input.specs.Computed.{occurrences, best_of, pick_of, walk_after, walk_of, listing_of}
 
 -- Each begins where the one before it ended or later, and later than that one began; none is empty and just where the one
 -- before it ended.
@@ -99,3 +99,11 @@ abbrev pub BadLineIsOne : Type 0
 BadLineIsOne =
     ((text : List ℕ) (one other : ℕ) → FirstBadLine text one → FirstBadLine text other → one ≡ other)
     × ((text : List ℕ) (n : ℕ) (rules : List Rule) → IsRuleFile text rules → ¬ FirstBadLine text n)
+
+-- Pairings that pair nothing search alike: the best is the same, and so are the walks.
+abbrev pub UnpairedSearchAlike : Type 0
+UnpairedSearchAlike =
+    (kind : MatchKind) (s : Search) (one another : List ℕ) → IsUnpaired one → IsUnpaired another
+    → ((r : Option Occurrence) → IsBest kind (record s { pairing = one }) r ↔ IsBest kind (record s { pairing = another }) r)
+    × ((at : ℕ) (last : Option ℕ) → walk_after kind (record s { pairing = one }) at last ≡ walk_after kind (record s { pairing = another }) at last)
+    × (walk_of kind (record s { pairing = one }) ≡ walk_of kind (record s { pairing = another }))

@@ -19,3 +19,4 @@ pub mod Number
 pub mod Steps
 pub mod Input
 pub mod Alphabet
+pub mod Work

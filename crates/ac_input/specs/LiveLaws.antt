@@ -1,12 +1,14 @@
--- The laws of live prefixes: what stays live as a text grows, and what a dead or a live text says of its best.
-use Rattle.std.specs.Prelude.{◌≡◌, ◌≢◌, ◌↔◌, ℕ, ◌+◌, ◌≤◌, min, map, Bool, false, List, ◌++◌, length, drop, IsTrue, Option, Some, None}
+-- The laws of live prefixes: what stays live as a text grows, and what a dead or a live text says of its best. And those of
+-- spans: what a search of a part of a haystack has of a search of that part alone.
+use Rattle.std.specs.Prelude.{◌≡◌, ◌≢◌, ◌↔◌, ℕ, ◌+◌, ◌≤◌, min, map, Bool, false, List, ◌++◌, length, drop, slice_range, IsTrue, Option, Some, None}
 use Rattle.ac_input.specs.declared.search.MatchKind.{MatchKind}
 use Rattle.ac_input.specs.declared.search.MatchKind.TheVariants.{Standard}
 use Rattle.ac_input.specs.Same.{other, same, same_text}
 use Rattle.ac_input.specs.Pairing.{IsPairing}
-use Rattle.ac_input.specs.Occurrence.{Occurrence, Occurs}
+use Rattle.ac_input.specs.Occurrence.{Search, Occurrence, Occurs, starting_at}
 use Rattle.ac_input.specs.Best.{IsBest, asked_kind}
-use Rattle.ac_input.specs.Machine.{Machine, IsPattern, IsEntered, BeginsEntered, whole, IsAlive, IsLive}
+use Rattle.ac_input.specs.Machine.{Machine, IsPattern, IsEntered, BeginsEntered, whole, IsSearchBy, IsAlive, IsLive}
+use Rattle.ac_input.specs.Laws.{IsInside}
 
 -- each byte is the partner of its partner
 abbrev pub IsOwnInverse : List ℕ → Type 0
@@ -109,3 +111,30 @@ LiveTellsTheNew = (m : Machine) (kind : MatchKind) (text more : List ℕ) (from 
 -- every text that has it.
 abbrev pub LiveTellsTheLive : Type 0
 LiveTellsTheLive = (m : Machine) (text more : List ℕ) (from : ℕ) (r : Option ℕ) → IsOwnInverse m.pairing → IsLive m false text (Some from) → IsLive m false (drop from text ++ more) r ↔ IsLive m false (text ++ more) (shifted_place from r)
+
+-- What occurs in a search and ends at a place of its span or before is what occurs in the whole of the text up to there, from
+-- the span's start on: each is so many bytes further on.
+abbrev pub SpanIsAWhole : Type 0
+SpanIsAWhole =
+    (m : Machine) (s : Search) (at : ℕ) (o : Occurrence) → IsSearchBy m s → s.start ≤ at → at ≤ s.end → IsInside s
+    → (Occurs s o × (o.end ≤ at)) ↔ ((inner : Occurrence) × Occurs (whole m (slice_range s.haystack s.start at) s.anchored) inner × (o ≡ shifted s.start inner))
+
+-- So the best of a search is the best of the whole of its span, so many bytes further on, and there is no other one.
+abbrev pub BestOfSpanIsShifted : Type 0
+BestOfSpanIsShifted =
+    (kind : MatchKind) (m : Machine) (s : Search) → IsSearchBy m s → s.start ≤ s.end → IsInside s
+    → ((r : Option Occurrence) → IsBest kind (whole m (slice_range s.haystack s.start s.end) s.anchored) r ↔ IsBest kind s (shifted_best s.start r))
+    × ((r : Option Occurrence) → IsBest kind s r → (inner : Option Occurrence) × IsBest kind (whole m (slice_range s.haystack s.start s.end) s.anchored) inner × (r ≡ shifted_best s.start inner))
+
+-- What starts at a place of the span or later is what occurs in the whole of the rest of the span, so many bytes further on,
+-- where the search isn't anchored.
+abbrev pub RestOfSpanIsAWhole : Type 0
+RestOfSpanIsAWhole =
+    (m : Machine) (s : Search) (from : ℕ) (o : Occurrence) → IsSearchBy m s → s.anchored ≡ false → s.start ≤ from → from ≤ s.end → IsInside s
+    → (Occurs s o × (from ≤ o.start)) ↔ ((inner : Occurrence) × Occurs (whole m (slice_range s.haystack from s.end) false) inner × (o ≡ shifted from inner))
+
+-- And the best from that place on is the best of that whole.
+abbrev pub BestOfRestIsShifted : Type 0
+BestOfRestIsShifted =
+    (kind : MatchKind) (m : Machine) (s : Search) (from : ℕ) (r : Option Occurrence) → IsSearchBy m s → s.anchored ≡ false → from ≤ s.end → IsInside s
+    → IsBest kind (whole m (slice_range s.haystack from s.end) false) r ↔ IsBest kind (starting_at s from) (shifted_best from r)

@@ -25,3 +25,7 @@ pub record Done (states places bytes : ℕ) (before after : Steps) : Type 0 wher
   pub looked : looked_of after ≡ looked_of before + states
   pub scanned : scanned_of after ≡ scanned_of before + places
   pub moved : moved_of after ≡ moved_of before + bytes
+
+-- in between exactly what was counted elsewhere was done
+abbrev pub Added : Steps → Steps → Steps → Type 0
+Added more before after = Done (looked_of more) (scanned_of more) (moved_of more) before after

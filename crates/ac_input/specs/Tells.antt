@@ -3,6 +3,8 @@ use Rattle.std.specs.Prelude.{◌≡◌, ◌↔◌, ℕ, ◌-◌, List, [], ◌�
 use Rattle.std.specs.List.{filter}
 use Rattle.ac_input.specs.declared.search.MatchKind.{MatchKind}
 use Rattle.ac_input.specs.declared.search.MatchKind.TheVariants.{Standard}
+use Rattle.ac_input.specs.declared.search.Anchored.{Anchored}
+use Rattle.ac_input.specs.declared.search.Anchored.TheVariants.{No, Yes}
 use Rattle.ac_input.specs.Occurrence.{Occurrence, Occurs}
 use Rattle.ac_input.specs.Best.{IsBest}
 use Rattle.ac_input.specs.Listing.{ListsAll}
@@ -33,3 +35,8 @@ abbrev pub TellsAnchored : Machine → List ℕ → List ℕ → Type 0
 TellsAnchored m text ns =
     ListsAll (λ o. Occurs (whole m text true) o × (o.end ≡ length text) × ((p : List ℕ) × IsEntered m o.pattern p))
     (map (ending m text) (filter (λ n. length (get_or m.patterns n []) == length text) ns))
+
+-- from the start of either anchoring
+abbrev pub Tells : Machine → Anchored → List ℕ → List ℕ → Type 0
+Tells m No text ns = TellsUnanchored m.kind m text ns
+Tells m Yes text ns = TellsAnchored m text ns

@@ -46,6 +46,14 @@ impl Count {
             times: PhantomData::<()>,
         }
     }
+
+    /// It has happened so often more as the other count says.
+    pub fn plus(&self, other: &Count) -> Count
+        ensures { result.value ≡ self.now.value + other.now.value }
+    {
+        let times = PhantomData::<()>;
+        Self { times }
+    }
 }
 
 /// Pieces of bytes, in the order in which they came. It takes no memory.
@@ -72,6 +80,15 @@ impl Pieces {
         ensures { result.items ≡ self.now.items ++ piece.now ∷ [] }
     {
         Self { list: PhantomData }
+    }
+
+    /// The same pieces once more.
+    pub fn same(&self) -> Pieces
+        ensures { result.items ≡ self.now.items }
+    {
+        Self {
+            list: PhantomData::<()>,
+        }
     }
 }
 

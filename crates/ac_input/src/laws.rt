@@ -4,7 +4,7 @@
 //! What the best, the next pick, the walk and the listing of a search are is settled by their definitions alone, and can be
 //! computed. None of these functions does anything: each states one law as its contract, and that it checks is the proof of
 //! it. A caller who needs one calls it, at no cost.
-ghost use Rattle.ac_input.specs.Laws.{PreferenceIsOrder, PreferenceTellsApart, OccurrencesAreListed, BestIsOne, PickIsOne, WalkIsOne, WalkIsApart, WalkLiesWithin, WalkOccurs, ListingIsOne, ListingIsComputed, ListingHasEachOnce, PicksAreListed, ReplacingByItselfChangesNothing, NoRulesChangeNothing, RulesAreOne, BadLineIsOne};
+ghost use Rattle.ac_input.specs.Laws.{PreferenceIsOrder, PreferenceTellsApart, OccurrencesAreListed, BestIsOne, PickIsOne, WalkIsOne, WalkIsApart, WalkLiesWithin, WalkOccurs, ListingIsOne, ListingIsComputed, ListingHasEachOnce, PicksAreListed, ReplacingByItselfChangesNothing, NoRulesChangeNothing, RulesAreOne, BadLineIsOne, UnpairedSearchAlike};
 
 /// The preference of each kind is a total order.
 pub fn preference_is_order()
@@ -89,6 +89,11 @@ pub fn rules_are_one()
 /// A text has one first bad line at most, and none where it is a rule file.
 pub fn bad_line_is_one()
     ensures { BadLineIsOne }
+{}
+
+/// Pairings that pair nothing search alike, whatever their tables.
+pub fn unpaired_search_alike()
+    ensures { UnpairedSearchAlike }
 {}
 
 #[cfg(test)]

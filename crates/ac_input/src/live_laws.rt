@@ -4,9 +4,12 @@
 //! to be alive, and once none is, the answer is final. Until then the live prefix stands for the whole text: whatever
 //! follows, it tells what stays live, and the best; under the standard kind the best as long as nothing has ended before.
 //!
+//! An automaton counts the bytes that it read from the start of a span on, and so speaks of whole texts. The last laws tell
+//! what it says of the span: everything is as many bytes further on.
+//!
 //! None of these functions does anything: each states one law as its contract, and a caller who needs one calls it, at no
 //! cost.
-ghost use Rattle.ac_input.specs.LiveLaws.{PairingIsOwnInverse, SameBytesAreEquivalent, SameTextsAreEquivalent, CanonicalBytesTellTexts, BeginningsBeginEntered, BestStartsNoLater, AliveIsHandedDown, DeadStaysDead, BestIsEntered, DeadIsFinal, NothingStartsBeforeLive, NewStartsInLive, LiveHasTheBest, LiveHasTheNew, LiveIsOne, LiveMovesForward, LiveTellsTheBest, LiveTellsTheNew, LiveTellsTheLive};
+ghost use Rattle.ac_input.specs.LiveLaws.{PairingIsOwnInverse, SameBytesAreEquivalent, SameTextsAreEquivalent, CanonicalBytesTellTexts, BeginningsBeginEntered, BestStartsNoLater, AliveIsHandedDown, DeadStaysDead, BestIsEntered, DeadIsFinal, NothingStartsBeforeLive, NewStartsInLive, LiveHasTheBest, LiveHasTheNew, LiveIsOne, LiveMovesForward, LiveTellsTheBest, LiveTellsTheNew, LiveTellsTheLive, SpanIsAWhole, BestOfSpanIsShifted, RestOfSpanIsAWhole, BestOfRestIsShifted};
 
 /// The table of a pairing is its own inverse, at every number.
 pub fn pairing_is_own_inverse()
@@ -102,4 +105,24 @@ pub fn live_tells_the_new()
 /// The live prefix tells what stays live, whatever follows: texts of one live prefix share one state.
 pub fn live_tells_the_live()
     ensures { LiveTellsTheLive }
+{}
+
+/// What occurs in a span up to a place is what occurs in that part of the haystack alone, further on.
+pub fn span_is_a_whole()
+    ensures { SpanIsAWhole }
+{}
+
+/// The best of a search is the best of that part of the haystack alone, further on.
+pub fn best_of_span_is_shifted()
+    ensures { BestOfSpanIsShifted }
+{}
+
+/// What occurs from a later place of a span on is what occurs in the rest of it alone, further on.
+pub fn rest_of_span_is_a_whole()
+    ensures { RestOfSpanIsAWhole }
+{}
+
+/// The best from a later place on is the best of the rest alone, further on.
+pub fn best_of_rest_is_shifted()
+    ensures { BestOfRestIsShifted }
 {}

@@ -6,9 +6,11 @@ ghost use Rattle.std.specs.Prelude.{◌≡◌, ◌+◌, ◌-◌, ◌^◌, ◌<�
 ghost use Rattle.ac_input.specs.Occurrence.{Occurrence};
 ghost use Rattle.ac_input.specs.Best.{asked_kind};
 
+pub mod candidate;
 pub mod input;
 
 use crate::primitives::PatternID;
+pub use candidate::Candidate;
 pub use input::Input;
 use std::marker::Model;
 use std::ops::Range;

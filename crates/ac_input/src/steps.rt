@@ -3,7 +3,7 @@
 //! A counted call moves a [`Steps`] on: by the states that it looked at, the places that its byte scans covered, and the bytes
 //! that it copied within a stream's buffer. The counts are seen by contracts alone: they take no memory, and have no greatest
 //! value. So a bound on the work of a search is a clause like any other.
-ghost use Rattle.ac_input.specs.Steps.{AreNone, Done};
+ghost use Rattle.ac_input.specs.Steps.{Added, AreNone, Done};
 
 use crate::history::Count;
 
@@ -46,6 +46,15 @@ impl Steps {
         ensures { Done 0 0 bytes self.old self.new }
     {
         self.moved = self.moved.more(&bytes);
+    }
+
+    /// So much more was done as was counted elsewhere: each of the three counts of `more` is added.
+    pub fn add(&mut self, more: &Steps)
+        ensures { Added more.now self.old self.new }
+    {
+        self.looked = self.looked.plus(&more.looked);
+        self.scanned = self.scanned.plus(&more.scanned);
+        self.moved = self.moved.plus(&more.moved);
     }
 }
 

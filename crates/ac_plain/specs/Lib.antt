@@ -5,3 +5,4 @@ pub use Rattle.ac_input.specs.Best
 pub use Rattle.ac_input.specs.Walk
 pub use Rattle.ac_input.specs.Listing
 pub mod Plain
+pub use Rattle.ac_input.specs.Computed

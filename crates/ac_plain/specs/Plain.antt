@@ -1,17 +1,12 @@
 -- What the plain program asks at one place, and of two occurrences.
-use Rattle.std.specs.Prelude.{◌≡◌, ℕ, ◌<◌, ◌≤◌, Bool, true, false, List, Option, Some, None, if◌then◌else◌}
+use Rattle.std.specs.Prelude.{◌≡◌, ℕ, ◌<◌, ◌≤◌, List, Option, Some, None, if◌then◌else◌}
 use Rattle.ac_input.specs.declared.search.Anchored.{Anchored}
 use Rattle.ac_input.specs.declared.search.Span.{Span}
-use Rattle.ac_input.specs.declared.search.Anchored.TheVariants.{No, Yes}
 use Rattle.ac_input.specs.declared.search.MatchKind.{MatchKind}
 use Rattle.ac_input.specs.Occurrence.{Search, Occurrence, Occurs}
+use Rattle.ac_input.specs.Input.{is_anchored}
 use Rattle.ac_input.specs.Best.{preference, IsAfter}
 use Rattle.std.specs.Ordering.{is_lt}
-
--- whether a search has to match at its start
-abbrev pub is_anchored : Anchored → Bool
-is_anchored No = false
-is_anchored Yes = true
 
 -- the search of a haystack within a span
 abbrev pub search_of : List (List ℕ) → List ℕ → List ℕ → Span → Anchored → Search

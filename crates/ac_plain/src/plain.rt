@@ -14,11 +14,15 @@ ghost use Rattle.ac_input.specs.Same.{same_text};
 ghost use Rattle.ac_input.specs.Occurrence.{Occurs, starting_at};
 ghost use Rattle.ac_input.specs.Best.{preference, IsLeast, IsBest, asked_kind, IsAfter, IsNext};
 ghost use Rattle.ac_input.specs.Walk.{Repeats, IsPick, IsWalk};
+ghost use Rattle.ac_input.specs.Computed.{walk_of};
 ghost use Rattle.ac_input.specs.Listing.{IsListing};
 ghost use Rattle.ac_plain.specs.Plain.{search_of, IsOnly, StartsAt, EndsAt, EndsAfter, ReachesAfter, LiesAlike, preferred};
 
+pub mod picks;
+
 use ac_input::pairing::Pairing;
 use ac_input::search::{Anchored, MatchKind, Span};
+pub use picks::Picks;
 use std::alloc::{AllocError, Global};
 use std::cmp::Ordering;
 use std::marker::Model;
@@ -394,6 +398,19 @@ impl<'a> Plain<'a> {
             return alike;
         }
         self.first_by_end(found.end, &before)
+    }
+
+    /// The picks of a walk over the whole span, each found when it is asked for.
+    pub fn picks(self, kind: MatchKind, earliest: bool) -> Picks<'a>
+        ensures { result ≡ walk_of (asked_kind kind earliest) self.entry }
+    {
+        let at = self.span.start;
+        Picks {
+            search: self,
+            kind: kind.asked(earliest),
+            at,
+            last: None,
+        }
     }
 
     /// The picks of a walk over the whole span, one after another, in memory.

@@ -8,3 +8,4 @@ pub mod PairsLemmas
 pub mod ParseLemmas
 pub mod PlaceLemmas
 pub mod TypedLemmas
+pub mod FinderLemmas

@@ -6,11 +6,11 @@ use Rattle.std.proofs.lemmas.Option.{slice_get_within}
 use Rattle.ac_input.specs.declared.search.MatchKind.{MatchKind}
 use Rattle.ac_input.specs.Occurrence.{Search, Occurrence}
 use Rattle.ac_input.specs.Best.{IsNext}
-use Rattle.ac_input.specs.Walk.{IsPick}
+use Rattle.ac_input.specs.Walk.{IsPick, IsWalk}
 use Rattle.ac_input.specs.Rules.{Rule}
 use Rattle.ac_input.specs.Text.{replaced_from, line, listed}
-use Rattle.ac_input.specs.Computed.{walk_after, listing_after}
-use Rattle.ac_input.proofs.WalkLemmas.{walk_after-none, walk_after-some}
+use Rattle.ac_input.specs.Computed.{listing_after}
+use Rattle.ac_input.proofs.WalkLemmas.{pick-within}
 use Rattle.ac_input.proofs.ListingLemmas.{listing_after-some}
 use Rattle.ac_input.proofs.TextLemmas.{pick-occurs}
 use Rattle.std.proofs.KnownBytes.{Appends-nil}
@@ -18,7 +18,7 @@ use Rattle.ac_automaton.specs.Watched.{inner_of}
 use Rattle.ac_automaton.specs.declared.watched.Watched.{Watched}
 use Rattle.acsub.specs.Lines.{rule_at}
 use Rattle.acsub.specs.Output.{Sent, Stopped}
-use Rattle.acsub.specs.Rewrite.{SearchesWhole}
+use Rattle.acsub.specs.Rewrite.{LieInOrder}
 use Rattle.acsub.specs.Sides.{replacements_of}
 use Rattle.acsub.proofs.OutputLemmas.{Sent-then, Stopped-then, Stopped-more}
 
@@ -42,34 +42,37 @@ Stopped-last contents old mid new held between front bytes text a b e = subst (S
 pub replacement_of_rule : (rules : List Rule) (n : ℕ) → n < length rules → (rule_at rules n).1 ≡ get_or (replacements_of rules) n []
 replacement_of_rule rules n h = sym (get_or-map (λ (rule : Rule). rule.1) rules n ([], []) [] h)
 
--- the number of a pick is that of a rule
-pub pick-number : (kind : MatchKind) (s : Search) (at : ℕ) (last : Option ℕ) (o : Occurrence) (rules : List Rule) → s.patterns ≡ map (λ rule. rule.0) rules → IsPick kind s at last (Some o) → o.pattern < length rules
-pick-number kind s at last o rules e pick =
-    let from = pick-occurs kind s at last o pick in
-    let within = slice_get_within s.patterns o.pattern from.2.same.0 from.2.same.1 in
-    omega (arith, ap length e ∙ length-map rules (λ (rule : Rule). rule.0))
-
 -- one more pick of a text with replacements
-pub replaced-step : (kind : MatchKind) (s : Search) (at : ℕ) (last : Option ℕ) (o : Occurrence) (input : List ℕ) (rules : List Rule) (front before replacement text : List ℕ) → SearchesWhole s input rules → IsPick kind s at last (Some o)
-    → before ≡ slice_range input at o.start → replacement ≡ get_or (replacements_of rules) o.pattern []
-    → front ++ replaced_from at input (replacements_of rules) (walk_after kind s at last) ≡ text
-    → (front ++ (before ++ replacement)) ++ replaced_from o.end input (replacements_of rules) (walk_after kind s o.end (Some o.end)) ≡ text
-replaced-step kind s at last o input rules front before replacement text w pick is_before is_replacement e =
-    let inside : s.end ≤ length s.haystack = omega (arith, w.end, ap length w.haystack) in
-    let rest = replaced_from o.end input (replacements_of rules) (walk_after kind s o.end (Some o.end)) in
-    append_assoc front (before ++ replacement) rest
-    ∙ ap (λ (t : List ℕ). front ++ ((t ++ replacement) ++ rest)) is_before
-    ∙ ap (λ (t : List ℕ). front ++ ((slice_range input at o.start ++ t) ++ rest)) is_replacement
-    ∙ ap (λ (os : List Occurrence). front ++ replaced_from at input (replacements_of rules) os) (sym (walk_after-some kind s at last o inside pick))
+pub replaced-step : (at : ℕ) (o : Occurrence) (picks rest : List Occurrence) (input : List ℕ) (replacements : List (List ℕ)) (front before replacement text : List ℕ) → picks ≡ o ∷ rest
+    → before ≡ slice_range input at o.start → replacement ≡ get_or replacements o.pattern []
+    → front ++ replaced_from at input replacements picks ≡ text
+    → (front ++ (before ++ replacement)) ++ replaced_from o.end input replacements rest ≡ text
+replaced-step at o picks rest input replacements front before replacement text is is_before is_replacement e =
+    let behind = replaced_from o.end input replacements rest in
+    append_assoc front (before ++ replacement) behind
+    ∙ ap (λ (t : List ℕ). front ++ ((t ++ replacement) ++ behind)) is_before
+    ∙ ap (λ (t : List ℕ). front ++ ((slice_range input at o.start ++ t) ++ behind)) is_replacement
+    ∙ ap (λ (os : List Occurrence). front ++ replaced_from at input replacements os) (sym is)
     ∙ e
 
 -- no more pick
-pub replaced-end : (kind : MatchKind) (s : Search) (at : ℕ) (last : Option ℕ) (input : List ℕ) (rules : List Rule) (front text : List ℕ) → SearchesWhole s input rules → IsPick kind s at last None
-    → front ++ replaced_from at input (replacements_of rules) (walk_after kind s at last) ≡ text
+pub replaced-end : (at : ℕ) (picks : List Occurrence) (input : List ℕ) (replacements : List (List ℕ)) (front text : List ℕ) → picks ≡ []
+    → front ++ replaced_from at input replacements picks ≡ text
     → front ++ drop at input ≡ text
-replaced-end kind s at last input rules front text w pick e =
-    let inside : s.end ≤ length s.haystack = omega (arith, w.end, ap length w.haystack) in
-    ap (λ (os : List Occurrence). front ++ replaced_from at input (replacements_of rules) os) (sym (walk_after-none kind s at last inside pick)) ∙ e
+replaced-end at picks input replacements front text is e = ap (λ (os : List Occurrence). front ++ replaced_from at input replacements os) (sym is) ∙ e
+
+-- the first of picks that lie in order
+pub lies-first : (patterns len at : ℕ) (picks rest : List Occurrence) (o : Occurrence) → picks ≡ o ∷ rest → LieInOrder patterns len at picks → LieInOrder patterns len at (o ∷ rest)
+lies-first patterns len at picks rest o is lies = subst (LieInOrder patterns len at) is lies
+
+-- the picks of a walk lie in order
+pub walk-lies : (kind : MatchKind) (s : Search) (at : ℕ) (last : Option ℕ) (os : List Occurrence) → IsWalk kind s at last os → LieInOrder (length s.patterns) s.end at os
+walk-lies kind s at last [] walk = tt
+walk-lies kind s at last (o ∷ os) walk =
+    let from = pick-occurs kind s at last o walk.0 in
+    let number = slice_get_within s.patterns o.pattern from.2.same.0 from.2.same.1 in
+    let within = pick-within kind s at last o walk.0 in
+    (number, within.0, within.1, within.2, walk-lies kind s o.end (Some o.end) os walk.1)
 
 -- one more line
 pub listed-step : (o : Occurrence) (os rest : List Occurrence) (front text : List ℕ) → os ≡ o ∷ rest → front ++ listed os ≡ text → (front ++ line o) ++ listed rest ≡ text
@@ -78,10 +81,6 @@ listed-step o os rest front text is e = append_assoc front (line o) (listed rest
 -- no more line
 pub listed-end : (os : List Occurrence) (front text : List ℕ) → os ≡ [] → front ++ listed os ≡ text → front ≡ text
 listed-end os front text is e = sym (append-nil front) ∙ ap (λ (t : List Occurrence). front ++ listed t) (sym is) ∙ e
-
--- one pick less is left
-pub walk_after-shorter : (kind : MatchKind) (s : Search) (at : ℕ) (last : Option ℕ) (o : Occurrence) → s.end ≤ length s.haystack → IsPick kind s at last (Some o) → length (walk_after kind s o.end (Some o.end)) < length (walk_after kind s at last)
-walk_after-shorter kind s at last o inside pick = let e = ap length (walk_after-some kind s at last o inside pick) in omega arith
 
 -- one occurrence less is left
 pub listing_after-shorter : (s : Search) (before : Option Occurrence) (o : Occurrence) → s.end ≤ length s.haystack → IsNext s before (Some o) → length (listing_after s (Some o)) < length (listing_after s before)

@@ -1,11 +1,9 @@
--- What is asked of a search whose whole input is rewritten.
-use Rattle.std.specs.Prelude.{◌≡◌, ℕ, List, length, map}
-use Rattle.ac_input.specs.Occurrence.{Search}
-use Rattle.ac_input.specs.Rules.{Rule}
+-- What is asked of the picks by which an input is rewritten.
+use Rattle.std.specs.Prelude.{ℕ, ◌<◌, ◌≤◌, List, [], ◌∷◌}
+use Rattle.ac_input.specs.Occurrence.{Occurrence}
 
--- a search of the whole input, for the patterns of the rules
-pub record SearchesWhole (s : Search) (input : List ℕ) (rules : List Rule) : Type 0 where
-  pub haystack : s.haystack ≡ input
-  pub start : s.start ≡ 0
-  pub end : s.end ≡ length input
-  pub patterns : s.patterns ≡ map (λ rule. rule.0) rules
+-- Occurrences of patterns below a number, in a text of a length: from a place on, each begins where the one before it ended or
+-- later.
+abbrev pub LieInOrder : ℕ → ℕ → ℕ → List Occurrence → Type 0
+LieInOrder patterns len at [] = Unit {0}
+LieInOrder patterns len at (o ∷ os) = (o.pattern < patterns) × (at ≤ o.start) × (o.start ≤ o.end) × (o.end ≤ len) × LieInOrder patterns len o.end os

@@ -5,10 +5,14 @@
 //! by the mode, the kind of match and the pairing of bytes, and by nothing else.
 #![tactic(auto)]
 
+#[cfg(test)]
+mod below;
 mod error;
+mod finder;
 mod input;
 mod line;
 mod output;
+mod picks;
 mod rewrite;
 mod rules;
 mod run;

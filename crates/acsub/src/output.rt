@@ -23,11 +23,14 @@ pub struct Output {
 }
 
 impl Model for Output {
-    ghost use Rattle.std.specs.Prelude.{ℕ, List};
+    ghost use Rattle.std.specs.Prelude.{ℕ, ◌≤◌, List, vec_capacity};
 
     ghost Value = { List ℕ };
 
     ghost view = { λ output. output.held.items };
+
+    // The room was taken, and stays.
+    ghost invariant = { λ output. 65536 ≤ vec_capacity output.held };
 }
 
 impl Output {
@@ -74,7 +77,8 @@ impl Output {
 /// Appends the bytes, for which there is room.
 fn hold_back(held: &mut Vec<u8>, bytes: &[u8])
     requires { length bytes.now ≤ vec_capacity held.old - vec_len held.old }
-    ensures { held.new.items ≡ held.old.items ++ bytes.now }
+    ensures bytes { held.new.items ≡ held.old.items ++ bytes.now }
+    ensures room { vec_capacity held.old ≤ vec_capacity held.new }
 {
     held.extend_from_slice(bytes).unwrap();
 }

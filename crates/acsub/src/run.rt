@@ -1,25 +1,25 @@
 //! A run: rules and settings in, an input read to its end, its text written.
 //!
 //! [`run`] takes all the memory that it needs before the read that finds the end of the input, so want of memory is answered
-//! while nothing is written yet. Then it searches the input by the plain program and writes the text as it is found. The engine
-//! and its settings are checked, and change nothing of the text.
+//! while nothing is written yet. Then it searches the input, by packed search where the settings name it and by the plain
+//! program otherwise, and writes the text as it is found. The engine and its settings change nothing of the text.
 ghost use Rattle.std.specs.Prelude.{◌≡◌, ℕ, ◌↔◌, List, [], false, map, IfErr, OnOk, OnErr};
 ghost use Rattle.ac_input.specs.Rules.{IsRuleFile, FirstBadLine};
 ghost use Rattle.ac_automaton.specs.Watched.{has_ended};
+ghost use Rattle.acsub.specs.Finder.{Serves};
 ghost use Rattle.acsub.specs.Output.{Sent, Stopped, IsWriteFault};
 ghost use Rattle.acsub.specs.Run.{Moved, Tells, Answers, IsRefusal, Prepares, text_of};
 ghost use Rattle.acsub.specs.Settings.{IsAccepted};
 ghost use Rattle.acsub.specs.Sides.{patterns_of};
 
 use crate::error::RunError;
+use crate::finder::{self, Finder};
 use crate::input::read_whole;
 use crate::output::Output;
-use crate::rewrite::send_text;
+use crate::rewrite::{send_list, send_overlapping, send_replaced};
 use crate::rules::{RuleError, Rules, read_rules};
-use crate::settings::{Settings, check};
+use crate::settings::{Mode, Settings, check};
 use ac_automaton::watched::Watched;
-use ac_input::search::{Anchored, Span};
-use ac_plain::plain::Plain;
 use std::alloc::Global;
 use std::io::{Read, Write};
 
@@ -76,11 +76,13 @@ fn transform<R: Read, W: Write>(
     ensures { (m : Moved) × Tells R.remaining W.contents reader.old reader.new writer.old writer.new m × ((file : List ℕ) → IsRuleFile file rules.now → Answers settings.now file m result) }
 {
     let patterns = rules.patterns(alloc)?;
+    let finder = finder::build(alloc, settings, patterns.as_slice())?;
     let mut output = Output::new(alloc)?;
     let input = read_whole(alloc, reader)?;
     write_text(
         settings,
         rules,
+        &finder,
         patterns.as_slice(),
         input.as_slice(),
         &mut output,
@@ -92,32 +94,52 @@ fn transform<R: Read, W: Write>(
 fn write_text<W: Write>(
     settings: &Settings,
     rules: &Rules,
+    finder: &Finder,
     patterns: &[&[u8]],
     input: &[u8],
     output: &mut Output,
     writer: &mut Watched<W>,
 ) -> Result<(), RunError>
     requires patterns { map (λ pattern. pattern.now) patterns.now ≡ patterns_of rules.now }
+    requires serves { Serves settings.now (map (λ pattern. pattern.now) patterns.now) finder.now }
     requires fresh { output.old ≡ [] }
     ensures sent { OnOk result (Sent W.contents writer.old writer.new [] [] (text_of settings.now rules.now input.now)) }
     ensures stopped { OnErr result (Stopped W.contents writer.old writer.new [] (text_of settings.now rules.now input.now)) }
     ensures kind { IfErr result (IsWriteFault writer.old writer.new) }
 {
-    let span = Span {
-        start: 0,
-        end: input.len(),
-    };
-    let search = Plain::new(patterns, settings.pairing, input, span, Anchored::No);
-    send_text(
-        settings.mode,
-        settings.kind,
-        &search,
-        input,
-        rules,
-        output,
-        writer,
-    )?;
+    send_text(settings, rules, finder, patterns, input, output, writer)?;
     output.send_held(writer)
+}
+
+/// Sends the text that a mode makes of the whole input.
+fn send_text<W: Write>(
+    settings: &Settings,
+    rules: &Rules,
+    finder: &Finder,
+    patterns: &[&[u8]],
+    input: &[u8],
+    output: &mut Output,
+    writer: &mut Watched<W>,
+) -> Result<(), RunError>
+    requires patterns { map (λ pattern. pattern.now) patterns.now ≡ patterns_of rules.now }
+    requires serves { Serves settings.now (map (λ pattern. pattern.now) patterns.now) finder.now }
+    ensures sent { OnOk result (Sent W.contents writer.old writer.new output.old output.new (text_of settings.now rules.now input.now)) }
+    ensures stopped { OnErr result (Stopped W.contents writer.old writer.new output.old (text_of settings.now rules.now input.now)) }
+    ensures kind { IfErr result (IsWriteFault writer.old writer.new) }
+{
+    match settings.mode {
+        Mode::Replace => {
+            let mut picks = finder.picks(settings, patterns, input);
+            send_replaced(&mut picks, input, rules, output, writer)
+        }
+        Mode::List => {
+            let mut picks = finder.picks(settings, patterns, input);
+            send_list(&mut picks, output, writer)
+        }
+        Mode::Overlap => {
+            send_overlapping(&finder::plain(settings, patterns, input), output, writer)
+        }
+    }
 }
 
 #[cfg(test)]

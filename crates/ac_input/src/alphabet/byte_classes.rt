@@ -5,7 +5,7 @@
 //! place of 256. To find the classes, mark the range of each byte that patterns have in a [`ByteClassSet`], and ask it for the
 //! [`ByteClasses`].
 ghost use Rattle.std.specs.Prelude.{◌≡◌, ℕ, ◌+◌, ◌^◌, ◌<◌, ◌≤◌, ◌↔◌, ◌||◌, false, IsTrue};
-ghost use Rattle.ac_input.specs.Alphabet.{is_boundary, is_edge, HoldsJustOne, AreClassesOf, class, alphabet_len, IsClasses, IsLeastExponent, IsLeastPowerOfTwo, elements, runs};
+ghost use Rattle.ac_input.specs.Alphabet.{has, is_edge, HoldsJustOne, AreClassesOf, class, alphabet_len, IsClasses, IsLeastExponent, IsLeastPowerOfTwo, elements, runs};
 ghost use Rattle.std.specs.List.{range_with_len};
 ghost use Rattle.std.specs.Iterator.{YieldsFirst, item_count};
 
@@ -31,9 +31,9 @@ impl Model for ByteClassSet {
 
 impl Default for ByteClassSet {
     ghost use Rattle.std.specs.Prelude.{◌≡◌, ℕ, false};
-    ghost use Rattle.ac_input.specs.Alphabet.{is_boundary};
+    ghost use Rattle.ac_input.specs.Alphabet.{has};
 
-    ghost is_default = { λ made. (b : ℕ) → is_boundary made b ≡ false };
+    ghost is_default = { λ made. (b : ℕ) → has made b ≡ false };
 
     fn default() -> ByteClassSet {
         ByteClassSet::empty()
@@ -43,7 +43,7 @@ impl Default for ByteClassSet {
 impl ByteClassSet {
     /// No boundary: all bytes are in one class.
     pub fn empty() -> ByteClassSet
-        ensures { (b : ℕ) → is_boundary result b ≡ false }
+        ensures { (b : ℕ) → has result b ≡ false }
     {
         ByteClassSet {
             boundaries: [false; 256],
@@ -53,7 +53,7 @@ impl ByteClassSet {
     /// Parts the bytes from `start` to `end`, both included, from all others.
     pub fn set_range(&mut self, start: u8, end: u8)
         requires { start ≤ end }
-        ensures edges { (b : ℕ) → is_boundary self.new b ≡ (is_boundary self.old b || is_edge start end b) }
+        ensures edges { (b : ℕ) → has self.new b ≡ (has self.old b || is_edge start end b) }
         ensures meaning { (b : ℕ) → IsTrue (is_edge start end b) ↔ HoldsJustOne start end b }
     {
         if start > 0 {

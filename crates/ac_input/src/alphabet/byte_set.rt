@@ -36,7 +36,7 @@ impl ByteSet {
     pub fn add(&mut self, byte: u8)
         ensures { (b : ℕ) → has self.new b ≡ ((b == byte) || has self.old b) }
     {
-        self.members[usize::from(byte)] = true;
+        self.members[byte as usize] = true;
     }
 
     /// Whether the byte is in the set. One load.

@@ -20,4 +20,5 @@ fn laws_cost_nothing() {
     no_rules_change_nothing();
     rules_are_one();
     bad_line_is_one();
+    unpaired_search_alike();
 }

@@ -1,5 +1,5 @@
 //! What a search is asked: a haystack, and how to search it.
-ghost use Rattle.std.specs.Prelude.{◌≡◌, ◌+◌, ◌<◌, ◌≤◌, ◌↔◌, length, IsTrue};
+ghost use Rattle.std.specs.Prelude.{◌≡◌, ◌+◌, ◌^◌, ◌<◌, ◌≤◌, ◌↔◌, length, IsTrue};
 ghost use Rattle.ac_input.specs.Input.{IsSpanOf, whole_of};
 
 use crate::search::{Anchored, Span};
@@ -147,6 +147,7 @@ impl<'h> Input<'h> {
     pub fn end(&self) -> usize
         ensures value { result ≡ self.now.span.end }
         ensures within { result ≤ length self.now.haystack }
+        ensures fits { result < 2 ^ 63 }
     {
         self.span.end
     }

@@ -117,3 +117,11 @@ fn inputs_done(rt: HostRuntime) {
         assert_eq!(rt; input.is_done(), done, "{start}..{end}");
     }
 }
+
+#[test]
+fn candidates(rt: HostRuntime) {
+    assert_eq!(rt; Candidate::None.into_option(), None);
+    let found = Match::must(1, 2..5);
+    assert_eq!(rt; Candidate::Match(found).into_option(), Some(2));
+    assert_eq!(rt; Candidate::PossibleStartOfMatch(7).into_option(), Some(7));
+}

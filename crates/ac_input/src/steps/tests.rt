@@ -8,5 +8,7 @@ fn counts_take_no_memory(rt: HostRuntime) {
     steps.scan(7);
     steps.shift(usize::MAX);
     steps.shift(usize::MAX);
+    let mut both = Steps::new();
+    both.add(&steps);
     assert_eq!(rt; size_of::<Steps>(), 0);
 }

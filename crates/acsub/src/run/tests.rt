@@ -22,6 +22,7 @@ enum Answer {
     Read,
     Write,
     WriteZero,
+    Memory,
     Other,
 }
 
@@ -33,6 +34,7 @@ fn answer_of(outcome: &Result<(), RunError>) -> Answer {
         Err(RunError::Read(_)) => Answer::Read,
         Err(RunError::Write(_)) => Answer::Write,
         Err(RunError::WriteZero) => Answer::WriteZero,
+        Err(RunError::Memory) => Answer::Memory,
         Err(_) => Answer::Other,
     }
 }
@@ -586,5 +588,28 @@ fn stops_where_a_write_fails(rt: HostRuntime) {
         assert_eq!(rt; did.answer, Answer::Done);
         assert_eq!(rt; did.taken.as_slice(), text);
         assert_eq!(rt; did.writes, 13);
+    }
+}
+
+/// A run that is refused memory says so with nothing written, and never writes another text. No test can refuse it by itself:
+/// `rt try --test --fail-alloc N` refuses the Nth allocation of each test, and this one holds for every N.
+#[test]
+fn want_of_memory_changes_no_text(rt: HostRuntime) {
+    let alloc = rt.alloc();
+    let Ok(taken) = Vec::with_capacity(alloc, 64) else {
+        return;
+    };
+    let sink = Sink {
+        taken,
+        ..room_for(alloc, 64, 64, false)
+    };
+    let settings = settings_for(Mode::Replace, MatchKind::Standard);
+    let trial = try_run(alloc, &settings, SLOTH, whole(b"The fox ran", 3), sink);
+    if trial.answer == Answer::Memory {
+        assert_eq!(rt; trial.writes, 0);
+    } else {
+        assert_eq!(rt; trial.answer, Answer::Done);
+        assert_eq!(rt; trial.reads, 5);
+        assert_eq!(rt; trial.taken.as_slice(), b"The sloth ran".as_slice());
     }
 }

@@ -1,6 +1,5 @@
-use Rattle.std.proofs.Common.{◌≡◌, ℕ, ◌≤◌, List, ◌++◌, length}
+use Rattle.std.proofs.Common.{◌≡◌, ℕ, List, ◌++◌, length}
 use Rattle.ac_input.specs.Text.{listed}
-use Rattle.ac_input.specs.Computed.{walk_after, walk_of}
 use Rattle.acsub.specs.Output.{Sent}
 use Rattle.acsub.proofs.rewrite.send_list.Given as goal
 
@@ -8,9 +7,8 @@ abbrev pub invariant-loop-found : goal.invariant-loop-found
 invariant-loop-found g l = record {
   front : List ℕ;
   sent : Sent g.W.Write.contents l.fn.writer l.writer l.fn.output l.output front;
-  order : front ++ listed (walk_after l.kind l.search l.at l.last) ≡ listed (walk_of l.kind l.search);
-  within : l.at ≤ l.search.end;
+  order : front ++ listed l.picks ≡ listed l.fn.picks;
 }
 
 abbrev pub decreases-loop-found : goal.decreases-loop-found
-decreases-loop-found g l = length (walk_after l.kind l.search l.at l.last)
+decreases-loop-found g l = length l.picks

@@ -1,7 +1,7 @@
 use Rattle.std.proofs.Common.{◌≡◌, ℕ, ◌≤◌, List, ◌++◌, length}
 use Rattle.ac_input.specs.Text.{replaced_from}
-use Rattle.ac_input.specs.Computed.{walk_after, walk_of}
 use Rattle.acsub.specs.Output.{Sent}
+use Rattle.acsub.specs.Rewrite.{LieInOrder}
 use Rattle.acsub.specs.Sides.{replacements_of}
 use Rattle.acsub.proofs.rewrite.send_replaced.Given as goal
 
@@ -9,9 +9,10 @@ abbrev pub invariant-loop-found : goal.invariant-loop-found
 invariant-loop-found g l = record {
   front : List ℕ;
   sent : Sent g.W.Write.contents l.fn.writer l.writer l.fn.output l.output front;
-  order : front ++ replaced_from l.at l.input (replacements_of l.rules) (walk_after l.kind l.search l.at l.last) ≡ replaced_from 0 l.input (replacements_of l.rules) (walk_of l.kind l.search);
+  order : front ++ replaced_from l.at l.input (replacements_of l.rules) l.picks ≡ replaced_from 0 l.input (replacements_of l.rules) l.fn.picks;
+  lies : LieInOrder (length l.rules) (length l.input) l.at l.picks;
   within : l.at ≤ length l.input;
 }
 
 abbrev pub decreases-loop-found : goal.decreases-loop-found
-decreases-loop-found g l = length (walk_after l.kind l.search l.at l.last)
+decreases-loop-found g l = length l.picks

@@ -9,6 +9,11 @@ returns-in_err-patterns g c =
     let p = err_from_is_err_and c.from_residual.result c.from_residual.ensures.1 in
     rw (p.1, p.2) (nothing, Tells-nothing g.R.Read.remaining g.W.Write.contents c.args.reader.now c.args.writer.now, λ file grammar. memory_answer c.args.settings.now c.args.rules.now file grammar)
 
+pub returns-in_err-finder : goal.returns-in_err-finder
+returns-in_err-finder g c =
+    let p = err_from_is_err_and c.from_residual-in_err-finder.result c.from_residual-in_err-finder.ensures.1 in
+    rw (p.1, p.2) (nothing, Tells-nothing g.R.Read.remaining g.W.Write.contents c.args.reader.now c.args.writer.now, λ file grammar. memory_answer c.args.settings.now c.args.rules.now file grammar)
+
 pub returns-in_err-output : goal.returns-in_err-output
 returns-in_err-output g c =
     let p = err_from_is_err_and c.from_residual-in_err-output.result c.from_residual-in_err-output.ensures.1 in
@@ -22,4 +27,4 @@ returns-in_err-input g c =
 pub returns : goal.returns
 returns g c =
     let read = c.in_ok-input.ensures in
-    write_answer g.R.Read.remaining g.W.Write.contents c.args.settings.now c.args.rules.now c.args.reader.now c.read_whole.new.reader c.args.writer.now c.write_text.new.writer read.0 _ c.write_text.result c.requires.accepted read.1 read.2 (c.as_slice-2.ensures.value ∙ read.3) read.4 c.write_text.ensures.sent c.write_text.ensures.stopped c.write_text.ensures.kind
+    write_answer g.R.Read.remaining g.W.Write.contents c.args.settings.now c.args.rules.now c.args.reader.now c.read_whole.new.reader c.args.writer.now c.write_text.new.writer read.0 _ c.write_text.result c.requires.accepted read.1 read.2 (c.as_slice-3.ensures.value ∙ read.3) read.4 c.write_text.ensures.sent c.write_text.ensures.stopped c.write_text.ensures.kind

@@ -1,0 +1,572 @@
+-- What an overlapping search has to show, where it stands and one byte further on, and what it pays.
+use Rattle.std.proofs.Common.{◌≡◌, ◌↔◌, inl, ⊎_elim, ℕ, zero, suc, ◌+◌, ◌-◌, ◌*◌, ◌<◌, ◌≤◌, Bool, true, false, cond, List, [], ◌∷◌, ◌++◌, length, map, take, drop, get_or, Option, Some, None, MatchOption, is_some, if◌then◌else◌, unwrap_or, slice_get, slice_range, leb, sym, ap, ap₂, subst, refl, ◌∙◌, arith, add-one, drop-cons, length-drop}
+use Rattle.std.specs.List.{Contains, filter}
+use Rattle.std.proofs.lemmas.Bool.{false≢true, cases_lt, leb-true, le-leb}
+use Rattle.std.proofs.lemmas.List.{take-append-drop, take-take, drop-take, drop-drop, take_more, get_or-drop}
+use Rattle.std.proofs.lemmas.Option.{slice_get_within, get_or_from_slice_get}
+use Rattle.std.proofs.Math.ListN.{drop_of_length-le}
+use Rattle.std.proofs.lemmas.List.Elements.{Contains-append_left, Contains-append_right, Contains-append_cases}
+use Rattle.ac_input.specs.declared.search.MatchKind.{MatchKind}
+use Rattle.ac_input.specs.declared.search.MatchKind.TheVariants.{Standard}
+use Rattle.ac_input.specs.declared.search.Anchored.{Anchored}
+use Rattle.ac_input.specs.declared.search.Anchored.TheVariants.{No, Yes}
+use Rattle.ac_input.specs.declared.primitives.state_id.StateID.{StateID}
+use Rattle.ac_input.specs.declared.history.Count.{Count}
+use Rattle.ac_input.specs.declared.steps.Steps.{Steps}
+use Rattle.ac_input.specs.Occurrence.{Search, Occurrence, Occurs}
+use Rattle.ac_input.specs.Computed.{listing_of}
+use Rattle.ac_input.specs.Input.{Asked, is_anchored, search_in}
+use Rattle.ac_input.specs.Listing.{IsRising, ListsAll}
+use Rattle.ac_input.specs.LiveLaws.{shifted, IsOwnInverse}
+use Rattle.ac_input.specs.Machine.{Machine, IsEntered, whole, IsSearchBy, IsLive, live_len}
+use Rattle.ac_input.specs.Steps.{AreNone, Added, looked_of, scanned_of, moved_of}
+use Rattle.ac_input.specs.Tells.{ending, Tells, TellsUnanchored}
+use Rattle.ac_input.specs.Work.{IsStep, looks_each}
+use Rattle.ac_input.proofs.ContainsLemmas.{Contains-nil, Contains-head, Contains-tail, Contains-cases, Contains-filter, Contains-from_filter}
+use Rattle.ac_input.proofs.OrderLemmas.{occurrence_from_parts, slice_range-length, occurs-end}
+use Rattle.ac_input.proofs.RisingLemmas.{less_by_end, IsRising-filter, IsRising-append}
+use Rattle.ac_input.proofs.ListingLemmas.{ListsAll-unique, listing_of-lists}
+use Rattle.ac_input.proofs.LiveLemmas.{entered-begins, dead-best}
+use Rattle.ac_input.proofs.ShiftLemmas.{preference-shifted, back_by}
+use Rattle.ac_input.proofs.SpanLemmas.{whole-occurs_in_span, occurs-in_whole_of_span}
+use Rattle.ac_input.proofs.StateLemmas.{standard-entered}
+use Rattle.ac_automaton.specs.declared.overlapping.OverlappingState.{OverlappingState}
+use Rattle.ac_automaton.specs.declared.overlapping.Place.{Place}
+use Rattle.ac_automaton.specs.declared.overlapping.Place.TheVariants.{At, Over}
+use Rattle.ac_automaton.specs.declared.overlapping.Shown.{Shown}
+use Rattle.ac_automaton.specs.Overlapping.{ending_from, read_to, counts, counted_from, told_from, lying_to, TellsFirst, IsLeft, ShowsFirst, IsPaidAt, IsPaid, GoesOnPaying, OnlyLooked, StandsAt, CameFrom, IsFresh, IsOverlappingWork, shown_of, sums_of}
+
+-- ---- entries
+
+-- a list from the index of an element on is that element and the rest
+drop-slice_get : (xs : List ℕ) (i x : ℕ) → slice_get xs i ≡ Some x → drop i xs ≡ x ∷ drop (i + 1) xs
+drop-slice_get xs i x e =
+    let within : i < length xs = slice_get_within xs i x e in
+    let is : get_or xs i x ≡ x = get_or_from_slice_get xs i x x e in
+    rw (add-one, drop-cons xs i x, is)
+
+-- one step of a filter that keeps its element, and of one that doesn't
+cond-kept : (b : Bool) (x : ℕ) (xs : List ℕ) → b ≡ true → cond b (x ∷ xs) xs ≡ x ∷ xs
+cond-kept true x xs e = refl
+cond-kept false x xs e = absurd (false≢true e)
+
+cond-left_out : (b : Bool) (x : ℕ) (xs : List ℕ) → b ≡ false → cond b (x ∷ xs) xs ≡ xs
+cond-left_out true x xs e = absurd (false≢true (sym e))
+cond-left_out false x xs e = refl
+
+-- an entry that counts is the next one
+pub counted-here : (m : Machine) (anchored : Bool) (read : ℕ) (ns : List ℕ) (index n : ℕ) → slice_get ns index ≡ Some n → counts m anchored read n ≡ true → counted_from m anchored read ns index ≡ n ∷ counted_from m anchored read ns (index + 1)
+counted-here m anchored read ns index n is counted =
+    ap (filter (counts m anchored read)) (drop-slice_get ns index n is) ∙ cond-kept (counts m anchored read n) n (counted_from m anchored read ns (index + 1)) counted
+
+-- one that doesn't is passed over
+pub counted-skip : (m : Machine) (anchored : Bool) (read : ℕ) (ns : List ℕ) (index n : ℕ) → slice_get ns index ≡ Some n → counts m anchored read n ≡ false → counted_from m anchored read ns index ≡ counted_from m anchored read ns (index + 1)
+counted-skip m anchored read ns index n is counted =
+    ap (filter (counts m anchored read)) (drop-slice_get ns index n is) ∙ cond-left_out (counts m anchored read n) n (counted_from m anchored read ns (index + 1)) counted
+
+-- behind the last entry none counts
+pub counted-past : (m : Machine) (anchored : Bool) (read : ℕ) (ns : List ℕ) (index : ℕ) → length ns ≤ index → counted_from m anchored read ns index ≡ []
+counted-past m anchored read ns index past = ap (filter (counts m anchored read)) (drop_of_length-le ns past)
+
+-- a list that isn't other than empty is empty
+pub nil_or_not : (ns : List ℕ) → ((ns ≡ [] → ⊥) → ⊥) → ns ≡ []
+nil_or_not [] h = refl
+nil_or_not (n ∷ ns) h = absurd (h (λ e. cc))
+
+-- what stands in a list from an index on stands in the list
+Contains-from_drop : (ns : List ℕ) (index n : ℕ) → Contains (drop index ns) n → Contains ns n
+Contains-from_drop [] zero n c = c
+Contains-from_drop [] (suc index) n c = c
+Contains-from_drop (x ∷ xs) zero n c = c
+Contains-from_drop (x ∷ xs) (suc index) n c = Contains-tail x xs n (Contains-from_drop xs index n c)
+
+-- what counts from an index on counts in the whole list
+counted-whole : (m : Machine) (anchored : Bool) (read : ℕ) (ns : List ℕ) (index n : ℕ) → Contains (counted_from m anchored read ns index) n → Contains (counted_from m anchored read ns 0) n
+counted-whole m anchored read ns index n c =
+    let kept = Contains-from_filter (counts m anchored read) (drop index ns) n c in
+    Contains-filter (counts m anchored read) ns n (Contains-from_drop ns index n kept.0) kept.1
+
+-- ---- lists of occurrences
+
+-- the image of what stands in a list stands in the list of the images
+Contains-map : {X Y : Type 0} (f : X → Y) (xs : List X) (x : X) → Contains xs x → Contains (map f xs) (f x)
+Contains-map f [] x c = absurd (Contains-nil x c)
+Contains-map {X} {Y} f (y ∷ ys) x c =
+    let later = Contains-map f ys x in
+    ⊎_elim
+    (λ (same : y ≡ x). subst (λ (z : X). Contains (f y ∷ map f ys) (f z)) same (Contains-head (f y) (map f ys)))
+    (λ rest. Contains-tail (f y) (map f ys) (f x) (later rest))
+    (Contains-cases y ys x c)
+
+-- what stands in the list of the images is the image of something in the list
+Contains-from_map : {X Y : Type 0} (f : X → Y) (xs : List X) (y : Y) → Contains (map f xs) y → (x : X) × Contains xs x × (f x ≡ y)
+Contains-from_map f [] y c = absurd (Contains-nil y c)
+Contains-from_map {X} {Y} f (x ∷ xs) y c =
+    let later = Contains-from_map f xs y in
+    ⊎_elim
+    (λ (same : f x ≡ y). let r : (z : X) × Contains (x ∷ xs) z × (f z ≡ y) = (x, Contains-head x xs, same) in r)
+    (λ rest. let found = later rest in let r : (z : X) × Contains (x ∷ xs) z × (f z ≡ y) = (found.0, Contains-tail x xs found.0 found.1, found.2) in r)
+    (Contains-cases (f x) (map f xs) y c)
+
+-- a rising list rises so many bytes further on
+IsRising-shifted : (n : ℕ) (os : List Occurrence) → IsRising os → IsRising (map (shifted n) os)
+IsRising-shifted n [] h = tt
+IsRising-shifted n (o ∷ []) h = tt
+IsRising-shifted n (o ∷ q ∷ os) h = (preference-shifted Standard n o q ∙ h.0, IsRising-shifted n (q ∷ os) h.1)
+
+-- where one fact holds of just those of which another one holds, so many bytes further on, the list of one is the other's
+ListsAll-shifted : (n : ℕ) (P Q : Occurrence → Type 0) (os : List Occurrence) → ((o : Occurrence) → P o → Q (shifted n o)) → ((o : Occurrence) → Q o → (inner : Occurrence) × P inner × (o ≡ shifted n inner)) → ListsAll P os → ListsAll Q (map (shifted n) os)
+ListsAll-shifted n P Q os f g h = (
+  IsRising-shifted n os h.0,
+  λ o. (
+    λ c. let inner = Contains-from_map (shifted n) os o c in subst Q inner.2 (f inner.0 ((h.1 inner.0).0 inner.1)),
+    λ q. let inner = g o q in subst (Contains (map (shifted n) os)) (sym inner.2) (Contains-map (shifted n) os inner.0 ((h.1 inner.0).1 inner.1)),
+  ),
+)
+
+-- one fact in place of another one that says the same
+ListsAll-like : (P Q : Occurrence → Type 0) (os : List Occurrence) → ((o : Occurrence) → P o ↔ Q o) → ListsAll P os → ListsAll Q os
+ListsAll-like P Q os like h = (h.0, λ o. (λ c. (like o).0 ((h.1 o).0 c), λ q. (h.1 o).1 ((like o).1 q)))
+
+-- a filter lists those that pass its test
+ListsAll-filter : (P : Occurrence → Type 0) (p : Occurrence → Bool) (os : List Occurrence) → ListsAll P os → ListsAll (λ o. P o × (p o ≡ true)) (filter p os)
+ListsAll-filter P p os h = (
+  IsRising-filter p os h.0,
+  λ o. (
+    λ c. let kept = Contains-from_filter p os o c in ((h.1 o).0 kept.0, kept.1),
+    λ q. Contains-filter p os o ((h.1 o).1 q.0) q.1,
+  ),
+)
+
+-- ---- what ends from a place on
+
+-- the part of the listing that ends at a place or later lists what ends there or later
+ending_from-lists : (s : Search) (at : ℕ) → s.end ≤ length s.haystack → ListsAll (λ o. Occurs s o × (at ≤ o.end)) (ending_from s at)
+ending_from-lists s at inside =
+    ListsAll-like (λ o. Occurs s o × (leb at o.end ≡ true)) (λ o. Occurs s o × (at ≤ o.end)) (ending_from s at)
+    (λ o. (λ h. (h.0, leb-true at o.end h.1), λ h. (h.0, le-leb at o.end h.1)))
+    (ListsAll-filter (Occurs s) (λ o. leb at o.end) (listing_of s) (listing_of-lists s inside))
+
+-- the whole listing ends from the span's start on
+pub ending_from-start : (s : Search) → s.end ≤ length s.haystack → ending_from s s.start ≡ listing_of s
+ending_from-start s inside =
+    let part = ending_from-lists s s.start inside in
+    ListsAll-unique (Occurs s) (ending_from s s.start) (listing_of s)
+    (ListsAll-like (λ o. Occurs s o × (s.start ≤ o.end)) (Occurs s) (ending_from s s.start) (λ o. (λ h. h.0, λ h. let w = h.within in (h, omega arith))) part)
+    (listing_of-lists s inside)
+
+-- where nothing ends, the part is empty
+ending_from-none : (s : Search) (at : ℕ) → s.end ≤ length s.haystack → ((o : Occurrence) → Occurs s o → at ≤ o.end → ⊥) → ending_from s at ≡ []
+ending_from-none s at inside none =
+    ListsAll-unique (λ o. Occurs s o × (at ≤ o.end)) (ending_from s at) [] (ending_from-lists s at inside) (tt, λ o. (λ c. absurd (Contains-nil o c), λ h. absurd (none o h.0 h.1)))
+
+-- nothing ends behind the span
+pub ending_from-end : (s : Search) (at : ℕ) → s.end ≤ length s.haystack → s.end < at → ending_from s at ≡ []
+ending_from-end s at inside past = ending_from-none s at inside (λ o h le. let w = h.within in omega arith)
+
+-- ---- the text that was read
+
+-- as long as the bytes that were read
+pub read_to-length : (s : Search) (at : ℕ) → s.start ≤ at → at ≤ s.end → s.end ≤ length s.haystack → length (read_to s at) ≡ at - s.start
+read_to-length s at g h inside = slice_range-length s.haystack s.start at g (omega arith)
+
+-- a part of a text is its front and the rest
+slice_range-split : (x : List ℕ) (from at to : ℕ) → from ≤ at → at ≤ to → slice_range x from to ≡ slice_range x from at ++ slice_range x at to
+slice_range-split x from at to g h =
+    let i : ℕ = at - from in
+    let n : ℕ = to - at in
+    let e : to - from ≡ i + n = omega arith in
+    let j : from + i ≡ at = omega arith in
+    let rest = drop from x in
+    ap (λ (k : ℕ). take k rest) e
+    ∙ sym (take-append-drop i (take (i + n) rest))
+    ∙ ap₂ (λ (a b : List ℕ). a ++ b) (take-take i (i + n) rest (omega arith)) (drop-take i n rest ∙ ap (take n) (drop-drop i from x ∙ ap (λ (k : ℕ). drop k x) j))
+
+-- one byte more
+pub read_to-more : (s : Search) (at : ℕ) → s.start ≤ at → at < s.end → s.end ≤ length s.haystack → read_to s (at + 1) ≡ read_to s at ++ get_or s.haystack at 0 ∷ []
+read_to-more s at g h inside =
+    let i : ℕ = at - s.start in
+    let e : at + 1 - s.start ≡ i + 1 = omega arith in
+    let j : s.start + i ≡ at = omega arith in
+    let long = length-drop s.start s.haystack in
+    ap (λ (k : ℕ). take k (drop s.start s.haystack)) e
+    ∙ take_more (drop s.start s.haystack) i 0 (omega arith)
+    ∙ ap (λ (b : ℕ). take i (drop s.start s.haystack) ++ b ∷ []) (get_or-drop s.start s.haystack i 0 ∙ ap (λ (k : ℕ). get_or s.haystack k 0) j)
+
+-- ---- what a state tells
+
+-- where every entry counts, a filter keeps all
+filter-all : (ns : List ℕ) → filter (λ (n : ℕ). true) ns ≡ ns
+filter-all [] = refl
+filter-all (n ∷ ns) = ap (λ (rest : List ℕ). n ∷ rest) (filter-all ns)
+
+-- Under the standard kind the entries that count are those patterns that the text ends in, in order.
+tells-lists : (m : Machine) (anchored : Anchored) (text ns : List ℕ) → m.kind ≡ Standard → Tells m anchored text ns
+    → ListsAll (λ o. Occurs (whole m text (is_anchored anchored)) o × (o.end ≡ length text)) (map (ending m text) (filter (counts m (is_anchored anchored) (length text)) ns))
+tells-lists m No text ns standard h =
+    let told : ListsAll (λ o. Occurs (whole m text false) o × (o.end ≡ length text)) (map (ending m text) ns) = subst (λ (kind : MatchKind). TellsUnanchored kind m text ns) standard h in
+    subst (λ (xs : List ℕ). ListsAll (λ o. Occurs (whole m text false) o × (o.end ≡ length text)) (map (ending m text) xs)) (sym (filter-all ns)) told
+tells-lists m Yes text ns standard h =
+    ListsAll-like (λ o. Occurs (whole m text true) o × (o.end ≡ length text) × ((p : List ℕ) × IsEntered m o.pattern p)) (λ o. Occurs (whole m text true) o × (o.end ≡ length text))
+    (map (ending m text) (filter (counts m true (length text)) ns))
+    (λ o. (λ k. (k.0, k.1), λ k. (k.0, k.1, (k.0.same.0, standard-entered m o.pattern k.0.same.0 standard k.0.same.1))))
+    h
+
+-- what a lemma on a place needs: the search is the machine's, lies in the haystack, and the place lies in the span
+pub record IsPlace (m : Machine) (anchored : Anchored) (s : Search) (at : ℕ) : Type 0 where
+  pub by : IsSearchBy m s
+  pub anchor : s.anchored ≡ is_anchored anchored
+  pub standard : m.kind ≡ Standard
+  pub from : s.start ≤ at
+  pub to : at ≤ s.end
+  pub inside : s.end ≤ length s.haystack
+
+-- what a state tells at a place is all that ends there
+told-lists : (m : Machine) (anchored : Anchored) (s : Search) (at : ℕ) (ns : List ℕ) → IsPlace m anchored s at → Tells m anchored (read_to s at) ns → ListsAll (λ o. Occurs s o × (o.end ≡ at)) (told_from m s at ns 0)
+told-lists m anchored s at ns is h =
+    let w = read_to s at in
+    let long : length w ≡ at - s.start = read_to-length s at is.from is.to is.inside in
+    let told = tells-lists m anchored w ns is.standard h in
+    let counted = subst (λ (read : ℕ). ListsAll (λ o. Occurs (whole m w (is_anchored anchored)) o × (o.end ≡ length w)) (map (ending m w) (filter (counts m (is_anchored anchored) read) ns))) long told in
+    let inner : ListsAll (λ o. Occurs (whole m w s.anchored) o × (o.end ≡ length w)) (map (ending m w) (counted_from m s.anchored (at - s.start) ns 0)) =
+    subst (λ (b : Bool). ListsAll (λ o. Occurs (whole m w b) o × (o.end ≡ length w)) (map (ending m w) (filter (counts m b (at - s.start)) ns))) (sym is.anchor) counted in
+    ListsAll-shifted s.start (λ o. Occurs (whole m w s.anchored) o × (o.end ≡ length w)) (λ o. Occurs s o × (o.end ≡ at)) (map (ending m w) (counted_from m s.anchored (at - s.start) ns 0))
+    (λ o k. let there = whole-occurs_in_span m s at o is.by is.from is.to is.inside k.0 in (there.0, let e = k.1 in let g = is.from in omega arith))
+    (λ o k.
+    let there = occurs-in_whole_of_span m s at o is.by is.from is.to is.inside k.0 (omega arith) in
+    let r : (inner : Occurrence) × (Occurs (whole m w s.anchored) inner × (inner.end ≡ length w)) × (o ≡ shifted s.start inner) = (back_by s.start o, (there.0, let e = k.1 in omega arith), there.1) in
+    r)
+    inner
+
+-- what ends from a place on is what the state there tells, and what ends later
+pub ending_from-split : (m : Machine) (anchored : Anchored) (s : Search) (at : ℕ) (ns : List ℕ) → IsPlace m anchored s at → Tells m anchored (read_to s at) ns → ending_from s at ≡ told_from m s at ns 0 ++ ending_from s (at + 1)
+ending_from-split m anchored s at ns is h =
+    let told = told-lists m anchored s at ns is h in
+    let later = ending_from-lists s (at + 1) is.inside in
+    ListsAll-unique (λ o. Occurs s o × (at ≤ o.end)) (ending_from s at) (told_from m s at ns 0 ++ ending_from s (at + 1)) (ending_from-lists s at is.inside) (
+      IsRising-append (told_from m s at ns 0) (ending_from s (at + 1)) told.0 later.0 (λ a b here there. let e = ((told.1 a).0 here).1 in let l = ((later.1 b).0 there).1 in less_by_end a b (omega arith)),
+      λ o. (
+        λ c. ⊎_elim
+            (λ here. let k = (told.1 o).0 here in (k.0, let e = k.1 in omega arith))
+            (λ there. let k = (later.1 o).0 there in (k.0, let l = k.1 in omega arith))
+            (Contains-append_cases (told_from m s at ns 0) (ending_from s (at + 1)) o c),
+        λ k. ⊎_elim
+            (λ (past : at < o.end). Contains-append_right (told_from m s at ns 0) (ending_from s (at + 1)) o ((later.1 o).1 (k.0, omega arith)))
+            (λ (le : o.end ≤ at). Contains-append_left (told_from m s at ns 0) (ending_from s (at + 1)) o ((told.1 o).1 (k.0, let l = k.1 in omega arith)))
+            (cases_lt at o.end),
+      ),
+    )
+
+-- Under the standard kind nothing ends behind a dead text, nor at its end.
+dead-over : (m : Machine) (anchored : Bool) (text more : List ℕ) (o : Occurrence) → IsOwnInverse m.pairing → m.kind ≡ Standard → IsLive m anchored text None → Occurs (whole m (text ++ more) anchored) o → length text ≤ o.end → ⊥
+dead-over m true text more o inverse standard dead h past =
+    let first : o.start ≡ 0 = h.anchor refl in
+    let inside : o.start ≤ length text = omega arith in
+    dead o.start (record {
+      within = inside;
+      begins = entered-begins m true text more o h.same.0 inverse h (standard-entered m o.pattern h.same.0 standard h.same.1) inside past;
+      anchor = λ _. first;
+      no_later = inl refl;
+    })
+dead-over m false text more o inverse standard dead h past = (dead-best m text dead).0 standard
+
+-- where the text that was read is dead, nothing is left that ends there or later
+pub ending_from-dead : (m : Machine) (anchored : Anchored) (s : Search) (at : ℕ) → IsPlace m anchored s at → IsOwnInverse m.pairing → IsLive m (is_anchored anchored) (read_to s at) None → ending_from s at ≡ []
+ending_from-dead m anchored s at is inverse dead =
+    let g = is.from in
+    let l = is.to in
+    let here : IsLive m s.anchored (read_to s at) None = subst (λ (b : Bool). IsLive m b (read_to s at) None) (sym is.anchor) dead in
+    let long : length (read_to s at) ≡ at - s.start = read_to-length s at g l is.inside in
+    let whole_text : read_to s s.end ≡ read_to s at ++ slice_range s.haystack at s.end = slice_range-split s.haystack s.start at s.end g l in
+    ending_from-none s at is.inside (λ o h past.
+    let there = occurs-in_whole_of_span m s s.end o is.by (omega arith) (omega arith) is.inside h h.within.2 in
+    let occurs : Occurs (whole m (read_to s at ++ slice_range s.haystack at s.end) s.anchored) (back_by s.start o) = subst (λ (text : List ℕ). Occurs (whole m text s.anchored) (back_by s.start o)) whole_text there.0 in
+    dead-over m s.anchored (read_to s at) (slice_range s.haystack at s.end) (back_by s.start o) inverse is.standard here occurs (omega arith))
+
+-- an entry that counts is no longer than what was read, and lies at the end of it
+pub entry-lies : (m : Machine) (anchored : Anchored) (s : Search) (at : ℕ) (ns : List ℕ) (index n : ℕ) → IsPlace m anchored s at → Tells m anchored (read_to s at) ns
+    → Contains (counted_from m s.anchored (at - s.start) ns index) n
+    → (length (get_or m.patterns n []) ≤ at - s.start) × (shifted s.start (ending m (read_to s at) n) ≡ lying_to m at n)
+entry-lies m anchored s at ns index n is h c =
+    let g = is.from in
+    let w = read_to s at in
+    let long : length w ≡ at - s.start = read_to-length s at g is.to is.inside in
+    let here = counted-whole m s.anchored (at - s.start) ns index n c in
+    let told = Contains-map (shifted s.start) (map (ending m w) (counted_from m s.anchored (at - s.start) ns 0)) (ending m w n) (Contains-map (ending m w) (counted_from m s.anchored (at - s.start) ns 0) n here) in
+    let occurs : Occurs s (shifted s.start (ending m w n)) = (((told-lists m anchored s at ns is h).1 (shifted s.start (ending m w n))).0 told).0 in
+    let end = occurs-end s (shifted s.start (ending m w n)) is.inside occurs in
+    let pattern : slice_get m.patterns n ≡ Some end.0 = subst (λ (ps : List (List ℕ)). slice_get ps n ≡ Some end.0) is.by.0 end.1 in
+    let same : get_or m.patterns n [] ≡ end.0 = get_or_from_slice_get m.patterns n end.0 [] pattern in
+    let k : length (get_or m.patterns n []) ≡ length end.0 = ap length same in
+    let e : s.start + length w ≡ s.start + (length w - length (get_or m.patterns n [])) + length end.0 = end.2 in (
+      omega arith,
+      occurrence_from_parts (shifted s.start (ending m w n)) (lying_to m at n) refl (omega arith) (omega arith),
+    )
+
+-- so it is the first of what is told from its index on
+pub told_from-entry : (m : Machine) (anchored : Anchored) (s : Search) (at : ℕ) (ns : List ℕ) (index n next : ℕ) → IsPlace m anchored s at → Tells m anchored (read_to s at) ns
+    → counted_from m s.anchored (at - s.start) ns index ≡ n ∷ counted_from m s.anchored (at - s.start) ns next
+    → (length (get_or m.patterns n []) ≤ at - s.start) × (told_from m s at ns index ≡ lying_to m at n ∷ told_from m s at ns next)
+told_from-entry m anchored s at ns index n next is h e =
+    let c = subst (λ (ns' : List ℕ). Contains ns' n) (sym e) (Contains-head n (counted_from m s.anchored (at - s.start) ns next)) in
+    let lies = entry-lies m anchored s at ns index n is h c in (
+      lies.0,
+      ap (λ (xs : List ℕ). map (shifted s.start) (map (ending m (read_to s at)) xs)) e ∙ ap (λ (o : Occurrence). o ∷ told_from m s at ns next) lies.1,
+    )
+
+-- where no entry counts from an index on, nothing is told
+pub told_from-none : (m : Machine) (s : Search) (at : ℕ) (ns : List ℕ) (index : ℕ) → counted_from m s.anchored (at - s.start) ns index ≡ [] → told_from m s at ns index ≡ []
+told_from-none m s at ns index e = ap (λ (xs : List ℕ). map (shifted s.start) (map (ending m (read_to s at)) xs)) e
+
+-- ---- what is paid
+
+-- no more is live than was read
+live_len-within : (text : List ℕ) (live : Option ℕ) → live_len text live ≤ length text
+live_len-within text None = omega arith
+live_len-within text (Some from) = omega arith
+
+-- at the start nothing was looked at
+pub paid-start : (m : Machine) (direct : Bool) (s : Search) (looks : ℕ) → s.start ≤ s.end → s.end ≤ length s.haystack → looks ≡ 0 → IsPaidAt m direct s s.start looks
+paid-start m direct s looks g inside none live is =
+    let long = read_to-length s s.start (omega arith) g inside in
+    let within = live_len-within (read_to s s.start) live in
+    (omega arith, λ _. omega arith)
+
+-- one more byte pays for its step
+pub paid-step : (m : Machine) (direct : Bool) (s : Search) (at looks more : ℕ) (before after : Steps) (byte : ℕ) → s.start ≤ at
+    → read_to s (at + 1) ≡ read_to s at ++ byte ∷ []
+    → ((live : Option ℕ) × IsLive m s.anchored (read_to s at) live)
+    → ((live live_after : Option ℕ) → IsLive m s.anchored (read_to s at) live → IsLive m s.anchored (read_to s at ++ byte ∷ []) live_after → IsStep direct (live_len (read_to s at) live) (live_len (read_to s at ++ byte ∷ []) live_after) before after)
+    → looks + looked_of after ≡ more + looked_of before
+    → IsPaidAt m direct s at looks
+    → IsPaidAt m direct s (at + 1) more
+paid-step m direct s at looks more before after byte g text had step counted paid live_after is =
+    let same : live_len (read_to s (at + 1)) live_after ≡ live_len (read_to s at ++ byte ∷ []) live_after = ap (λ (w : List ℕ). live_len w live_after) text in
+    let done = step had.0 live_after had.1 (subst (λ (w : List ℕ). IsLive m s.anchored w live_after) text is) in
+    let bound = done.bound in
+    let p = paid had.0 had.1 in
+    let p0 = p.0 in
+    (omega arith, λ d. let one = done.one d in let all = p.1 d in omega arith)
+
+-- what is paid for at a place of the span is within what the whole span pays
+pub paid-over : (m : Machine) (direct : Bool) (s : Search) (at looks : ℕ) → s.start ≤ at → at ≤ s.end → ((live : Option ℕ) × IsLive m s.anchored (read_to s at) live) → IsPaidAt m direct s at looks → looks ≤ looks_each direct * (s.end - s.start)
+paid-over m true s at looks g h had paid = let all = (paid had.0 had.1).1 refl in omega arith
+paid-over m false s at looks g h had paid = let bound = (paid had.0 had.1).0 in omega arith
+
+-- ---- reading on
+
+-- where nothing is left, nothing is shown, and the search is over
+pub shows-none : (Reads : List ℕ → StateID → Type 0) (entries : StateID → List ℕ) (m : Machine) (s : Search) (left : List Occurrence) (r : Shown) → left ≡ [] → r.found ≡ None → r.place ≡ Over → ShowsFirst Reads entries m s left r
+shows-none Reads entries m s left r none found place =
+    let all : (None ≡ slice_get left 0) × (drop 1 left ≡ []) = subst (λ (xs : List Occurrence). (None ≡ slice_get xs 0) × (drop 1 xs ≡ [])) (sym none) (refl, refl) in
+    (found ∙ all.0, subst (λ (p : Place). IsLeft Reads entries m s p (drop 1 left)) (sym place) all.1)
+
+-- what a state tells first is the first that is left
+pub shows-some : (Reads : List ℕ → StateID → Type 0) (entries : StateID → List ℕ) (m : Machine) (s : Search) (left : List Occurrence) (sid : StateID) (at index : ℕ) (r : Shown)
+    → s.start ≤ at → at ≤ s.end → Reads (read_to s at) sid
+    → left ≡ told_from m s at (entries sid) index ++ ending_from s (at + 1)
+    → TellsFirst entries m s sid at index (Some r) → ShowsFirst Reads entries m s left r
+shows-some Reads entries m s left sid at index r g h reads e (o, next, found, place, told) =
+    let rest : List Occurrence = told_from m s at (entries sid) next ++ ending_from s (at + 1) in
+    let is : left ≡ o ∷ rest = e ∙ ap (λ (xs : List Occurrence). xs ++ ending_from s (at + 1)) told in
+    let all : (Some o ≡ slice_get left 0) × (drop 1 left ≡ rest) = subst (λ (xs : List Occurrence). (Some o ≡ slice_get xs 0) × (drop 1 xs ≡ rest)) (sym is) (refl, refl) in
+    (found ∙ all.0, subst (λ (p : Place). IsLeft Reads entries m s p (drop 1 left)) (sym place) (g, h, reads, all.1))
+
+-- The search stood at a place, and has read on to a further one. What ends behind the first ends from `next` on, and the looks
+-- are paid for.
+pub record HasReadOn (Reads : List ℕ → StateID → Type 0) (m : Machine) (direct : Bool) (s : Search) (at i next : ℕ) (sid : StateID) (before after : Steps) : Type 0 where
+  pub reads : Reads (read_to s i) sid
+  pub later : ending_from s (at + 1) ≡ ending_from s next
+  pub pays : (looks more : ℕ) → IsPaidAt m direct s at looks → looks + looked_of after ≡ more + looked_of before → IsPaidAt m direct s i more
+  pub rose : looked_of before ≤ looked_of after
+  pub only : OnlyLooked before after
+
+-- at first nothing was read
+pub read_on-start : (Reads : List ℕ → StateID → Type 0) (m : Machine) (direct : Bool) (s : Search) (at : ℕ) (sid : StateID) (steps : Steps) → Reads (read_to s at) sid → HasReadOn Reads m direct s at at (at + 1) sid steps steps
+read_on-start Reads m direct s at sid steps reads =
+    record {
+      reads = reads;
+      later = refl;
+      pays = λ looks more paid e. let same : looks ≡ more = omega arith in subst (IsPaidAt m direct s at) same paid;
+      rose = omega arith;
+      only = (refl, refl);
+    }
+
+-- one more byte
+pub read_on-byte : (Reads : List ℕ → StateID → Type 0) (m : Machine) (direct : Bool) (s : Search) (at i : ℕ) (sid after_byte : StateID) (before mid after : Steps) (byte : ℕ)
+    → s.start ≤ i → i < s.end → s.end ≤ length s.haystack → byte ≡ get_or s.haystack i 0
+    → ((text : List ℕ) (state : StateID) → Reads text state → (live : Option ℕ) × IsLive m s.anchored text live)
+    → ((text : List ℕ) → Reads text sid → Reads (text ++ byte ∷ []) after_byte)
+    → ((text : List ℕ) (live live_after : Option ℕ) → Reads text sid → IsLive m s.anchored text live → IsLive m s.anchored (text ++ byte ∷ []) live_after → IsStep direct (live_len text live) (live_len (text ++ byte ∷ []) live_after) mid after)
+    → HasReadOn Reads m direct s at i (i + 1) sid before mid → HasReadOn Reads m direct s at (i + 1) (i + 1) after_byte before after
+read_on-byte Reads m direct s at i sid after_byte before mid after byte g h inside is lives next step read =
+    let text : read_to s (i + 1) ≡ read_to s i ++ byte ∷ [] = read_to-more s i g h inside ∙ ap (λ (b : ℕ). read_to s i ++ b ∷ []) (sym is) in
+    let reads : Reads (read_to s i ++ byte ∷ []) after_byte = next (read_to s i) read.reads in
+    let live = lives (read_to s i) sid read.reads in
+    let live_after = lives (read_to s i ++ byte ∷ []) after_byte reads in
+    let done = step (read_to s i) live.0 live_after.0 read.reads live.1 live_after.1 in
+    let some = done.some in
+    let rose = read.rose in
+    record {
+      reads = subst (λ (w : List ℕ). Reads w after_byte) (sym text) reads;
+      later = read.later;
+      pays = λ looks more paid e.
+          let between : ℕ = looks + looked_of mid - looked_of before in
+          let first : looks + looked_of mid ≡ between + looked_of before = omega arith in
+          paid-step m direct s i between more mid after byte g text live (λ l k here there. step (read_to s i) l k read.reads here there) (omega arith) (read.pays looks between paid first);
+      rose = omega arith;
+      only = (done.scanned ∙ read.only.0, done.moved ∙ read.only.1);
+    }
+
+-- a place where nothing is told is behind the search
+pub read_on-settled : (Reads : List ℕ → StateID → Type 0) (m : Machine) (direct : Bool) (anchored : Anchored) (s : Search) (at i : ℕ) (ns : List ℕ) (sid : StateID) (before after : Steps)
+    → IsPlace m anchored s i → Tells m anchored (read_to s i) ns → told_from m s i ns 0 ≡ []
+    → HasReadOn Reads m direct s at i i sid before after → HasReadOn Reads m direct s at i (i + 1) sid before after
+read_on-settled Reads m direct anchored s at i ns sid before after is tells none read =
+    record {
+      reads = read.reads;
+      later = read.later ∙ ending_from-split m anchored s i ns is tells ∙ ap (λ (xs : List Occurrence). xs ++ ending_from s (i + 1)) none;
+      pays = read.pays;
+      rose = read.rose;
+      only = read.only;
+    }
+
+-- a state with no entries tells nothing
+pub told_from-empty : (m : Machine) (s : Search) (at : ℕ) (ns : List ℕ) → ns ≡ [] → told_from m s at ns 0 ≡ []
+told_from-empty m s at ns none = told_from-none m s at ns 0 (counted-past m s.anchored (at - s.start) ns 0 (omega (arith, ap length none)))
+
+-- where the search is over behind a place, all is paid for
+pub pays-over : (Reads : List ℕ → StateID → Type 0) (m : Machine) (direct : Bool) (s : Search) (at i next : ℕ) (start sid : StateID) (before after : Steps) (place : Place)
+    → s.start ≤ i → i ≤ s.end
+    → ((text : List ℕ) (state : StateID) → Reads text state → (live : Option ℕ) × IsLive m s.anchored text live)
+    → HasReadOn Reads m direct s at i next sid before after → place ≡ Over → GoesOnPaying m direct s (At start at 0) place before after
+pays-over Reads m direct s at i next start sid before after place g h lives read over looks more paid e =
+    subst (λ (p : Place). IsPaid m direct s p more) (sym over) (paid-over m direct s i more g h (lives (read_to s i) sid read.reads) (read.pays looks more paid e))
+
+-- where the search stands at the place that it has read on to, that is paid for
+pub pays-at : (Reads : List ℕ → StateID → Type 0) (m : Machine) (direct : Bool) (s : Search) (at i next : ℕ) (start sid : StateID) (before after : Steps) (index : ℕ) (place : Place)
+    → HasReadOn Reads m direct s at i next sid before after → place ≡ At sid i index → GoesOnPaying m direct s (At start at 0) place before after
+pays-at Reads m direct s at i next start sid before after index place read is looks more paid e =
+    subst (λ (p : Place). IsPaid m direct s p more) (sym is) (read.pays looks more paid e)
+
+-- ---- between calls
+
+-- at the start nothing was read
+pub read_to-start : (s : Search) → read_to s s.start ≡ []
+read_to-start s = let none : s.start - s.start ≡ 0 = omega arith in ap (λ (k : ℕ). take k (drop s.start s.haystack)) none
+
+-- the element at an index is the first behind so many
+slice_get-drop : {X : Type 0} (xs : List X) (n : ℕ) → slice_get (drop n xs) 0 ≡ slice_get xs n
+slice_get-drop [] zero = refl
+slice_get-drop [] (suc n) = refl
+slice_get-drop (x ∷ xs) zero = refl
+slice_get-drop (x ∷ xs) (suc n) = slice_get-drop xs n
+
+-- behind the first of what is behind so many is what is behind one more
+drop-one_more : {X : Type 0} (xs : List X) (n : ℕ) → drop 1 (drop n xs) ≡ drop (n + 1) xs
+drop-one_more xs n = drop-drop 1 n xs
+
+-- where there is no first, there is nothing
+slice_get-none : {X : Type 0} (xs : List X) → None ≡ slice_get xs 0 → drop 1 xs ≡ xs
+slice_get-none [] e = refl
+slice_get-none (x ∷ xs) e = cc
+
+-- and the same said of the whole
+slice_get-empty : {X : Type 0} (xs : List X) → None ≡ slice_get xs 0 → xs ≡ []
+slice_get-empty [] e = refl
+slice_get-empty (x ∷ xs) e = cc
+
+-- a list that has a first is that and the rest
+slice_get-first : {X : Type 0} (xs : List X) (x : X) → Some x ≡ slice_get xs 0 → xs ≡ x ∷ drop 1 xs
+slice_get-first [] x e = cc
+slice_get-first (y ∷ ys) x e = cc
+
+-- what is left behind a call that showed the first of it
+left-after : (L : List Occurrence) (n : ℕ) (found : Option Occurrence) → found ≡ slice_get (drop n L) 0 → drop 1 (drop n L) ≡ drop (if is_some found then n + 1 else n) L
+left-after L n None e = slice_get-none (drop n L) e
+left-after L n (Some o) e = drop-one_more L n
+
+-- where a search stands that begins, or comes from earlier calls
+pub came-stands : (Reads : Anchored → List ℕ → StateID → Type 0) (entries : StateID → List ℕ) (m : Machine) (direct : Bool) (asked : Asked) (state : OverlappingState) (first : Place)
+    → IsLeft (Reads asked.anchored) entries m (search_in m asked) first (listing_of (search_in m asked)) → IsPaid m direct (search_in m asked) first 0
+    → CameFrom Reads entries m direct asked state → StandsAt (Reads asked.anchored) entries m direct (search_in m asked) (unwrap_or state.place first) (shown_of state) (sums_of state)
+came-stands Reads entries m direct asked state first left paid came =
+    let s = search_in m asked in
+    let Stands = StandsAt (Reads asked.anchored) entries m direct s in
+    ⊎_elim
+    (λ (fresh : IsFresh state).
+    let there : StandsAt (Reads asked.anchored) entries m direct s first (shown_of state) (sums_of state) = record {
+      left = subst (λ (n : ℕ). IsLeft (Reads asked.anchored) entries m s first (drop n (listing_of s))) (sym fresh.shown) left;
+      paid = subst (λ (n : ℕ). IsPaid m direct s first n) (sym fresh.sums.looked) paid;
+      scanned = fresh.sums.scanned;
+      moved = fresh.sums.moved;
+    } in
+    subst (λ (p : Option Place). StandsAt (Reads asked.anchored) entries m direct s (unwrap_or p first) (shown_of state) (sums_of state)) (sym fresh.place) there)
+    (λ (stands : (place : Place) × (state.place ≡ Some place) × StandsAt (Reads asked.anchored) entries m direct s place (shown_of state) (sums_of state)).
+    subst (λ (p : Option Place). StandsAt (Reads asked.anchored) entries m direct s (unwrap_or p first) (shown_of state) (sums_of state)) (sym stands.1) stands.2)
+    came
+
+-- where it stands behind a call
+pub stands-after : (Reads : List ℕ → StateID → Type 0) (entries : StateID → List ℕ) (m : Machine) (direct : Bool) (s : Search) (place : Place) (n : ℕ) (r : Shown) (sums start done after : Steps)
+    → StandsAt Reads entries m direct s place n sums → ShowsFirst Reads entries m s (drop n (listing_of s)) r → GoesOnPaying m direct s place r.place start done → OnlyLooked start done → AreNone start → Added done sums after
+    → StandsAt Reads entries m direct s r.place (if is_some r.found then n + 1 else n) after
+stands-after Reads entries m direct s place n r sums start done after stands shows pays only none added =
+    let looked = added.looked in
+    let zero_looked = none.looked in
+    record {
+      left = subst (IsLeft Reads entries m s r.place) (left-after (listing_of s) n r.found shows.0) shows.1;
+      paid = pays (looked_of sums) (looked_of after) stands.paid (omega arith);
+      scanned = let a = added.scanned in let b = only.0 in let c = none.scanned in let d = stands.scanned in omega arith;
+      moved = let a = added.moved in let b = only.1 in let c = none.moved in let d = stands.moved in omega arith;
+    }
+
+-- and what it showed
+pub found-after : (Reads : List ℕ → StateID → Type 0) (entries : StateID → List ℕ) (m : Machine) (s : Search) (n : ℕ) (r : Shown) → ShowsFirst Reads entries m s (drop n (listing_of s)) r → r.found ≡ slice_get (listing_of s) n
+found-after Reads entries m s n r shows = shows.0 ∙ slice_get-drop (listing_of s) n
+
+-- the looks are within what one walk over the span may cost
+pub paid-within : (Reads : List ℕ → StateID → Type 0) (entries : StateID → List ℕ) (m : Machine) (direct : Bool) (s : Search) (place : Place) (left : List Occurrence) (looks : ℕ)
+    → ((text : List ℕ) (state : StateID) → Reads text state → (live : Option ℕ) × IsLive m s.anchored text live)
+    → IsLeft Reads entries m s place left → IsPaid m direct s place looks → looks ≤ looks_each direct * (s.end - s.start)
+paid-within Reads entries m direct s (At sid at index) left looks lives is paid = paid-over m direct s at looks is.0 is.1 (lives (read_to s at) sid is.2) paid
+paid-within Reads entries m direct s Over left looks lives is paid = paid
+
+-- so is all that was done
+pub stands-work : (Reads : List ℕ → StateID → Type 0) (entries : StateID → List ℕ) (m : Machine) (direct : Bool) (s : Search) (place : Place) (n : ℕ) (sums : Steps)
+    → ((text : List ℕ) (state : StateID) → Reads text state → (live : Option ℕ) × IsLive m s.anchored text live)
+    → StandsAt Reads entries m direct s place n sums → IsOverlappingWork direct s sums
+stands-work Reads entries m direct s place n sums lives stands =
+    record {
+      looked = paid-within Reads entries m direct s place (drop n (listing_of s)) (looked_of sums) lives stands.left stands.paid;
+      scanned = let none = stands.scanned in omega arith;
+      moved = stands.moved;
+    }
+
+-- the same of a state
+pub came-work : (Reads : Anchored → List ℕ → StateID → Type 0) (entries : StateID → List ℕ) (m : Machine) (direct : Bool) (asked : Asked) (state : OverlappingState)
+    → ((text : List ℕ) (sid : StateID) → Reads asked.anchored text sid → (live : Option ℕ) × IsLive m (is_anchored asked.anchored) text live)
+    → CameFrom Reads entries m direct asked state → IsOverlappingWork direct (search_in m asked) (sums_of state)
+came-work Reads entries m direct asked state lives came =
+    ⊎_elim
+    (λ (fresh : IsFresh state). record { looked = let none = fresh.sums.looked in omega arith; scanned = let none = fresh.sums.scanned in omega arith; moved = fresh.sums.moved })
+    (λ (stands : (place : Place) × (state.place ≡ Some place) × StandsAt (Reads asked.anchored) entries m direct (search_in m asked) place (shown_of state) (sums_of state)).
+    stands-work (Reads asked.anchored) entries m direct (search_in m asked) stands.0 (shown_of state) (sums_of state) lives stands.2)
+    came
+
+-- so what is left yields its first, if it has one
+pub yields-next : (L : List Occurrence) (n : ℕ) (r : Option Occurrence) → r ≡ slice_get (drop n L) 0 → MatchOption r ((drop n L ≡ []) × (drop (if is_some r then n + 1 else n) L ≡ [])) (λ o. drop n L ≡ o ∷ drop (if is_some r then n + 1 else n) L)
+yields-next L n None e = (slice_get-empty (drop n L) e, slice_get-empty (drop n L) e)
+yields-next L n (Some o) e = slice_get-first (drop n L) o e ∙ ap (λ (xs : List Occurrence). o ∷ xs) (drop-one_more L n)
+
+-- ---- a state and its clone
+
+-- counts are the same that came to the same
+pub count-same : (a b : Count) → a.value ≡ b.value → a ≡ b
+count-same a b e = ap (λ (n : ℕ). let r : Count = record { times = a.times; value = n } in r) e
+
+-- so are steps
+pub steps-same : (a b : Steps) → looked_of a ≡ looked_of b → scanned_of a ≡ scanned_of b → moved_of a ≡ moved_of b → a ≡ b
+steps-same a b looked scanned moved =
+    ap (λ (n : Count). let r : Steps = record { looked = n; scanned = a.scanned; moved = a.moved } in r) (count-same a.looked b.looked looked)
+    ∙ ap (λ (n : Count). let r : Steps = record { looked = b.looked; scanned = n; moved = a.moved } in r) (count-same a.scanned b.scanned scanned)
+    ∙ ap (λ (n : Count). let r : Steps = record { looked = b.looked; scanned = b.scanned; moved = n } in r) (count-same a.moved b.moved moved)

@@ -1,0 +1,61 @@
+-- The first entry of a list that counts in an anchored search, as a loop looks for it.
+use Rattle.std.proofs.Common.{◌≡◌, ◌≢◌, ℕ, suc, ◌+◌, ◌-◌, ◌≤◌, ◌==◌, Bool, true, false, List, [], ◌∷◌, length, drop, Some, None, get_or, slice_get, sym, ap, subst, refl, ◌∙◌, arith, add-one, drop-cons}
+use Rattle.std.specs.List.{filter}
+use Rattle.std.specs.Option.{option_map}
+use Rattle.std.proofs.lemmas.Bool.Decides.{nat_tests}
+use Rattle.std.proofs.lemmas.List.{drop_all}
+use Rattle.std.proofs.lemmas.Option.{slice_get_within, get_or_from_slice_get}
+use Rattle.ac_input.specs.declared.search.Anchored.TheVariants.{Yes}
+use Rattle.ac_input.specs.Machine.{Machine}
+use Rattle.ac_input.proofs.OrderLemmas.{occurrence_from_parts}
+use Rattle.ac_automaton.specs.Stretch.{counted, ending_at, taken}
+
+-- what is left of a list from a place on begins with what stands there
+drop-at : (ns : List ℕ) (i n : ℕ) → slice_get ns i ≡ Some n → drop i ns ≡ n ∷ drop (i + 1) ns
+drop-at ns i n is =
+    let within = slice_get_within ns i n is in
+    let here : get_or ns i 0 ≡ n = get_or_from_slice_get ns i n 0 is in
+    let split = drop-cons ns i 0 within in
+    rw (add-one) (split ∙ ap (λ (x : ℕ). x ∷ drop (suc i) ns) here)
+
+-- no entry before a place counts, so the first that does is the first from there on
+abbrev pub NoneBefore : Machine → ℕ → List ℕ → ℕ → Type 0
+NoneBefore m bytes ns i = slice_get (counted m Yes bytes ns) 0 ≡ slice_get (counted m Yes bytes (drop i ns)) 0
+
+-- two numbers that are equal, as a test
+equal-test : (x y : ℕ) → x ≡ y → (x == y) ≡ true
+equal-test x y h = grind (arith, nat_tests)
+
+-- two that are not
+unequal-test : (x y : ℕ) → x ≢ y → (x == y) ≡ false
+unequal-test x y h = grind (arith, nat_tests)
+
+-- the first of a list that a test keeps
+filter-first_kept : (p : ℕ → Bool) (x : ℕ) (xs : List ℕ) → p x ≡ true → slice_get (filter p (x ∷ xs)) 0 ≡ Some x
+filter-first_kept p x xs h = rw h
+
+-- one that it drops
+filter-first_dropped : (p : ℕ → Bool) (x : ℕ) (xs : List ℕ) → p x ≡ false → filter p (x ∷ xs) ≡ filter p xs
+filter-first_dropped p x xs h = rw h
+
+-- an entry that counts is the match
+pub taken-here : (m : Machine) (start end : ℕ) (ns : List ℕ) (i n : ℕ) → start ≤ end → NoneBefore m (end - start) ns i → slice_get ns i ≡ Some n → length (get_or m.patterns n []) ≡ end - start → Some (record { pattern = n; start = start; end = end }) ≡ taken m Yes end (end - start) ns
+taken-here m start end ns i n ordered before is long =
+    let first : slice_get (counted m Yes (end - start) (drop i ns)) 0 ≡ Some n =
+    subst (λ (l : List ℕ). slice_get (filter (λ k. length (get_or m.patterns k []) == (end - start)) l) 0 ≡ Some n) (sym (drop-at ns i n is))
+    (filter-first_kept (λ k. length (get_or m.patterns k []) == (end - start)) n (drop (i + 1) ns) (equal-test (length (get_or m.patterns n [])) (end - start) long)) in
+    let one : record { pattern = n; start = start; end = end } ≡ ending_at m end n = occurrence_from_parts (record { pattern = n; start = start; end = end }) (ending_at m end n) refl (omega arith) refl in
+    ap Some one ∙ sym (ap (option_map (ending_at m end)) (before ∙ first))
+
+-- where an entry doesn't count, none up to the next place does
+pub taken-next : (m : Machine) (bytes : ℕ) (ns : List ℕ) (i n : ℕ) → NoneBefore m bytes ns i → slice_get ns i ≡ Some n → length (get_or m.patterns n []) ≢ bytes → NoneBefore m bytes ns (i + 1)
+taken-next m bytes ns i n before is other =
+    before
+    ∙ ap (λ (l : List ℕ). slice_get (filter (λ k. length (get_or m.patterns k []) == bytes) l) 0) (drop-at ns i n is)
+    ∙ ap (λ (l : List ℕ). slice_get l 0) (filter-first_dropped (λ k. length (get_or m.patterns k []) == bytes) n (drop (i + 1) ns) (unequal-test (length (get_or m.patterns n [])) bytes other))
+
+-- where none counts, there is no match
+pub taken-none : (m : Machine) (at bytes : ℕ) (ns : List ℕ) (i : ℕ) → NoneBefore m bytes ns i → length ns ≤ i → None ≡ taken m Yes at bytes ns
+taken-none m at bytes ns i before past =
+    let none : slice_get (counted m Yes bytes (drop i ns)) 0 ≡ None = ap (λ (l : List ℕ). slice_get (filter (λ k. length (get_or m.patterns k []) == bytes) l) 0) (drop_all i ns past) in
+    sym (ap (option_map (ending_at m at)) (before ∙ none))

@@ -1,0 +1,95 @@
+//! A reference to an automaton is an automaton, so that what takes one takes a borrowed one too.
+use super::Automaton;
+use crate::error::MatchError;
+use ac_input::primitives::{PatternID, StateID};
+use ac_input::search::{Anchored, MatchKind};
+use ac_input::steps::Steps;
+use ac_literal::prefilter::Prefilter;
+
+impl<'a, A: Automaton> Automaton for &'a A {
+    ghost machine = { λ a. A.machine a.now };
+
+    ghost serves = { λ a anchored. A.serves a.now anchored };
+
+    ghost Reads = { λ a anchored text sid. A.Reads a.now anchored text sid };
+
+    ghost entries = { λ a sid. A.entries a.now sid };
+
+    ghost starts = { λ a sid. A.starts a.now sid };
+
+    ghost direct = { λ a. A.direct a.now };
+
+    ghost filter = { λ a. A.filter a.now };
+
+    fn start_state(&self, anchored: Anchored) -> Result<StateID, MatchError> {
+        (**self).start_state(anchored)
+    }
+
+    fn next_state_counted(
+        &self,
+        anchored: Anchored,
+        sid: StateID,
+        byte: u8,
+        steps: &mut Steps,
+    ) -> StateID {
+        (**self).next_state_counted(anchored, sid, byte, steps)
+    }
+
+    fn is_special(&self, sid: StateID) -> bool {
+        (**self).is_special(sid)
+    }
+
+    fn is_dead(&self, sid: StateID) -> bool {
+        (**self).is_dead(sid)
+    }
+
+    fn is_match(&self, sid: StateID) -> bool {
+        (**self).is_match(sid)
+    }
+
+    fn is_start(&self, sid: StateID) -> bool {
+        (**self).is_start(sid)
+    }
+
+    fn match_kind(&self) -> MatchKind {
+        (**self).match_kind()
+    }
+
+    fn match_len(&self, sid: StateID) -> usize {
+        (**self).match_len(sid)
+    }
+
+    fn match_pattern(&self, sid: StateID, index: usize) -> PatternID {
+        (**self).match_pattern(sid, index)
+    }
+
+    fn patterns_len(&self) -> usize {
+        (**self).patterns_len()
+    }
+
+    fn pattern_len(&self, pattern: PatternID) -> usize {
+        (**self).pattern_len(pattern)
+    }
+
+    fn min_pattern_len(&self) -> usize {
+        (**self).min_pattern_len()
+    }
+
+    fn max_pattern_len(&self) -> usize {
+        (**self).max_pattern_len()
+    }
+
+    fn memory_usage(&self) -> usize {
+        (**self).memory_usage()
+    }
+
+    fn prefilter(&self) -> Option<&Prefilter> {
+        (**self).prefilter()
+    }
+
+    ghost tells = { λ a anchored text sid reads. A.tells a.now anchored text sid reads };
+
+    ghost lives = { λ a anchored text sid reads. A.lives a.now anchored text sid reads };
+
+    ghost pairs = { λ a anchored text sid reads. A.pairs a.now anchored text sid reads };
+}

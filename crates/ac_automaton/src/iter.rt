@@ -1,0 +1,158 @@
+//! The matches of an input, one after another.
+//!
+//! A walk takes the match of the input, goes on where that match ends, and so on to the end of the span. It takes no empty match
+//! where the match before it ended: there it looks again from one byte further on, so that it always comes to its end. An anchored
+//! walk takes at each turn what starts at the very place where it looks, and ends where nothing does.
+//!
+//! [`FindIter`] is the walk as an iterator. It holds two references and a few numbers, and takes no memory. Under the standard kind
+//! it reads on from the end of each match, and so each byte of the span once. Under a leftmost kind it has to read behind a match
+//! before it knows that it is the one, by as much as the longest pattern, and reads those bytes again.
+ghost use Rattle.std.specs.Prelude.{◌≡◌, ◌↔◌, ◌<◌, ◌≤◌, ⊤, IfOk, IfErr, IfSome, IsOk, IsTrue};
+ghost use Rattle.std.specs.Iterator.{YieldsFirst, item_count, MakesProgress};
+ghost use Rattle.ac_input.specs.Best.{IsBest, asked_kind};
+ghost use Rattle.ac_input.specs.Computed.{walk_of};
+ghost use Rattle.ac_input.specs.Input.{search_in};
+ghost use Rattle.ac_input.specs.Walk.{IsPick, Repeats};
+ghost use Rattle.ac_input.specs.Work.{IsFindWork, scans_bytes};
+ghost use Rattle.ac_automaton.specs.Automaton.{refusal_of};
+ghost use Rattle.ac_automaton.specs.Iter.{fresh_walk, left_of, GoesOn, Counts, IsNextPick, IsPickWork, IsNextWork, IsOnItsWay};
+
+use crate::automaton::Automaton;
+use crate::error::MatchError;
+use ac_input::history::Count;
+use ac_input::search::{Input, Match};
+use ac_input::steps::Steps;
+use std::marker::Model;
+
+/// The matches of an input that are left to come. From [`Automaton::try_find_iter`].
+///
+/// Once it has answered `None` it answers nothing else, and does nothing.
+#[derive(Drop)]
+pub struct FindIter<'a, 'h, A: Automaton> {
+    automaton: &'a A,
+    input: Input<'h>,
+    last: Option<usize>,
+    first: Count,
+    sums: Steps,
+}
+
+impl<'a, 'h, A: Automaton> Model for FindIter<'a, 'h, A> {
+    ghost use Rattle.ac_automaton.specs.Iter.{Walk, walk_at, IsOnItsWay};
+
+    ghost Value = { Walk };
+
+    ghost view = { λ i.
+        walk_at (A.machine i.automaton.now) (A.direct i.automaton.now) (A.filter i.automaton.now) i.first.value i.input i.last i.sums };
+
+    ghost invariant = { λ i.
+        A.serves i.automaton.now i.input.anchored
+        × IsOnItsWay (walk_at (A.machine i.automaton.now) (A.direct i.automaton.now) (A.filter i.automaton.now) i.first.value i.input i.last i.sums) };
+}
+
+/// All matches of the input, one after another.
+pub fn find_iter<'a, 'h, A: Automaton>(
+    automaton: &'a A,
+    input: Input<'h>,
+) -> Result<FindIter<'a, 'h, A>, MatchError>
+    ensures walk { IfOk result (λ iterator. iterator ≡ fresh_walk (A.machine automaton.now) (A.direct automaton.now) (A.filter automaton.now) input.entry) }
+    ensures all { IfOk result (λ iterator. left_of iterator ≡ walk_of (asked_kind (A.machine automaton.now).kind input.entry.earliest) (search_in (A.machine automaton.now) input.entry)) }
+    ensures served { IsOk result ↔ A.serves automaton.now input.entry.anchored }
+    ensures refused { IfErr result (λ error. error ≡ refusal_of input.entry.anchored) }
+{
+    automaton.start_state(input.get_anchored())?;
+    let first = Count::zero().more(&input.start());
+    Ok(FindIter {
+        automaton,
+        input,
+        last: None,
+        first,
+        sums: Steps::new(),
+    })
+}
+
+/// The match of an input that the automaton serves.
+fn best<A: Automaton>(automaton: &A, input: &Input<'_>, steps: &mut Steps) -> Option<Match>
+    requires { A.serves automaton.now input.now.anchored }
+    ensures found { IsBest (asked_kind (A.machine automaton.now).kind input.now.earliest) (search_in (A.machine automaton.now) input.now) result }
+    ensures work { IsFindWork (asked_kind (A.machine automaton.now).kind input.now.earliest) (A.direct automaton.now) (scans_bytes (A.filter automaton.now)) (search_in (A.machine automaton.now) input.now) result steps.old steps.new }
+{
+    automaton.try_find_counted(input, steps).unwrap()
+}
+
+/// Whether the match is empty and lies where the last one ended.
+fn repeats(last: Option<usize>, found: &Option<Match>) -> bool
+    ensures { IsTrue result ↔ Repeats last found.now }
+{
+    match (last, found) {
+        (Some(last), Some(found)) => found.is_empty() && found.end() == last,
+        _ => false,
+    }
+}
+
+/// The next pick of a walk that stands where the input starts. It may set the input's start one byte further.
+fn next_pick<A: Automaton>(
+    automaton: &A,
+    input: &mut Input<'_>,
+    last: Option<usize>,
+    steps: &mut Steps,
+) -> Option<Match>
+    requires served { A.serves automaton.now input.old.anchored }
+    requires within { input.old.span.start ≤ input.old.span.end }
+    requires last { IfSome last (λ end. end ≤ input.old.span.start) }
+    ensures pick { IsPick (asked_kind (A.machine automaton.now).kind input.old.earliest) (search_in (A.machine automaton.now) input.old) input.old.span.start last result }
+    ensures asked { input.new ≡ record input.old { span = record input.old.span { start = input.new.span.start } } }
+    ensures work { IsPickWork (asked_kind (A.machine automaton.now).kind input.old.earliest) (A.direct automaton.now) (scans_bytes (A.filter automaton.now)) (search_in (A.machine automaton.now) input.old) input.old.span.start result steps.old steps.new }
+{
+    let found = best(automaton, input, steps);
+    if !repeats(last, &found) {
+        return found;
+    }
+    if input.start() == input.end() {
+        return None;
+    }
+    input.set_start(input.start() + 1);
+    best(automaton, input, steps)
+}
+
+impl<'a, 'h, A: Automaton> FindIter<'a, 'h, A> {
+    /// The next match, as `next` gives it; and counts what it does.
+    pub fn next_counted(&mut self, steps: &mut Steps) -> Option<Match>
+        ensures pick { IsNextPick self.old result }
+        ensures walk { GoesOn self.old result self.new }
+        ensures sums { Counts self.old self.new steps.old steps.new }
+        ensures work { IsNextWork self.old result steps.old steps.new }
+        ensures kept { IsOnItsWay self.new }
+    {
+        if self.input.is_done() {
+            return None;
+        }
+        let mut taken = Steps::new();
+        let found = next_pick(self.automaton, &mut self.input, self.last, &mut taken);
+        steps.add(&taken);
+        self.sums.add(&taken);
+        match &found {
+            Some(found) => {
+                self.input.set_start(found.end());
+                self.last = Some(found.end());
+            }
+            None => self.input.set_start(self.input.end() + 1),
+        }
+        found
+    }
+}
+
+impl<'a, 'h, A: Automaton> Iterator for FindIter<'a, 'h, A> {
+    type Item = Match;
+
+    ghost next_gives = { YieldsFirst left_of };
+
+    ghost remaining = { item_count left_of };
+
+    fn next(&mut self) -> Option<Match> {
+        let mut steps = Steps::new();
+        self.next_counted(&mut steps)
+    }
+}
+
+#[cfg(test)]
+mod tests;

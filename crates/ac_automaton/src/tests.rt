@@ -1,0 +1,190 @@
+//! Searches by an automaton that is made straight from the definitions, so that each provided call runs. The expected answers are
+//! what other implementations give.
+mod ahead;
+pub mod plain_automaton;
+
+use self::ahead::Ahead;
+use self::plain_automaton::PlainAutomaton;
+use crate::automaton::Automaton;
+use ac_input::search::{Anchored, Input, Match, MatchKind};
+use ac_input::steps::Steps;
+use std::process::Abort;
+use std::test::Fail;
+
+/// Asserts what the automaton finds, by both calls.
+fn finds<A: Automaton>(
+    rt: &impl Abort,
+    automaton: &A,
+    input: &Input<'_>,
+    want: Option<Match>,
+) -> Result<(), Fail> {
+    let mut steps = Steps::new();
+    assert_eq!(rt; automaton.try_find(input)?, want);
+    assert_eq!(rt; automaton.try_find_counted(input, &mut steps)?, want);
+    Ok(())
+}
+
+#[test]
+fn one_inside_another(rt: HostRuntime) -> Result<(), Fail> {
+    let patterns: [&[u8]; 3] = [b"b", b"abc", b"abcd"];
+    let input = Input::new(b"abcd");
+    for (kind, want) in [
+        (MatchKind::Standard, Match::must(0, 1..2)),
+        (MatchKind::LeftmostFirst, Match::must(1, 0..3)),
+        (MatchKind::LeftmostLongest, Match::must(2, 0..4)),
+    ] {
+        let automaton = PlainAutomaton::new(&patterns, false, kind).ok_or("few patterns")?;
+        finds(&rt, &automaton, &input, Some(want))?;
+        let first = Input::new(b"abcd").earliest(true);
+        finds(&rt, &automaton, &first, Some(Match::must(0, 1..2)))?;
+    }
+    Ok(())
+}
+
+#[test]
+fn one_inside_another_with_a_prefilter(rt: HostRuntime) -> Result<(), Fail> {
+    let patterns: [&[u8]; 3] = [b"b", b"abc", b"abcd"];
+    let input = Input::new(b"xxabcd");
+    let first = Input::new(b"xxabcd").earliest(true);
+    for (kind, want) in [
+        (MatchKind::Standard, Match::must(0, 3..4)),
+        (MatchKind::LeftmostFirst, Match::must(1, 2..5)),
+        (MatchKind::LeftmostLongest, Match::must(2, 2..6)),
+    ] {
+        let automaton = PlainAutomaton::new(&patterns, false, kind).ok_or("few patterns")?;
+        let ahead = Ahead::build(rt.alloc(), automaton)?.ok_or("no prefilter")?;
+        finds(&rt, &ahead, &input, Some(want))?;
+        finds(&rt, &ahead, &first, Some(Match::must(0, 3..4)))?;
+    }
+    Ok(())
+}
+
+#[test]
+fn asks_again(rt: HostRuntime) -> Result<(), Fail> {
+    let patterns: [&[u8]; 1] = [b"FOO"];
+    let automaton = PlainAutomaton::new(&patterns, true, MatchKind::Standard).ok_or(
+        "few patterns",
+    )?;
+    let ahead = Ahead::build(rt.alloc(), automaton)?.ok_or("no prefilter")?;
+    let input = Input::new(b"fo fob ba f BAR Foo");
+    finds(&rt, &ahead, &input, Some(Match::must(0, 16..19)))?;
+    let nothing = Input::new(b"fo fob ba f BA fo");
+    finds(&rt, &ahead, &nothing, None)?;
+    let anchored = Input::new(b"foo").anchored(Anchored::Yes);
+    finds(&rt, &ahead, &anchored, Some(Match::must(0, 0..3)))
+}
+
+#[test]
+fn anchored(rt: HostRuntime) -> Result<(), Fail> {
+    let patterns: [&[u8]; 2] = [b"abcd", b"bc"];
+    let automaton = PlainAutomaton::new(&patterns, false, MatchKind::LeftmostFirst).ok_or(
+        "few patterns",
+    )?;
+    let cut = Input::new(b"abcx").anchored(Anchored::Yes);
+    finds(&rt, &automaton, &cut, None)?;
+    let whole = Input::new(b"abcd").anchored(Anchored::Yes);
+    finds(&rt, &automaton, &whole, Some(Match::must(0, 0..4)))?;
+    let free = Input::new(b"abcx");
+    finds(&rt, &automaton, &free, Some(Match::must(1, 1..3)))?;
+    Ok(())
+}
+
+#[test]
+fn empty_pattern(rt: HostRuntime) -> Result<(), Fail> {
+    let patterns: [&[u8]; 1] = [b""];
+    let automaton = PlainAutomaton::new(&patterns, false, MatchKind::Standard).ok_or(
+        "few patterns",
+    )?;
+    let last = Input::new(b"ab").range(2..2);
+    finds(&rt, &automaton, &last, Some(Match::must(0, 2..2)))?;
+    finds(&rt, &&automaton, &last, Some(Match::must(0, 2..2)))?;
+    let over = Input::new(b"ab").range(3..2);
+    finds(&rt, &automaton, &over, None)?;
+    Ok(())
+}
+
+#[test]
+fn one_begins_another(rt: HostRuntime) -> Result<(), Fail> {
+    let input = Input::new(b"Samwise");
+    let short_first: [&[u8]; 2] = [b"Sam", b"Samwise"];
+    let long_first: [&[u8]; 2] = [b"Samwise", b"Sam"];
+    for (patterns, kind, want) in [
+        (&short_first, MatchKind::LeftmostFirst, Match::must(0, 0..3)),
+        (&long_first, MatchKind::LeftmostFirst, Match::must(0, 0..7)),
+        (&long_first, MatchKind::Standard, Match::must(1, 0..3)),
+    ] {
+        let automaton = PlainAutomaton::new(patterns, false, kind).ok_or("few patterns")?;
+        finds(&rt, &automaton, &input, Some(want))?;
+    }
+    Ok(())
+}
+
+#[test]
+fn folded(rt: HostRuntime) -> Result<(), Fail> {
+    let patterns: [&[u8]; 2] = [b"FOO", b"bAr"];
+    let input = Input::new(b"a Bar");
+    let folds = PlainAutomaton::new(&patterns, true, MatchKind::LeftmostFirst).ok_or(
+        "few patterns",
+    )?;
+    finds(&rt, &folds, &input, Some(Match::must(1, 2..5)))?;
+    let keeps = PlainAutomaton::new(&patterns, false, MatchKind::LeftmostFirst).ok_or(
+        "few patterns",
+    )?;
+    finds(&rt, &keeps, &input, None)?;
+    Ok(())
+}
+
+#[test]
+fn states(rt: HostRuntime) -> Result<(), Fail> {
+    let patterns: [&[u8]; 4] = [b"c", b"bc", b"c", b"bcd"];
+    let automaton = PlainAutomaton::new(&patterns, false, MatchKind::Standard).ok_or(
+        "few patterns",
+    )?;
+    assert_eq!(rt; automaton.match_kind(), MatchKind::Standard);
+    assert_eq!(rt; automaton.patterns_len(), 4);
+    assert_eq!(rt; automaton.min_pattern_len(), 1);
+    assert_eq!(rt; automaton.max_pattern_len(), 3);
+    assert!(rt; automaton.prefilter().is_none());
+    let start = automaton.start_state(Anchored::No)?;
+    assert!(rt; automaton.is_start(start));
+    assert!(rt; !automaton.is_special(start));
+    let b = automaton.next_state(Anchored::No, start, b'b');
+    assert!(rt; !automaton.is_start(b));
+    let bc = automaton.next_state(Anchored::No, b, b'c');
+    assert!(rt; automaton.is_special(bc));
+    assert!(rt; !automaton.is_dead(bc));
+    assert!(rt; automaton.is_match(bc));
+    assert_eq!(rt; automaton.match_len(bc), 3);
+    for (index, want) in [(0, 1), (1, 0), (2, 2)] {
+        assert_eq!(rt;
+            automaton.match_pattern(bc, index).as_usize(),
+            want,
+            "at {index}"
+        );
+    }
+    let pattern = automaton.match_pattern(bc, 0);
+    assert_eq!(rt; automaton.pattern_len(pattern), 2);
+    Ok(())
+}
+
+#[test]
+fn dead(rt: HostRuntime) -> Result<(), Fail> {
+    let patterns: [&[u8]; 1] = [b"ab"];
+    let automaton = PlainAutomaton::new(&patterns, false, MatchKind::LeftmostFirst).ok_or(
+        "few patterns",
+    )?;
+    let start = automaton.start_state(Anchored::Yes)?;
+    let b = automaton.next_state(Anchored::Yes, start, b'b');
+    assert!(rt; automaton.is_dead(b));
+    assert!(rt; !automaton.is_match(b));
+    Ok(())
+}
+
+#[test]
+fn too_many(rt: HostRuntime) {
+    let long = [b'a'; 256];
+    let patterns: [&[u8]; 1] = [&long];
+    assert!(rt; PlainAutomaton::new(&patterns, false, MatchKind::Standard).is_none());
+    let most: [&[u8]; 1] = [&long[1..]];
+    assert!(rt; PlainAutomaton::new(&most, false, MatchKind::Standard).is_some());
+}

@@ -1,0 +1,322 @@
+-- What is collected of patterns, and which prefilters it allows.
+use Rattle.std.proofs.Common.{◌≡◌, ℕ, ◌+◌, ◌<◌, ◌≤◌, ◌⊎◌, ◌==◌, ◌||◌, Bool, true, false, if◌then◌else◌, List, [], ◌∷◌, ◌++◌, length, get_or, IsTrue, Option, None, Some, refl, sym, ap, ◌∙◌, subst, inl, inr, arith, length-append, append_assoc}
+use Rattle.std.specs.Prelude.{slice_index, option_map}
+use Rattle.std.specs.List.{Contains}
+use Rattle.std.proofs.lemmas.Bool.{false≢true}
+use Rattle.std.proofs.lemmas.List.{append-nil}
+use Rattle.std.proofs.lemmas.Bool.Decides.{nat_tests}
+use Rattle.std.proofs.lemmas.Grind.{get_or_default_zero}
+use Rattle.std.proofs.lemmas.List.Elements.{Contains-push, Contains-append_left, Contains-push_cases}
+use Rattle.ac_input.specs.Same.{other}
+use Rattle.ac_input.specs.Machine.{Machine}
+use Rattle.ac_input.proofs.ContainsLemmas.{Contains-head, Contains-tail}
+use Rattle.ac_literal.specs.declared.packed.api.MatchKind.{MatchKind}
+use Rattle.ac_literal.specs.Packed.{Packed, Building, fresh, is_too_much, added, added_all, built, search_kind, AreServed}
+use Rattle.ac_literal.specs.Needles.{is_needle, all_ascii, with_byte, AreNeedles, HasFour, AreFew, few_has, few_surely_has}
+use Rattle.ac_literal.specs.Finder.{AreFull, begins_same, is_start, StandsInSome, AreStarts, AreRare, IsPacked}
+use Rattle.ac_literal.specs.Rare.{IsRareSoFar}
+use Rattle.ac_literal.specs.Prefilter.{Serves, MemmemServes, PackedDemand, StartBytesDemand, IsAdmissible}
+use Rattle.ac_literal.specs.Builder.{with_pattern, IsSoleOf, IsPackedSoFar, IsCollected, IsBuilder}
+use Rattle.ac_literal.specs.declared.prefilter.needles.Needles.{Needles}
+use Rattle.ac_literal.specs.declared.prefilter.needles.Needles.TheVariants.{One, Two, Three}
+use Rattle.ac_literal.specs.declared.prefilter.needles.FewBytes.{FewBytes}
+use Rattle.ac_literal.specs.declared.prefilter.needles.FewBytes.TheVariants as few
+use Rattle.ac_literal.specs.declared.prefilter.builder.Collected.{Collected}
+use Rattle.ac_literal.specs.declared.prefilter.finder.Finder.{Finder}
+use Rattle.ac_literal.specs.declared.prefilter.finder.Finder.TheVariants as finders
+use Rattle.ac_literal.proofs.NeedleLemmas.{ascii-below, ascii-from, four-in_three}
+use Rattle.ac_literal.proofs.StartLemmas.{is_start-given, start-stands}
+use Rattle.ac_literal.proofs.ChoiceLemmas.{same-self}
+use Rattle.ac_literal.proofs.LeftmostLemmas.{leftmost}
+
+-- tests joined by or
+or-nothing : (a : Bool) → (a || false) ≡ a
+or-nothing true = refl
+or-nothing false = refl
+
+or-regroup : (a b c : Bool) → (a || (b || c)) ≡ ((a || b) || c)
+or-regroup true b c = refl
+or-regroup false b c = refl
+
+-- the bytes that patterns may begin with, with one more pattern
+is_start-push : (pairing : List ℕ) (ps : List (List ℕ)) (p : List ℕ) (byte : ℕ) → is_start pairing (ps ++ p ∷ []) byte ≡ (is_start pairing ps byte || begins_same pairing p byte)
+is_start-push pairing [] p byte = or-nothing (begins_same pairing p byte)
+is_start-push pairing (q ∷ ps) p byte =
+    ap (λ (b : Bool). begins_same pairing q byte || b) (is_start-push pairing ps p byte) ∙ or-regroup (begins_same pairing q byte) (is_start pairing ps byte) (begins_same pairing p byte)
+
+-- they are the old ones, its first byte, and what is paired with it
+starts-more : (pairing : List ℕ) (ps : List (List ℕ)) (p : List ℕ) (byte : ℕ) → 0 < length p → with_byte (with_byte (is_start pairing ps) (slice_index p 0)) (other pairing (slice_index p 0)) byte ≡ is_start pairing (ps ++ p ∷ []) byte
+starts-more pairing ps [] byte some = absurd (omega arith)
+starts-more pairing ps (x ∷ xs) byte some = sym (or-regroup (is_start pairing ps byte) (x == byte) (other pairing x == byte)) ∙ sym (is_start-push pairing ps (x ∷ xs) byte)
+
+-- a table of the bytes that pass a test is one of those that pass an equal test
+few-alike : (these : FewBytes) (f g : ℕ → Bool) → ((byte : ℕ) → f byte ≡ g byte) → AreFew these f → AreFew these g
+few-alike few.None f g same_test none = λ byte. sym (same_test byte) ∙ none byte
+few-alike (few.Some needles) f g same_test are = record { apart = are.apart; exact = λ byte. are.exact byte ∙ same_test byte }
+few-alike few.TooMany f g same_test four =
+    let p = four.pass in
+    record { a = four.a; b = four.b; c = four.c; d = four.d; apart = four.apart; pass = (sym (same_test four.a) ∙ p.0, sym (same_test four.b) ∙ p.1, sym (same_test four.c) ∙ p.2, sym (same_test four.d) ∙ p.3) }
+
+pub starts-push : (pairing : List ℕ) (ps : List (List ℕ)) (p : List ℕ) (these : FewBytes) (pair : ℕ) → 0 < length p → pair ≡ other pairing (slice_index p 0) → AreFew these (with_byte (with_byte (is_start pairing ps) (slice_index p 0)) pair) → AreFew these (is_start pairing (ps ++ p ∷ []))
+starts-push pairing ps p these pair some is h =
+    few-alike these (with_byte (with_byte (is_start pairing ps) (slice_index p 0)) pair) (is_start pairing (ps ++ p ∷ []))
+    (λ byte. ap (λ (x : ℕ). with_byte (with_byte (is_start pairing ps) (slice_index p 0)) x byte) is ∙ starts-more pairing ps p byte some) h
+
+-- a builder of packed search keeps its kind
+added-kind : (b : Building) (p : List ℕ) → (added b p).kind ≡ b.kind
+added-kind b p = by b.inert (is_too_much (length b.patterns) p)
+  where
+    by : (t u : Bool) → (if t then b else (if u then record { kind = b.kind; patterns = []; inert = true } else record { kind = b.kind; patterns = b.patterns ++ p ∷ []; inert = false })).kind ≡ b.kind
+    by true u = refl
+    by false true = refl
+    by false false = refl
+
+-- patterns and then one more
+added_all-push : (b : Building) (ps : List (List ℕ)) (p : List ℕ) → added_all b (ps ++ p ∷ []) ≡ added (added_all b ps) p
+added_all-push b [] p = refl
+added_all-push b (q ∷ ps) p = added_all-push (added b q) ps p
+
+-- an inert builder stays as it is
+added_all-inert : (kind : MatchKind) (ps : List (List ℕ)) → added_all (record { kind = kind; patterns = []; inert = true }) ps ≡ record { kind = kind; patterns = []; inert = true }
+added_all-inert kind [] = refl
+added_all-inert kind (p ∷ ps) = added_all-inert kind ps
+
+-- a builder has taken all patterns, or has none
+added_all-cases : (kind : MatchKind) (front ps : List (List ℕ)) → ((added_all (record { kind = kind; patterns = front; inert = false }) ps).patterns ≡ front ++ ps) ⊎ ((added_all (record { kind = kind; patterns = front; inert = false }) ps).patterns ≡ [])
+added_all-cases kind front [] = inl (sym (append-nil front))
+added_all-cases kind front (p ∷ ps) = by (added_all-cases kind (front ++ p ∷ []) ps) (is_too_much (length front) p)
+  where
+    by : ((added_all (record { kind = kind; patterns = front ++ p ∷ []; inert = false }) ps).patterns ≡ (front ++ p ∷ []) ++ ps) ⊎ ((added_all (record { kind = kind; patterns = front ++ p ∷ []; inert = false }) ps).patterns ≡ []) → (t : Bool) → ((added_all (if t then record { kind = kind; patterns = []; inert = true } else record { kind = kind; patterns = front ++ p ∷ []; inert = false }) ps).patterns ≡ front ++ p ∷ ps) ⊎ ((added_all (if t then record { kind = kind; patterns = []; inert = true } else record { kind = kind; patterns = front ++ p ∷ []; inert = false }) ps).patterns ≡ [])
+    by later true = inr (ap (λ (b : Building). b.patterns) (added_all-inert kind ps))
+    by later false = elim later [ inl all ↦ inl (all ∙ append_assoc front (p ∷ []) ps) | inr none ↦ inr none ]
+
+-- it has taken them where none is empty and there are at most 128
+added_all-served : (kind : MatchKind) (front ps : List (List ℕ)) → length front + length ps ≤ 128 → ((p : List ℕ) → Contains ps p → 0 < length p) → (added_all (record { kind = kind; patterns = front; inert = false }) ps).patterns ≡ front ++ ps
+added_all-served kind front [] few_enough full = sym (append-nil front)
+added_all-served kind front (p ∷ ps) few_enough full =
+    let some : 0 < length p = full p (Contains-head p ps) in
+    let room : is_too_much (length front) p ≡ false = fits (length p) (length front) some (omega arith) in
+    let longer : length (front ++ p ∷ []) ≡ length front + 1 = length-append front (p ∷ []) in
+    ap (λ (t : Bool). (added_all (if t then record { kind = kind; patterns = []; inert = true } else record { kind = kind; patterns = front ++ p ∷ []; inert = false }) ps).patterns) room
+    ∙ added_all-served kind (front ++ p ∷ []) ps (omega arith) (λ q given. full q (Contains-tail p ps q given))
+    ∙ append_assoc front (p ∷ []) ps
+  where
+    fits : (long count : ℕ) → 0 < long → count < 128 → ((long == 0) || (count == 128)) ≡ false
+    fits long count some room = grind (arith, nat_tests)
+
+-- what packed search has with one more pattern
+packed-push : (m : Machine) (p : List ℕ) (old : Option Building) → IsPackedSoFar m old → IsPackedSoFar (with_pattern m p) (option_map (λ b. added b p) old)
+packed-push m p None h = h
+packed-push m p (Some b) h =
+    let kind = added-kind b p in (
+      ap search_kind kind ∙ h.0,
+      h.1,
+      ap (λ (x : Building). added x p) h.2 ∙ sym (added_all-push (fresh b.kind) m.patterns p) ∙ ap (λ (k : MatchKind). added_all (fresh k) (m.patterns ++ p ∷ [])) (sym kind),
+    )
+
+-- what is collected with one more pattern
+pub collected-push : (m : Machine) (p : List ℕ) (old new : Collected) → 0 < length p → IsCollected m old → IsSoleOf (m.patterns ++ p ∷ []) new.sole → new.packed ≡ option_map (λ b. added b p) old.packed
+    → AreFew new.starts (is_start m.pairing (m.patterns ++ p ∷ [])) → IsRareSoFar m.pairing (m.patterns ++ p ∷ []) new.rare → IsCollected (with_pattern m p) new
+collected-push m p old new some so_far sole packed starts rare =
+    record {
+      full = λ q given. elim (Contains-push_cases m.patterns p q given) [ inl earlier ↦ so_far.full q earlier | inr this ↦ subst (λ (r : List ℕ). 0 < length r) this some ];
+      sole = sole;
+      packed = subst (IsPackedSoFar (with_pattern m p)) (sym packed) (packed-push m p old.packed so_far.packed);
+      starts = starts;
+      rare = rare;
+    }
+
+-- some byte is a needle
+some_needle : (needles : Needles) → (byte : ℕ) × IsTrue (is_needle needles byte)
+some_needle (One a) = (a, has a)
+  where
+    has : (x : ℕ) → IsTrue (x == x)
+    has x = grind (arith, nat_tests)
+some_needle (Two a b) = (a, has a b)
+  where
+    has : (x y : ℕ) → IsTrue ((x == x) || (x == y))
+    has x y = grind (arith, nat_tests)
+some_needle (Three a b c) = (a, has a b c)
+  where
+    has : (x y z : ℕ) → IsTrue ((x == x) || (x == y) || (x == z))
+    has x y z = grind (arith, nat_tests)
+
+-- patterns of which one is there are some
+some_given : (ps : List (List ℕ)) (p : List ℕ) → Contains ps p → 0 < length ps
+some_given ps p given = omega (arith, given.1)
+
+-- start bytes that are ASCII serve
+pub starts-serve : (m : Machine) (c : Collected) (needles : Needles) → IsCollected m c → c.starts ≡ few.Some needles → IsTrue (all_ascii needles) → AreStarts m needles
+starts-serve m c needles col is ascii =
+    let are : AreNeedles needles (is_start m.pairing m.patterns) = subst (λ (x : FewBytes). AreFew x (is_start m.pairing m.patterns)) is col.starts in
+    let first = some_needle needles in
+    let stands = start-stands m.pairing m.patterns first.0 (sym (are.exact first.0) ∙ first.1) in
+    record {
+      full = record { some = some_given m.patterns stands.0 stands.2; full = col.full };
+      exact = are.exact;
+      low = λ byte h. ascii-below needles byte ascii h;
+    }
+
+-- where start bytes serve, they are found
+pub starts-missed : (m : Machine) (c : Collected) → IsCollected m c → ((needles : Needles) → c.starts ≡ few.Some needles → all_ascii needles ≡ false) → ¬ StartBytesDemand m
+starts-missed m c col never demand = by c.starts refl
+  where
+    full : AreFull m.patterns
+    full = demand.0
+
+    by : (these : FewBytes) → c.starts ≡ these → ⊥
+    by few.None is =
+        let none : (byte : ℕ) → is_start m.pairing m.patterns byte ≡ false = subst (λ (x : FewBytes). AreFew x (is_start m.pairing m.patterns)) is col.starts in
+        let first : List ℕ = get_or m.patterns 0 [] in
+        let given : Contains m.patterns first = (0, full.some, first_given m.patterns full.some) in
+        let begun = begins-itself m.pairing first (full.full first given) in
+        false≢true (sym (none (slice_index first 0)) ∙ is_start-given m.pairing m.patterns first (slice_index first 0) given begun)
+      where
+        first_given : (ps : List (List ℕ)) → 0 < length ps → get_or ps 0 (get_or ps 0 []) ≡ get_or ps 0 []
+        first_given [] some = absurd (omega arith)
+        first_given (p ∷ ps) some = refl
+
+        begins-itself : (pairing p : List ℕ) → 0 < length p → IsTrue (begins_same pairing p (slice_index p 0))
+        begins-itself pairing [] some = absurd (omega arith)
+        begins-itself pairing (x ∷ xs) some = same-self pairing x
+    by (few.Some needles) is =
+        let are : AreNeedles needles (is_start m.pairing m.patterns) = subst (λ (x : FewBytes). AreFew x (is_start m.pairing m.patterns)) is col.starts in
+        let low : (byte : ℕ) → IsTrue (is_needle needles byte) → byte < 128 = λ byte h. (demand.1.2 byte (sym (are.exact byte) ∙ h)).1 in
+        false≢true (sym (never needles is) ∙ ascii-from needles low)
+    by few.TooMany is =
+        let four : HasFour (is_start m.pairing m.patterns) = subst (λ (x : FewBytes). AreFew x (is_start m.pairing m.patterns)) is col.starts in
+        four-in_three demand.1.0 (is_start m.pairing m.patterns) demand.1.1 four (λ byte h. (demand.1.2 byte h).0)
+
+-- rare bytes serve short patterns
+pub rare-serve : (m : Machine) (c : Collected) (needles : Needles) → IsCollected m c → c.rare.few ≡ few.Some needles → c.rare.is_short ≡ true → AreRare m needles c.rare.distances
+rare-serve m c needles col is short =
+    let rare = col.rare in
+    let known : (byte : ℕ) → IsTrue (is_needle needles byte) → StandsInSome m.pairing m.patterns byte = λ byte h. rare.known byte (subst (λ (x : FewBytes). IsTrue (few_surely_has x byte)) (sym is) h) in
+    let first = some_needle needles in
+    let stands = known first.0 first.1 in
+    record {
+      full = record { some = some_given m.patterns stands.0 stands.2; full = col.full };
+      short = rare.short short;
+      held = λ p given.
+          let h = rare.held p given in
+          record { at = h.at; within = h.within; needle = λ byte e. subst (λ (x : FewBytes). IsTrue (few_has x byte)) is (h.held byte e) };
+      reach = rare.reach short;
+      near = rare.near;
+      known = known;
+    }
+
+-- what is built of some patterns looks for them
+built-some : (kind : MatchKind) (ps : List (List ℕ)) (s : Packed) → built kind ps ≡ Some s → record { kind = kind; patterns = ps } ≡ s
+built-some kind [] s e = cc
+built-some kind (p ∷ ps) s e = cc
+
+-- nothing is built of none alone
+built-none : (kind : MatchKind) (ps : List (List ℕ)) → built kind ps ≡ None → ps ≡ []
+built-none kind [] e = refl
+built-none kind (p ∷ ps) e = cc
+
+module _ (m : Machine) (c : Collected) (b : Building) (col : IsCollected m c) (is : c.packed ≡ Some b) where
+  -- the builder has what was collected
+  so_far : IsPackedSoFar m (Some b)
+  so_far = subst (IsPackedSoFar m) is col.packed
+
+  -- the searcher that it builds serves
+  pub packed-serve : (s : Packed) → ¬ MemmemServes m → built b.kind b.patterns ≡ Some s → AreServed s.patterns → IsPacked m s
+  packed-serve s several made served =
+      let it = built-some b.kind b.patterns s made in
+      let kind : b.kind ≡ s.kind = ap (λ (x : Packed). x.kind) it in
+      let patterns : b.patterns ≡ s.patterns = ap (λ (x : Packed). x.patterns) it in
+      let taken : b.patterns ≡ (added_all (fresh b.kind) m.patterns).patterns = ap (λ (x : Building). x.patterns) so_far.2 in
+      let all : s.patterns ≡ m.patterns = elim (added_all-cases b.kind [] m.patterns) [
+        | inl every ↦ sym patterns ∙ taken ∙ every
+        | inr none ↦ absurd (nothing_served (sym patterns ∙ taken ∙ none))
+      ] in
+      record {
+        full = record { some = subst (λ (ps : List (List ℕ)). 0 < length ps) all served.some; full = col.full };
+        unpaired = so_far.1;
+        patterns = all;
+        kind = ap search_kind (sym kind) ∙ so_far.0;
+        several = λ one. several (so_far.1, one);
+        few = subst (λ (ps : List (List ℕ)). length ps ≤ 128) all served.few;
+      }
+    where
+      nothing_served : s.patterns ≡ [] → ⊥
+      nothing_served none = let some = subst (λ (ps : List (List ℕ)). 0 < length ps) none served.some in omega arith
+
+  -- where it builds none, packed search doesn't serve
+  pub packed-missed : built b.kind b.patterns ≡ None → ¬ PackedDemand m
+  packed-missed made demand =
+      let none : b.patterns ≡ [] = built-none b.kind b.patterns made in
+      let taken : b.patterns ≡ (added_all (fresh b.kind) m.patterns).patterns = ap (λ (x : Building). x.patterns) so_far.2 in
+      let all : (added_all (fresh b.kind) m.patterns).patterns ≡ m.patterns = added_all-served b.kind [] m.patterns (let short = demand.1.2 in omega arith) demand.0.full in
+      let some = subst (λ (ps : List (List ℕ)). 0 < length ps) (sym all ∙ sym taken ∙ none) demand.0.some in
+      absurd (omega arith)
+
+-- the needles as a list
+abbrev needle_list : Needles → List ℕ
+needle_list (One a) = a ∷ []
+needle_list (Two a b) = a ∷ (b ∷ [])
+needle_list (Three a b c) = a ∷ (b ∷ (c ∷ []))
+
+-- a test that one of two passes
+or-cases : (a b : Bool) → IsTrue (a || b) → IsTrue a ⊎ IsTrue b
+or-cases true b h = inl refl
+or-cases false b h = inr h
+
+-- what equals the head of a list stands in it
+head-equal : (x a : ℕ) (xs : List ℕ) → IsTrue (x == a) → Contains (a ∷ xs) x
+head-equal x a xs e = subst (λ (y : ℕ). Contains (a ∷ xs) y) (equal e) (Contains-head a xs)
+  where
+    equal : IsTrue (x == a) → a ≡ x
+    equal h = grind (arith, nat_tests)
+
+-- each needle is listed
+pub needle-listed : (needles : Needles) (byte : ℕ) → IsTrue (is_needle needles byte) → Contains (needle_list needles) byte
+needle-listed (One a) byte h = head-equal byte a [] h
+needle-listed (Two a b) byte h = elim (or-cases (byte == a) (byte == b) h) [
+  | inl first ↦ head-equal byte a (b ∷ []) first
+  | inr second ↦ Contains-tail a (b ∷ []) byte (head-equal byte b [] second)
+]
+needle-listed (Three a b c) byte h = elim (or-cases ((byte == a) || (byte == b)) (byte == c) h) [
+  | inl early ↦ elim (or-cases (byte == a) (byte == b) early) [
+    | inl first ↦ head-equal byte a (b ∷ (c ∷ [])) first
+    | inr second ↦ Contains-tail a (b ∷ (c ∷ [])) byte (head-equal byte b (c ∷ []) second)
+  ]
+  | inr third ↦ Contains-tail a (b ∷ (c ∷ [])) byte (Contains-tail b (c ∷ []) byte (head-equal byte c [] third))
+]
+
+-- they are at most three
+needles-few : (needles : Needles) → length (needle_list needles) ≤ 3
+needles-few (One a) = omega arith
+needles-few (Two a b) = omega arith
+needles-few (Three a b c) = omega arith
+
+-- which prefilter was chosen is one that may be
+pub serves-admissible : (m : Machine) (f : Finder) → Serves m f → IsAdmissible m
+serves-admissible m (finders.Memmem needle) h = (h.full, inl (h.unpaired, ap length h.patterns))
+serves-admissible m (finders.Packed searcher) h = (h.full, inr (inl (λ e. leftmost searcher.kind (h.kind ∙ e), h.unpaired, h.few)))
+serves-admissible m (finders.StartBytes needles) h =
+    (h.full, inr (inr (inl (needle_list needles, needles-few needles, λ byte e. let n : IsTrue (is_needle needles byte) = h.exact byte ∙ e in (needle-listed needles byte n, h.low byte n)))))
+serves-admissible m (finders.RareBytes rare) h = (
+  h.full,
+  inr (inr (inr (
+    needle_list rare.needles,
+    needles-few rare.needles,
+    λ p given.
+        let held = h.held p given in (
+          h.short p given,
+          (slice_index p held.at, (held.at, held.within, get_or_default_zero p held.at (slice_index p held.at) held.within), λ byte e. needle-listed rare.needles byte (held.needle byte e)),
+        ),
+  ))),
+)
+
+-- an empty pattern came
+pub builder-empty : (m : Machine) (p : List ℕ) (c : Collected) → IsTrue (length p == 0) → IsBuilder (with_pattern m p) true c
+builder-empty m p c empty = (p, Contains-push m.patterns p, none (length p) empty)
+  where
+    none : (n : ℕ) → IsTrue (n == 0) → n ≡ 0
+    none n e = grind (arith, nat_tests)
+
+-- an empty pattern came before
+pub builder-still_empty : (m : Machine) (p : List ℕ) (c : Collected) → IsBuilder m true c → IsBuilder (with_pattern m p) true c
+builder-still_empty m p c h = (h.0, Contains-append_left m.patterns (p ∷ []) h.0 h.1, h.2)

@@ -1,0 +1,16 @@
+pub mod SpanLemmas
+pub mod CandidateLemmas
+pub mod RareLemmas
+pub mod StartLemmas
+pub mod SoleLemmas
+pub mod NeedleLemmas
+pub mod LeftmostLemmas
+pub mod ChoiceLemmas
+pub mod BuilderLemmas
+pub mod HashLemmas
+pub mod PatternLemmas
+pub mod PreferenceLemmas
+pub mod TextLemmas
+pub mod TableLemmas
+pub mod FindLemmas
+pub mod NextLemmas

@@ -1,0 +1,5 @@
+use Rattle.std.proofs.Common.{◌≡◌, map, take}
+use Rattle.ac_literal.proofs.packed.pattern.Patterns.clone.Given as goal
+
+abbrev pub invariant-loop-pattern : goal.invariant-loop-pattern
+invariant-loop-pattern l = l.copy ≡ map (λ pattern. pattern.items) (take l.pattern-index l.pattern-items)

@@ -1,0 +1,33 @@
+-- The first place at which something is found.
+use Rattle.std.proofs.Common.{◌≢◌, true, sym, ◌∙◌, arith}
+use Rattle.std.specs.Prelude.{is_some}
+use Rattle.ac_literal.specs.Packed.{searched}
+use Rattle.ac_literal.proofs.FindLemmas.{best-first, best-last, starts-later, occurs-long, hash-roll}
+use Rattle.ac_literal.proofs.packed.rabinkarp.RabinKarp.find_in.Goals as goal
+
+pub returns-then-span-self : goal.returns-then-span-self
+returns-then-span-self c = λ o h.
+    let long = occurs-long c.args.patterns.now c.args.self.now c.args.haystack.now c.args.span.start c.args.span.end o c.requires.table c.requires.within h in
+    omega (arith, h.within)
+
+pub returns-then-is_some : goal.returns-then-is_some
+returns-then-is_some c =
+    best-first c.args.self.now.kind (searched c.args.patterns.now c.args.haystack.now c.args.span.start c.args.span.end) c.loop-at.at c.find_at-found.result (sym c.is_some.ensures ∙ c.if-is_some.true) c.loop-at.invariant.none c.find_at-found.ensures
+
+pub loop-at-preserved : goal.loop-at-preserved
+loop-at-preserved c =
+    let s = searched c.args.patterns.now c.args.haystack.now c.args.span.start c.args.span.end in
+    let absent : is_some c.find_at-found.result ≢ true = λ e. cc in
+    record {
+      from = omega (arith, c.loop-at.invariant.from);
+      to = omega arith;
+      hash = c.roll-hash.ensures ∙ hash-roll c.args.haystack.now c.loop-at.at c.args.self.now.hash_len c.args.self.now.hash_2pow c.loop-at.hash c.requires.table.some (omega arith) c.requires.table.power c.loop-at.invariant.hash;
+      none = starts-later c.args.self.now.kind s c.loop-at.at c.find_at-found.result absent c.loop-at.invariant.none c.find_at-found.ensures;
+    }
+
+pub returns : goal.returns
+returns c =
+    let s = searched c.args.patterns.now c.args.haystack.now c.args.span.start c.args.span.end in
+    best-last c.args.self.now.kind s c.loop-at.at c.find_at.result c.loop-at.invariant.none
+    (λ o h. let long = occurs-long c.args.patterns.now c.args.self.now c.args.haystack.now c.args.span.start c.args.span.end o c.requires.table c.requires.within h in omega (arith, h.within))
+    c.find_at.ensures

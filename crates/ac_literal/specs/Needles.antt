@@ -1,0 +1,77 @@
+-- The first of a few bytes, and what it costs to find it.
+use Rattle.std.specs.Prelude.{◌≡◌, ◌≢◌, ℕ, ◌+◌, ◌-◌, ◌⊎◌, Bool, true, false, ◌==◌, nat_lt, ◌&&◌, ◌||◌, List, Option, None, Some, IsTrue}
+use Rattle.memchr.specs.Find.{Passes, IsFirst, is_byte, is_byte2, is_byte3}
+use Rattle.ac_input.specs.declared.search.Span.{Span}
+use Rattle.ac_literal.specs.declared.prefilter.needles.Needles.{Needles}
+use Rattle.ac_literal.specs.declared.prefilter.needles.Needles.TheVariants.{One, Two, Three}
+use Rattle.ac_literal.specs.declared.prefilter.needles.FewBytes.{FewBytes}
+use Rattle.ac_literal.specs.declared.prefilter.needles.FewBytes.TheVariants as few
+
+-- whether a byte is one of the needles
+abbrev pub is_needle : Needles → ℕ → Bool
+is_needle (One a) byte = is_byte a byte
+is_needle (Two a b) byte = is_byte2 a b byte
+is_needle (Three a b c) byte = is_byte3 a b c byte
+
+-- whether all needles are ASCII
+abbrev pub all_ascii : Needles → Bool
+all_ascii (One a) = nat_lt a 128
+all_ascii (Two a b) = nat_lt a 128 && nat_lt b 128
+all_ascii (Three a b c) = nat_lt a 128 && nat_lt b 128 && nat_lt c 128
+
+-- the first place of the span that holds a needle
+abbrev pub IsFirstNeedle : Needles → List ℕ → Span → Option ℕ → Type 0
+IsFirstNeedle needles haystack span r = IsFirst (Passes (is_needle needles) haystack) span.start span.end r
+
+-- how many places a scan of the span covered that ended there: up to the place, or to the span's end where there is none
+abbrev pub covered : Span → Option ℕ → ℕ
+covered span None = span.end - span.start
+covered span (Some at) = at + 1 - span.start
+
+-- a test that one more byte passes
+abbrev pub with_byte : (ℕ → Bool) → ℕ → ℕ → Bool
+with_byte f added byte = f byte || (added == byte)
+
+-- no needle stands twice
+abbrev pub AreApart : Needles → Type 0
+AreApart (One a) = Unit {0}
+AreApart (Two a b) = a ≢ b
+AreApart (Three a b c) = (a ≢ b) × (a ≢ c) × (b ≢ c)
+
+-- the needles are the bytes that pass the test
+pub record AreNeedles (needles : Needles) (f : ℕ → Bool) : Type 0 where
+  pub apart : AreApart needles
+  pub exact : (byte : ℕ) → is_needle needles byte ≡ f byte
+
+-- four different bytes pass the test
+pub record HasFour (f : ℕ → Bool) : Type 0 where
+  pub a : ℕ
+  pub b : ℕ
+  pub c : ℕ
+  pub d : ℕ
+  pub apart : (a ≢ b) × (a ≢ c) × (a ≢ d) × (b ≢ c) × (b ≢ d) × (c ≢ d)
+  pub pass : IsTrue (f a) × IsTrue (f b) × IsTrue (f c) × IsTrue (f d)
+
+-- the bytes that pass the test, where they are few
+abbrev pub AreFew : FewBytes → (ℕ → Bool) → Type 0
+AreFew few.None f = (byte : ℕ) → f byte ≡ false
+AreFew (few.Some needles) f = AreNeedles needles f
+AreFew few.TooMany f = HasFour f
+
+-- whether a byte is among them; of too many each may be
+abbrev pub few_has : FewBytes → ℕ → Bool
+few_has few.None byte = false
+few_has (few.Some needles) byte = is_needle needles byte
+few_has few.TooMany byte = true
+
+-- whether a byte is known to be among them; of too many none is
+abbrev pub few_surely_has : FewBytes → ℕ → Bool
+few_surely_has few.None byte = false
+few_surely_has (few.Some needles) byte = is_needle needles byte
+few_surely_has few.TooMany byte = false
+
+-- there are the bytes that were there before, and that byte, and no other is known to be there
+pub record AddsByte (before : FewBytes) (added : ℕ) (after : FewBytes) : Type 0 where
+  pub kept : (byte : ℕ) → IsTrue (few_has before byte) → IsTrue (few_has after byte)
+  pub has : IsTrue (few_has after added)
+  pub only : (byte : ℕ) → IsTrue (few_surely_has after byte) → IsTrue (few_surely_has before byte) ⊎ (added ≡ byte)

@@ -1,0 +1,75 @@
+-- Packed search: what a builder and a searcher are seen as, and what they answer.
+use Rattle.std.specs.Prelude.{◌≡◌, ℕ, ◌<◌, ◌≤◌, Bool, true, false, ◌||◌, ◌==◌, List, [], ◌∷◌, ◌++◌, length, Option, Some, None, min, take, get_or, if◌then◌else◌}
+use Rattle.ac_input.specs.declared.search.MatchKind as search
+use Rattle.ac_input.specs.declared.search.MatchKind.TheVariants as searches
+use Rattle.ac_literal.specs.declared.packed.api.MatchKind.{MatchKind}
+use Rattle.ac_literal.specs.declared.packed.api.MatchKind.TheVariants.{LeftmostFirst, LeftmostLongest}
+use Rattle.ac_input.specs.Occurrence.{Search}
+
+-- the same kind, as the definitions of a search name it
+abbrev pub search_kind : MatchKind → search.MatchKind
+search_kind LeftmostFirst = searches.LeftmostFirst
+search_kind LeftmostLongest = searches.LeftmostLongest
+
+-- what a builder has so far: an inert one lost its patterns, and takes no more
+pub record Building : Type 0 where
+  pub kind : MatchKind
+  pub patterns : List (List ℕ)
+  pub inert : Bool
+
+-- a builder of a kind that has nothing yet
+abbrev pub fresh : MatchKind → Building
+fresh kind = record { kind = kind; patterns = []; inert = false }
+
+-- whether a builder that has so many patterns can't take this one: it is empty, or there are 128
+abbrev pub is_too_much : ℕ → List ℕ → Bool
+is_too_much count pattern = (length pattern == 0) || (count == 128)
+
+-- a builder with one more pattern
+abbrev pub added : Building → List ℕ → Building
+added b pattern =
+    if b.inert then b
+    else (if is_too_much (length b.patterns) pattern then record { kind = b.kind; patterns = []; inert = true } else record { kind = b.kind; patterns = b.patterns ++ pattern ∷ []; inert = false })
+
+-- a builder with more patterns, in their order
+abbrev pub added_all : Building → List (List ℕ) → Building
+added_all b [] = b
+added_all b (pattern ∷ patterns) = added_all (added b pattern) patterns
+
+-- a builder that had one state has those of some patterns that come before some one of them
+abbrev pub HasBeginning : Building → List (List ℕ) → Building → Type 0
+HasBeginning old patterns new = (count : ℕ) × (count < length patterns) × (new ≡ added_all old (take count patterns))
+
+-- the length of the shortest pattern; the greatest `usize` where there is none
+abbrev pub least_len : List (List ℕ) → ℕ
+least_len [] = 18446744073709551615
+least_len (pattern ∷ patterns) = min (length pattern) (least_len patterns)
+
+-- the text of the pattern of a number
+abbrev pub pattern_at : List (List ℕ) → ℕ → List ℕ
+pattern_at patterns number = get_or patterns number []
+
+-- what a builder takes: at most 128 patterns, none of them empty
+pub record AreTaken (patterns : List (List ℕ)) : Type 0 where
+  pub few : length patterns ≤ 128
+  pub full : (number : ℕ) → number < length patterns → 0 < length (pattern_at patterns number)
+
+-- what packed search serves: 1 to 128 patterns, none of them empty
+pub record AreServed (patterns : List (List ℕ)) : Type 0 where
+  pub some : 0 < length patterns
+  pub few : length patterns ≤ 128
+  pub full : (number : ℕ) → number < length patterns → 0 < length (pattern_at patterns number)
+
+-- what a searcher looks for
+pub record Packed : Type 0 where
+  pub kind : MatchKind
+  pub patterns : List (List ℕ)
+
+-- what is built of patterns of a kind: nothing of none
+abbrev pub built : MatchKind → List (List ℕ) → Option Packed
+built kind [] = None
+built kind (pattern ∷ patterns) = Some (record { kind = kind; patterns = pattern ∷ patterns })
+
+-- the search of a part of a haystack for patterns, byte for byte
+abbrev pub searched : List (List ℕ) → List ℕ → ℕ → ℕ → Search
+searched patterns haystack start end = record { patterns = patterns; pairing = []; haystack = haystack; start = start; end = end; anchored = false }

@@ -1,0 +1,375 @@
+//! Builders and searchers of packed search.
+ghost use Rattle.std.specs.Prelude.{◌≡◌, ◌↔◌, ℕ, ◌≤◌, [], ◌∷◌, map, length, IfOk, OnOk, OnErr, IsSome, IfSome};
+ghost use Rattle.std.specs.Iterator.{YieldsFirst, item_count};
+ghost use Rattle.ac_input.specs.Best.{IsBest};
+ghost use Rattle.ac_input.specs.Computed.{walk_of};
+ghost use Rattle.ac_literal.specs.Packed.{search_kind, fresh, added, added_all, built, least_len, searched, HasBeginning, AreServed};
+
+use crate::packed::pattern::Patterns;
+use crate::packed::rabinkarp::RabinKarp;
+use ac_input::search::{Match, Span};
+use std::alloc::{AllocError, Global};
+use std::marker::Model;
+
+/// How many patterns a searcher has at most.
+const PATTERN_LIMIT: usize = 128;
+
+/// Which of several overlapping occurrences is the match. Packed search knows the leftmost kinds alone.
+#[derive(Clone, Copy, Debug, Default, PartialEq, Eq)]
+pub enum MatchKind {
+    /// The occurrence that starts first; of those, the one whose pattern was added first.
+    #[default]
+    LeftmostFirst,
+    /// The occurrence that starts first; of those, the longest; of those, the one whose pattern was added first.
+    LeftmostLongest,
+}
+
+/// What a searcher is to be like.
+///
+/// ```text
+/// let mut config = Config::new();
+/// config.match_kind(MatchKind::LeftmostLongest);
+/// let mut builder = config.builder(alloc);
+/// ```
+#[derive(Clone, Drop)]
+pub struct Config {
+    kind: MatchKind,
+}
+
+impl Model for Config {
+    ghost use Rattle.ac_literal.specs.declared.packed.api.MatchKind.{MatchKind};
+
+    ghost Value = { MatchKind };
+
+    ghost view = { λ c. c.kind };
+
+    ghost inverse = { λ kind. record { kind = kind } };
+}
+
+impl Default for Config {
+    ghost use Rattle.std.specs.Prelude.{◌≡◌};
+    ghost use Rattle.ac_literal.specs.declared.packed.api.MatchKind.TheVariants.{LeftmostFirst};
+
+    ghost is_default = { λ made. made ≡ LeftmostFirst };
+
+    fn default() -> Config {
+        Config::new()
+    }
+}
+
+impl Config {
+    /// Leftmost-first matches.
+    pub fn new() -> Config
+        ensures { result ≡ MatchKind.LeftmostFirst }
+    {
+        Config {
+            kind: MatchKind::LeftmostFirst,
+        }
+    }
+
+    /// A builder of such searchers. It takes no memory yet, and takes it from `alloc` later.
+    pub fn builder(&self, alloc: Global) -> Builder
+        ensures { result ≡ fresh self.now }
+    {
+        Builder {
+            config: Config { kind: self.kind },
+            patterns: Patterns::new(alloc),
+            inert: false,
+        }
+    }
+
+    /// Sets which occurrence is the match.
+    pub fn match_kind(&mut self, kind: MatchKind) -> &mut Config
+        ensures same { result.ghost_name ≡ self.entry.ghost_name }
+        ensures value { result.now ≡ kind }
+    {
+        self.kind = kind;
+        self
+    }
+
+    /// Asks for the rolling hash. There is nothing else to choose, so it changes nothing.
+    pub fn only_rabin_karp(&mut self, _yes: bool) -> &mut Config
+        ensures same { result.ghost_name ≡ self.entry.ghost_name }
+        ensures value { result.now ≡ self.old }
+    {
+        self
+    }
+}
+
+/// Collects the patterns of a searcher.
+///
+/// There may be 1 to 128 of them, none empty. An empty one, or one too many, drops all of them and makes the builder inert: it
+/// takes no pattern any more, and builds nothing. So does a builder with no pattern. It copies each pattern into memory of its
+/// own, which it takes where it was told to when it was made.
+#[derive(Drop)]
+pub struct Builder {
+    config: Config,
+    patterns: Patterns,
+    inert: bool,
+}
+
+impl Model for Builder {
+    ghost use Rattle.std.specs.Prelude.{◌≡◌, true, []};
+    ghost use Rattle.ac_literal.specs.Packed.{Building, AreTaken};
+
+    ghost Value = { Building };
+
+    ghost view = { λ b. record { kind = b.config; patterns = b.patterns; inert = b.inert } };
+
+    ghost invariant = { λ b. (b.inert ≡ true → b.patterns ≡ []) × AreTaken b.patterns };
+}
+
+impl Builder {
+    /// A builder of leftmost-first searchers. It takes no memory yet, and takes it from `alloc` later.
+    pub fn new(alloc: Global) -> Builder
+        ensures { result ≡ fresh MatchKind.LeftmostFirst }
+    {
+        Config::new().builder(alloc)
+    }
+
+    /// The same builder once more, with copies of the patterns.
+    pub fn clone(&self) -> Result<Builder, AllocError>
+        ensures { IfOk result (λ copy. copy ≡ self.now) }
+    {
+        Ok(Builder {
+            config: Config {
+                kind: self.config.kind,
+            },
+            patterns: self.patterns.clone(self.patterns.allocator())?,
+            inert: self.inert,
+        })
+    }
+
+    /// Adds a pattern. Where memory ends, the builder is as it was.
+    pub fn add(&mut self, pattern: &[u8]) -> Result<&mut Builder, AllocError>
+        ensures same { IfOk result (λ builder. builder.ghost_name ≡ self.entry.ghost_name) }
+        ensures value { IfOk result (λ builder. builder.now ≡ added self.old pattern.now) }
+    {
+        self.try_add(pattern)?;
+        Ok(self)
+    }
+
+    /// Adds patterns in their order. Where memory ends, those before stay added.
+    pub fn extend(&mut self, patterns: &[&[u8]]) -> Result<&mut Builder, AllocError>
+        ensures same { IfOk result (λ builder. builder.ghost_name ≡ self.entry.ghost_name) }
+        ensures value { IfOk result (λ builder. builder.now ≡ added_all self.old (map (λ p. p.now) patterns.now)) }
+    {
+        self.try_extend(patterns)?;
+        Ok(self)
+    }
+
+    /// The same as [`Builder::add`], for a caller that goes on where memory ended.
+    pub fn try_add(&mut self, pattern: &[u8]) -> Result<(), AllocError>
+        ensures ok { OnOk result (self.new ≡ added self.old pattern.now) }
+        ensures err { OnErr result (self.new ≡ self.old) }
+    {
+        if self.inert {
+            return Ok(());
+        }
+        if pattern.is_empty() || self.patterns.len() == PATTERN_LIMIT {
+            self.inert = true;
+            self.patterns.clear();
+            return Ok(());
+        }
+        self.patterns.add(pattern)
+    }
+
+    /// The same as [`Builder::extend`], for a caller that goes on where memory ended.
+    pub fn try_extend(&mut self, patterns: &[&[u8]]) -> Result<(), AllocError>
+        ensures ok { OnOk result (self.new ≡ added_all self.old (map (λ p. p.now) patterns.now)) }
+        ensures err { OnErr result (HasBeginning self.old (map (λ p. p.now) patterns.now) self.new) }
+    {
+        for pattern in patterns {
+            self.try_add(pattern)?;
+        }
+        Ok(())
+    }
+
+    /// How many patterns it has.
+    pub fn len(&self) -> usize
+        ensures { result ≡ length self.now.patterns }
+    {
+        self.patterns.len()
+    }
+
+    /// The length of the shortest pattern; `usize::MAX` where it has none.
+    pub fn minimum_len(&self) -> usize
+        ensures { result ≡ least_len self.now.patterns }
+    {
+        self.patterns.minimum_len()
+    }
+
+    /// A searcher for the patterns, with copies of them; none where there is no pattern.
+    pub fn build(&self) -> Result<Option<Searcher>, AllocError>
+        ensures value { IfOk result (λ made. made ≡ built self.now.kind self.now.patterns) }
+        ensures served { IfOk result (λ made. IfSome made (λ searcher. AreServed searcher.patterns)) }
+    {
+        if self.patterns.is_empty() {
+            return Ok(None);
+        }
+        let alloc = self.patterns.allocator();
+        let kind = self.config.kind;
+        let patterns = self.patterns.clone(alloc)?;
+        let rabinkarp = RabinKarp::new(alloc, kind, &patterns)?;
+        Ok(Some(Searcher {
+            patterns,
+            rabinkarp,
+        }))
+    }
+}
+
+/// Finds the leftmost match of some patterns.
+#[derive(Drop)]
+pub struct Searcher {
+    patterns: Patterns,
+    rabinkarp: RabinKarp,
+}
+
+impl Model for Searcher {
+    ghost use Rattle.ac_literal.specs.Packed.{Packed, AreServed};
+    ghost use Rattle.ac_literal.specs.RabinKarp.{IsTable};
+
+    ghost Value = { Packed };
+
+    ghost view = { λ s. record { kind = s.rabinkarp.kind; patterns = s.patterns } };
+
+    ghost invariant = { λ s. AreServed s.patterns × IsTable s.patterns s.rabinkarp };
+}
+
+impl Searcher {
+    /// A leftmost-first searcher for the patterns, with copies of them; none where they are not 1 to 128, or one is empty.
+    pub fn new(alloc: Global, patterns: &[&[u8]]) -> Result<Option<Searcher>, AllocError>
+        ensures served { IfOk result (λ made. IsSome made ↔ AreServed (map (λ p. p.now) patterns.now)) }
+        ensures value { IfOk result
+            (λ made. IfSome made (λ s. s ≡ record { kind = MatchKind.LeftmostFirst; patterns = map (λ p. p.now) patterns.now })) }
+    {
+        let mut builder = Builder::new(alloc);
+        builder.try_extend(patterns)?;
+        builder.build()
+    }
+
+    /// The settings of a searcher, to be changed and then built from.
+    pub fn config() -> Config
+        ensures { result ≡ MatchKind.LeftmostFirst }
+    {
+        Config::default()
+    }
+
+    /// A builder of leftmost-first searchers. It takes no memory yet, and takes it from `alloc` later.
+    pub fn builder(alloc: Global) -> Builder
+        ensures { result ≡ fresh MatchKind.LeftmostFirst }
+    {
+        Builder::new(alloc)
+    }
+
+    /// The same searcher once more, in memory from `alloc`.
+    pub fn clone(&self, alloc: Global) -> Result<Searcher, AllocError>
+        ensures { IfOk result (λ copy. copy ≡ self.now) }
+    {
+        Ok(Searcher {
+            patterns: self.patterns.clone(alloc)?,
+            rabinkarp: self.rabinkarp.clone(alloc)?,
+        })
+    }
+
+    /// The first match in the haystack, if it has one. It takes no memory.
+    pub fn find(&self, haystack: &[u8]) -> Option<Match>
+        ensures best { IsBest (search_kind self.now.kind) (searched self.now.patterns haystack.now 0 (length haystack.now)) result }
+        ensures served { AreServed self.now.patterns }
+    {
+        self.find_in(
+            haystack,
+            Span {
+                start: 0,
+                end: haystack.len(),
+            },
+        )
+    }
+
+    /// The first match of those that lie in the span, if there is one. Nothing outside the span is looked at.
+    pub fn find_in(&self, haystack: &[u8], span: Span) -> Option<Match>
+        requires order { span.start ≤ span.end }
+        requires within { span.end ≤ length haystack.now }
+        ensures best { IsBest (search_kind self.now.kind) (searched self.now.patterns haystack.now span.start span.end) result }
+        ensures served { AreServed self.now.patterns }
+    {
+        self.rabinkarp.find_in(&self.patterns, haystack, span)
+    }
+
+    /// All matches that don't overlap, from the first to the last.
+    ///
+    /// To go over all of them looks at each byte once, but for the comparisons.
+    pub fn find_iter<'s, 'h>(&'s self, haystack: &'h [u8]) -> FindIter<'s, 'h>
+        ensures { result ≡ walk_of (search_kind self.now.kind) (searched self.now.patterns haystack.now 0 (length haystack.now)) }
+    {
+        FindIter {
+            searcher: self,
+            haystack,
+            at: 0,
+        }
+    }
+
+    /// Which occurrence is the match.
+    pub fn match_kind(&self) -> &MatchKind
+        ensures value { result.now ≡ self.now.kind }
+        ensures served { AreServed self.now.patterns }
+    {
+        self.rabinkarp.match_kind()
+    }
+
+    /// The length from which a haystack is searched by the rolling hash: any.
+    pub fn minimum_len(&self) -> usize
+        ensures { result ≡ 0 }
+    {
+        0
+    }
+
+    /// How many bytes of memory it takes, beside itself.
+    pub fn memory_usage(&self) -> usize {
+        self.patterns
+            .memory_usage()
+            .saturating_add(self.rabinkarp.memory_usage())
+    }
+}
+
+/// The matches that are left to come. From [`Searcher::find_iter`].
+#[derive(Drop)]
+pub struct FindIter<'s, 'h> {
+    searcher: &'s Searcher,
+    haystack: &'h [u8],
+    at: usize,
+}
+
+impl<'s, 'h> Model for FindIter<'s, 'h> {
+    ghost use Rattle.std.specs.Prelude.{List, length, ◌≤◌, None};
+    ghost use Rattle.ac_input.specs.Occurrence.{Occurrence};
+    ghost use Rattle.ac_input.specs.Computed.{walk_after};
+    ghost use Rattle.ac_literal.specs.Packed.{search_kind, searched};
+
+    ghost Value = { List Occurrence };
+
+    ghost view = { λ i.
+        walk_after (search_kind i.searcher.now.kind) (searched i.searcher.now.patterns i.haystack.now 0 (length i.haystack.now)) i.at None };
+
+    ghost invariant = { λ i. i.at ≤ length i.haystack.now };
+}
+
+impl<'s, 'h> Iterator for FindIter<'s, 'h> {
+    type Item = Match;
+
+    ghost next_gives = { YieldsFirst (λ rest. rest) };
+
+    ghost remaining = { item_count (λ rest. rest) };
+
+    fn next(&mut self) -> Option<Match> {
+        let found = self.searcher.find_in(
+            self.haystack,
+            Span {
+                start: self.at,
+                end: self.haystack.len(),
+            },
+        )?;
+        self.at = found.end();
+        Some(found)
+    }
+}

@@ -1,0 +1,26 @@
+-- The list of what is left begins with the next pick.
+use Rattle.std.proofs.Common.{ℕ, ◌≡◌, ◌∷◌, Some, arith, sym, ◌∙◌, ap, subst, length}
+use Rattle.ac_input.specs.Occurrence.{Occurrence}
+use Rattle.ac_input.specs.Computed.{walk_after}
+use Rattle.ac_input.proofs.WalkLemmas.{walk_after-some, walk_after-none, pick-within}
+use Rattle.ac_plain.proofs.plain.picks.PicksIterator.next.Goals as goal
+
+pub returns-in_default-clause-steps : goal.returns-in_default-clause-steps
+returns-in_default-clause-steps c =
+    let now = c.self.inside in
+    let none = sym c.self.view_is ∙ walk_after-none now.kind now.search now.at now.last c.self.invariant.1 c.in_default.ensures in
+    (none, none)
+
+pub returns-clause-steps : goal.returns-clause-steps
+returns-clause-steps c =
+    let now = c.self.inside in
+    let rest = walk_after-some now.kind now.search now.at now.last c.in-Some.found c.self.invariant.1 c.in-Some.ensures in
+    subst (λ (o : Occurrence). c.args.self.now ≡ c.in-Some.found ∷ walk_after now.kind now.search o.end (Some o.end)) (sym c.found.view_is) (sym c.self.view_is ∙ rest)
+
+pub returns-clause-goes : goal.returns-clause-goes
+returns-clause-goes c =
+    let now = c.self.inside in
+    let rest = walk_after-some now.kind now.search now.at now.last c.in-Some.found c.self.invariant.1 c.in-Some.ensures in
+    let split = subst (λ (o : Occurrence). c.args.self.now ≡ c.in-Some.found ∷ walk_after now.kind now.search o.end (Some o.end)) (sym c.found.view_is) (sym c.self.view_is ∙ rest) in
+    let longer = ap length split in
+    record { on = λ _. (tt, tt, omega arith); keeps = tt; rests = λ _. tt }

@@ -1,0 +1,47 @@
+//! The picks of a walk, one after another, as they are found.
+ghost use Rattle.std.specs.Iterator.{YieldsFirst, item_count};
+
+use super::{Found, Plain};
+use ac_input::search::MatchKind;
+use std::marker::Model;
+
+/// The picks of a walk that are left to come. From [`Plain::picks`].
+///
+/// Each is found when it is asked for, and none is kept. After the last one there is none for good.
+#[derive(Drop)]
+pub struct Picks<'a> {
+    pub(super) search: Plain<'a>,
+    pub(super) kind: MatchKind,
+    pub(super) at: usize,
+    pub(super) last: Option<usize>,
+}
+
+impl<'a> Model for Picks<'a> {
+    ghost use Rattle.std.specs.Prelude.{List, ◌+◌, ◌≤◌, length};
+    ghost use Rattle.ac_input.specs.Occurrence.{Occurrence};
+    ghost use Rattle.ac_input.specs.Computed.{walk_after};
+
+    ghost Value = { List Occurrence };
+
+    ghost view = { λ p. walk_after p.kind p.search p.at p.last };
+
+    ghost invariant = { λ p.
+        (p.at ≤ p.search.end + 1) × (p.search.end ≤ length p.search.haystack) };
+}
+
+impl<'a> Iterator for Picks<'a> {
+    type Item = Found;
+
+    ghost next_gives = { YieldsFirst (λ rest. rest) };
+
+    ghost remaining = { item_count (λ rest. rest) };
+
+    fn next(&mut self) -> Option<Found> {
+        let Some(found) = self.search.next_pick(self.kind, false, self.at, self.last) else {
+            return None;
+        };
+        self.at = found.end;
+        self.last = Some(found.end);
+        Some(found)
+    }
+}

@@ -9,7 +9,7 @@ use Rattle.ac_input.specs.declared.steps.Steps.{Steps}
 use Rattle.ac_input.specs.Occurrence.{Search, Occurrence, Occurs, starting_at}
 use Rattle.ac_input.specs.Best.{IsBest, asked_kind}
 use Rattle.ac_input.specs.Candidate.{IsCandidate}
-use Rattle.ac_input.specs.Steps.{looked_of, scanned_of, moved_of}
+use Rattle.ac_input.specs.Steps.{looked_of, scanned_of}
 use Rattle.ac_input.specs.Work.{looks_each, longest, over_at, IsFindWork}
 use Rattle.ac_input.proofs.LiveLemmas.{leftmost-no_later}
 use Rattle.ac_input.proofs.WalkLemmas.{occurs-whole}
@@ -21,11 +21,11 @@ use Rattle.ac_automaton.specs.declared.stretch.Stretch.{Stretch}
 use Rattle.ac_automaton.specs.declared.stretch.Stretch.TheVariants as stretches
 
 -- in a search that isn't anchored, what occurs from a place on occurs
-occurs_before : (s : Search) (at : ℕ) (o : Occurrence) → s.anchored ≡ false → s.start ≤ at → Occurs (starting_at s at) o → Occurs s o
+pub occurs_before : (s : Search) (at : ℕ) (o : Occurrence) → s.anchored ≡ false → s.start ≤ at → Occurs (starting_at s at) o → Occurs s o
 occurs_before s at o free le h = occurs-whole s at o le (λ t. absurd (false≢true (sym free ∙ t))) h
 
 -- and what begins at a place or later occurs from the place on
-occurs_behind : (s : Search) (at : ℕ) (o : Occurrence) → s.anchored ≡ false → at ≤ o.start → Occurs s o → Occurs (starting_at s at) o
+pub occurs_behind : (s : Search) (at : ℕ) (o : Occurrence) → s.anchored ≡ false → at ≤ o.start → Occurs s o → Occurs (starting_at s at) o
 occurs_behind s at o free le h = record { within = (le, h.within.1, h.within.2); same = h.same; anchor = λ t. absurd (false≢true (sym free ∙ t)) }
 
 -- what begins nowhere before a place, and nowhere before another one from there on, begins nowhere before the other one
@@ -83,7 +83,7 @@ find_work-from kind direct by_bytes s at (Some b) x y z here best one two =
     }
 
 -- a leftmost best is a place before which nothing begins
-leftmost-none_before : (kind : MatchKind) (s : Search) (b : Occurrence) → kind ≢ Standard → IsBest kind s (Some b) → NoneBefore s b.start
+pub leftmost-none_before : (kind : MatchKind) (s : Search) (b : Occurrence) → kind ≢ Standard → IsBest kind s (Some b) → NoneBefore s b.start
 leftmost-none_before kind s b leftmost h = record {
   behind = h.0.within.0;
   within = omega (arith, h.0.within.1, h.0.within.2);

@@ -3,11 +3,11 @@ pub mod WriteWholeLoop
 pub mod ToldLemmas
 pub mod TakenLemmas
 pub mod ReadOnLemmas
-pub mod PartLemmas
 pub mod StretchLemmas
 pub mod Gathered
 pub mod PlainStates
 pub mod PlainEntries
 pub mod PlainLaws
 pub mod IterLemmas
+pub mod LeapLemmas
 pub mod OverlappingLemmas

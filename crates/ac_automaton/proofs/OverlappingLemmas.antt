@@ -13,7 +13,8 @@ use Rattle.ac_input.specs.declared.search.Anchored.TheVariants.{No, Yes}
 use Rattle.ac_input.specs.declared.primitives.state_id.StateID.{StateID}
 use Rattle.ac_input.specs.declared.history.Count.{Count}
 use Rattle.ac_input.specs.declared.steps.Steps.{Steps}
-use Rattle.ac_input.specs.Occurrence.{Search, Occurrence, Occurs}
+use Rattle.ac_input.specs.Candidate.{Filter}
+use Rattle.ac_input.specs.Occurrence.{Search, Occurrence, Occurs, starting_at}
 use Rattle.ac_input.specs.Computed.{listing_of}
 use Rattle.ac_input.specs.Input.{Asked, is_anchored, search_in}
 use Rattle.ac_input.specs.Listing.{IsRising, ListsAll}
@@ -21,7 +22,7 @@ use Rattle.ac_input.specs.LiveLaws.{shifted, IsOwnInverse}
 use Rattle.ac_input.specs.Machine.{Machine, IsEntered, whole, IsSearchBy, IsLive, live_len}
 use Rattle.ac_input.specs.Steps.{AreNone, Added, looked_of, scanned_of, moved_of}
 use Rattle.ac_input.specs.Tells.{ending, Tells, TellsUnanchored}
-use Rattle.ac_input.specs.Work.{IsStep, looks_each}
+use Rattle.ac_input.specs.Work.{IsStep, looks_each, scans_bytes}
 use Rattle.ac_input.proofs.ContainsLemmas.{Contains-nil, Contains-head, Contains-tail, Contains-cases, Contains-filter, Contains-from_filter}
 use Rattle.ac_input.proofs.OrderLemmas.{occurrence_from_parts, slice_range-length, occurs-end}
 use Rattle.ac_input.proofs.RisingLemmas.{less_by_end, IsRising-filter, IsRising-append}
@@ -33,8 +34,10 @@ use Rattle.ac_input.proofs.StateLemmas.{standard-entered}
 use Rattle.ac_automaton.specs.declared.overlapping.OverlappingState.{OverlappingState}
 use Rattle.ac_automaton.specs.declared.overlapping.Place.{Place}
 use Rattle.ac_automaton.specs.declared.overlapping.Place.TheVariants.{At, Over}
+use Rattle.ac_automaton.specs.declared.overlapping.Reached.{Reached}
+use Rattle.ac_automaton.specs.declared.overlapping.Reading.TheVariants.{Shows, Back}
 use Rattle.ac_automaton.specs.declared.overlapping.Shown.{Shown}
-use Rattle.ac_automaton.specs.Overlapping.{ending_from, read_to, counts, counted_from, told_from, lying_to, TellsFirst, IsLeft, ShowsFirst, IsPaidAt, IsPaid, GoesOnPaying, OnlyLooked, StandsAt, CameFrom, IsFresh, IsOverlappingWork, shown_of, sums_of}
+use Rattle.ac_automaton.specs.Overlapping.{ending_from, read_to, counts, counted_from, told_from, lying_to, walked, come_to, TellsFirst, IsReached, IsLeft, ShowsFirst, IsPaidTo, IsPaidAt, IsPaid, IsPaidBy, IsScannedTo, GoesOnPaying, OnlyLooked, StandsAt, CameFrom, IsFresh, IsOverlappingWork, shown_of, sums_of}
 
 -- ---- entries
 
@@ -125,7 +128,7 @@ ListsAll-shifted n P Q os f g h = (
 )
 
 -- one fact in place of another one that says the same
-ListsAll-like : (P Q : Occurrence → Type 0) (os : List Occurrence) → ((o : Occurrence) → P o ↔ Q o) → ListsAll P os → ListsAll Q os
+pub ListsAll-like : (P Q : Occurrence → Type 0) (os : List Occurrence) → ((o : Occurrence) → P o ↔ Q o) → ListsAll P os → ListsAll Q os
 ListsAll-like P Q os like h = (h.0, λ o. (λ c. (like o).0 ((h.1 o).0 c), λ q. (h.1 o).1 ((like o).1 q)))
 
 -- a filter lists those that pass its test
@@ -141,7 +144,7 @@ ListsAll-filter P p os h = (
 -- ---- what ends from a place on
 
 -- the part of the listing that ends at a place or later lists what ends there or later
-ending_from-lists : (s : Search) (at : ℕ) → s.end ≤ length s.haystack → ListsAll (λ o. Occurs s o × (at ≤ o.end)) (ending_from s at)
+pub ending_from-lists : (s : Search) (at : ℕ) → s.end ≤ length s.haystack → ListsAll (λ o. Occurs s o × (at ≤ o.end)) (ending_from s at)
 ending_from-lists s at inside =
     ListsAll-like (λ o. Occurs s o × (leb at o.end ≡ true)) (λ o. Occurs s o × (at ≤ o.end)) (ending_from s at)
     (λ o. (λ h. (h.0, leb-true at o.end h.1), λ h. (h.0, le-leb at o.end h.1)))
@@ -171,7 +174,7 @@ pub read_to-length : (s : Search) (at : ℕ) → s.start ≤ at → at ≤ s.end
 read_to-length s at g h inside = slice_range-length s.haystack s.start at g (omega arith)
 
 -- a part of a text is its front and the rest
-slice_range-split : (x : List ℕ) (from at to : ℕ) → from ≤ at → at ≤ to → slice_range x from to ≡ slice_range x from at ++ slice_range x at to
+pub slice_range-split : (x : List ℕ) (from at to : ℕ) → from ≤ at → at ≤ to → slice_range x from to ≡ slice_range x from at ++ slice_range x at to
 slice_range-split x from at to g h =
     let i : ℕ = at - from in
     let n : ℕ = to - at in
@@ -221,8 +224,12 @@ pub record IsPlace (m : Machine) (anchored : Anchored) (s : Search) (at : ℕ) :
   pub to : at ≤ s.end
   pub inside : s.end ≤ length s.haystack
 
+-- it is the place where a walk stands
+pub place_of-reached : (Reads : List ℕ → StateID → Type 0) (m : Machine) (asked : Asked) (reached : Reached) → m.kind ≡ Standard → IsReached Reads (search_in m asked) reached → IsPlace m asked.anchored (walked (search_in m asked) reached) reached.at
+place_of-reached Reads m asked reached standard h = record { by = (refl, refl); anchor = refl; standard = standard; from = h.ordered; to = h.within; inside = h.inside }
+
 -- what a state tells at a place is all that ends there
-told-lists : (m : Machine) (anchored : Anchored) (s : Search) (at : ℕ) (ns : List ℕ) → IsPlace m anchored s at → Tells m anchored (read_to s at) ns → ListsAll (λ o. Occurs s o × (o.end ≡ at)) (told_from m s at ns 0)
+pub told-lists : (m : Machine) (anchored : Anchored) (s : Search) (at : ℕ) (ns : List ℕ) → IsPlace m anchored s at → Tells m anchored (read_to s at) ns → ListsAll (λ o. Occurs s o × (o.end ≡ at)) (told_from m s at ns 0)
 told-lists m anchored s at ns is h =
     let w = read_to s at in
     let long : length w ≡ at - s.start = read_to-length s at is.from is.to is.inside in
@@ -325,33 +332,38 @@ live_len-within : (text : List ℕ) (live : Option ℕ) → live_len text live �
 live_len-within text None = omega arith
 live_len-within text (Some from) = omega arith
 
--- at the start nothing was looked at
-pub paid-start : (m : Machine) (direct : Bool) (s : Search) (looks : ℕ) → s.start ≤ s.end → s.end ≤ length s.haystack → looks ≡ 0 → IsPaidAt m direct s s.start looks
-paid-start m direct s looks g inside none live is =
-    let long = read_to-length s s.start (omega arith) g inside in
-    let within = live_len-within (read_to s s.start) live in
+-- where a walk begins that has read nothing yet
+pub paid-start : (m : Machine) (direct : Bool) (s : Search) (at looks : ℕ) → s.start ≤ at → at ≤ s.end → s.end ≤ length s.haystack → IsPaidTo direct s at looks → IsPaidAt m direct s at at looks
+paid-start m true s at looks g h inside paid live is =
+    let long = read_to-length (starting_at s at) at (omega arith) h inside in
+    let within = live_len-within (read_to (starting_at s at) at) live in
     (omega arith, λ _. omega arith)
+paid-start m false s at looks g h inside paid live is =
+    let long = read_to-length (starting_at s at) at (omega arith) h inside in
+    let within = live_len-within (read_to (starting_at s at) at) live in
+    (omega arith, λ d. absurd (false≢true d))
 
 -- one more byte pays for its step
-pub paid-step : (m : Machine) (direct : Bool) (s : Search) (at looks more : ℕ) (before after : Steps) (byte : ℕ) → s.start ≤ at
-    → read_to s (at + 1) ≡ read_to s at ++ byte ∷ []
-    → ((live : Option ℕ) × IsLive m s.anchored (read_to s at) live)
-    → ((live live_after : Option ℕ) → IsLive m s.anchored (read_to s at) live → IsLive m s.anchored (read_to s at ++ byte ∷ []) live_after → IsStep direct (live_len (read_to s at) live) (live_len (read_to s at ++ byte ∷ []) live_after) before after)
+pub paid-step : (m : Machine) (direct : Bool) (s : Search) (from at looks more : ℕ) (before after : Steps) (byte : ℕ) → s.start ≤ from → from ≤ at
+    → read_to (starting_at s from) (at + 1) ≡ read_to (starting_at s from) at ++ byte ∷ []
+    → ((live : Option ℕ) × IsLive m s.anchored (read_to (starting_at s from) at) live)
+    → ((live live_after : Option ℕ) → IsLive m s.anchored (read_to (starting_at s from) at) live → IsLive m s.anchored (read_to (starting_at s from) at ++ byte ∷ []) live_after → IsStep direct (live_len (read_to (starting_at s from) at) live) (live_len (read_to (starting_at s from) at ++ byte ∷ []) live_after) before after)
     → looks + looked_of after ≡ more + looked_of before
-    → IsPaidAt m direct s at looks
-    → IsPaidAt m direct s (at + 1) more
-paid-step m direct s at looks more before after byte g text had step counted paid live_after is =
-    let same : live_len (read_to s (at + 1)) live_after ≡ live_len (read_to s at ++ byte ∷ []) live_after = ap (λ (w : List ℕ). live_len w live_after) text in
+    → IsPaidAt m direct s from at looks
+    → IsPaidAt m direct s from (at + 1) more
+paid-step m direct s from at looks more before after byte g h text had step counted paid live_after is =
+    let t = starting_at s from in
+    let same : live_len (read_to t (at + 1)) live_after ≡ live_len (read_to t at ++ byte ∷ []) live_after = ap (λ (w : List ℕ). live_len w live_after) text in
     let done = step had.0 live_after had.1 (subst (λ (w : List ℕ). IsLive m s.anchored w live_after) text is) in
     let bound = done.bound in
     let p = paid had.0 had.1 in
     let p0 = p.0 in
     (omega arith, λ d. let one = done.one d in let all = p.1 d in omega arith)
 
--- what is paid for at a place of the span is within what the whole span pays
-pub paid-over : (m : Machine) (direct : Bool) (s : Search) (at looks : ℕ) → s.start ≤ at → at ≤ s.end → ((live : Option ℕ) × IsLive m s.anchored (read_to s at) live) → IsPaidAt m direct s at looks → looks ≤ looks_each direct * (s.end - s.start)
-paid-over m true s at looks g h had paid = let all = (paid had.0 had.1).1 refl in omega arith
-paid-over m false s at looks g h had paid = let bound = (paid had.0 had.1).0 in omega arith
+-- what is paid for where a walk stands is paid for up to any further place
+pub paid-to : (m : Machine) (direct : Bool) (s : Search) (from at to looks : ℕ) → s.start ≤ at → at ≤ to → ((live : Option ℕ) × IsLive m s.anchored (read_to (starting_at s from) at) live) → IsPaidAt m direct s from at looks → IsPaidTo direct s to looks
+paid-to m true s from at to looks g h had paid = let all = (paid had.0 had.1).1 refl in omega arith
+paid-to m false s from at to looks g h had paid = let bound = (paid had.0 had.1).0 in omega arith
 
 -- ---- reading on
 
@@ -362,72 +374,72 @@ shows-none Reads entries m s left r none found place =
     (found ∙ all.0, subst (λ (p : Place). IsLeft Reads entries m s p (drop 1 left)) (sym place) all.1)
 
 -- what a state tells first is the first that is left
-pub shows-some : (Reads : List ℕ → StateID → Type 0) (entries : StateID → List ℕ) (m : Machine) (s : Search) (left : List Occurrence) (sid : StateID) (at index : ℕ) (r : Shown)
-    → s.start ≤ at → at ≤ s.end → Reads (read_to s at) sid
-    → left ≡ told_from m s at (entries sid) index ++ ending_from s (at + 1)
-    → TellsFirst entries m s sid at index (Some r) → ShowsFirst Reads entries m s left r
-shows-some Reads entries m s left sid at index r g h reads e (o, next, found, place, told) =
-    let rest : List Occurrence = told_from m s at (entries sid) next ++ ending_from s (at + 1) in
-    let is : left ≡ o ∷ rest = e ∙ ap (λ (xs : List Occurrence). xs ++ ending_from s (at + 1)) told in
+pub shows-some : (Reads : List ℕ → StateID → Type 0) (entries : StateID → List ℕ) (m : Machine) (s : Search) (left : List Occurrence) (reached : Reached) (index : ℕ) (r : Shown)
+    → IsReached Reads s reached
+    → left ≡ told_from m (walked s reached) reached.at (entries reached.sid) index ++ ending_from (walked s reached) (reached.at + 1)
+    → TellsFirst entries m s reached index (Some r) → ShowsFirst Reads entries m s left r
+shows-some Reads entries m s left reached index r reads e (o, next, found, place, told) =
+    let t = walked s reached in
+    let at : ℕ = reached.at in
+    let rest : List Occurrence = told_from m t at (entries reached.sid) next ++ ending_from t (at + 1) in
+    let is : left ≡ o ∷ rest = e ∙ ap (λ (xs : List Occurrence). xs ++ ending_from t (at + 1)) told in
     let all : (Some o ≡ slice_get left 0) × (drop 1 left ≡ rest) = subst (λ (xs : List Occurrence). (Some o ≡ slice_get xs 0) × (drop 1 xs ≡ rest)) (sym is) (refl, refl) in
-    (found ∙ all.0, subst (λ (p : Place). IsLeft Reads entries m s p (drop 1 left)) (sym place) (g, h, reads, all.1))
+    (found ∙ all.0, subst (λ (p : Place). IsLeft Reads entries m s p (drop 1 left)) (sym place) (reads, all.1))
 
--- The search stood at a place, and has read on to a further one. What ends behind the first ends from `next` on, and the looks
--- are paid for.
-pub record HasReadOn (Reads : List ℕ → StateID → Type 0) (m : Machine) (direct : Bool) (s : Search) (at i next : ℕ) (sid : StateID) (before after : Steps) : Type 0 where
-  pub reads : Reads (read_to s i) sid
-  pub later : ending_from s (at + 1) ≡ ending_from s next
-  pub pays : (looks more : ℕ) → IsPaidAt m direct s at looks → looks + looked_of after ≡ more + looked_of before → IsPaidAt m direct s i more
-  pub rose : looked_of before ≤ looked_of after
+-- A walk that began at one place stood at another, and has read on to a further one. What ends behind the second ends from
+-- `next` on, and the looks are paid for.
+pub record HasReadOn (Reads : List ℕ → StateID → Type 0) (m : Machine) (direct : Bool) (s : Search) (from at i next : ℕ) (sid : StateID) (before after : Steps) : Type 0 where
+  pub reads : Reads (read_to (starting_at s from) i) sid
+  pub later : ending_from (starting_at s from) (at + 1) ≡ ending_from (starting_at s from) next
+  pub pays : (looks more : ℕ) → IsPaidAt m direct s from at looks → looks + looked_of after ≡ more + looked_of before → IsPaidAt m direct s from i more
   pub only : OnlyLooked before after
 
 -- at first nothing was read
-pub read_on-start : (Reads : List ℕ → StateID → Type 0) (m : Machine) (direct : Bool) (s : Search) (at : ℕ) (sid : StateID) (steps : Steps) → Reads (read_to s at) sid → HasReadOn Reads m direct s at at (at + 1) sid steps steps
-read_on-start Reads m direct s at sid steps reads =
+pub read_on-start : (Reads : List ℕ → StateID → Type 0) (m : Machine) (direct : Bool) (s : Search) (from at : ℕ) (sid : StateID) (steps : Steps) → Reads (read_to (starting_at s from) at) sid → HasReadOn Reads m direct s from at at (at + 1) sid steps steps
+read_on-start Reads m direct s from at sid steps reads =
     record {
       reads = reads;
       later = refl;
-      pays = λ looks more paid e. let same : looks ≡ more = omega arith in subst (IsPaidAt m direct s at) same paid;
-      rose = omega arith;
-      only = (refl, refl);
+      pays = λ looks more paid e. let same : looks ≡ more = omega arith in subst (IsPaidAt m direct s from at) same paid;
+      only = record { rose = omega arith; scanned = refl; moved = refl };
     }
 
 -- one more byte
-pub read_on-byte : (Reads : List ℕ → StateID → Type 0) (m : Machine) (direct : Bool) (s : Search) (at i : ℕ) (sid after_byte : StateID) (before mid after : Steps) (byte : ℕ)
-    → s.start ≤ i → i < s.end → s.end ≤ length s.haystack → byte ≡ get_or s.haystack i 0
+pub read_on-byte : (Reads : List ℕ → StateID → Type 0) (m : Machine) (direct : Bool) (s : Search) (from at i : ℕ) (sid after_byte : StateID) (before mid after : Steps) (byte : ℕ)
+    → s.start ≤ from → from ≤ i → i < s.end → s.end ≤ length s.haystack → byte ≡ get_or s.haystack i 0
     → ((text : List ℕ) (state : StateID) → Reads text state → (live : Option ℕ) × IsLive m s.anchored text live)
     → ((text : List ℕ) → Reads text sid → Reads (text ++ byte ∷ []) after_byte)
     → ((text : List ℕ) (live live_after : Option ℕ) → Reads text sid → IsLive m s.anchored text live → IsLive m s.anchored (text ++ byte ∷ []) live_after → IsStep direct (live_len text live) (live_len (text ++ byte ∷ []) live_after) mid after)
-    → HasReadOn Reads m direct s at i (i + 1) sid before mid → HasReadOn Reads m direct s at (i + 1) (i + 1) after_byte before after
-read_on-byte Reads m direct s at i sid after_byte before mid after byte g h inside is lives next step read =
-    let text : read_to s (i + 1) ≡ read_to s i ++ byte ∷ [] = read_to-more s i g h inside ∙ ap (λ (b : ℕ). read_to s i ++ b ∷ []) (sym is) in
-    let reads : Reads (read_to s i ++ byte ∷ []) after_byte = next (read_to s i) read.reads in
-    let live = lives (read_to s i) sid read.reads in
-    let live_after = lives (read_to s i ++ byte ∷ []) after_byte reads in
-    let done = step (read_to s i) live.0 live_after.0 read.reads live.1 live_after.1 in
+    → HasReadOn Reads m direct s from at i (i + 1) sid before mid → HasReadOn Reads m direct s from at (i + 1) (i + 1) after_byte before after
+read_on-byte Reads m direct s from at i sid after_byte before mid after byte f g h inside is lives next step read =
+    let t = starting_at s from in
+    let text : read_to t (i + 1) ≡ read_to t i ++ byte ∷ [] = read_to-more t i g h inside ∙ ap (λ (b : ℕ). read_to t i ++ b ∷ []) (sym is) in
+    let reads : Reads (read_to t i ++ byte ∷ []) after_byte = next (read_to t i) read.reads in
+    let live = lives (read_to t i) sid read.reads in
+    let live_after = lives (read_to t i ++ byte ∷ []) after_byte reads in
+    let done = step (read_to t i) live.0 live_after.0 read.reads live.1 live_after.1 in
     let some = done.some in
-    let rose = read.rose in
+    let rose = read.only.rose in
     record {
       reads = subst (λ (w : List ℕ). Reads w after_byte) (sym text) reads;
       later = read.later;
       pays = λ looks more paid e.
           let between : ℕ = looks + looked_of mid - looked_of before in
           let first : looks + looked_of mid ≡ between + looked_of before = omega arith in
-          paid-step m direct s i between more mid after byte g text live (λ l k here there. step (read_to s i) l k read.reads here there) (omega arith) (read.pays looks between paid first);
-      rose = omega arith;
-      only = (done.scanned ∙ read.only.0, done.moved ∙ read.only.1);
+          paid-step m direct s from i between more mid after byte f g text live (λ l k here there. step (read_to t i) l k read.reads here there) (omega arith) (read.pays looks between paid first);
+      only = record { rose = omega arith; scanned = done.scanned ∙ read.only.scanned; moved = done.moved ∙ read.only.moved };
     }
 
 -- a place where nothing is told is behind the search
-pub read_on-settled : (Reads : List ℕ → StateID → Type 0) (m : Machine) (direct : Bool) (anchored : Anchored) (s : Search) (at i : ℕ) (ns : List ℕ) (sid : StateID) (before after : Steps)
-    → IsPlace m anchored s i → Tells m anchored (read_to s i) ns → told_from m s i ns 0 ≡ []
-    → HasReadOn Reads m direct s at i i sid before after → HasReadOn Reads m direct s at i (i + 1) sid before after
-read_on-settled Reads m direct anchored s at i ns sid before after is tells none read =
+pub read_on-settled : (Reads : List ℕ → StateID → Type 0) (m : Machine) (direct : Bool) (anchored : Anchored) (s : Search) (from at i : ℕ) (ns : List ℕ) (sid : StateID) (before after : Steps)
+    → IsPlace m anchored (starting_at s from) i → Tells m anchored (read_to (starting_at s from) i) ns → told_from m (starting_at s from) i ns 0 ≡ []
+    → HasReadOn Reads m direct s from at i i sid before after → HasReadOn Reads m direct s from at i (i + 1) sid before after
+read_on-settled Reads m direct anchored s from at i ns sid before after is tells none read =
+    let t = starting_at s from in
     record {
       reads = read.reads;
-      later = read.later ∙ ending_from-split m anchored s i ns is tells ∙ ap (λ (xs : List Occurrence). xs ++ ending_from s (i + 1)) none;
+      later = read.later ∙ ending_from-split m anchored t i ns is tells ∙ ap (λ (xs : List Occurrence). xs ++ ending_from t (i + 1)) none;
       pays = read.pays;
-      rose = read.rose;
       only = read.only;
     }
 
@@ -436,18 +448,29 @@ pub told_from-empty : (m : Machine) (s : Search) (at : ℕ) (ns : List ℕ) → 
 told_from-empty m s at ns none = told_from-none m s at ns 0 (counted-past m s.anchored (at - s.start) ns 0 (omega (arith, ap length none)))
 
 -- where the search is over behind a place, all is paid for
-pub pays-over : (Reads : List ℕ → StateID → Type 0) (m : Machine) (direct : Bool) (s : Search) (at i next : ℕ) (start sid : StateID) (before after : Steps) (place : Place)
+pub pays-over : (Reads : List ℕ → StateID → Type 0) (m : Machine) (direct : Bool) (s : Search) (from at i next : ℕ) (sid : StateID) (before after : Steps) (r : Shown)
     → s.start ≤ i → i ≤ s.end
     → ((text : List ℕ) (state : StateID) → Reads text state → (live : Option ℕ) × IsLive m s.anchored text live)
-    → HasReadOn Reads m direct s at i next sid before after → place ≡ Over → GoesOnPaying m direct s (At start at 0) place before after
-pays-over Reads m direct s at i next start sid before after place g h lives read over looks more paid e =
-    subst (λ (p : Place). IsPaid m direct s p more) (sym over) (paid-over m direct s i more g h (lives (read_to s i) sid read.reads) (read.pays looks more paid e))
+    → HasReadOn Reads m direct s from at i next sid before after → r.place ≡ Over
+    → (looks more : ℕ) → IsPaidAt m direct s from at looks → looks + looked_of after ≡ more + looked_of before → IsPaidBy m direct s (Shows r) more
+pays-over Reads m direct s from at i next sid before after r g h lives read over looks more paid e =
+    subst (λ (p : Place). IsPaid m direct s p more) (sym over) (paid-to m direct s from i s.end more g h (lives (read_to (starting_at s from) i) sid read.reads) (read.pays looks more paid e))
 
 -- where the search stands at the place that it has read on to, that is paid for
-pub pays-at : (Reads : List ℕ → StateID → Type 0) (m : Machine) (direct : Bool) (s : Search) (at i next : ℕ) (start sid : StateID) (before after : Steps) (index : ℕ) (place : Place)
-    → HasReadOn Reads m direct s at i next sid before after → place ≡ At sid i index → GoesOnPaying m direct s (At start at 0) place before after
-pays-at Reads m direct s at i next start sid before after index place read is looks more paid e =
+pub pays-at : (Reads : List ℕ → StateID → Type 0) (m : Machine) (direct : Bool) (s : Search) (from at i next : ℕ) (sid state : StateID) (before after : Steps) (index : ℕ) (r : Shown)
+    → HasReadOn Reads m direct s from at i next sid before after → r.place ≡ At state from i index
+    → (looks more : ℕ) → IsPaidAt m direct s from at looks → looks + looked_of after ≡ more + looked_of before → IsPaidBy m direct s (Shows r) more
+pays-at Reads m direct s from at i next sid state before after index r read is looks more paid e =
     subst (λ (p : Place). IsPaid m direct s p more) (sym is) (read.pays looks more paid e)
+
+-- and so it is where the walk is back at the start
+pub pays-back : (Reads : List ℕ → StateID → Type 0) (m : Machine) (direct : Bool) (s : Search) (from at i next : ℕ) (sid : StateID) (before after : Steps)
+    → s.start ≤ i
+    → ((text : List ℕ) (state : StateID) → Reads text state → (live : Option ℕ) × IsLive m s.anchored text live)
+    → HasReadOn Reads m direct s from at i next sid before after
+    → (looks more : ℕ) → IsPaidAt m direct s from at looks → looks + looked_of after ≡ more + looked_of before → IsPaidBy m direct s (Back i) more
+pays-back Reads m direct s from at i next sid before after g lives read looks more paid e =
+    paid-to m direct s from i i more g (omega arith) (lives (read_to (starting_at s from) i) sid read.reads) (read.pays looks more paid e)
 
 -- ---- between calls
 
@@ -487,37 +510,39 @@ left-after L n None e = slice_get-none (drop n L) e
 left-after L n (Some o) e = drop-one_more L n
 
 -- where a search stands that begins, or comes from earlier calls
-pub came-stands : (Reads : Anchored → List ℕ → StateID → Type 0) (entries : StateID → List ℕ) (m : Machine) (direct : Bool) (asked : Asked) (state : OverlappingState) (first : Place)
+pub came-stands : (Reads : Anchored → List ℕ → StateID → Type 0) (entries : StateID → List ℕ) (m : Machine) (direct : Bool) (held : Option Filter) (asked : Asked) (state : OverlappingState) (first : Place)
     → IsLeft (Reads asked.anchored) entries m (search_in m asked) first (listing_of (search_in m asked)) → IsPaid m direct (search_in m asked) first 0
-    → CameFrom Reads entries m direct asked state → StandsAt (Reads asked.anchored) entries m direct (search_in m asked) (unwrap_or state.place first) (shown_of state) (sums_of state)
-came-stands Reads entries m direct asked state first left paid came =
+    → CameFrom Reads entries m direct held asked state → StandsAt (Reads asked.anchored) entries m direct (scans_bytes held) (search_in m asked) (unwrap_or state.place first) (shown_of state) (sums_of state)
+came-stands Reads entries m direct held asked state first left paid came =
     let s = search_in m asked in
-    let Stands = StandsAt (Reads asked.anchored) entries m direct s in
+    let Stands = StandsAt (Reads asked.anchored) entries m direct (scans_bytes held) s in
     ⊎_elim
     (λ (fresh : IsFresh state).
-    let there : StandsAt (Reads asked.anchored) entries m direct s first (shown_of state) (sums_of state) = record {
+    let there : StandsAt (Reads asked.anchored) entries m direct (scans_bytes held) s first (shown_of state) (sums_of state) = record {
       left = subst (λ (n : ℕ). IsLeft (Reads asked.anchored) entries m s first (drop n (listing_of s))) (sym fresh.shown) left;
       paid = subst (λ (n : ℕ). IsPaid m direct s first n) (sym fresh.sums.looked) paid;
-      scanned = fresh.sums.scanned;
+      scanned = λ _. let none = fresh.sums.scanned in omega arith;
       moved = fresh.sums.moved;
     } in
-    subst (λ (p : Option Place). StandsAt (Reads asked.anchored) entries m direct s (unwrap_or p first) (shown_of state) (sums_of state)) (sym fresh.place) there)
-    (λ (stands : (place : Place) × (state.place ≡ Some place) × StandsAt (Reads asked.anchored) entries m direct s place (shown_of state) (sums_of state)).
-    subst (λ (p : Option Place). StandsAt (Reads asked.anchored) entries m direct s (unwrap_or p first) (shown_of state) (sums_of state)) (sym stands.1) stands.2)
+    subst (λ (p : Option Place). StandsAt (Reads asked.anchored) entries m direct (scans_bytes held) s (unwrap_or p first) (shown_of state) (sums_of state)) (sym fresh.place) there)
+    (λ (stands : (place : Place) × (state.place ≡ Some place) × StandsAt (Reads asked.anchored) entries m direct (scans_bytes held) s place (shown_of state) (sums_of state)).
+    subst (λ (p : Option Place). StandsAt (Reads asked.anchored) entries m direct (scans_bytes held) s (unwrap_or p first) (shown_of state) (sums_of state)) (sym stands.1) stands.2)
     came
 
 -- where it stands behind a call
-pub stands-after : (Reads : List ℕ → StateID → Type 0) (entries : StateID → List ℕ) (m : Machine) (direct : Bool) (s : Search) (place : Place) (n : ℕ) (r : Shown) (sums start done after : Steps)
-    → StandsAt Reads entries m direct s place n sums → ShowsFirst Reads entries m s (drop n (listing_of s)) r → GoesOnPaying m direct s place r.place start done → OnlyLooked start done → AreNone start → Added done sums after
-    → StandsAt Reads entries m direct s r.place (if is_some r.found then n + 1 else n) after
-stands-after Reads entries m direct s place n r sums start done after stands shows pays only none added =
+pub stands-after : (Reads : List ℕ → StateID → Type 0) (entries : StateID → List ℕ) (m : Machine) (direct by_bytes : Bool) (s : Search) (place : Place) (n : ℕ) (r : Shown) (sums start done after : Steps)
+    → StandsAt Reads entries m direct by_bytes s place n sums → ShowsFirst Reads entries m s (drop n (listing_of s)) r → GoesOnPaying m direct by_bytes s place r.place start done → AreNone start → Added done sums after
+    → StandsAt Reads entries m direct by_bytes s r.place (if is_some r.found then n + 1 else n) after
+stands-after Reads entries m direct by_bytes s place n r sums start done after stands shows pays none added =
     let looked = added.looked in
     let zero_looked = none.looked in
+    let scanned = added.scanned in
+    let zero_scanned = none.scanned in
     record {
       left = subst (IsLeft Reads entries m s r.place) (left-after (listing_of s) n r.found shows.0) shows.1;
-      paid = pays (looked_of sums) (looked_of after) stands.paid (omega arith);
-      scanned = let a = added.scanned in let b = only.0 in let c = none.scanned in let d = stands.scanned in omega arith;
-      moved = let a = added.moved in let b = only.1 in let c = none.moved in let d = stands.moved in omega arith;
+      paid = pays.looks (looked_of sums) (looked_of after) stands.paid (omega arith);
+      scanned = pays.scans (scanned_of sums) (scanned_of after) stands.scanned (omega arith);
+      moved = let a = added.moved in let b = pays.moved in let c = none.moved in let d = stands.moved in omega arith;
     }
 
 -- and what it showed
@@ -528,29 +553,35 @@ found-after Reads entries m s n r shows = shows.0 ∙ slice_get-drop (listing_of
 pub paid-within : (Reads : List ℕ → StateID → Type 0) (entries : StateID → List ℕ) (m : Machine) (direct : Bool) (s : Search) (place : Place) (left : List Occurrence) (looks : ℕ)
     → ((text : List ℕ) (state : StateID) → Reads text state → (live : Option ℕ) × IsLive m s.anchored text live)
     → IsLeft Reads entries m s place left → IsPaid m direct s place looks → looks ≤ looks_each direct * (s.end - s.start)
-paid-within Reads entries m direct s (At sid at index) left looks lives is paid = paid-over m direct s at looks is.0 is.1 (lives (read_to s at) sid is.2) paid
+paid-within Reads entries m direct s (At sid from at index) left looks lives is paid =
+    paid-to m direct s from at s.end looks (omega (arith, is.0.behind, is.0.ordered)) is.0.within (lives (read_to (starting_at s from) at) sid is.0.reads) paid
 paid-within Reads entries m direct s Over left looks lives is paid = paid
 
+-- so are the scans
+scanned-within : (Reads : List ℕ → StateID → Type 0) (entries : StateID → List ℕ) (m : Machine) (by_bytes : Bool) (s : Search) (place : Place) (left : List Occurrence) (scans : ℕ) → IsLeft Reads entries m s place left → IsScannedTo by_bytes s (come_to s place) scans → IsScannedTo by_bytes s s.end scans
+scanned-within Reads entries m by_bytes s (At sid from at index) left scans is scanned t = omega (arith, is.0.within, scanned t)
+scanned-within Reads entries m by_bytes s Over left scans is scanned t = scanned t
+
 -- so is all that was done
-pub stands-work : (Reads : List ℕ → StateID → Type 0) (entries : StateID → List ℕ) (m : Machine) (direct : Bool) (s : Search) (place : Place) (n : ℕ) (sums : Steps)
+pub stands-work : (Reads : List ℕ → StateID → Type 0) (entries : StateID → List ℕ) (m : Machine) (direct by_bytes : Bool) (s : Search) (place : Place) (n : ℕ) (sums : Steps)
     → ((text : List ℕ) (state : StateID) → Reads text state → (live : Option ℕ) × IsLive m s.anchored text live)
-    → StandsAt Reads entries m direct s place n sums → IsOverlappingWork direct s sums
-stands-work Reads entries m direct s place n sums lives stands =
+    → StandsAt Reads entries m direct by_bytes s place n sums → IsOverlappingWork direct by_bytes s sums
+stands-work Reads entries m direct by_bytes s place n sums lives stands =
     record {
       looked = paid-within Reads entries m direct s place (drop n (listing_of s)) (looked_of sums) lives stands.left stands.paid;
-      scanned = let none = stands.scanned in omega arith;
+      scanned = scanned-within Reads entries m by_bytes s place (drop n (listing_of s)) (scanned_of sums) stands.left stands.scanned;
       moved = stands.moved;
     }
 
 -- the same of a state
-pub came-work : (Reads : Anchored → List ℕ → StateID → Type 0) (entries : StateID → List ℕ) (m : Machine) (direct : Bool) (asked : Asked) (state : OverlappingState)
+pub came-work : (Reads : Anchored → List ℕ → StateID → Type 0) (entries : StateID → List ℕ) (m : Machine) (direct : Bool) (held : Option Filter) (asked : Asked) (state : OverlappingState)
     → ((text : List ℕ) (sid : StateID) → Reads asked.anchored text sid → (live : Option ℕ) × IsLive m (is_anchored asked.anchored) text live)
-    → CameFrom Reads entries m direct asked state → IsOverlappingWork direct (search_in m asked) (sums_of state)
-came-work Reads entries m direct asked state lives came =
+    → CameFrom Reads entries m direct held asked state → IsOverlappingWork direct (scans_bytes held) (search_in m asked) (sums_of state)
+came-work Reads entries m direct held asked state lives came =
     ⊎_elim
-    (λ (fresh : IsFresh state). record { looked = let none = fresh.sums.looked in omega arith; scanned = let none = fresh.sums.scanned in omega arith; moved = fresh.sums.moved })
-    (λ (stands : (place : Place) × (state.place ≡ Some place) × StandsAt (Reads asked.anchored) entries m direct (search_in m asked) place (shown_of state) (sums_of state)).
-    stands-work (Reads asked.anchored) entries m direct (search_in m asked) stands.0 (shown_of state) (sums_of state) lives stands.2)
+    (λ (fresh : IsFresh state). record { looked = let none = fresh.sums.looked in omega arith; scanned = λ _. let none = fresh.sums.scanned in omega arith; moved = fresh.sums.moved })
+    (λ (stands : (place : Place) × (state.place ≡ Some place) × StandsAt (Reads asked.anchored) entries m direct (scans_bytes held) (search_in m asked) place (shown_of state) (sums_of state)).
+    stands-work (Reads asked.anchored) entries m direct (scans_bytes held) (search_in m asked) stands.0 (shown_of state) (sums_of state) lives stands.2)
     came
 
 -- so what is left yields its first, if it has one

@@ -22,12 +22,12 @@ use Rattle.ac_input.proofs.OrderLemmas.{less-not_greater, occurs-end, slice_rang
 use Rattle.ac_input.proofs.RisingLemmas.{less_by_end}
 use Rattle.ac_input.proofs.LiveLemmas.{occurs-append, occurs-front, dead-final}
 use Rattle.ac_input.proofs.ShiftLemmas.{back_by}
+use Rattle.ac_input.proofs.SpanLemmas.{occurs-in_whole_of_span, best-of_span}
 use Rattle.ac_input.proofs.StateLemmas.{occurs-behind, new-behind}
 use Rattle.ac_automaton.specs.Find.{search_of, StretchSays, IsStretchWork}
 use Rattle.ac_automaton.specs.Stretch.{ending_at, counted, taken, IsQuiet, IsRunWork}
 use Rattle.ac_automaton.specs.declared.stretch.Stretch.TheVariants.{Answer, Back}
 use Rattle.ac_automaton.proofs.ToldLemmas.{IsEarlier, earlier-start, earlier-append, told, asked_cases, ending-fits}
-use Rattle.ac_automaton.proofs.PartLemmas.{best-in_part, occurs-from_part}
 use Rattle.ac_automaton.proofs.ReadOnLemmas.{part-empty, part-more, run-join}
 
 -- ---- what is final
@@ -277,7 +277,7 @@ answer-says m anchored earliest direct haystack span at best s t within inverse 
     subst (λ (l : List ℕ). IsBest (asked_kind m.kind earliest) (whole m l (is_anchored anchored)) has.found) rest.1
     (best-over m (is_anchored anchored) earliest (read haystack span at) rest.0 has.found inverse has.told over) in
     subst (λ (x : Option Occurrence). IsBest (asked_kind m.kind earliest) (search_of m anchored haystack span) x) (sym has.kept)
-    (best-in_part (asked_kind m.kind earliest) m anchored haystack span has.found (omega arith) within all)
+    ((best-of_span (asked_kind m.kind earliest) m (search_of m anchored haystack span) has.found (refl, refl) (omega arith) within).0 all)
 
 -- what was looked at for so many bytes
 looks-within : (direct : Bool) (n k live : ℕ) (s t : Steps) → IsRunWork direct n 0 live s t → n ≤ k → looked_of t ≤ looked_of s + looks_each direct * k
@@ -381,7 +381,7 @@ back-says m anchored earliest direct haystack span at best s t within inverse ha
         let w = h.within in
         let rest = read-rest haystack span at has.behind inside in
         let long = slice_range-length haystack span.start at has.behind (omega arith) in
-        let there : Occurs (whole m (read haystack span at ++ rest.0) (is_anchored anchored)) (back_by span.start o) = subst (λ (l : List ℕ). Occurs (whole m l (is_anchored anchored)) (back_by span.start o)) (sym rest.1) (occurs-from_part m anchored haystack span o (omega arith) within h) in
+        let there : Occurs (whole m (read haystack span at ++ rest.0) (is_anchored anchored)) (back_by span.start o) = subst (λ (l : List ℕ). Occurs (whole m l (is_anchored anchored)) (back_by span.start o)) (sym rest.1) (occurs-in_whole_of_span m (search_of m anchored haystack span) span.end o (refl, refl) (omega arith) (omega arith) within h h.within.2).0 in
         let no : is_anchored anchored ≡ false = ap is_anchored unanchored in
         let le = behind-empty m (read haystack span at) rest.0 (back_by span.start o) inverse
         (subst (λ (b : Bool). (q : Occurrence) → ¬ Occurs (whole m (read haystack span at) b) q) no nothing)

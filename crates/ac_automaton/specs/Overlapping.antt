@@ -5,14 +5,15 @@ use Rattle.ac_input.specs.declared.search.Anchored.{Anchored}
 use Rattle.ac_input.specs.declared.search.MatchKind.{MatchKind}
 use Rattle.ac_input.specs.declared.search.MatchKind.TheVariants.{Standard}
 use Rattle.ac_input.specs.declared.steps.Steps.{Steps}
+use Rattle.ac_input.specs.Candidate.{Filter}
 use Rattle.ac_input.specs.Computed.{listing_of}
 use Rattle.ac_input.specs.Input.{Asked, search_in}
 use Rattle.ac_input.specs.LiveLaws.{shifted}
 use Rattle.ac_input.specs.Machine.{Machine, IsLive, live_len}
-use Rattle.ac_input.specs.Occurrence.{Search, Occurrence}
+use Rattle.ac_input.specs.Occurrence.{Search, Occurrence, starting_at}
 use Rattle.ac_input.specs.Steps.{AreNone, looked_of, scanned_of, moved_of}
 use Rattle.ac_input.specs.Tells.{ending}
-use Rattle.ac_input.specs.Work.{looks_each}
+use Rattle.ac_input.specs.Work.{looks_each, scans_bytes}
 use Rattle.ac_automaton.specs.Automaton.{refusal_of}
 use Rattle.ac_automaton.specs.declared.error.MatchErrorKind.{MatchErrorKind}
 use Rattle.ac_automaton.specs.declared.error.MatchErrorKind.TheVariants.{UnsupportedOverlapping}
@@ -20,6 +21,9 @@ use Rattle.ac_automaton.specs.declared.overlapping.Entry.{Entry}
 use Rattle.ac_automaton.specs.declared.overlapping.OverlappingState.{OverlappingState}
 use Rattle.ac_automaton.specs.declared.overlapping.Place.{Place}
 use Rattle.ac_automaton.specs.declared.overlapping.Place.TheVariants.{At, Over}
+use Rattle.ac_automaton.specs.declared.overlapping.Reached.{Reached}
+use Rattle.ac_automaton.specs.declared.overlapping.Reading.{Reading}
+use Rattle.ac_automaton.specs.declared.overlapping.Reading.TheVariants.{Shows, Back}
 use Rattle.ac_automaton.specs.declared.overlapping.Shown.{Shown}
 
 -- The part of the listing that ends at a place or later.
@@ -51,42 +55,98 @@ told_from m s at ns index = map (shifted s.start) (map (ending m (read_to s at))
 abbrev pub lying_to : Machine → ℕ → ℕ → Occurrence
 lying_to m at n = record { pattern = n; start = at - length (get_or m.patterns n []); end = at }
 
--- what a state tells first at a place by its entries from an index on, and where that leaves the search
-abbrev pub TellsFirst : (StateID → List ℕ) → Machine → Search → StateID → ℕ → ℕ → Option Shown → Type 0
-TellsFirst entries m s sid at index None = told_from m s at (entries sid) index ≡ []
-TellsFirst entries m s sid at index (Some shown) =
-    (o : Occurrence) × (next : ℕ) × (shown.found ≡ Some o) × (shown.place ≡ At sid at next) × (told_from m s at (entries sid) index ≡ o ∷ told_from m s at (entries sid) next)
+-- the search from the place on where the walk began that reached a state
+abbrev pub walked : Search → Reached → Search
+walked s reached = starting_at s reached.from
+
+-- what a state tells first by its entries from an index on, and where that leaves the search
+abbrev pub TellsFirst : (StateID → List ℕ) → Machine → Search → Reached → ℕ → Option Shown → Type 0
+TellsFirst entries m s reached index None = told_from m (walked s reached) reached.at (entries reached.sid) index ≡ []
+TellsFirst entries m s reached index (Some shown) =
+    (o : Occurrence) × (next : ℕ) × (shown.found ≡ Some o) × (shown.place ≡ At reached.sid reached.from reached.at next) × (told_from m (walked s reached) reached.at (entries reached.sid) index ≡ o ∷ told_from m (walked s reached) reached.at (entries reached.sid) next)
+
+-- The state was reached by the bytes between two places of the span.
+pub record IsReached (Reads : List ℕ → StateID → Type 0) (s : Search) (reached : Reached) : Type 0 where
+  pub behind : s.start ≤ reached.from
+  pub ordered : reached.from ≤ reached.at
+  pub within : reached.at ≤ s.end
+  pub inside : s.end ≤ length s.haystack
+  pub reads : Reads (read_to (walked s reached) reached.at) reached.sid
 
 -- This is what is still to be shown of the listing where a search stands: what its state tells from an index on, and all that
 -- ends later.
 abbrev pub IsLeft : (List ℕ → StateID → Type 0) → (StateID → List ℕ) → Machine → Search → Place → List Occurrence → Type 0
-IsLeft Reads entries m s (At sid at index) left =
-    (s.start ≤ at) × (at ≤ s.end) × Reads (read_to s at) sid × (left ≡ told_from m s at (entries sid) index ++ ending_from s (at + 1))
+IsLeft Reads entries m s (At sid from at index) left =
+    IsReached Reads s (record { sid = sid; from = from; at = at }) × (left ≡ told_from m (starting_at s from) at (entries sid) index ++ ending_from (starting_at s from) (at + 1))
 IsLeft Reads entries m s Over left = left ≡ []
 
 -- A call showed the first of what was left, if there was anything.
 abbrev pub ShowsFirst : (List ℕ → StateID → Type 0) → (StateID → List ℕ) → Machine → Search → List Occurrence → Shown → Type 0
 ShowsFirst Reads entries m s left r = (r.found ≡ slice_get left 0) × IsLeft Reads entries m s r.place (drop 1 left)
 
--- So many looks are paid for by the bytes that were read up to a place, and what is live there is paid for too.
-abbrev pub IsPaidAt : Machine → Bool → Search → ℕ → ℕ → Type 0
-IsPaidAt m direct s at looks =
-    (live : Option ℕ) → IsLive m s.anchored (read_to s at) live
-    → (looks + live_len (read_to s at) live ≤ 2 * (at - s.start)) × (IsTrue direct → looks ≡ at - s.start)
+-- So many looks are paid for by the bytes up to a place of the span.
+abbrev pub IsPaidTo : Bool → Search → ℕ → ℕ → Type 0
+IsPaidTo direct s at looks = looks ≤ looks_each direct * (at - s.start)
+
+-- They are paid for where a walk stands that has read on from one place to another, and what is live there is paid for too.
+abbrev pub IsPaidAt : Machine → Bool → Search → ℕ → ℕ → ℕ → Type 0
+IsPaidAt m direct s from at looks =
+    (live : Option ℕ) → IsLive m s.anchored (read_to (starting_at s from) at) live
+    → (looks + live_len (read_to (starting_at s from) at) live ≤ 2 * (at - s.start)) × (IsTrue direct → looks ≤ at - s.start)
 
 -- the same where a search stands
 abbrev pub IsPaid : Machine → Bool → Search → Place → ℕ → Type 0
-IsPaid m direct s (At sid at index) looks = IsPaidAt m direct s at looks
-IsPaid m direct s Over looks = looks ≤ looks_each direct * (s.end - s.start)
+IsPaid m direct s (At sid from at index) looks = IsPaidAt m direct s from at looks
+IsPaid m direct s Over looks = IsPaidTo direct s s.end looks
 
--- A call goes on paying: its looks, which its steps count, come to those before.
-abbrev pub GoesOnPaying : Machine → Bool → Search → Place → Place → Steps → Steps → Type 0
-GoesOnPaying m direct s from to before after =
-    (looks more : ℕ) → IsPaid m direct s from looks → looks + looked_of after ≡ more + looked_of before → IsPaid m direct s to more
+-- how far a search has come
+abbrev pub come_to : Search → Place → ℕ
+come_to s (At sid from at index) = at
+come_to s Over = s.end
+
+-- So many places were scanned for bytes by a search that has come so far.
+abbrev pub IsScannedTo : Bool → Search → ℕ → ℕ → Type 0
+IsScannedTo by_bytes s at scans = IsTrue by_bytes → scans ≤ 256 * (at - s.start)
+
+-- A call goes on paying: its looks and its scans, which its steps count, come to those before.
+pub record GoesOnPaying (m : Machine) (direct by_bytes : Bool) (s : Search) (from to : Place) (before after : Steps) : Type 0 where
+  pub looks : (looks more : ℕ) → IsPaid m direct s from looks → looks + looked_of after ≡ more + looked_of before → IsPaid m direct s to more
+  pub scans : (scans more : ℕ) → IsScannedTo by_bytes s (come_to s from) scans → scans + scanned_of after ≡ more + scanned_of before → IsScannedTo by_bytes s (come_to s to) more
+  pub moved : moved_of after ≡ moved_of before
+
+-- a search stands behind a place, or is over
+abbrev pub IsBehind : ℕ → Place → Type 0
+IsBehind place (At sid from at index) = place < at
+IsBehind place Over = Unit {0}
+
+-- How reading on from a place ends: the first of what was left is shown; or the walk is back at the start, and what is left is
+-- what occurs from there on.
+abbrev pub ReadsOn : (List ℕ → StateID → Type 0) → (StateID → List ℕ) → Machine → Search → ℕ → List Occurrence → Reading → Type 0
+ReadsOn Reads entries m s at left (Shows shown) = ShowsFirst Reads entries m s left shown × IsBehind at shown.place
+ReadsOn Reads entries m s at left (Back to) = (at < to) × (to ≤ s.end) × (left ≡ listing_of (starting_at s to))
+
+-- so many looks are paid for where reading on ends
+abbrev pub IsPaidBy : Machine → Bool → Search → Reading → ℕ → Type 0
+IsPaidBy m direct s (Shows shown) looks = IsPaid m direct s shown.place looks
+IsPaidBy m direct s (Back to) looks = IsPaidTo direct s to looks
+
+-- how far a search has come where reading on ends
+abbrev pub read_on_to : Search → Reading → ℕ
+read_on_to s (Shows shown) = come_to s shown.place
+read_on_to s (Back to) = to
+
+-- What it costs to read on by leaps from a place up to which so many looks and scans were paid for.
+pub record IsLeapCost (m : Machine) (direct by_bytes : Bool) (s : Search) (at : ℕ) (reading : Reading) (before after : Steps) : Type 0 where
+  pub rose : looked_of before ≤ looked_of after
+  pub looks : (looks more : ℕ) → IsPaidTo direct s at looks → looks + looked_of after ≡ more + looked_of before → IsPaidBy m direct s reading more
+  pub scans : IsTrue by_bytes → scanned_of after ≤ scanned_of before + 256 * (read_on_to s reading - at)
+  pub moved : moved_of after ≡ moved_of before
 
 -- it looked at states alone
-abbrev pub OnlyLooked : Steps → Steps → Type 0
-OnlyLooked before after = (scanned_of after ≡ scanned_of before) × (moved_of after ≡ moved_of before)
+pub record OnlyLooked (before after : Steps) : Type 0 where
+  pub rose : looked_of before ≤ looked_of after
+  pub scanned : scanned_of after ≡ scanned_of before
+  pub moved : moved_of after ≡ moved_of before
 
 -- how many occurrences were shown, and the one that was shown last
 abbrev pub shown_of : OverlappingState → ℕ
@@ -95,10 +155,11 @@ shown_of state = state.shown.value
 abbrev pub found_of : OverlappingState → Option Occurrence
 found_of state = state.found
 
--- What all calls with one state may cost: they look at no more states than one search does, whatever they show.
-pub record IsOverlappingWork (direct : Bool) (s : Search) (sums : Steps) : Type 0 where
+-- What all calls with one state may cost: they look at no more states than one search does, whatever they show, and scan for no
+-- more bytes.
+pub record IsOverlappingWork (direct by_bytes : Bool) (s : Search) (sums : Steps) : Type 0 where
   pub looked : looked_of sums ≤ looks_each direct * (s.end - s.start)
-  pub scanned : scanned_of sums ≤ 256 * (s.end - s.start)
+  pub scanned : IsTrue by_bytes → scanned_of sums ≤ 256 * (s.end - s.start)
   pub moved : moved_of sums ≡ 0
 
 -- nothing was searched with the state yet
@@ -107,17 +168,18 @@ pub record IsFresh (state : OverlappingState) : Type 0 where
   pub shown : state.shown.value ≡ 0
   pub sums : AreNone state.sums
 
--- So many of the listing were shown, what is still to come of it is what is left where the search stands, and all looks are paid.
-pub record StandsAt (Reads : List ℕ → StateID → Type 0) (entries : StateID → List ℕ) (m : Machine) (direct : Bool) (s : Search) (place : Place) (shown : ℕ) (sums : Steps) : Type 0 where
+-- So many of the listing were shown, what is still to come of it is what is left where the search stands, and all looks and
+-- scans are paid for.
+pub record StandsAt (Reads : List ℕ → StateID → Type 0) (entries : StateID → List ℕ) (m : Machine) (direct by_bytes : Bool) (s : Search) (place : Place) (shown : ℕ) (sums : Steps) : Type 0 where
   pub left : IsLeft Reads entries m s place (drop shown (listing_of s))
   pub paid : IsPaid m direct s place (looked_of sums)
-  pub scanned : scanned_of sums ≡ 0
+  pub scanned : IsScannedTo by_bytes s (come_to s place) (scanned_of sums)
   pub moved : moved_of sums ≡ 0
 
 -- A state that is fresh, or that came from earlier calls with the same automaton and input alone.
-abbrev pub CameFrom : (Anchored → List ℕ → StateID → Type 0) → (StateID → List ℕ) → Machine → Bool → Asked → OverlappingState → Type 0
-CameFrom Reads entries m direct asked state =
-    IsFresh state ⊎ ((place : Place) × (state.place ≡ Some place) × StandsAt (Reads asked.anchored) entries m direct (search_in m asked) place (shown_of state) state.sums)
+abbrev pub CameFrom : (Anchored → List ℕ → StateID → Type 0) → (StateID → List ℕ) → Machine → Bool → Option Filter → Asked → OverlappingState → Type 0
+CameFrom Reads entries m direct held asked state =
+    IsFresh state ⊎ ((place : Place) × (state.place ≡ Some place) × StandsAt (Reads asked.anchored) entries m direct (scans_bytes held) (search_in m asked) place (shown_of state) state.sums)
 
 -- A call showed the next of the listing, if there was one more.
 pub record ShowsNext (s : Search) (before after : OverlappingState) : Type 0 where

@@ -1,5 +1,5 @@
 -- The overlapping matches of an input in turn: which were shown, which are left, and what that costs.
-use Rattle.std.specs.Prelude.{◌≡◌, ◌⊎◌, ℕ, ◌+◌, ◌-◌, ◌*◌, ◌≤◌, Bool, List, drop, Option, is_some, if◌then◌else◌}
+use Rattle.std.specs.Prelude.{◌≡◌, ◌⊎◌, ℕ, ◌+◌, ◌-◌, ◌*◌, ◌≤◌, Bool, IsTrue, List, drop, Option, is_some, if◌then◌else◌}
 use Rattle.ac_input.specs.declared.search.Anchored.{Anchored}
 use Rattle.ac_input.specs.declared.search.Anchored.TheVariants.{No, Yes}
 use Rattle.ac_input.specs.declared.search.MatchKind.{MatchKind}
@@ -14,11 +14,12 @@ use Rattle.ac_automaton.specs.declared.error.MatchErrorKind.{MatchErrorKind}
 use Rattle.ac_automaton.specs.declared.error.MatchErrorKind.TheVariants.{InvalidInputAnchored}
 use Rattle.ac_automaton.specs.Overlapping.{CanOverlap, OverlappingRefusal}
 
--- A run through a listing: by what, and over what, it goes; how many of the listing were shown; and how many states were looked
--- at, how many places were scanned and how many bytes were moved so far.
+-- A run through a listing: by what, and over what, it goes, and whether it scans for single bytes alone; how many of the
+-- listing were shown; and how many states were looked at, how many places were scanned and how many bytes were moved so far.
 pub record Run : Type 0 where
   pub machine : Machine
   pub direct : Bool
+  pub by_bytes : Bool
   pub asked : Asked
   pub shown : ℕ
   pub looked : ℕ
@@ -26,12 +27,12 @@ pub record Run : Type 0 where
   pub moved : ℕ
 
 -- a run of which so many were shown, in these steps
-abbrev pub run_at : Machine → Bool → Asked → ℕ → Steps → Run
-run_at m direct asked shown sums = record { machine = m; direct = direct; asked = asked; shown = shown; looked = looked_of sums; scanned = scanned_of sums; moved = moved_of sums }
+abbrev pub run_at : Machine → Bool → Bool → Asked → ℕ → Steps → Run
+run_at m direct by_bytes asked shown sums = record { machine = m; direct = direct; by_bytes = by_bytes; asked = asked; shown = shown; looked = looked_of sums; scanned = scanned_of sums; moved = moved_of sums }
 
 -- a run that has not begun
-abbrev pub fresh_run : Machine → Bool → Asked → Run
-fresh_run m direct asked = record { machine = m; direct = direct; asked = asked; shown = 0; looked = 0; scanned = 0; moved = 0 }
+abbrev pub fresh_run : Machine → Bool → Bool → Asked → Run
+fresh_run m direct by_bytes asked = record { machine = m; direct = direct; by_bytes = by_bytes; asked = asked; shown = 0; looked = 0; scanned = 0; moved = 0 }
 
 -- the search that a run goes over
 abbrev pub searched : Run → Search
@@ -51,10 +52,10 @@ pub record Counts (run later : Run) (before after : Steps) : Type 0 where
   pub scanned : scanned_of after + run.scanned ≡ scanned_of before + later.scanned
   pub moved : moved_of after + run.moved ≡ moved_of before + later.moved
 
--- what a run may cost on the whole: the looks of one walk over the span, however much it shows
+-- what a run may cost on the whole: the looks and the scans of one walk over the span, however much it shows
 pub record IsWithinOneWalk (run : Run) : Type 0 where
   pub looked : run.looked ≤ looks_each run.direct * (run.asked.span.end - run.asked.span.start)
-  pub scanned : run.scanned ≤ 256 * (run.asked.span.end - run.asked.span.start)
+  pub scanned : IsTrue run.by_bytes → run.scanned ≤ 256 * (run.asked.span.end - run.asked.span.start)
   pub moved : run.moved ≡ 0
 
 -- a run over the overlapping matches can be made: an overlapping search can, and the input isn't anchored

@@ -215,10 +215,10 @@ pub trait Automaton {
         input: &Input<'_>,
         state: &mut OverlappingState,
     ) -> Result<(), MatchError>
-        requires { CameFrom (Reads self.now) (entries self.now) (machine self.now) (direct self.now) input.now state.old }
-        ensures came { CameFrom (Reads self.now) (entries self.now) (machine self.now) (direct self.now) input.now state.new }
+        requires { CameFrom (Reads self.now) (entries self.now) (machine self.now) (direct self.now) (filter self.now) input.now state.old }
+        ensures came { CameFrom (Reads self.now) (entries self.now) (machine self.now) (direct self.now) (filter self.now) input.now state.new }
         ensures shows { IfOk result (λ _. ShowsNext (search_in (machine self.now) input.now) state.old state.new) }
-        ensures work { IsOverlappingWork (direct self.now) (search_in (machine self.now) input.now) (sums_of state.new) }
+        ensures work { IsOverlappingWork (direct self.now) (scans_bytes (filter self.now)) (search_in (machine self.now) input.now) (sums_of state.new) }
         ensures served { IsOk result ↔ CanOverlap (serves self.now input.now.anchored) (machine self.now).kind }
         ensures refused { IfErr result (OverlappingRefusal (serves self.now input.now.anchored) (machine self.now).kind input.now.anchored) }
         ensures idle { IfErr result (λ _. state.new ≡ state.old) }
@@ -236,7 +236,7 @@ pub trait Automaton {
     ) -> Result<FindOverlappingIter<'a, 'h, Self>, MatchError>
     where
         Self: Sized,
-        ensures run { IfOk result (λ iterator. iterator ≡ fresh_run (machine self.now) (direct self.now) input.entry) }
+        ensures run { IfOk result (λ iterator. iterator ≡ fresh_run (machine self.now) (direct self.now) (scans_bytes (filter self.now)) input.entry) }
         ensures all { IfOk result (λ iterator. rest_of iterator ≡ listing_of (search_in (machine self.now) input.entry)) }
         ensures served { IsOk result ↔ CanRun (serves self.now input.entry.anchored) (machine self.now).kind input.entry.anchored }
         ensures refused { IfErr result (RunRefusal (serves self.now input.entry.anchored) (machine self.now).kind input.entry.anchored) }

@@ -5,16 +5,23 @@
 //! reads on to the next state whose list has something to show. All calls together look at the states of one walk, whatever they
 //! show; nothing is read twice.
 //!
+//! Where the automaton holds a prefilter, it is asked at the start and wherever the walk is back at the start: no occurrence is
+//! left then that begins before that place, and the walk goes on from the next place where one may begin. Of a prefilter's match
+//! only the start is used, since others may overlap it.
+//!
 //! Where a search stands between two calls is kept by the caller, in an [`OverlappingState`]. It belongs to one automaton and one
 //! input from its first search on. [`FindOverlappingIter`] keeps all three together.
-ghost use Rattle.std.specs.Prelude.{◌≡◌, ◌↔◌, ⊤, ℕ, ◌+◌, ◌-◌, ◌<◌, ◌≤◌, List, None, Some, Option, is_some, if◌then◌else◌, [], length, drop, get_or, IsTrue, IsOk, IfOk, IfErr};
+ghost use Rattle.std.specs.Prelude.{◌≡◌, ◌↔◌, ⊤, ℕ, ◌+◌, ◌-◌, ◌<◌, ◌≤◌, List, ◌++◌, None, Some, Option, is_some, if◌then◌else◌, [], length, drop, get_or, IsTrue, IsOk, IfOk, IfErr, IfSome};
+ghost use Rattle.ac_input.specs.declared.search.Anchored.TheVariants.{No};
 ghost use Rattle.ac_input.specs.declared.search.MatchKind.TheVariants.{Standard};
 ghost use Rattle.ac_input.specs.Computed.{listing_of};
 ghost use Rattle.ac_input.specs.Input.{is_anchored, search_in};
-ghost use Rattle.ac_input.specs.Occurrence.{Occurrence};
-ghost use Rattle.ac_input.specs.Steps.{Added};
-ghost use Rattle.ac_automaton.specs.declared.overlapping.Place.TheVariants.{At};
-ghost use Rattle.ac_automaton.specs.Overlapping.{IsNextEntry, IsLeft, ShowsFirst, GoesOnPaying, OnlyLooked, IsFresh, CameFrom, ShowsNext, IsOverlappingWork, DoneAlike, TellsFirst, counts, ending_from, lying_to, read_to, found_of, shown_of, sums_of, IsPaid, CanOverlap, OverlappingRefusal};
+ghost use Rattle.ac_input.specs.Occurrence.{Occurrence, starting_at};
+ghost use Rattle.ac_input.specs.Steps.{Added, looked_of};
+ghost use Rattle.ac_input.specs.Work.{scans_bytes};
+ghost use Rattle.ac_automaton.specs.declared.overlapping.Place.TheVariants.{At, Over};
+ghost use Rattle.ac_automaton.specs.declared.overlapping.Reading.TheVariants.{Shows, Back};
+ghost use Rattle.ac_automaton.specs.Overlapping.{IsNextEntry, IsReached, IsLeft, ShowsFirst, TellsFirst, ReadsOn, IsPaid, IsPaidAt, IsPaidBy, IsLeapCost, GoesOnPaying, OnlyLooked, IsFresh, CameFrom, ShowsNext, IsOverlappingWork, DoneAlike, CanOverlap, OverlappingRefusal, counts, told_from, ending_from, walked, lying_to, found_of, shown_of, sums_of};
 
 pub mod iter;
 
@@ -24,20 +31,38 @@ use ac_input::history::Count;
 use ac_input::primitives::{PatternID, StateID};
 use ac_input::search::{Anchored, Input, Match, MatchKind, Span};
 use ac_input::steps::Steps;
+use ac_literal::prefilter::Prefilter;
 pub use iter::FindOverlappingIter;
 use std::alloc::AllocError;
 
 /// Where an overlapping search stands between two calls.
 #[derive(Clone, Copy)]
 pub(crate) enum Place {
-    /// In this state, which was reached at the place `at`. Of its list the entries before `index` were shown.
+    /// In this state, which was reached from the start by the bytes between two places. Of its list the entries before `index`
+    /// were shown.
     At {
         sid: StateID,
+        from: usize,
         at: usize,
         index: usize,
     },
     /// Behind the last occurrence.
     Over,
+}
+
+/// A state, and the bytes by which it was reached from the start: those from one place up to another.
+#[derive(Clone, Copy)]
+struct Reached {
+    sid: StateID,
+    from: usize,
+    at: usize,
+}
+
+/// Where a search begins: its start state, and the place where it stands first.
+#[derive(Clone, Copy)]
+pub(crate) struct Beginning {
+    start: StateID,
+    place: Place,
 }
 
 /// An entry of a state's list that counts, and the index behind it.
@@ -52,6 +77,15 @@ struct Entry {
 pub(crate) struct Shown {
     place: Place,
     found: Option<Match>,
+}
+
+/// How reading on ended.
+#[derive(Clone, Copy)]
+enum Reading {
+    /// This is shown, and the search stands there.
+    Shows(Shown),
+    /// The walk is back at the start, and what is left begins at this place or later.
+    Back(usize),
 }
 
 /// How far an overlapping search has come.
@@ -179,115 +213,278 @@ fn match_of<A: Automaton>(automaton: &A, pattern: PatternID, at: usize) -> Match
     Match::new(pattern, Span { start, end: at })
 }
 
-/// What the state has to show at the place, from an index of its list on, if it has anything.
-fn show<A: Automaton>(
-    automaton: &A,
-    input: &Input<'_>,
-    sid: StateID,
-    at: usize,
-    index: usize,
-) -> Option<Shown>
-    requires standard { (A.machine automaton.now).kind ≡ Standard }
-    requires from { input.now.span.start ≤ at }
-    requires to { at ≤ input.now.span.end }
-    requires reads { A.Reads automaton.now input.now.anchored (read_to (search_in (A.machine automaton.now) input.now) at) sid }
-    ensures { TellsFirst (A.entries automaton.now) (A.machine automaton.now) (search_in (A.machine automaton.now) input.now) sid at index result }
+/// What a search that is over shows.
+fn over() -> Shown
+    ensures found { result.found ≡ None }
+    ensures place { result.place ≡ Over }
 {
-    let anchored = input.get_anchored();
-    let span = input.get_span();
-    let entry = next_entry(automaton, anchored, sid, index, at - span.start)?;
-    Some(Shown {
-        place: Place::At {
-            sid,
-            at,
-            index: entry.next,
-        },
-        found: Some(match_of(automaton, entry.pattern, at)),
-    })
-}
-
-/// Reads on from a place to the next one where something is to be shown, and shows the first of it.
-fn read_on<A: Automaton>(
-    automaton: &A,
-    input: &Input<'_>,
-    start: StateID,
-    at: usize,
-    steps: &mut Steps,
-) -> Shown
-    requires standard { (A.machine automaton.now).kind ≡ Standard }
-    requires from { input.now.span.start ≤ at }
-    requires to { at ≤ input.now.span.end }
-    requires reads { A.Reads automaton.now input.now.anchored (read_to (search_in (A.machine automaton.now) input.now) at) start }
-    ensures shows { ShowsFirst (A.Reads automaton.now input.now.anchored) (A.entries automaton.now) (A.machine automaton.now) (search_in (A.machine automaton.now) input.now) (ending_from (search_in (A.machine automaton.now) input.now) (at + 1)) result }
-    ensures pays { GoesOnPaying (A.machine automaton.now) (A.direct automaton.now) (search_in (A.machine automaton.now) input.now) (At start at 0) result.place steps.old steps.new }
-    ensures only { OnlyLooked steps.old steps.new }
-{
-    let anchored = input.get_anchored();
-    let haystack = input.haystack();
-    let mut sid = start;
-    for i in at..input.end() {
-        sid = automaton.next_state_counted(anchored, sid, haystack[i], steps);
-        if automaton.is_special(sid) {
-            if automaton.is_dead(sid) {
-                return Shown {
-                    place: Place::Over,
-                    found: None,
-                };
-            }
-            if let Some(shown) = show(automaton, input, sid, i + 1, 0) {
-                return shown;
-            }
-        }
-    }
     Shown {
         place: Place::Over,
         found: None,
     }
 }
 
-/// Shows the next occurrence of a search that stands at a place.
+/// What the state has to show from an index of its list on, if it has anything.
+fn show<A: Automaton>(
+    automaton: &A,
+    input: &Input<'_>,
+    reached: Reached,
+    index: usize,
+) -> Option<Shown>
+    requires standard { (A.machine automaton.now).kind ≡ Standard }
+    requires reached { IsReached (A.Reads automaton.now input.now.anchored) (search_in (A.machine automaton.now) input.now) reached }
+    ensures { TellsFirst (A.entries automaton.now) (A.machine automaton.now) (search_in (A.machine automaton.now) input.now) reached index result }
+{
+    let read = reached.at - reached.from;
+    let entry = next_entry(automaton, input.get_anchored(), reached.sid, index, read)?;
+    Some(Shown {
+        place: Place::At {
+            sid: reached.sid,
+            from: reached.from,
+            at: reached.at,
+            index: entry.next,
+        },
+        found: Some(match_of(automaton, entry.pattern, reached.at)),
+    })
+}
+
+/// Reads on from a state to the next one that has something to show, and shows the first of it. It stops where the walk is back
+/// at the start only if `asks` is true.
+fn read_on<A: Automaton>(
+    automaton: &A,
+    input: &Input<'_>,
+    reached: Reached,
+    asks: bool,
+    steps: &mut Steps,
+) -> Reading
+    requires standard { (A.machine automaton.now).kind ≡ Standard }
+    requires reached { IsReached (A.Reads automaton.now input.now.anchored) (search_in (A.machine automaton.now) input.now) reached }
+    requires asks { IsTrue asks → input.now.anchored ≡ No }
+    ensures reads { ReadsOn (A.Reads automaton.now input.now.anchored) (A.entries automaton.now) (A.machine automaton.now) (search_in (A.machine automaton.now) input.now) reached.at (ending_from (walked (search_in (A.machine automaton.now) input.now) reached) (reached.at + 1)) result }
+    ensures asked { (to : ℕ) → result ≡ Back to → IsTrue asks }
+    ensures pays { (looks more : ℕ) → IsPaidAt (A.machine automaton.now) (A.direct automaton.now) (search_in (A.machine automaton.now) input.now) reached.from reached.at looks → looks + looked_of steps.new ≡ more + looked_of steps.old → IsPaidBy (A.machine automaton.now) (A.direct automaton.now) (search_in (A.machine automaton.now) input.now) result more }
+    ensures only { OnlyLooked steps.old steps.new }
+{
+    let anchored = input.get_anchored();
+    let haystack = input.haystack();
+    let mut sid = reached.sid;
+    for i in reached.at..input.end() {
+        sid = automaton.next_state_counted(anchored, sid, haystack[i], steps);
+        if automaton.is_special(sid) {
+            if automaton.is_dead(sid) {
+                return Reading::Shows(over());
+            }
+            let now = Reached {
+                sid,
+                from: reached.from,
+                at: i + 1,
+            };
+            if let Some(shown) = show(automaton, input, now, 0) {
+                return Reading::Shows(shown);
+            }
+            if asks && automaton.is_start(sid) {
+                return Reading::Back(i + 1);
+            }
+        }
+    }
+    Reading::Shows(over())
+}
+
+/// The prefilter that a search may ask, if there is one: where it isn't anchored, and nothing is shown at the start itself.
+fn ahead<'a, A: Automaton>(
+    automaton: &'a A,
+    anchored: Anchored,
+    start: StateID,
+) -> Option<&'a Prefilter>
+    requires { A.Reads automaton.now anchored [] start }
+    ensures made { IfSome result (λ prefilter. prefilter.now.machine ≡ (A.machine automaton.now)) }
+    ensures held { IfSome result (λ prefilter. scans_bytes (A.filter automaton.now) ≡ prefilter.now.by_bytes) }
+    ensures free { IfSome result (λ _. anchored ≡ No) }
+    ensures empty { IfSome result (λ _. A.entries automaton.now start ≡ []) }
+{
+    match anchored {
+        Anchored::Yes => None,
+        Anchored::No => {
+            if automaton.is_match(start) {
+                None
+            } else {
+                automaton.prefilter()
+            }
+        }
+    }
+}
+
+/// Asks the prefilter where in the rest of the span an occurrence may begin, and reads on from there.
+fn leap<A: Automaton>(
+    automaton: &A,
+    prefilter: &Prefilter,
+    input: &Input<'_>,
+    start: StateID,
+    at: usize,
+    steps: &mut Steps,
+) -> Reading
+    requires standard { (A.machine automaton.now).kind ≡ Standard }
+    requires made { prefilter.now.machine ≡ (A.machine automaton.now) }
+    requires free { input.now.anchored ≡ No }
+    requires starts { A.Reads automaton.now No [] start }
+    requires empty { A.entries automaton.now start ≡ [] }
+    requires from { input.now.span.start ≤ at }
+    requires to { at ≤ input.now.span.end }
+    ensures reads { ReadsOn (A.Reads automaton.now input.now.anchored) (A.entries automaton.now) (A.machine automaton.now) (search_in (A.machine automaton.now) input.now) at (listing_of (starting_at (search_in (A.machine automaton.now) input.now) at)) result }
+    ensures cost { IsLeapCost (A.machine automaton.now) (A.direct automaton.now) prefilter.now.by_bytes (search_in (A.machine automaton.now) input.now) at result steps.old steps.new }
+{
+    let rest = Span {
+        start: at,
+        end: input.end(),
+    };
+    let candidate = prefilter.find_in_counted(input.haystack(), rest, steps);
+    match candidate.into_option() {
+        None => Reading::Shows(over()),
+        Some(from) => {
+            let reached = Reached {
+                sid: start,
+                from,
+                at: from,
+            };
+            read_on(automaton, input, reached, true, steps)
+        }
+    }
+}
+
+/// Reads on by leaps from a place before which nothing that is left begins.
+fn read_by_leaps<A: Automaton>(
+    automaton: &A,
+    prefilter: &Prefilter,
+    input: &Input<'_>,
+    start: StateID,
+    at: usize,
+    steps: &mut Steps,
+) -> Shown
+    requires standard { (A.machine automaton.now).kind ≡ Standard }
+    requires made { prefilter.now.machine ≡ (A.machine automaton.now) }
+    requires free { input.now.anchored ≡ No }
+    requires starts { A.Reads automaton.now No [] start }
+    requires empty { A.entries automaton.now start ≡ [] }
+    requires from { input.now.span.start ≤ at }
+    requires to { at ≤ input.now.span.end }
+    ensures reads { ReadsOn (A.Reads automaton.now input.now.anchored) (A.entries automaton.now) (A.machine automaton.now) (search_in (A.machine automaton.now) input.now) at (listing_of (starting_at (search_in (A.machine automaton.now) input.now) at)) (Shows result) }
+    ensures cost { IsLeapCost (A.machine automaton.now) (A.direct automaton.now) prefilter.now.by_bytes (search_in (A.machine automaton.now) input.now) at (Shows result) steps.old steps.new }
+{
+    let mut place = at;
+    loop {
+        match leap(automaton, prefilter, input, start, place, steps) {
+            Reading::Shows(shown) => return shown,
+            Reading::Back(to) => place = to,
+        }
+    }
+}
+
+/// Shows the first of what ends behind the bytes that were read.
+fn show_later<A: Automaton>(
+    automaton: &A,
+    input: &Input<'_>,
+    start: StateID,
+    reached: Reached,
+    steps: &mut Steps,
+) -> Shown
+    requires standard { (A.machine automaton.now).kind ≡ Standard }
+    requires starts { A.Reads automaton.now input.now.anchored [] start }
+    requires reached { IsReached (A.Reads automaton.now input.now.anchored) (search_in (A.machine automaton.now) input.now) reached }
+    ensures shows { ShowsFirst (A.Reads automaton.now input.now.anchored) (A.entries automaton.now) (A.machine automaton.now) (search_in (A.machine automaton.now) input.now) (ending_from (walked (search_in (A.machine automaton.now) input.now) reached) (reached.at + 1)) result }
+    ensures pays { GoesOnPaying (A.machine automaton.now) (A.direct automaton.now) (scans_bytes (A.filter automaton.now)) (search_in (A.machine automaton.now) input.now) (At reached.sid reached.from reached.at 0) result.place steps.old steps.new }
+{
+    let Some(prefilter) = ahead(automaton, input.get_anchored(), start) else {
+        return match read_on(automaton, input, reached, false, steps) {
+            Reading::Shows(shown) => shown,
+            Reading::Back(_) => unreachable!(),
+        };
+    };
+    if reached.at == reached.from {
+        return read_by_leaps(automaton, prefilter, input, start, reached.at, steps);
+    }
+    match read_on(automaton, input, reached, true, steps) {
+        Reading::Shows(shown) => shown,
+        Reading::Back(at) => read_by_leaps(automaton, prefilter, input, start, at, steps),
+    }
+}
+
+/// Shows what the state has to show from an index of its list on, or else the first of what ends later.
+fn show_next<A: Automaton>(
+    automaton: &A,
+    input: &Input<'_>,
+    start: StateID,
+    reached: &Reached,
+    index: usize,
+    steps: &mut Steps,
+) -> Shown
+    requires standard { (A.machine automaton.now).kind ≡ Standard }
+    requires starts { A.Reads automaton.now input.now.anchored [] start }
+    requires reached { IsReached (A.Reads automaton.now input.now.anchored) (search_in (A.machine automaton.now) input.now) reached.now }
+    ensures shows { ShowsFirst (A.Reads automaton.now input.now.anchored) (A.entries automaton.now) (A.machine automaton.now) (search_in (A.machine automaton.now) input.now) (told_from (A.machine automaton.now) (walked (search_in (A.machine automaton.now) input.now) reached.now) reached.now.at (A.entries automaton.now reached.now.sid) index ++ ending_from (walked (search_in (A.machine automaton.now) input.now) reached.now) (reached.now.at + 1)) result }
+    ensures pays { GoesOnPaying (A.machine automaton.now) (A.direct automaton.now) (scans_bytes (A.filter automaton.now)) (search_in (A.machine automaton.now) input.now) (At reached.now.sid reached.now.from reached.now.at index) result.place steps.old steps.new }
+{
+    if let Some(shown) = show(automaton, input, *reached, index) {
+        return shown;
+    }
+    show_later(automaton, input, start, *reached, steps)
+}
+
+/// Shows the next occurrence of a search that stands at a place; `start` is where it began.
 pub(crate) fn advance<A: Automaton>(
     automaton: &A,
     input: &Input<'_>,
+    start: StateID,
     place: Place,
     steps: &mut Steps,
 ) -> Shown
     requires standard { (A.machine automaton.now).kind ≡ Standard }
+    requires starts { A.Reads automaton.now input.now.anchored [] start }
     requires left { (left : List Occurrence) × IsLeft (A.Reads automaton.now input.now.anchored) (A.entries automaton.now) (A.machine automaton.now) (search_in (A.machine automaton.now) input.now) place left }
-    ensures shows { (left : List Occurrence) → IsLeft (A.Reads automaton.now input.now.anchored) (A.entries automaton.now) (A.machine automaton.now) (search_in (A.machine automaton.now) input.now) place left
-        → ShowsFirst (A.Reads automaton.now input.now.anchored) (A.entries automaton.now) (A.machine automaton.now) (search_in (A.machine automaton.now) input.now) left result }
-    ensures pays { GoesOnPaying (A.machine automaton.now) (A.direct automaton.now) (search_in (A.machine automaton.now) input.now) place result.place steps.old steps.new }
-    ensures only { OnlyLooked steps.old steps.new }
+    ensures shows { (left : List Occurrence) → IsLeft (A.Reads automaton.now input.now.anchored) (A.entries automaton.now) (A.machine automaton.now) (search_in (A.machine automaton.now) input.now) place left → ShowsFirst (A.Reads automaton.now input.now.anchored) (A.entries automaton.now) (A.machine automaton.now) (search_in (A.machine automaton.now) input.now) left result }
+    ensures pays { GoesOnPaying (A.machine automaton.now) (A.direct automaton.now) (scans_bytes (A.filter automaton.now)) (search_in (A.machine automaton.now) input.now) place result.place steps.old steps.new }
 {
     match place {
-        Place::Over => Shown { place, found: None },
-        Place::At { sid, at, index } => match show(automaton, input, sid, at, index) {
-            Some(shown) => shown,
-            None => read_on(automaton, input, sid, at, steps),
-        },
+        Place::Over => over(),
+        Place::At {
+            sid,
+            from,
+            at,
+            index,
+        } => {
+            let reached = Reached { sid, from, at };
+            show_next(automaton, input, start, &reached, index, steps)
+        }
     }
 }
 
-/// The place where a search begins.
-pub(crate) fn begin<A: Automaton>(automaton: &A, input: &Input<'_>) -> Result<Place, MatchError>
-    ensures left { IfOk result (λ place. IsLeft (A.Reads automaton.now input.now.anchored) (A.entries automaton.now) (A.machine automaton.now) (search_in (A.machine automaton.now) input.now) place (listing_of (search_in (A.machine automaton.now) input.now))) }
-    ensures paid { IfOk result (λ place. IsPaid (A.machine automaton.now) (A.direct automaton.now) (search_in (A.machine automaton.now) input.now) place 0) }
+/// Where a search begins.
+pub(crate) fn begin<A: Automaton>(automaton: &A, input: &Input<'_>) -> Result<Beginning, MatchError>
+    ensures starts { IfOk result (λ beginning. A.Reads automaton.now input.now.anchored [] beginning.start) }
+    ensures left { IfOk result (λ beginning. IsLeft (A.Reads automaton.now input.now.anchored) (A.entries automaton.now) (A.machine automaton.now) (search_in (A.machine automaton.now) input.now) beginning.place (listing_of (search_in (A.machine automaton.now) input.now))) }
+    ensures paid { IfOk result (λ beginning. IsPaid (A.machine automaton.now) (A.direct automaton.now) (search_in (A.machine automaton.now) input.now) beginning.place 0) }
     ensures served { IsOk result ↔ CanOverlap (A.serves automaton.now input.now.anchored) (A.machine automaton.now).kind }
     ensures refused { IfErr result (OverlappingRefusal (A.serves automaton.now input.now.anchored) (A.machine automaton.now).kind input.now.anchored) }
 {
-    let sid = automaton.start_state(input.get_anchored())?;
+    let start = automaton.start_state(input.get_anchored())?;
     let kind = automaton.match_kind();
     if kind != MatchKind::Standard {
         return Err(MatchError::unsupported_overlapping(kind));
     }
     let span = input.get_span();
     if span.start > span.end {
-        return Ok(Place::Over);
+        return Ok(Beginning {
+            start,
+            place: Place::Over,
+        });
     }
-    Ok(Place::At {
-        sid,
-        at: span.start,
-        index: 0,
+    Ok(Beginning {
+        start,
+        place: Place::At {
+            sid: start,
+            from: span.start,
+            at: span.start,
+            index: 0,
+        },
     })
 }
 
@@ -301,19 +498,19 @@ pub fn find_overlapping<A: Automaton>(
     state: &mut OverlappingState,
     steps: &mut Steps,
 ) -> Result<(), MatchError>
-    requires { CameFrom (A.Reads automaton.now) (A.entries automaton.now) (A.machine automaton.now) (A.direct automaton.now) input.now state.old }
-    ensures came { CameFrom (A.Reads automaton.now) (A.entries automaton.now) (A.machine automaton.now) (A.direct automaton.now) input.now state.new }
+    requires { CameFrom (A.Reads automaton.now) (A.entries automaton.now) (A.machine automaton.now) (A.direct automaton.now) (A.filter automaton.now) input.now state.old }
+    ensures came { CameFrom (A.Reads automaton.now) (A.entries automaton.now) (A.machine automaton.now) (A.direct automaton.now) (A.filter automaton.now) input.now state.new }
     ensures shows { IfOk result (λ _. ShowsNext (search_in (A.machine automaton.now) input.now) state.old state.new) }
-    ensures work { IsOverlappingWork (A.direct automaton.now) (search_in (A.machine automaton.now) input.now) (sums_of state.new) }
+    ensures work { IsOverlappingWork (A.direct automaton.now) (scans_bytes (A.filter automaton.now)) (search_in (A.machine automaton.now) input.now) (sums_of state.new) }
     ensures counted { DoneAlike (sums_of state.old) (sums_of state.new) steps.old steps.new }
     ensures served { IsOk result ↔ CanOverlap (A.serves automaton.now input.now.anchored) (A.machine automaton.now).kind }
     ensures refused { IfErr result (OverlappingRefusal (A.serves automaton.now input.now.anchored) (A.machine automaton.now).kind input.now.anchored) }
     ensures idle { IfErr result (λ _. (state.new ≡ state.old) × (steps.new ≡ steps.old)) }
 {
-    let first = begin(automaton, input)?;
-    let place = state.place.unwrap_or(first);
+    let beginning = begin(automaton, input)?;
+    let place = state.place.unwrap_or(beginning.place);
     let mut done = Steps::new();
-    let shown = advance(automaton, input, place, &mut done);
+    let shown = advance(automaton, input, beginning.start, place, &mut done);
     state.keep(shown, &done);
     steps.add(&done);
     Ok(())

@@ -1,6 +1,6 @@
 //! Searches by an automaton that is made straight from the definitions, so that each provided call runs. The expected answers are
 //! what other implementations give.
-mod ahead;
+pub mod ahead;
 pub mod plain_automaton;
 
 use self::ahead::Ahead;

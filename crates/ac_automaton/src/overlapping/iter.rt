@@ -1,17 +1,19 @@
 //! The overlapping matches of an input, one after another.
 //!
-//! [`FindOverlappingIter`] holds an automaton, an input, and where the search stands. It takes no memory, and looks at the states
-//! of one walk over the span, however many matches it shows.
+//! [`FindOverlappingIter`] holds an automaton, an input, and where the search began and stands. It takes no memory, and looks at the
+//! states of one walk over the span, however many matches it shows.
 ghost use Rattle.std.specs.Prelude.{◌≡◌, ◌↔◌, IsOk, IfOk, IfErr};
 ghost use Rattle.std.specs.Iterator.{YieldsFirst, item_count};
 ghost use Rattle.ac_input.specs.Computed.{listing_of};
 ghost use Rattle.ac_input.specs.Input.{search_in};
+ghost use Rattle.ac_input.specs.Work.{scans_bytes};
 ghost use Rattle.ac_automaton.specs.OverlappingIter.{fresh_run, rest_of, GoesOn, Counts, IsWithinOneWalk, CanRun, RunRefusal};
 
 use crate::automaton::Automaton;
 use crate::error::MatchError;
 use crate::overlapping::{Place, advance, begin, with_found};
 use ac_input::history::Count;
+use ac_input::primitives::StateID;
 use ac_input::search::{Anchored, Input, Match};
 use ac_input::steps::Steps;
 use std::iter::FusedIterator;
@@ -24,26 +26,29 @@ use std::marker::Model;
 pub struct FindOverlappingIter<'a, 'h, A: Automaton> {
     automaton: &'a A,
     input: Input<'h>,
+    start: StateID,
     place: Place,
     shown: Count,
     sums: Steps,
 }
 
 impl<'a, 'h, A: Automaton> Model for FindOverlappingIter<'a, 'h, A> {
-    ghost use Rattle.std.specs.Prelude.{◌≡◌};
+    ghost use Rattle.std.specs.Prelude.{◌≡◌, []};
     ghost use Rattle.ac_input.specs.declared.search.MatchKind.TheVariants.{Standard};
     ghost use Rattle.ac_input.specs.Input.{search_in};
+    ghost use Rattle.ac_input.specs.Work.{scans_bytes};
     ghost use Rattle.ac_automaton.specs.Overlapping.{StandsAt};
     ghost use Rattle.ac_automaton.specs.OverlappingIter.{Run, run_at};
 
     ghost Value = { Run };
 
     ghost view = { λ i.
-        run_at (A.machine i.automaton.now) (A.direct i.automaton.now) i.input i.shown.value i.sums };
+        run_at (A.machine i.automaton.now) (A.direct i.automaton.now) (scans_bytes (A.filter i.automaton.now)) i.input i.shown.value i.sums };
 
     ghost invariant = { λ i.
         ((A.machine i.automaton.now).kind ≡ Standard)
-        × StandsAt (A.Reads i.automaton.now i.input.anchored) (A.entries i.automaton.now) (A.machine i.automaton.now) (A.direct i.automaton.now) (search_in (A.machine i.automaton.now) i.input) i.place i.shown.value i.sums };
+        × A.Reads i.automaton.now i.input.anchored [] i.start
+        × StandsAt (A.Reads i.automaton.now i.input.anchored) (A.entries i.automaton.now) (A.machine i.automaton.now) (A.direct i.automaton.now) (scans_bytes (A.filter i.automaton.now)) (search_in (A.machine i.automaton.now) i.input) i.place i.shown.value i.sums };
 }
 
 /// All occurrences in the input, one after another.
@@ -53,18 +58,19 @@ pub fn find_overlapping_iter<'a, 'h, A: Automaton>(
     automaton: &'a A,
     input: Input<'h>,
 ) -> Result<FindOverlappingIter<'a, 'h, A>, MatchError>
-    ensures run { IfOk result (λ iterator. iterator ≡ fresh_run (A.machine automaton.now) (A.direct automaton.now) input.entry) }
+    ensures run { IfOk result (λ iterator. iterator ≡ fresh_run (A.machine automaton.now) (A.direct automaton.now) (scans_bytes (A.filter automaton.now)) input.entry) }
     ensures all { IfOk result (λ iterator. rest_of iterator ≡ listing_of (search_in (A.machine automaton.now) input.entry)) }
     ensures served { IsOk result ↔ CanRun (A.serves automaton.now input.entry.anchored) (A.machine automaton.now).kind input.entry.anchored }
     ensures refused { IfErr result (RunRefusal (A.serves automaton.now input.entry.anchored) (A.machine automaton.now).kind input.entry.anchored) }
 {
-    let place = begin(automaton, &input)?;
+    let beginning = begin(automaton, &input)?;
     match input.get_anchored() {
         Anchored::Yes => Err(MatchError::invalid_input_anchored()),
         Anchored::No => Ok(FindOverlappingIter {
             automaton,
             input,
-            place,
+            start: beginning.start,
+            place: beginning.place,
             shown: Count::zero(),
             sums: Steps::new(),
         }),
@@ -80,7 +86,13 @@ impl<'a, 'h, A: Automaton> FindOverlappingIter<'a, 'h, A> {
         ensures work { IsWithinOneWalk self.new }
     {
         let mut done = Steps::new();
-        let shown = advance(self.automaton, &self.input, self.place, &mut done);
+        let shown = advance(
+            self.automaton,
+            &self.input,
+            self.start,
+            self.place,
+            &mut done,
+        );
         self.place = shown.place;
         self.shown = with_found(&self.shown, &shown.found);
         self.sums.add(&done);

@@ -4,6 +4,7 @@ ghost use Rattle.ac_automaton.specs.Overlapping.{CameFrom};
 use super::OverlappingState;
 use crate::automaton::Automaton;
 use crate::error::MatchErrorKind;
+use crate::tests::ahead::Ahead;
 use crate::tests::plain_automaton::PlainAutomaton;
 use ac_input::search::{Anchored, Input, Match, MatchKind};
 use ac_input::steps::Steps;
@@ -23,8 +24,8 @@ fn shows<A: Automaton>(
     state: &mut OverlappingState,
     want: Option<Match>,
 ) -> Result<(), Fail>
-    requires { CameFrom (A.Reads automaton.now) (A.entries automaton.now) (A.machine automaton.now) (A.direct automaton.now) input.now state.old }
-    ensures { CameFrom (A.Reads automaton.now) (A.entries automaton.now) (A.machine automaton.now) (A.direct automaton.now) input.now state.new }
+    requires { CameFrom (A.Reads automaton.now) (A.entries automaton.now) (A.machine automaton.now) (A.direct automaton.now) (A.filter automaton.now) input.now state.old }
+    ensures { CameFrom (A.Reads automaton.now) (A.entries automaton.now) (A.machine automaton.now) (A.direct automaton.now) (A.filter automaton.now) input.now state.new }
 {
     automaton.try_find_overlapping(input, state)?;
     assert_eq!(rt; state.get_match(), want);
@@ -32,9 +33,9 @@ fn shows<A: Automaton>(
 }
 
 /// Asserts that the iterator gives these, each as number, start and end, and then nothing more.
-fn gives(
+fn gives<A: Automaton>(
     rt: &impl Abort,
-    automaton: &PlainAutomaton<'_>,
+    automaton: &A,
     input: Input<'_>,
     want: &[(usize, usize, usize)],
 ) -> Result<(), Fail> {
@@ -115,6 +116,49 @@ fn one_begins_another(rt: HostRuntime) -> Result<(), Fail> {
     shows(&rt, &automaton, &input, &mut state, None)?;
     assert_eq!(rt; kept.get_match(), Some(Match::must(2, 0..3)));
     Ok(())
+}
+
+#[test]
+fn with_a_prefilter(rt: HostRuntime) -> Result<(), Fail> {
+    let patterns: [&[u8]; 3] = [b"b", b"abc", b"abcd"];
+    let automaton = made(MatchKind::Standard, &patterns)?;
+    let ahead = Ahead::build(rt.alloc(), automaton)?.ok_or("no prefilter")?;
+    gives(
+        &rt,
+        &ahead,
+        Input::new(b"xxabcdxxxbx"),
+        &[(0, 3, 4), (1, 2, 5), (2, 2, 6), (0, 9, 10)],
+    )?;
+    gives(
+        &rt,
+        &ahead,
+        Input::new(b"xxabcdxxxbx").range(3..9),
+        &[(0, 3, 4)],
+    )?;
+    gives(&rt, &ahead, Input::new(b"xxaxac"), &[])?;
+    gives(&rt, &ahead, Input::new(b"b").range(1..0), &[])?;
+    let anchored = Input::new(b"abcd").anchored(Anchored::Yes);
+    let mut state = OverlappingState::start();
+    let first = Some(Match::must(1, 0..3));
+    shows(&rt, &ahead, &anchored, &mut state, first)?;
+    let second = Some(Match::must(2, 0..4));
+    shows(&rt, &ahead, &anchored, &mut state, second)?;
+    shows(&rt, &ahead, &anchored, &mut state, None)
+}
+
+#[test]
+fn asks_again(rt: HostRuntime) -> Result<(), Fail> {
+    let patterns: [&[u8]; 3] = [b"FOO", b"f-f", b"foof"];
+    let automaton = PlainAutomaton::new(&patterns, true, MatchKind::Standard).ok_or(
+        "few patterns",
+    )?;
+    let ahead = Ahead::build(rt.alloc(), automaton)?.ok_or("no prefilter")?;
+    gives(
+        &rt,
+        &ahead,
+        Input::new(b"o f baf FoOF-F foo"),
+        &[(0, 8, 11), (2, 8, 12), (1, 11, 14), (0, 15, 18)],
+    )
 }
 
 #[test]

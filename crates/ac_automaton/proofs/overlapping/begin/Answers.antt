@@ -1,7 +1,7 @@
 use Rattle.std.proofs.Common.{rules, ◌≡◌, List, ℕ, ◌≤◌, refl, sym, subst, ◌∙◌, arith}
 use Rattle.ac_input.specs.declared.search.MatchKind.TheVariants.{Standard}
 use Rattle.ac_input.specs.Input.{search_in}
-use Rattle.ac_automaton.specs.Overlapping.{read_to}
+use Rattle.ac_automaton.specs.Overlapping.{read_to, IsReached}
 use Rattle.ac_automaton.proofs.OverlappingLemmas.{IsPlace, read_to-start, ending_from-start, ending_from-split}
 use Rattle.ac_automaton.proofs.overlapping.begin.Goals as goal
 
@@ -10,13 +10,14 @@ returns-clause-left g c =
     let asked = c.args.input.now in
     let m = g.A.Automaton.machine c.args.automaton.now in
     let s = search_in m asked in
-    let sid = c.in_ok-sid.sid in
+    let sid = c.in_ok-start.start in
     let R = g.A.Automaton.Reads c.args.automaton.now asked.anchored in
     let value = c.get_span-span.ensures.value in
     let inside = rw value at c.get_span-span.ensures.within.1 in
     let order : s.start ≤ s.end = rw value at c.if-span.false in
-    let first : R (read_to s s.start) sid = subst (λ (text : List ℕ). R text sid) (sym (read_to-start s)) (rw c.get_anchored.ensures at c.in_ok-sid.ensures.start) in
+    let first : R (read_to s s.start) sid = subst (λ (text : List ℕ). R text sid) (sym (read_to-start s)) (rw c.get_anchored.ensures at c.in_ok-start.ensures.start) in
     let standard : m.kind ≡ Standard = search rules in
     let place : IsPlace m asked.anchored s s.start = record { by = (refl, refl); anchor = refl; standard = standard; from = omega arith; to = order; inside = inside } in
     let tells = g.met.A.Automaton.tells c.args.automaton.now asked.anchored (read_to s s.start) sid first in
-    rw value (omega arith, order, first, sym (ending_from-start s inside) ∙ ending_from-split m asked.anchored s s.start (g.A.Automaton.entries c.args.automaton.now sid) place tells)
+    let reached : IsReached R s (record { sid = sid; from = s.start; at = s.start }) = record { behind = omega arith; ordered = omega arith; within = order; inside = inside; reads = first } in
+    rw value (reached, sym (ending_from-start s inside) ∙ ending_from-split m asked.anchored s s.start (g.A.Automaton.entries c.args.automaton.now sid) place tells)

@@ -1,0 +1,325 @@
+-- Overlapping search by leaps: what is left where the walk is back at the start, and where a prefilter points.
+use Rattle.std.proofs.Common.{◌≡◌, ℕ, ◌+◌, ◌-◌, ◌*◌, ◌<◌, ◌≤◌, Bool, false, true, List, [], ◌∷◌, ◌++◌, length, map, Option, Some, None, IsTrue, ⊎_elim, slice_range, inl, inr, sym, ap, subst, refl, ◌∙◌, arith}
+use Rattle.std.specs.List.{filter}
+use Rattle.std.proofs.lemmas.Bool.{false≢true, cases_lt}
+use Rattle.std.proofs.lemmas.Option.{same_Some}
+use Rattle.ac_input.specs.declared.search.Anchored.TheVariants.{No}
+use Rattle.ac_input.specs.declared.search.MatchKind.TheVariants.{Standard, LeftmostFirst}
+use Rattle.ac_input.specs.declared.search.candidate.Candidate.{Candidate}
+use Rattle.ac_input.specs.declared.search.candidate.Candidate.TheVariants as candidates
+use Rattle.ac_input.specs.declared.primitives.state_id.StateID.{StateID}
+use Rattle.ac_input.specs.declared.steps.Steps.{Steps}
+use Rattle.ac_input.specs.Candidate.{IsCandidate, IsScan, start_of, ahead_of}
+use Rattle.ac_input.specs.Computed.{listing_of}
+use Rattle.ac_input.specs.Input.{Asked, is_anchored, search_in}
+use Rattle.ac_input.specs.LiveLaws.{IsOwnInverse, shifted}
+use Rattle.ac_input.specs.Machine.{Machine, IsLive, whole}
+use Rattle.ac_input.specs.Occurrence.{Search, Occurrence, Occurs, starting_at}
+use Rattle.ac_input.specs.Steps.{Done, looked_of, scanned_of, moved_of}
+use Rattle.ac_input.specs.Tells.{Tells, ending}
+use Rattle.ac_input.proofs.ContainsLemmas.{Contains-nil}
+use Rattle.ac_input.proofs.ListingLemmas.{ListsAll-unique, listing_of-lists}
+use Rattle.ac_input.proofs.LiveLemmas.{entered-begins}
+use Rattle.ac_input.proofs.ShiftLemmas.{back_by}
+use Rattle.ac_input.proofs.SpanLemmas.{occurs-in_whole_of_span}
+use Rattle.ac_input.proofs.StateLemmas.{standard-entered}
+use Rattle.ac_automaton.specs.Ahead.{NoneBefore}
+use Rattle.ac_automaton.specs.declared.overlapping.Place.{Place}
+use Rattle.ac_automaton.specs.declared.overlapping.Place.TheVariants.{At, Over}
+use Rattle.ac_automaton.specs.declared.overlapping.Reached.{Reached}
+use Rattle.ac_automaton.specs.declared.overlapping.Reading.{Reading}
+use Rattle.ac_automaton.specs.declared.overlapping.Reading.TheVariants.{Shows, Back}
+use Rattle.ac_automaton.specs.declared.overlapping.Shown.{Shown}
+use Rattle.ac_automaton.specs.Overlapping.{ending_from, read_to, told_from, counts, walked, IsReached, TellsFirst, ShowsFirst, ReadsOn, IsBehind, IsPaidTo, IsPaidAt, IsPaidBy, IsLeapCost, GoesOnPaying, OnlyLooked, come_to, read_on_to}
+use Rattle.ac_automaton.proofs.FindLemmas.{occurs_before, occurs_behind, leftmost-none_before}
+use Rattle.ac_automaton.proofs.OverlappingLemmas.{IsPlace, ListsAll-like, ending_from-lists, ending_from-start, ending_from-split, slice_range-split, read_to-length, read_to-start, paid-start, paid-to, shows-none, shows-some, told_from-empty}
+
+-- ---- where the walk is back at the start
+
+-- where a text is live from a place on, and another text goes on from its end, nothing that reaches the end of the first one begins before
+live-no_before : (m : Machine) (text more : List ℕ) (from : ℕ) (o : Occurrence) → IsOwnInverse m.pairing → m.kind ≡ Standard → IsLive m false text (Some from) → Occurs (whole m (text ++ more) false) o → o.start ≤ length text → length text ≤ o.end → from ≤ o.start
+live-no_before m text more from o inverse standard live h inside past =
+    live.1 o.start (record {
+      within = inside;
+      begins = entered-begins m false text more o h.same.0 inverse h (standard-entered m o.pattern h.same.0 standard h.same.1) inside past;
+      anchor = λ a. absurd (false≢true a);
+      no_later = inr (inl standard);
+    })
+
+-- where no byte of what was read is live any more, nothing that ends later begins before
+back-begins : (m : Machine) (s : Search) (at : ℕ) (o : Occurrence) → IsPlace m No s at → IsOwnInverse m.pairing → IsLive m false (read_to s at) (Some (length (read_to s at))) → Occurs s o → at ≤ o.end → at ≤ o.start
+back-begins m s at o is inverse live h past =
+    ⊎_elim
+    (λ (later : at < o.start). let r : at ≤ o.start = omega arith in r)
+    (λ (le : o.start ≤ at).
+    let g = is.from in
+    let l = is.to in
+    let w = h.within in
+    let text = read_to s at in
+    let rest = slice_range s.haystack at s.end in
+    let long : length text ≡ at - s.start = read_to-length s at g l is.inside in
+    let whole_text : read_to s s.end ≡ text ++ rest = slice_range-split s.haystack s.start at s.end g l in
+    let there = occurs-in_whole_of_span m s s.end o is.by (omega arith) (omega arith) is.inside h w.2 in
+    let unanchored : Occurs (whole m (read_to s s.end) false) (back_by s.start o) = subst (λ (b : Bool). Occurs (whole m (read_to s s.end) b) (back_by s.start o)) is.anchor there.0 in
+    let occurs : Occurs (whole m (text ++ rest) false) (back_by s.start o) = subst (λ (t : List ℕ). Occurs (whole m t false) (back_by s.start o)) whole_text unanchored in
+    let le2 = live-no_before m text rest (length text) (back_by s.start o) inverse is.standard live occurs (omega arith) (omega arith) in
+    omega arith)
+    (cases_lt at o.start)
+
+-- There what ends later is what occurs from there on, where nothing ends there.
+pub ending_from-back : (m : Machine) (s : Search) (at : ℕ) (ns : List ℕ) → IsPlace m No s at → IsOwnInverse m.pairing → Tells m No (read_to s at) ns → told_from m s at ns 0 ≡ [] → IsLive m false (read_to s at) (Some (length (read_to s at))) → ending_from s (at + 1) ≡ listing_of (starting_at s at)
+ending_from-back m s at ns is inverse tells none live =
+    let free : s.anchored ≡ false = is.anchor in
+    let g = is.from in
+    let all = ending_from-split m No s at ns is tells ∙ ap (λ (xs : List Occurrence). xs ++ ending_from s (at + 1)) none in
+    sym all
+    ∙ ListsAll-unique (λ o. Occurs s o × (at ≤ o.end)) (ending_from s at) (listing_of (starting_at s at)) (ending_from-lists s at is.inside)
+    (ListsAll-like (Occurs (starting_at s at)) (λ o. Occurs s o × (at ≤ o.end)) (listing_of (starting_at s at))
+    (λ o. (
+      λ h. (occurs_before s at o free g h, let w = h.within in omega arith),
+      λ h. occurs_behind s at o free (back-begins m s at o is inverse live h.0 h.1) h.0,
+    ))
+    (listing_of-lists (starting_at s at) is.inside))
+
+-- where nothing is told and every entry counts, there is no entry
+pub told_from-nil : (m : Machine) (s : Search) (at : ℕ) (ns : List ℕ) → s.anchored ≡ false → told_from m s at ns 0 ≡ [] → ns ≡ []
+told_from-nil m s at [] free none = refl
+told_from-nil m s at (n ∷ ns) free none =
+    let kept : filter (counts m s.anchored (at - s.start)) (n ∷ ns) ≡ filter (counts m false (at - s.start)) (n ∷ ns) = ap (λ (b : Bool). filter (counts m b (at - s.start)) (n ∷ ns)) free in
+    let told : map (shifted s.start) (map (ending m (read_to s at)) (filter (counts m false (at - s.start)) (n ∷ ns))) ≡ [] = sym (ap (λ (xs : List ℕ). map (shifted s.start) (map (ending m (read_to s at)) xs)) kept) ∙ none in
+    cc
+
+-- ---- where reading on ends
+
+-- where nothing is left, the search is over
+pub over-reads : (Reads : List ℕ → StateID → Type 0) (entries : StateID → List ℕ) (m : Machine) (s : Search) (at : ℕ) (left : List Occurrence) (r : Shown) → left ≡ [] → r.found ≡ None → r.place ≡ Over → ReadsOn Reads entries m s at left (Shows r)
+over-reads Reads entries m s at left r none found place = (shows-none Reads entries m s left r none found place, subst (IsBehind at) (sym place) tt)
+
+-- where a state that was reached further on tells something, that is shown
+pub some-reads : (Reads : List ℕ → StateID → Type 0) (entries : StateID → List ℕ) (m : Machine) (s : Search) (at : ℕ) (left : List Occurrence) (reached : Reached) (index : ℕ) (r : Shown)
+    → at < reached.at → IsReached Reads s reached
+    → left ≡ told_from m (walked s reached) reached.at (entries reached.sid) index ++ ending_from (walked s reached) (reached.at + 1)
+    → TellsFirst entries m s reached index (Some r) → ReadsOn Reads entries m s at left (Shows r)
+some-reads Reads entries m s at left reached index r lt is e (o, next, found, place, told) =
+    (shows-some Reads entries m s left reached index r is e (o, next, found, place, told), subst (IsBehind at) (sym place) lt)
+
+-- ---- where a prefilter points
+
+-- where nothing begins before a place, the listing is the one from there on
+pub listing-skip : (s : Search) (at : ℕ) → s.anchored ≡ false → s.end ≤ length s.haystack → NoneBefore s at → listing_of s ≡ listing_of (starting_at s at)
+listing-skip s at free inside here =
+    ListsAll-unique (Occurs s) (listing_of s) (listing_of (starting_at s at)) (listing_of-lists s inside)
+    (ListsAll-like (Occurs (starting_at s at)) (Occurs s) (listing_of (starting_at s at))
+    (λ o. (λ h. occurs_before s at o free here.behind h, λ h. occurs_behind s at o free (here.none o h) h))
+    (listing_of-lists (starting_at s at) inside))
+
+-- where nothing occurs, the listing is empty
+pub listing-none : (s : Search) → s.end ≤ length s.haystack → ((o : Occurrence) → Occurs s o → ⊥) → listing_of s ≡ []
+listing-none s inside none =
+    ListsAll-unique (Occurs s) (listing_of s) [] (listing_of-lists s inside) (tt, λ o. (λ c. absurd (Contains-nil o c), λ h. absurd (none o h)))
+
+-- the search that a prefilter runs ahead of is the rest of the search
+pub ahead-same : (m n : Machine) (asked : Asked) (haystack : List ℕ) (at end : ℕ) → n ≡ m → haystack ≡ asked.haystack → end ≡ asked.span.end → asked.anchored ≡ No → ahead_of n haystack (record { start = at; end = end }) ≡ starting_at (search_in m asked) at
+ahead-same m n asked haystack at end made hays ends free =
+    ap (λ (k : Machine). ahead_of k haystack (record { start = at; end = end })) made
+    ∙ ap (λ (h : List ℕ). ahead_of m h (record { start = at; end = end })) hays
+    ∙ ap (λ (k : ℕ). ahead_of m asked.haystack (record { start = at; end = k })) ends
+    ∙ ap (λ (b : Bool). let r : Search = record { patterns = m.patterns; pairing = m.pairing; haystack = asked.haystack; start = at; end = asked.span.end; anchored = b } in r) (sym (ap is_anchored free))
+
+-- no candidate, no occurrence
+pub candidate-none : (s : Search) (c : Candidate) → IsCandidate Standard s c → start_of c ≡ None → (o : Occurrence) → Occurs s o → ⊥
+candidate-none s candidates.None h e o occurs = h o occurs
+candidate-none s (candidates.Match b) h e o occurs = cc
+candidate-none s (candidates.PossibleStartOfMatch at) h e o occurs = cc
+
+-- nothing begins before a candidate
+pub candidate-before : (s : Search) (c : Candidate) (at : ℕ) → IsCandidate Standard s c → start_of c ≡ Some at → NoneBefore s at
+candidate-before s candidates.None at h e = cc
+candidate-before s (candidates.Match b) at h e =
+    subst (NoneBefore s) (same_Some b.start at e) (leftmost-none_before LeftmostFirst s b (λ same. cc) (h.2 (h.1 refl) LeftmostFirst))
+candidate-before s (candidates.PossibleStartOfMatch place) at h e =
+    subst (NoneBefore s) (same_Some place at e) (record { behind = h.0; within = h.1; none = h.2 })
+
+-- the last place that was scanned for it is at most 254 behind it
+pub candidate-near : (s : Search) (places : ℕ) (c : Candidate) (at : ℕ) → IsScan s places c → start_of c ≡ Some at → s.start + places ≤ at + 255
+candidate-near s places candidates.None at h e = cc
+candidate-near s places (candidates.Match b) at h e = absurd (h.no_match b refl)
+candidate-near s places (candidates.PossibleStartOfMatch place) at h e =
+    let near = (h.near place refl).1 in
+    let same = same_Some place at e in
+    omega arith
+
+-- ---- what is paid
+
+-- what is paid for up to a place is paid for up to a further one
+pub paid-further : (direct : Bool) (s : Search) (at to looks : ℕ) → at ≤ to → IsPaidTo direct s at looks → IsPaidTo direct s to looks
+paid-further true s at to looks le h = omega arith
+paid-further false s at to looks le h = omega arith
+
+-- and so it is by a search that is behind it
+pub come-behind : (s : Search) (at : ℕ) (place : Place) → at ≤ s.end → IsBehind at place → at ≤ come_to s place
+come-behind s at (At sid from place index) le h = omega arith
+come-behind s at Over le h = le
+
+-- ---- leaps
+
+-- a search that is behind a place is behind an earlier one
+behind-earlier : (at from : ℕ) (place : Place) → at ≤ from → IsBehind from place → IsBehind at place
+behind-earlier at from (At sid start to index) le h = omega arith
+behind-earlier at from Over le h = h
+
+-- what is read on from a place is read on from an earlier one, where what is left is the same
+pub reads_on-earlier : (Reads : List ℕ → StateID → Type 0) (entries : StateID → List ℕ) (m : Machine) (s : Search) (at from : ℕ) (one other : List Occurrence) (reading : Reading) → at ≤ from → other ≡ one → ReadsOn Reads entries m s from other reading → ReadsOn Reads entries m s at one reading
+reads_on-earlier Reads entries m s at from one other (Shows shown) le same h = (subst (λ (left : List Occurrence). ShowsFirst Reads entries m s left shown) same h.0, behind-earlier at from shown.place le h.1)
+reads_on-earlier Reads entries m s at from one other (Back to) le same h = (omega (arith, h.0), h.1, sym same ∙ h.2)
+
+-- what was scanned to be told a place, where a search shows something behind it
+scans-shown : (s : Search) (at from places : ℕ) (place : Place) → at ≤ from → at + places ≤ s.end → at + places ≤ from + 255 → IsBehind from place → places ≤ 256 * (come_to s place - at)
+scans-shown s at from places (At sid start to index) le within near h = omega arith
+scans-shown s at from places Over le within near h = omega arith
+
+-- The places that were scanned to be told a place are paid for by the bytes up to where reading on from there ends.
+scans-paid : (Reads : List ℕ → StateID → Type 0) (entries : StateID → List ℕ) (m : Machine) (s : Search) (at from places : ℕ) (left : List Occurrence) (reading : Reading) → at ≤ from → at + places ≤ s.end → at + places ≤ from + 255 → ReadsOn Reads entries m s from left reading → places ≤ 256 * (read_on_to s reading - at)
+scans-paid Reads entries m s at from places left (Shows shown) le within near h = scans-shown s at from places shown.place le within near h.1
+scans-paid Reads entries m s at from places left (Back to) le within near h = let lt = h.0 in omega arith
+
+-- a leap costs the scans for the candidate, and the walk from there on
+pub leap-read : (Reads : List ℕ → StateID → Type 0) (entries : StateID → List ℕ) (m : Machine) (direct by_bytes : Bool) (s : Search) (at from places : ℕ) (left : List Occurrence) (reading : Reading) (x y z : Steps)
+    → s.start ≤ at → at ≤ from → from ≤ s.end → s.end ≤ length s.haystack
+    → Done 0 places 0 x y → (IsTrue by_bytes → (at + places ≤ s.end) × (at + places ≤ from + 255))
+    → ReadsOn Reads entries m s from left reading
+    → ((looks more : ℕ) → IsPaidAt m direct s from from looks → looks + looked_of z ≡ more + looked_of y → IsPaidBy m direct s reading more)
+    → OnlyLooked y z → IsLeapCost m direct by_bytes s at reading x z
+leap-read Reads entries m direct by_bytes s at from places left reading x y z g le inside fits done scan reads pays only =
+    let looked = done.looked in
+    let scanned = done.scanned in
+    let moved = done.moved in
+    let rose = only.rose in
+    let same_scans = only.scanned in
+    let same_moved = only.moved in
+    record {
+      rose = omega arith;
+      looks = λ looks more paid e. pays looks more (paid-start m direct s from looks (omega arith) inside fits (paid-further direct s at from looks le paid)) (omega arith);
+      scans = λ t. let near = scan t in let bound = scans-paid Reads entries m s at from places left reading le near.0 near.1 reads in omega arith;
+      moved = omega arith;
+    }
+
+-- A search has leapt from one place to another: what is left is the same, and what it cost is paid for.
+pub record HasLept (direct by_bytes : Bool) (s : Search) (at place : ℕ) (before after : Steps) : Type 0 where
+  pub behind : at ≤ place
+  pub within : place ≤ s.end
+  pub same : listing_of (starting_at s at) ≡ listing_of (starting_at s place)
+  pub rose : looked_of before ≤ looked_of after
+  pub looks : (looks more : ℕ) → IsPaidTo direct s at looks → looks + looked_of after ≡ more + looked_of before → IsPaidTo direct s place more
+  pub scans : IsTrue by_bytes → scanned_of after ≤ scanned_of before + 256 * (place - at)
+  pub moved : moved_of after ≡ moved_of before
+
+-- at first it is where it was
+pub lept-first : (direct by_bytes : Bool) (s : Search) (at : ℕ) (x : Steps) → at ≤ s.end → HasLept direct by_bytes s at at x x
+lept-first direct by_bytes s at x le = record {
+  behind = omega arith;
+  within = le;
+  same = refl;
+  rose = omega arith;
+  looks = λ looks more paid e. let one : looks ≡ more = omega arith in subst (IsPaidTo direct s at) one paid;
+  scans = λ t. omega arith;
+  moved = refl;
+}
+
+-- one leap more takes it to where the walk is back
+pub lept-further : (Reads : List ℕ → StateID → Type 0) (entries : StateID → List ℕ) (m : Machine) (direct by_bytes : Bool) (s : Search) (at place to : ℕ) (x y z : Steps)
+    → HasLept direct by_bytes s at place x y → ReadsOn Reads entries m s place (listing_of (starting_at s place)) (Back to) → IsLeapCost m direct by_bytes s place (Back to) y z → HasLept direct by_bytes s at to x z
+lept-further Reads entries m direct by_bytes s at place to x y z lept reads cost =
+    let le = lept.behind in
+    let lt = reads.0 in
+    let one = lept.rose in
+    let two = cost.rose in
+    record {
+      behind = omega arith;
+      within = reads.1;
+      same = lept.same ∙ reads.2;
+      rose = omega arith;
+      looks = λ looks more paid e.
+          let between : ℕ = looks + looked_of y - looked_of x in
+          cost.looks between more (lept.looks looks between paid (omega arith)) (omega arith);
+      scans = λ t. omega (arith, lept.scans t, cost.scans t);
+      moved = cost.moved ∙ lept.moved;
+    }
+
+-- the last leap shows what is shown
+pub lept-shows : (Reads : List ℕ → StateID → Type 0) (entries : StateID → List ℕ) (m : Machine) (direct by_bytes : Bool) (s : Search) (at place : ℕ) (shown : Shown) (x y z : Steps)
+    → HasLept direct by_bytes s at place x y → ReadsOn Reads entries m s place (listing_of (starting_at s place)) (Shows shown) → IsLeapCost m direct by_bytes s place (Shows shown) y z → IsLeapCost m direct by_bytes s at (Shows shown) x z
+lept-shows Reads entries m direct by_bytes s at place shown x y z lept reads cost =
+    let le = lept.behind in
+    let come = come-behind s place shown.place lept.within reads.1 in
+    let one = lept.rose in
+    let two = cost.rose in
+    record {
+      rose = omega arith;
+      looks = λ looks more paid e.
+          let between : ℕ = looks + looked_of y - looked_of x in
+          cost.looks between more (lept.looks looks between paid (omega arith)) (omega arith);
+      scans = λ t. omega (arith, lept.scans t, cost.scans t);
+      moved = cost.moved ∙ lept.moved;
+    }
+
+-- ---- what a call pays
+
+-- where it read on by one walk
+pub pays-walk : (m : Machine) (direct by_bytes : Bool) (s : Search) (sid : StateID) (from at : ℕ) (r : Shown) (x y : Steps)
+    → at ≤ s.end → IsBehind at r.place
+    → ((looks more : ℕ) → IsPaidAt m direct s from at looks → looks + looked_of y ≡ more + looked_of x → IsPaidBy m direct s (Shows r) more)
+    → OnlyLooked x y → GoesOnPaying m direct by_bytes s (At sid from at 0) r.place x y
+pays-walk m direct by_bytes s sid from at r x y le behind pays only =
+    let come = come-behind s at r.place le behind in
+    let scanned = only.scanned in
+    record {
+      looks = pays;
+      scans = λ scans more h e t. let bound = h t in omega arith;
+      moved = only.moved;
+    }
+
+-- where it went by leaps at once, having read nothing
+pub pays-leaps : (m : Machine) (direct by_bytes : Bool) (s : Search) (sid : StateID) (from at : ℕ) (r : Shown) (x y : Steps)
+    → s.start ≤ at → at ≤ s.end → IsBehind at r.place
+    → ((live : Option ℕ) × IsLive m s.anchored (read_to (starting_at s from) at) live)
+    → IsLeapCost m direct by_bytes s at (Shows r) x y → GoesOnPaying m direct by_bytes s (At sid from at 0) r.place x y
+pays-leaps m direct by_bytes s sid from at r x y g le behind live cost =
+    let come = come-behind s at r.place le behind in
+    record {
+      looks = λ looks more paid e. cost.looks looks more (paid-to m direct s from at at looks g (omega arith) live paid) e;
+      scans = λ scans more h e t. let bound = h t in let rest = cost.scans t in omega arith;
+      moved = cost.moved;
+    }
+
+-- where it walked back to the start, and went by leaps from there
+pub pays-both : (m : Machine) (direct by_bytes : Bool) (s : Search) (sid : StateID) (from at to : ℕ) (r : Shown) (x y z : Steps)
+    → s.start ≤ at → at < to → to ≤ s.end → IsBehind to r.place
+    → ((looks more : ℕ) → IsPaidAt m direct s from at looks → looks + looked_of y ≡ more + looked_of x → IsPaidBy m direct s (Back to) more)
+    → OnlyLooked x y → IsLeapCost m direct by_bytes s to (Shows r) y z → GoesOnPaying m direct by_bytes s (At sid from at 0) r.place x z
+pays-both m direct by_bytes s sid from at to r x y z g lt le behind pays only cost =
+    let come = come-behind s to r.place le behind in
+    let one = only.rose in
+    let two = cost.rose in
+    let scanned = only.scanned in
+    record {
+      looks = λ looks more paid e.
+          let between : ℕ = looks + looked_of y - looked_of x in
+          cost.looks between more (pays looks between paid (omega arith)) (omega arith);
+      scans = λ scans more h e t. let bound = h t in let rest = cost.scans t in omega arith;
+      moved = cost.moved ∙ only.moved;
+    }
+
+-- ---- what is left at the start
+
+-- where nothing was read, and the start shows nothing, what ends later is what occurs from there on
+pub ending_from-fresh : (m : Machine) (s : Search) (at : ℕ) (ns : List ℕ) → IsPlace m No (starting_at s at) at → Tells m No [] ns → ns ≡ [] → ending_from (starting_at s at) (at + 1) ≡ listing_of (starting_at s at)
+ending_from-fresh m s at ns is tells none =
+    let t = starting_at s at in
+    let here : Tells m No (read_to t at) ns = subst (λ (text : List ℕ). Tells m No text ns) (sym (read_to-start t)) tells in
+    sym (ending_from-split m No t at ns is here ∙ ap (λ (xs : List Occurrence). xs ++ ending_from t (at + 1)) (told_from-empty m t at ns none))
+    ∙ ending_from-start t is.inside
+
+-- the other way round: what is left of a listing is what ends behind the place where nothing was read yet
+pub listing-fresh : (m : Machine) (s : Search) (at : ℕ) (ns : List ℕ) → IsPlace m No (starting_at s at) at → Tells m No [] ns → ns ≡ [] → listing_of (starting_at s at) ≡ ending_from (starting_at s at) (at + 1)
+listing-fresh m s at ns is tells none = sym (ending_from-fresh m s at ns is tells none)

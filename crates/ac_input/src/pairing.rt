@@ -85,6 +85,7 @@ impl Pairing {
     pub fn other(&self, byte: u8) -> u8
         ensures value { result ≡ other self.now byte }
         ensures inverse { other self.now result ≡ byte }
+        ensures pairs { IsPairing self.now }
     {
         self.table[byte as usize]
     }

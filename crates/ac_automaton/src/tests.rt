@@ -2,10 +2,14 @@
 //! what other implementations give.
 pub mod ahead;
 pub mod plain_automaton;
+mod served;
 
 use self::ahead::Ahead;
 use self::plain_automaton::PlainAutomaton;
+use self::served::Served;
 use crate::automaton::Automaton;
+use crate::error::MatchErrorKind;
+use crate::overlapping::OverlappingState;
 use ac_input::search::{Anchored, Input, Match, MatchKind};
 use ac_input::steps::Steps;
 use std::process::Abort;
@@ -178,6 +182,74 @@ fn dead(rt: HostRuntime) -> Result<(), Fail> {
     assert!(rt; automaton.is_dead(b));
     assert!(rt; !automaton.is_match(b));
     Ok(())
+}
+
+/// Asserts that a search that is refused at all is refused with this, by each call, also where it would be over at once.
+fn refuses(
+    rt: &impl Abort,
+    automaton: &Served<'_>,
+    anchored: Anchored,
+    want: MatchErrorKind,
+) -> Result<(), Fail> {
+    for range in [0..1, 1..0] {
+        let input = Input::new(b"a").range(range).anchored(anchored);
+        let mut state = OverlappingState::start();
+        let error = automaton.try_find(&input).err().ok_or("refused")?;
+        assert_eq!(rt; *error.kind(), want);
+        let error = automaton
+            .try_find_overlapping(&input, &mut state)
+            .err()
+            .ok_or("refused")?;
+        assert_eq!(rt; *error.kind(), want);
+        let error = automaton
+            .try_find_iter(input.clone()?)
+            .err()
+            .ok_or("refused")?;
+        assert_eq!(rt; *error.kind(), want);
+        let error = automaton
+            .try_find_overlapping_iter(input)
+            .err()
+            .ok_or("refused")?;
+        assert_eq!(rt; *error.kind(), want);
+    }
+    Ok(())
+}
+
+#[test]
+fn refused_for_want_of_a_start(rt: HostRuntime) -> Result<(), Fail> {
+    let patterns: [&[u8]; 1] = [b"a"];
+    for kind in [MatchKind::Standard, MatchKind::LeftmostFirst] {
+        let automaton = PlainAutomaton::new(&patterns, false, kind).ok_or("few patterns")?;
+        let bound = Served::new(automaton, Anchored::Yes);
+        refuses(
+            &rt,
+            &bound,
+            Anchored::No,
+            MatchErrorKind::InvalidInputUnanchored,
+        )?;
+        let automaton = PlainAutomaton::new(&patterns, false, kind).ok_or("few patterns")?;
+        let free = Served::new(automaton, Anchored::No);
+        refuses(
+            &rt,
+            &free,
+            Anchored::Yes,
+            MatchErrorKind::InvalidInputAnchored,
+        )?;
+    }
+    Ok(())
+}
+
+#[test]
+fn served_where_there_is_a_start(rt: HostRuntime) -> Result<(), Fail> {
+    let patterns: [&[u8]; 2] = [b"abcd", b"bc"];
+    let automaton = PlainAutomaton::new(&patterns, false, MatchKind::LeftmostFirst).ok_or(
+        "few patterns",
+    )?;
+    let bound = Served::new(automaton, Anchored::Yes);
+    let cut = Input::new(b"abcx").anchored(Anchored::Yes);
+    finds(&rt, &bound, &cut, None)?;
+    let whole = Input::new(b"abcd").anchored(Anchored::Yes);
+    finds(&rt, &bound, &whole, Some(Match::must(0, 0..4)))
 }
 
 #[test]

@@ -66,14 +66,12 @@ back-begins m s at o is inverse live h past =
     omega arith)
     (cases_lt at o.start)
 
--- There what ends later is what occurs from there on, where nothing ends there.
-pub ending_from-back : (m : Machine) (s : Search) (at : ℕ) (ns : List ℕ) → IsPlace m No s at → IsOwnInverse m.pairing → Tells m No (read_to s at) ns → told_from m s at ns 0 ≡ [] → IsLive m false (read_to s at) (Some (length (read_to s at))) → ending_from s (at + 1) ≡ listing_of (starting_at s at)
-ending_from-back m s at ns is inverse tells none live =
+-- There what ends there or later is what occurs from there on.
+pub ending_from-back : (m : Machine) (s : Search) (at : ℕ) → IsPlace m No s at → IsOwnInverse m.pairing → IsLive m false (read_to s at) (Some (length (read_to s at))) → ending_from s at ≡ listing_of (starting_at s at)
+ending_from-back m s at is inverse live =
     let free : s.anchored ≡ false = is.anchor in
     let g = is.from in
-    let all = ending_from-split m No s at ns is tells ∙ ap (λ (xs : List Occurrence). xs ++ ending_from s (at + 1)) none in
-    sym all
-    ∙ ListsAll-unique (λ o. Occurs s o × (at ≤ o.end)) (ending_from s at) (listing_of (starting_at s at)) (ending_from-lists s at is.inside)
+    ListsAll-unique (λ o. Occurs s o × (at ≤ o.end)) (ending_from s at) (listing_of (starting_at s at)) (ending_from-lists s at is.inside)
     (ListsAll-like (Occurs (starting_at s at)) (λ o. Occurs s o × (at ≤ o.end)) (listing_of (starting_at s at))
     (λ o. (
       λ h. (occurs_before s at o free g h, let w = h.within in omega arith),
@@ -319,7 +317,3 @@ ending_from-fresh m s at ns is tells none =
     let here : Tells m No (read_to t at) ns = subst (λ (text : List ℕ). Tells m No text ns) (sym (read_to-start t)) tells in
     sym (ending_from-split m No t at ns is here ∙ ap (λ (xs : List Occurrence). xs ++ ending_from t (at + 1)) (told_from-empty m t at ns none))
     ∙ ending_from-start t is.inside
-
--- the other way round: what is left of a listing is what ends behind the place where nothing was read yet
-pub listing-fresh : (m : Machine) (s : Search) (at : ℕ) (ns : List ℕ) → IsPlace m No (starting_at s at) at → Tells m No [] ns → ns ≡ [] → listing_of (starting_at s at) ≡ ending_from (starting_at s at) (at + 1)
-listing-fresh m s at ns is tells none = sym (ending_from-fresh m s at ns is tells none)

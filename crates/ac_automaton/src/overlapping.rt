@@ -11,8 +11,8 @@
 //!
 //! Where a search stands between two calls is kept by the caller, in an [`OverlappingState`]. It belongs to one automaton and one
 //! input from its first search on. [`FindOverlappingIter`] keeps all three together.
-ghost use Rattle.std.specs.Prelude.{◌≡◌, ◌↔◌, ⊤, ℕ, ◌+◌, ◌-◌, ◌<◌, ◌≤◌, List, ◌++◌, None, Some, Option, is_some, if◌then◌else◌, [], length, drop, get_or, IsTrue, IsOk, IfOk, IfErr, IfSome};
-ghost use Rattle.ac_input.specs.declared.search.Anchored.TheVariants.{No};
+ghost use Rattle.std.specs.Prelude.{◌≡◌, ◌≢◌, ◌⊎◌, ◌↔◌, ⊤, ℕ, ◌+◌, ◌-◌, ◌<◌, ◌≤◌, List, ◌++◌, None, Some, Option, is_some, if◌then◌else◌, [], length, drop, get_or, IsTrue, IsOk, IfOk, IfErr, IfSome};
+ghost use Rattle.ac_input.specs.declared.search.Anchored.TheVariants.{No, Yes};
 ghost use Rattle.ac_input.specs.declared.search.MatchKind.TheVariants.{Standard};
 ghost use Rattle.ac_input.specs.Computed.{listing_of};
 ghost use Rattle.ac_input.specs.Input.{is_anchored, search_in};
@@ -301,6 +301,7 @@ fn ahead<'a, A: Automaton>(
     ensures held { IfSome result (λ prefilter. scans_bytes (A.filter automaton.now) ≡ prefilter.now.by_bytes) }
     ensures free { IfSome result (λ _. anchored ≡ No) }
     ensures empty { IfSome result (λ _. A.entries automaton.now start ≡ []) }
+    ensures none { result ≡ None → (anchored ≡ Yes) ⊎ (A.entries automaton.now start ≢ []) ⊎ (A.filter automaton.now ≡ None) }
 {
     match anchored {
         Anchored::Yes => None,

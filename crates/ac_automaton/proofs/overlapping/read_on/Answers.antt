@@ -1,11 +1,9 @@
-use Rattle.std.proofs.Common.{◌≡◌, ℕ, ◌+◌, ◌++◌, [], List, length, get_or, None, Some, refl, ap, subst, sym, inl, inr, ◌∙◌, arith, true≢false}
+use Rattle.std.proofs.Common.{◌≡◌, ℕ, ◌+◌, [], List, length, get_or, None, Some, refl, ap, subst, sym, inl, inr, ◌∙◌, arith, true≢false}
 use Rattle.ac_input.specs.declared.primitives.state_id.StateID.{StateID}
 use Rattle.ac_input.specs.declared.search.Anchored.{Anchored}
 use Rattle.ac_input.specs.declared.search.Anchored.TheVariants.{No}
 use Rattle.ac_input.specs.Input.{is_anchored, search_in}
 use Rattle.ac_input.specs.Machine.{IsLive}
-use Rattle.ac_input.specs.Occurrence.{Occurrence}
-use Rattle.ac_input.specs.Tells.{Tells}
 use Rattle.ac_automaton.specs.Overlapping.{read_to, told_from, ending_from, walked, IsReached}
 use Rattle.ac_automaton.proofs.OverlappingLemmas.{IsPlace, nil_or_not, ending_from-split, ending_from-dead, ending_from-end, told_from-empty, read_on-start, read_on-byte, read_on-settled, pays-over, pays-at, pays-back}
 use Rattle.ac_automaton.proofs.LeapLemmas.{ending_from-back, told_from-nil, over-reads, some-reads}
@@ -201,9 +199,8 @@ returns-then-is_start-clause-reads g c =
     let live : IsLive m s.anchored (read_to t (i + 1)) (Some (length (read_to t (i + 1)))) = c.if-is_start.ensures.empty asked.anchored (read_to t (i + 1)) read.reads refl empty in
     let pairs = g.met.A.Automaton.pairs c.args.automaton.now asked.anchored (read_to t (i + 1)) sid read.reads in
     let there = subst (λ (a : Anchored). IsPlace m a t (i + 1)) free place in
-    let says = subst (λ (a : Anchored). Tells m a (read_to t (i + 1)) ns) free tells in
     let unanchored = subst (λ (a : Anchored). IsLive m (is_anchored a) (read_to t (i + 1)) (Some (length (read_to t (i + 1))))) free live in
-    (omega arith, omega arith, read.later ∙ ending_from-split m asked.anchored t (i + 1) ns place tells ∙ ap (λ (xs : List Occurrence). xs ++ ending_from t (i + 1 + 1)) none ∙ ending_from-back m t (i + 1) ns there pairs says none unanchored)
+    (omega arith, omega arith, read.later ∙ ending_from-back m t (i + 1) there pairs unanchored)
 
 pub returns-then-is_start-clause-pays : goal.returns-then-is_start-clause-pays
 returns-then-is_start-clause-pays g c =

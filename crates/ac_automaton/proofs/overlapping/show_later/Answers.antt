@@ -8,7 +8,7 @@ use Rattle.ac_input.specs.Work.{scans_bytes}
 use Rattle.ac_automaton.specs.declared.overlapping.Reading.TheVariants.{Shows}
 use Rattle.ac_automaton.specs.Overlapping.{read_to, ending_from, walked, IsLeapCost, ShowsFirst}
 use Rattle.ac_automaton.proofs.OverlappingLemmas.{IsPlace}
-use Rattle.ac_automaton.proofs.LeapLemmas.{listing-fresh, pays-walk, pays-leaps, pays-both}
+use Rattle.ac_automaton.proofs.LeapLemmas.{ending_from-fresh, pays-walk, pays-leaps, pays-both}
 use Rattle.ac_automaton.proofs.overlapping.show_later.Goals as goal
 
 pub returns-in_default-clause-pays : goal.returns-in_default-clause-pays
@@ -36,7 +36,7 @@ returns-then-reached-clause-shows g c =
     let place : IsPlace m No (starting_at s at) at = record { by = (refl, refl); anchor = ap is_anchored free; standard = c.requires.standard; from = omega arith; to = c.requires.reached.within; inside = c.requires.reached.inside } in
     let ns = g.A.Automaton.entries c.args.automaton.now c.args.start in
     let tells = subst (λ (a : Anchored). Tells m a [] ns) free (g.met.A.Automaton.tells c.args.automaton.now asked.anchored [] c.args.start c.requires.starts) in
-    let left = listing-fresh m s at ns place tells c.in-Some.ensures.empty ∙ ap (λ (from : ℕ). ending_from (starting_at s from) (at + 1)) c.if-reached.true in
+    let left = sym (ending_from-fresh m s at ns place tells c.in-Some.ensures.empty) ∙ ap (λ (from : ℕ). ending_from (starting_at s from) (at + 1)) c.if-reached.true in
     subst (λ (xs : List Occurrence). ShowsFirst (g.A.Automaton.Reads c.args.automaton.now asked.anchored) (g.A.Automaton.entries c.args.automaton.now) m s xs c.read_by_leaps.result) left c.read_by_leaps.ensures.reads.0
 
 pub returns-then-reached-clause-pays : goal.returns-then-reached-clause-pays

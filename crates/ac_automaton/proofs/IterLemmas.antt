@@ -7,17 +7,15 @@ use Rattle.ac_input.specs.declared.search.MatchKind.{MatchKind}
 use Rattle.ac_input.specs.declared.search.MatchKind.TheVariants.{Standard}
 use Rattle.ac_input.specs.declared.steps.Steps.{Steps}
 use Rattle.ac_input.specs.Best.{IsBest, asked_kind}
-use Rattle.ac_input.specs.Candidate.{Filter}
-use Rattle.ac_input.specs.Input.{Asked, search_in}
-use Rattle.ac_input.specs.Machine.{Machine}
+use Rattle.ac_input.specs.Input.{Asked, search_of}
 use Rattle.ac_input.specs.Occurrence.{Search, Occurrence, Occurs, starting_at}
 use Rattle.ac_input.specs.Steps.{looked_of, scanned_of, moved_of}
 use Rattle.ac_input.specs.Walk.{Repeats, IsPick, Here, Further}
-use Rattle.ac_input.specs.Work.{IsFindWork, looks_each, over_at}
+use Rattle.ac_input.specs.Work.{IsFindWork, lookups_per_byte, over_at, shortest}
 use Rattle.ac_input.proofs.OrderLemmas.{occurs-end}
 use Rattle.ac_input.proofs.WalkLemmas.{walk_after-none, walk_after-some, walk_after-nothing}
-use Rattle.ac_automaton.specs.Automaton.{shortest}
-use Rattle.ac_automaton.specs.Iter.{Walk, walk_at, kind_of, searched, left_of, IsNextPick, GoesOn, IsPickWork}
+use Rattle.ac_automaton.specs.Automaton.{Built}
+use Rattle.ac_automaton.specs.Iter.{Walk, walk_at, kind_of, search_of_walk, left_of, IsNextPick, IsWalkAfter, IsPickWork, IsPickOf}
 
 -- where a search begins says nothing of the pick of a walk that stands at a place
 pub pick-wherever : (kind : MatchKind) (s : Search) (begun at : ℕ) (last : Option ℕ) (r : Option Occurrence) → IsPick kind s at last r → IsPick kind (starting_at s begun) at last r
@@ -25,9 +23,9 @@ pick-wherever kind s begun at last r (Here h n) = Here h n
 pick-wherever kind s begun at last r (Further b h rep k) = Further b h rep k
 
 -- the pick of the input that is left is the walk's next pick
-pub pick-of_walk : (m : Machine) (direct : Bool) (filter : Option Filter) (first : ℕ) (left : Asked) (last : Option ℕ) (sums : Steps) (w : Walk) (r : Option Occurrence) →
-    walk_at m direct filter first left last sums ≡ w → IsPick (asked_kind m.kind left.earliest) (search_in m left) left.span.start last r → IsNextPick w r
-pick-of_walk m direct filter first left last sums w r e h = subst (λ v. IsNextPick v r) e (pick-wherever (asked_kind m.kind left.earliest) (search_in m left) first left.span.start last r h)
+pub pick-of_walk : (b : Built) (first : ℕ) (left : Asked) (last : Option ℕ) (sums : Steps) (w : Walk) (r : Option Occurrence) →
+    walk_at b first left last sums ≡ w → IsPickOf b left last r → IsNextPick w r
+pick-of_walk b first left last sums w r e h = subst (λ v. IsNextPick v r) e (pick-wherever (asked_kind b.dictionary.kind left.earliest) (search_of b.dictionary left.anchored left.haystack left.span) first left.span.start last r h)
 
 -- nothing is found past the end of a span
 pub best-past : (kind : MatchKind) (s : Search) → s.end < s.start → IsBest kind s None
@@ -48,23 +46,23 @@ occurs-not_empty s o inside some h =
     omega arith
 
 -- what a find costs whose match repeats: nothing, as far as costs are counted up to its end
-pub record IsFree (kind : MatchKind) (by_bytes : Bool) (before after : Steps) : Type 0 where
+pub record IsFree (kind : MatchKind) (before after : Steps) : Type 0 where
   pub standard : kind ≡ Standard → looked_of after ≤ looked_of before
-  pub scanned : IsTrue by_bytes → scanned_of after ≤ scanned_of before
+  pub scanned : scanned_of after ≤ scanned_of before
   pub moved : moved_of after ≡ moved_of before
 
-pub repeat-free : (kind : MatchKind) (direct by_bytes : Bool) (s : Search) (last : Option ℕ) (r : Option Occurrence) (before after : Steps) → IfSome last (λ end. end ≤ s.start) → Repeats last r → IsFindWork kind direct by_bytes s r before after → IsFree kind by_bytes before after
-repeat-free kind direct by_bytes s None r before after le rep work = absurd rep
-repeat-free kind direct by_bytes s (Some l) None before after le rep work = absurd rep
-repeat-free kind direct by_bytes s (Some l) (Some o) before after le rep work =
+pub repeat-free : (kind : MatchKind) (deterministic : Bool) (s : Search) (last : Option ℕ) (r : Option Occurrence) (before after : Steps) → IfSome last (λ end. end ≤ s.start) → Repeats last r → IsFindWork kind deterministic s r before after → IsFree kind before after
+repeat-free kind deterministic s None r before after le rep work = absurd rep
+repeat-free kind deterministic s (Some l) None before after le rep work = absurd rep
+repeat-free kind deterministic s (Some l) (Some o) before after le rep work =
     let none : o.end - s.start ≡ 0 = let e = rep.1 in omega arith in
     record {
-      standard = λ k. let h = work.standard k in let z = ap (λ n. looks_each direct * n) none in omega arith;
-      scanned = λ b. let h = work.scanned b in omega arith;
+      standard = λ k. let h = work.standard k in let z = ap (λ n. lookups_per_byte deterministic * n) none in omega arith;
+      scanned = let h = work.scanned in omega arith;
       moved = work.moved;
     }
 
--- behind an empty best at the end of the span there is no pick
+-- after an empty best at the end of the span there is no pick
 pub pick-ended : (kind : MatchKind) (s : Search) (at : ℕ) (last : Option ℕ) (best : Option Occurrence) → s.end ≤ at → IsBest kind (starting_at s at) best → Repeats last best → IsPick kind s at last None
 pick-ended kind s at last best le h rep = Further best h rep (best-past kind (starting_at s (at + 1)) (omega arith))
 
@@ -80,31 +78,31 @@ repeat-empty kind s (Some l) None inside some h rep = rep
 repeat-empty kind s (Some l) (Some o) inside some h rep = let lt = occurs-not_empty s o inside some h.0 in let e = rep.0 in let d = rep.1 in omega arith
 
 -- the work of a pick that is not the best where the walk stands, but the best from one byte further on
-pub work-further : (kind : MatchKind) (direct by_bytes : Bool) (s : Search) (last : Option ℕ) (first r : Option Occurrence) (before between after : Steps) →
+pub work-further : (kind : MatchKind) (deterministic : Bool) (s : Search) (last : Option ℕ) (first r : Option Occurrence) (before between after : Steps) →
     s.end ≤ length s.haystack → IfSome last (λ end. end ≤ s.start) → IsBest kind s first → Repeats last first
-    → IsFindWork kind direct by_bytes s first before between → IsFindWork kind direct by_bytes (starting_at s (s.start + 1)) r between after
-    → IsPickWork kind direct by_bytes s s.start r before after
-work-further kind direct by_bytes s last first r before between after inside le best rep once twice =
-    let free = repeat-free kind direct by_bytes s last first before between le rep once in
+    → IsFindWork kind deterministic s first before between → IsFindWork kind deterministic (starting_at s (s.start + 1)) r between after
+    → IsPickWork kind deterministic s s.start r before after
+work-further kind deterministic s last first r before between after inside le best rep once twice =
+    let free = repeat-free kind deterministic s last first before between le rep once in
     let same = over-wherever s (s.start + 1) r in
     let less : over_at (starting_at s (s.start + 1)) r - (s.start + 1) ≤ over_at s r - s.start = omega arith in
     let shorter : s.end - (s.start + 1) ≤ s.end - s.start = omega arith in
     record {
-      looked = let a = once.looked in let b = twice.looked in omega (arith, mul-le-mul_left (looks_each direct) shorter);
-      standard = λ k. let a = free.standard k in let b = twice.standard k in omega (arith, mul-le-mul_left (looks_each direct) less);
+      looked = let a = once.looked in let b = twice.looked in omega (arith, mul-le-mul_left (lookups_per_byte deterministic) shorter);
+      standard = λ k. let a = free.standard k in let b = twice.standard k in omega (arith, mul-le-mul_left (lookups_per_byte deterministic) less);
       leftmost = λ some o is. absurd (repeat-empty kind s last first inside some best rep);
-      scanned = λ b. let a = free.scanned b in let d = twice.scanned b in omega arith;
+      scanned = let a = free.scanned in let d = twice.scanned in omega arith;
       moved = twice.moved ∙ free.moved;
     }
 
 -- What comes of the next pick: it is the first of those that were left, and the others are left behind it; where there is none,
 -- none was left, and none is.
-pub pick-yields : (w v : Walk) (r : Option Occurrence) → v.asked.span.end ≤ length v.asked.haystack → IsNextPick w r → GoesOn w r v → YieldsFirst left_of w r v
+pub pick-yields : (w v : Walk) (r : Option Occurrence) → v.asked.span.end ≤ length v.asked.haystack → IsNextPick w r → IsWalkAfter w r v → YieldsFirst left_of w r v
 pick-yields w v None inside h e = (
-  walk_after-none (kind_of w) (searched w) w.at w.last (rw e at inside) h,
-  ap left_of e ∙ walk_after-nothing (kind_of w) (searched w) (w.asked.span.end + 1) w.last (omega arith),
+  walk_after-none (kind_of w) (search_of_walk w) w.at w.last (rw e at inside) h,
+  ap left_of e ∙ walk_after-nothing (kind_of w) (search_of_walk w) (w.asked.span.end + 1) w.last (omega arith),
 )
-pick-yields w v (Some o) inside h e = walk_after-some (kind_of w) (searched w) w.at w.last o (rw e at inside) h ∙ ap (λ (x : Walk). o ∷ left_of x) (sym e)
+pick-yields w v (Some o) inside h e = walk_after-some (kind_of w) (search_of_walk w) w.at w.last o (rw e at inside) h ∙ ap (λ (x : Walk). o ∷ left_of x) (sym e)
 
 -- so a call leaves fewer than there were
 pub yields-progress : (w v : Walk) (r : Option Occurrence) → YieldsFirst left_of w r v → MakesProgress (λ _. Unit {0}) (item_count left_of) w r v

@@ -13,16 +13,15 @@ use Rattle.ac_input.specs.declared.search.Anchored.TheVariants.{No, Yes}
 use Rattle.ac_input.specs.declared.primitives.state_id.StateID.{StateID}
 use Rattle.ac_input.specs.declared.history.Count.{Count}
 use Rattle.ac_input.specs.declared.steps.Steps.{Steps}
-use Rattle.ac_input.specs.Candidate.{Filter}
 use Rattle.ac_input.specs.Occurrence.{Search, Occurrence, Occurs, starting_at}
 use Rattle.ac_input.specs.Computed.{listing_of}
 use Rattle.ac_input.specs.Input.{Asked, is_anchored, search_in}
 use Rattle.ac_input.specs.Listing.{IsRising, ListsAll}
 use Rattle.ac_input.specs.LiveLaws.{shifted, IsOwnInverse}
-use Rattle.ac_input.specs.Machine.{Machine, IsEntered, whole, IsSearchBy, IsLive, live_len}
+use Rattle.ac_input.specs.Dictionary.{Dictionary, IsEntered, whole, IsSearchBy, IsLive, live_len}
 use Rattle.ac_input.specs.Steps.{AreNone, Added, looked_of, scanned_of, moved_of}
 use Rattle.ac_input.specs.Tells.{ending, Tells, TellsUnanchored}
-use Rattle.ac_input.specs.Work.{IsStep, looks_each, scans_bytes}
+use Rattle.ac_input.specs.Work.{IsLookups, lookups_per_byte}
 use Rattle.ac_input.proofs.ContainsLemmas.{Contains-nil, Contains-head, Contains-tail, Contains-cases, Contains-filter, Contains-from_filter}
 use Rattle.ac_input.proofs.OrderLemmas.{occurrence_from_parts, slice_range-length, occurs-end}
 use Rattle.ac_input.proofs.RisingLemmas.{less_by_end, IsRising-filter, IsRising-append}
@@ -34,12 +33,15 @@ use Rattle.ac_input.proofs.StateLemmas.{standard-entered}
 use Rattle.ac_automaton.specs.declared.overlapping.OverlappingState.{OverlappingState}
 use Rattle.ac_automaton.specs.declared.overlapping.Place.{Place}
 use Rattle.ac_automaton.specs.declared.overlapping.Place.TheVariants.{At, Over}
-use Rattle.ac_automaton.specs.declared.overlapping.Reached.{Reached}
-use Rattle.ac_automaton.specs.declared.overlapping.Reading.TheVariants.{Shows, Back}
+use Rattle.ac_automaton.specs.declared.cursor.Cursor.{Cursor}
+use Rattle.ac_automaton.specs.declared.cursor.End.TheVariants.{Found, Idle}
 use Rattle.ac_automaton.specs.declared.overlapping.Shown.{Shown}
-use Rattle.ac_automaton.specs.Overlapping.{ending_from, read_to, counts, counted_from, told_from, lying_to, walked, come_to, TellsFirst, IsReached, IsLeft, ShowsFirst, IsPaidTo, IsPaidAt, IsPaid, IsPaidBy, IsScannedTo, GoesOnPaying, OnlyLooked, StandsAt, CameFrom, IsFresh, IsOverlappingWork, shown_of, sums_of}
+use Rattle.ac_automaton.specs.Overlapping.{ending_from, counts, counted_from, told_from, come_to, TellsFirst, IsLeft, ShowsFirst, IsPaidTo, IsPaidAt, IsPaid, IsPaidBy, IsScannedTo, KeepsBudget, OnlyLooked, StandsAt, CameFrom, IsFreshState, IsOverlappingWork, IsOverlappingCost, shown_of, sums_of}
+use Rattle.ac_automaton.specs.Cursor.{read_to, ending_at, walked, IsCursor, IsQuiet, HasReadOn}
+use Rattle.ac_automaton.specs.Automaton.{Built, searched}
+use Rattle.ac_automaton.proofs.CursorLemmas.{slice_range-split}
 
--- ---- entries
+-- ---- matches
 
 -- a list from the index of an element on is that element and the rest
 drop-slice_get : (xs : List ℕ) (i x : ℕ) → slice_get xs i ≡ Some x → drop i xs ≡ x ∷ drop (i + 1) xs
@@ -58,17 +60,17 @@ cond-left_out true x xs e = absurd (false≢true (sym e))
 cond-left_out false x xs e = refl
 
 -- an entry that counts is the next one
-pub counted-here : (m : Machine) (anchored : Bool) (read : ℕ) (ns : List ℕ) (index n : ℕ) → slice_get ns index ≡ Some n → counts m anchored read n ≡ true → counted_from m anchored read ns index ≡ n ∷ counted_from m anchored read ns (index + 1)
+pub counted-here : (m : Dictionary) (anchored : Bool) (read : ℕ) (ns : List ℕ) (index n : ℕ) → slice_get ns index ≡ Some n → counts m anchored read n ≡ true → counted_from m anchored read ns index ≡ n ∷ counted_from m anchored read ns (index + 1)
 counted-here m anchored read ns index n is counted =
     ap (filter (counts m anchored read)) (drop-slice_get ns index n is) ∙ cond-kept (counts m anchored read n) n (counted_from m anchored read ns (index + 1)) counted
 
 -- one that doesn't is passed over
-pub counted-skip : (m : Machine) (anchored : Bool) (read : ℕ) (ns : List ℕ) (index n : ℕ) → slice_get ns index ≡ Some n → counts m anchored read n ≡ false → counted_from m anchored read ns index ≡ counted_from m anchored read ns (index + 1)
+pub counted-skip : (m : Dictionary) (anchored : Bool) (read : ℕ) (ns : List ℕ) (index n : ℕ) → slice_get ns index ≡ Some n → counts m anchored read n ≡ false → counted_from m anchored read ns index ≡ counted_from m anchored read ns (index + 1)
 counted-skip m anchored read ns index n is counted =
     ap (filter (counts m anchored read)) (drop-slice_get ns index n is) ∙ cond-left_out (counts m anchored read n) n (counted_from m anchored read ns (index + 1)) counted
 
 -- behind the last entry none counts
-pub counted-past : (m : Machine) (anchored : Bool) (read : ℕ) (ns : List ℕ) (index : ℕ) → length ns ≤ index → counted_from m anchored read ns index ≡ []
+pub counted-past : (m : Dictionary) (anchored : Bool) (read : ℕ) (ns : List ℕ) (index : ℕ) → length ns ≤ index → counted_from m anchored read ns index ≡ []
 counted-past m anchored read ns index past = ap (filter (counts m anchored read)) (drop_of_length-le ns past)
 
 -- a list that isn't other than empty is empty
@@ -84,7 +86,7 @@ Contains-from_drop (x ∷ xs) zero n c = c
 Contains-from_drop (x ∷ xs) (suc index) n c = Contains-tail x xs n (Contains-from_drop xs index n c)
 
 -- what counts from an index on counts in the whole list
-counted-whole : (m : Machine) (anchored : Bool) (read : ℕ) (ns : List ℕ) (index n : ℕ) → Contains (counted_from m anchored read ns index) n → Contains (counted_from m anchored read ns 0) n
+counted-whole : (m : Dictionary) (anchored : Bool) (read : ℕ) (ns : List ℕ) (index n : ℕ) → Contains (counted_from m anchored read ns index) n → Contains (counted_from m anchored read ns 0) n
 counted-whole m anchored read ns index n c =
     let kept = Contains-from_filter (counts m anchored read) (drop index ns) n c in
     Contains-filter (counts m anchored read) ns n (Contains-from_drop ns index n kept.0) kept.1
@@ -173,18 +175,6 @@ ending_from-end s at inside past = ending_from-none s at inside (λ o h le. let 
 pub read_to-length : (s : Search) (at : ℕ) → s.start ≤ at → at ≤ s.end → s.end ≤ length s.haystack → length (read_to s at) ≡ at - s.start
 read_to-length s at g h inside = slice_range-length s.haystack s.start at g (omega arith)
 
--- a part of a text is its front and the rest
-pub slice_range-split : (x : List ℕ) (from at to : ℕ) → from ≤ at → at ≤ to → slice_range x from to ≡ slice_range x from at ++ slice_range x at to
-slice_range-split x from at to g h =
-    let i : ℕ = at - from in
-    let n : ℕ = to - at in
-    let e : to - from ≡ i + n = omega arith in
-    let j : from + i ≡ at = omega arith in
-    let rest = drop from x in
-    ap (λ (k : ℕ). take k rest) e
-    ∙ sym (take-append-drop i (take (i + n) rest))
-    ∙ ap₂ (λ (a b : List ℕ). a ++ b) (take-take i (i + n) rest (omega arith)) (drop-take i n rest ∙ ap (take n) (drop-drop i from x ∙ ap (λ (k : ℕ). drop k x) j))
-
 -- one byte more
 pub read_to-more : (s : Search) (at : ℕ) → s.start ≤ at → at < s.end → s.end ≤ length s.haystack → read_to s (at + 1) ≡ read_to s at ++ get_or s.haystack at 0 ∷ []
 read_to-more s at g h inside =
@@ -203,8 +193,8 @@ filter-all : (ns : List ℕ) → filter (λ (n : ℕ). true) ns ≡ ns
 filter-all [] = refl
 filter-all (n ∷ ns) = ap (λ (rest : List ℕ). n ∷ rest) (filter-all ns)
 
--- Under the standard kind the entries that count are those patterns that the text ends in, in order.
-tells-lists : (m : Machine) (anchored : Anchored) (text ns : List ℕ) → m.kind ≡ Standard → Tells m anchored text ns
+-- Under the standard kind the matches that count are those patterns that the text ends in, in order.
+tells-lists : (m : Dictionary) (anchored : Anchored) (text ns : List ℕ) → m.kind ≡ Standard → Tells m anchored text ns
     → ListsAll (λ o. Occurs (whole m text (is_anchored anchored)) o × (o.end ≡ length text)) (map (ending m text) (filter (counts m (is_anchored anchored) (length text)) ns))
 tells-lists m No text ns standard h =
     let told : ListsAll (λ o. Occurs (whole m text false) o × (o.end ≡ length text)) (map (ending m text) ns) = subst (λ (kind : MatchKind). TellsUnanchored kind m text ns) standard h in
@@ -215,8 +205,8 @@ tells-lists m Yes text ns standard h =
     (λ o. (λ k. (k.0, k.1), λ k. (k.0, k.1, (k.0.same.0, standard-entered m o.pattern k.0.same.0 standard k.0.same.1))))
     h
 
--- what a lemma on a place needs: the search is the machine's, lies in the haystack, and the place lies in the span
-pub record IsPlace (m : Machine) (anchored : Anchored) (s : Search) (at : ℕ) : Type 0 where
+-- what a lemma on a place needs: the search is the dictionary's, lies in the haystack, and the place lies in the span
+pub record IsPlace (m : Dictionary) (anchored : Anchored) (s : Search) (at : ℕ) : Type 0 where
   pub by : IsSearchBy m s
   pub anchor : s.anchored ≡ is_anchored anchored
   pub standard : m.kind ≡ Standard
@@ -225,11 +215,11 @@ pub record IsPlace (m : Machine) (anchored : Anchored) (s : Search) (at : ℕ) :
   pub inside : s.end ≤ length s.haystack
 
 -- it is the place where a walk stands
-pub place_of-reached : (Reads : List ℕ → StateID → Type 0) (m : Machine) (asked : Asked) (reached : Reached) → m.kind ≡ Standard → IsReached Reads (search_in m asked) reached → IsPlace m asked.anchored (walked (search_in m asked) reached) reached.at
-place_of-reached Reads m asked reached standard h = record { by = (refl, refl); anchor = refl; standard = standard; from = h.ordered; to = h.within; inside = h.inside }
+pub place_of-cursor : (Reads : List ℕ → StateID → Type 0) (m : Dictionary) (asked : Asked) (cursor : Cursor) → m.kind ≡ Standard → IsCursor Reads (search_in m asked) cursor → IsPlace m asked.anchored (walked (search_in m asked) cursor) cursor.at
+place_of-cursor Reads m asked cursor standard h = record { by = (refl, refl); anchor = refl; standard = standard; from = h.ordered; to = h.within; inside = h.inside }
 
 -- what a state tells at a place is all that ends there
-pub told-lists : (m : Machine) (anchored : Anchored) (s : Search) (at : ℕ) (ns : List ℕ) → IsPlace m anchored s at → Tells m anchored (read_to s at) ns → ListsAll (λ o. Occurs s o × (o.end ≡ at)) (told_from m s at ns 0)
+pub told-lists : (m : Dictionary) (anchored : Anchored) (s : Search) (at : ℕ) (ns : List ℕ) → IsPlace m anchored s at → Tells m anchored (read_to s at) ns → ListsAll (λ o. Occurs s o × (o.end ≡ at)) (told_from m s at ns 0)
 told-lists m anchored s at ns is h =
     let w = read_to s at in
     let long : length w ≡ at - s.start = read_to-length s at is.from is.to is.inside in
@@ -246,7 +236,7 @@ told-lists m anchored s at ns is h =
     inner
 
 -- what ends from a place on is what the state there tells, and what ends later
-pub ending_from-split : (m : Machine) (anchored : Anchored) (s : Search) (at : ℕ) (ns : List ℕ) → IsPlace m anchored s at → Tells m anchored (read_to s at) ns → ending_from s at ≡ told_from m s at ns 0 ++ ending_from s (at + 1)
+pub ending_from-split : (m : Dictionary) (anchored : Anchored) (s : Search) (at : ℕ) (ns : List ℕ) → IsPlace m anchored s at → Tells m anchored (read_to s at) ns → ending_from s at ≡ told_from m s at ns 0 ++ ending_from s (at + 1)
 ending_from-split m anchored s at ns is h =
     let told = told-lists m anchored s at ns is h in
     let later = ending_from-lists s (at + 1) is.inside in
@@ -265,7 +255,7 @@ ending_from-split m anchored s at ns is h =
     )
 
 -- Under the standard kind nothing ends behind a dead text, nor at its end.
-dead-over : (m : Machine) (anchored : Bool) (text more : List ℕ) (o : Occurrence) → IsOwnInverse m.pairing → m.kind ≡ Standard → IsLive m anchored text None → Occurs (whole m (text ++ more) anchored) o → length text ≤ o.end → ⊥
+dead-over : (m : Dictionary) (anchored : Bool) (text more : List ℕ) (o : Occurrence) → IsOwnInverse m.pairing → m.kind ≡ Standard → IsLive m anchored text None → Occurs (whole m (text ++ more) anchored) o → length text ≤ o.end → ⊥
 dead-over m true text more o inverse standard dead h past =
     let first : o.start ≡ 0 = h.anchor refl in
     let inside : o.start ≤ length text = omega arith in
@@ -278,7 +268,7 @@ dead-over m true text more o inverse standard dead h past =
 dead-over m false text more o inverse standard dead h past = (dead-best m text dead).0 standard
 
 -- where the text that was read is dead, nothing is left that ends there or later
-pub ending_from-dead : (m : Machine) (anchored : Anchored) (s : Search) (at : ℕ) → IsPlace m anchored s at → IsOwnInverse m.pairing → IsLive m (is_anchored anchored) (read_to s at) None → ending_from s at ≡ []
+pub ending_from-dead : (m : Dictionary) (anchored : Anchored) (s : Search) (at : ℕ) → IsPlace m anchored s at → IsOwnInverse m.pairing → IsLive m (is_anchored anchored) (read_to s at) None → ending_from s at ≡ []
 ending_from-dead m anchored s at is inverse dead =
     let g = is.from in
     let l = is.to in
@@ -291,9 +281,9 @@ ending_from-dead m anchored s at is inverse dead =
     dead-over m s.anchored (read_to s at) (slice_range s.haystack at s.end) (back_by s.start o) inverse is.standard here occurs (omega arith))
 
 -- an entry that counts is no longer than what was read, and lies at the end of it
-pub entry-lies : (m : Machine) (anchored : Anchored) (s : Search) (at : ℕ) (ns : List ℕ) (index n : ℕ) → IsPlace m anchored s at → Tells m anchored (read_to s at) ns
+pub entry-lies : (m : Dictionary) (anchored : Anchored) (s : Search) (at : ℕ) (ns : List ℕ) (index n : ℕ) → IsPlace m anchored s at → Tells m anchored (read_to s at) ns
     → Contains (counted_from m s.anchored (at - s.start) ns index) n
-    → (length (get_or m.patterns n []) ≤ at - s.start) × (shifted s.start (ending m (read_to s at) n) ≡ lying_to m at n)
+    → (length (get_or m.patterns n []) ≤ at - s.start) × (shifted s.start (ending m (read_to s at) n) ≡ ending_at m at n)
 entry-lies m anchored s at ns index n is h c =
     let g = is.from in
     let w = read_to s at in
@@ -307,13 +297,13 @@ entry-lies m anchored s at ns index n is h c =
     let k : length (get_or m.patterns n []) ≡ length end.0 = ap length same in
     let e : s.start + length w ≡ s.start + (length w - length (get_or m.patterns n [])) + length end.0 = end.2 in (
       omega arith,
-      occurrence_from_parts (shifted s.start (ending m w n)) (lying_to m at n) refl (omega arith) (omega arith),
+      occurrence_from_parts (shifted s.start (ending m w n)) (ending_at m at n) refl (omega arith) (omega arith),
     )
 
 -- so it is the first of what is told from its index on
-pub told_from-entry : (m : Machine) (anchored : Anchored) (s : Search) (at : ℕ) (ns : List ℕ) (index n next : ℕ) → IsPlace m anchored s at → Tells m anchored (read_to s at) ns
+pub told_from-entry : (m : Dictionary) (anchored : Anchored) (s : Search) (at : ℕ) (ns : List ℕ) (index n next : ℕ) → IsPlace m anchored s at → Tells m anchored (read_to s at) ns
     → counted_from m s.anchored (at - s.start) ns index ≡ n ∷ counted_from m s.anchored (at - s.start) ns next
-    → (length (get_or m.patterns n []) ≤ at - s.start) × (told_from m s at ns index ≡ lying_to m at n ∷ told_from m s at ns next)
+    → (length (get_or m.patterns n []) ≤ at - s.start) × (told_from m s at ns index ≡ ending_at m at n ∷ told_from m s at ns next)
 told_from-entry m anchored s at ns index n next is h e =
     let c = subst (λ (ns' : List ℕ). Contains ns' n) (sym e) (Contains-head n (counted_from m s.anchored (at - s.start) ns next)) in
     let lies = entry-lies m anchored s at ns index n is h c in (
@@ -322,7 +312,7 @@ told_from-entry m anchored s at ns index n next is h e =
     )
 
 -- where no entry counts from an index on, nothing is told
-pub told_from-none : (m : Machine) (s : Search) (at : ℕ) (ns : List ℕ) (index : ℕ) → counted_from m s.anchored (at - s.start) ns index ≡ [] → told_from m s at ns index ≡ []
+pub told_from-none : (m : Dictionary) (s : Search) (at : ℕ) (ns : List ℕ) (index : ℕ) → counted_from m s.anchored (at - s.start) ns index ≡ [] → told_from m s at ns index ≡ []
 told_from-none m s at ns index e = ap (λ (xs : List ℕ). map (shifted s.start) (map (ending m (read_to s at)) xs)) e
 
 -- ---- what is paid
@@ -333,7 +323,7 @@ live_len-within text None = omega arith
 live_len-within text (Some from) = omega arith
 
 -- where a walk begins that has read nothing yet
-pub paid-start : (m : Machine) (direct : Bool) (s : Search) (at looks : ℕ) → s.start ≤ at → at ≤ s.end → s.end ≤ length s.haystack → IsPaidTo direct s at looks → IsPaidAt m direct s at at looks
+pub paid-start : (m : Dictionary) (deterministic : Bool) (s : Search) (at looks : ℕ) → s.start ≤ at → at ≤ s.end → s.end ≤ length s.haystack → IsPaidTo deterministic s at looks → IsPaidAt m deterministic s at at looks
 paid-start m true s at looks g h inside paid live is =
     let long = read_to-length (starting_at s at) at (omega arith) h inside in
     let within = live_len-within (read_to (starting_at s at) at) live in
@@ -343,98 +333,125 @@ paid-start m false s at looks g h inside paid live is =
     let within = live_len-within (read_to (starting_at s at) at) live in
     (omega arith, λ d. absurd (false≢true d))
 
--- one more byte pays for its step
-pub paid-step : (m : Machine) (direct : Bool) (s : Search) (from at looks more : ℕ) (before after : Steps) (byte : ℕ) → s.start ≤ from → from ≤ at
-    → read_to (starting_at s from) (at + 1) ≡ read_to (starting_at s from) at ++ byte ∷ []
+-- so many bytes more pay for themselves
+pub paid-on : (m : Dictionary) (deterministic : Bool) (s : Search) (from at to looks more : ℕ) (before after : Steps) → s.start ≤ from → from ≤ at → at ≤ to
     → ((live : Option ℕ) × IsLive m s.anchored (read_to (starting_at s from) at) live)
-    → ((live live_after : Option ℕ) → IsLive m s.anchored (read_to (starting_at s from) at) live → IsLive m s.anchored (read_to (starting_at s from) at ++ byte ∷ []) live_after → IsStep direct (live_len (read_to (starting_at s from) at) live) (live_len (read_to (starting_at s from) at ++ byte ∷ []) live_after) before after)
+    → ((live live_after : Option ℕ) → IsLive m s.anchored (read_to (starting_at s from) at) live → IsLive m s.anchored (read_to (starting_at s from) to) live_after → IsLookups deterministic (to - at) (live_len (read_to (starting_at s from) at) live) (live_len (read_to (starting_at s from) to) live_after) before after)
     → looks + looked_of after ≡ more + looked_of before
-    → IsPaidAt m direct s from at looks
-    → IsPaidAt m direct s from (at + 1) more
-paid-step m direct s from at looks more before after byte g h text had step counted paid live_after is =
-    let t = starting_at s from in
-    let same : live_len (read_to t (at + 1)) live_after ≡ live_len (read_to t at ++ byte ∷ []) live_after = ap (λ (w : List ℕ). live_len w live_after) text in
-    let done = step had.0 live_after had.1 (subst (λ (w : List ℕ). IsLive m s.anchored w live_after) text is) in
+    → IsPaidAt m deterministic s from at looks
+    → IsPaidAt m deterministic s from to more
+paid-on m deterministic s from at to looks more before after g h k had cost counted paid live_after is =
+    let done = cost had.0 live_after had.1 is in
     let bound = done.bound in
     let p = paid had.0 had.1 in
     let p0 = p.0 in
     (omega arith, λ d. let one = done.one d in let all = p.1 d in omega arith)
 
 -- what is paid for where a walk stands is paid for up to any further place
-pub paid-to : (m : Machine) (direct : Bool) (s : Search) (from at to looks : ℕ) → s.start ≤ at → at ≤ to → ((live : Option ℕ) × IsLive m s.anchored (read_to (starting_at s from) at) live) → IsPaidAt m direct s from at looks → IsPaidTo direct s to looks
+pub paid-to : (m : Dictionary) (deterministic : Bool) (s : Search) (from at to looks : ℕ) → s.start ≤ at → at ≤ to → ((live : Option ℕ) × IsLive m s.anchored (read_to (starting_at s from) at) live) → IsPaidAt m deterministic s from at looks → IsPaidTo deterministic s to looks
 paid-to m true s from at to looks g h had paid = let all = (paid had.0 had.1).1 refl in omega arith
 paid-to m false s from at to looks g h had paid = let bound = (paid had.0 had.1).0 in omega arith
 
 -- ---- reading on
 
 -- where nothing is left, nothing is shown, and the search is over
-pub shows-none : (Reads : List ℕ → StateID → Type 0) (entries : StateID → List ℕ) (m : Machine) (s : Search) (left : List Occurrence) (r : Shown) → left ≡ [] → r.found ≡ None → r.place ≡ Over → ShowsFirst Reads entries m s left r
-shows-none Reads entries m s left r none found place =
+pub shows-none : (Reads : List ℕ → StateID → Type 0) (matches : StateID → List ℕ) (m : Dictionary) (s : Search) (left : List Occurrence) (r : Shown) → left ≡ [] → r.found ≡ None → r.place ≡ Over → ShowsFirst Reads matches m s left r
+shows-none Reads matches m s left r none found place =
     let all : (None ≡ slice_get left 0) × (drop 1 left ≡ []) = subst (λ (xs : List Occurrence). (None ≡ slice_get xs 0) × (drop 1 xs ≡ [])) (sym none) (refl, refl) in
-    (found ∙ all.0, subst (λ (p : Place). IsLeft Reads entries m s p (drop 1 left)) (sym place) all.1)
+    (found ∙ all.0, subst (λ (p : Place). IsLeft Reads matches m s p (drop 1 left)) (sym place) all.1)
 
 -- what a state tells first is the first that is left
-pub shows-some : (Reads : List ℕ → StateID → Type 0) (entries : StateID → List ℕ) (m : Machine) (s : Search) (left : List Occurrence) (reached : Reached) (index : ℕ) (r : Shown)
-    → IsReached Reads s reached
-    → left ≡ told_from m (walked s reached) reached.at (entries reached.sid) index ++ ending_from (walked s reached) (reached.at + 1)
-    → TellsFirst entries m s reached index (Some r) → ShowsFirst Reads entries m s left r
-shows-some Reads entries m s left reached index r reads e (o, next, found, place, told) =
-    let t = walked s reached in
-    let at : ℕ = reached.at in
-    let rest : List Occurrence = told_from m t at (entries reached.sid) next ++ ending_from t (at + 1) in
+pub shows-some : (Reads : List ℕ → StateID → Type 0) (matches : StateID → List ℕ) (m : Dictionary) (s : Search) (left : List Occurrence) (cursor : Cursor) (index : ℕ) (r : Shown)
+    → IsCursor Reads s cursor
+    → left ≡ told_from m (walked s cursor) cursor.at (matches cursor.sid) index ++ ending_from (walked s cursor) (cursor.at + 1)
+    → TellsFirst matches m s cursor index (Some r) → ShowsFirst Reads matches m s left r
+shows-some Reads matches m s left cursor index r reads e (o, next, found, place, told) =
+    let t = walked s cursor in
+    let at : ℕ = cursor.at in
+    let rest : List Occurrence = told_from m t at (matches cursor.sid) next ++ ending_from t (at + 1) in
     let is : left ≡ o ∷ rest = e ∙ ap (λ (xs : List Occurrence). xs ++ ending_from t (at + 1)) told in
     let all : (Some o ≡ slice_get left 0) × (drop 1 left ≡ rest) = subst (λ (xs : List Occurrence). (Some o ≡ slice_get xs 0) × (drop 1 xs ≡ rest)) (sym is) (refl, refl) in
-    (found ∙ all.0, subst (λ (p : Place). IsLeft Reads entries m s p (drop 1 left)) (sym place) (reads, all.1))
+    (found ∙ all.0, subst (λ (p : Place). IsLeft Reads matches m s p (drop 1 left)) (sym place) (reads, all.1))
 
 -- A walk that began at one place stood at another, and has read on to a further one. What ends behind the second ends from
 -- `next` on, and the looks are paid for.
-pub record HasReadOn (Reads : List ℕ → StateID → Type 0) (m : Machine) (direct : Bool) (s : Search) (from at i next : ℕ) (sid : StateID) (before after : Steps) : Type 0 where
+pub record HasWalkedOn (Reads : List ℕ → StateID → Type 0) (m : Dictionary) (deterministic : Bool) (s : Search) (from at i next : ℕ) (sid : StateID) (before after : Steps) : Type 0 where
   pub reads : Reads (read_to (starting_at s from) i) sid
   pub later : ending_from (starting_at s from) (at + 1) ≡ ending_from (starting_at s from) next
-  pub pays : (looks more : ℕ) → IsPaidAt m direct s from at looks → looks + looked_of after ≡ more + looked_of before → IsPaidAt m direct s from i more
+  pub pays : (looks more : ℕ) → IsPaidAt m deterministic s from at looks → looks + looked_of after ≡ more + looked_of before → IsPaidAt m deterministic s from i more
   pub only : OnlyLooked before after
 
 -- at first nothing was read
-pub read_on-start : (Reads : List ℕ → StateID → Type 0) (m : Machine) (direct : Bool) (s : Search) (from at : ℕ) (sid : StateID) (steps : Steps) → Reads (read_to (starting_at s from) at) sid → HasReadOn Reads m direct s from at at (at + 1) sid steps steps
-read_on-start Reads m direct s from at sid steps reads =
+pub read_on-start : (Reads : List ℕ → StateID → Type 0) (m : Dictionary) (deterministic : Bool) (s : Search) (from at : ℕ) (sid : StateID) (steps : Steps) → Reads (read_to (starting_at s from) at) sid → HasWalkedOn Reads m deterministic s from at at (at + 1) sid steps steps
+read_on-start Reads m deterministic s from at sid steps reads =
     record {
       reads = reads;
       later = refl;
-      pays = λ looks more paid e. let same : looks ≡ more = omega arith in subst (IsPaidAt m direct s from at) same paid;
+      pays = λ looks more paid e. let same : looks ≡ more = omega arith in subst (IsPaidAt m deterministic s from at) same paid;
       only = record { rose = omega arith; scanned = refl; moved = refl };
     }
 
--- one more byte
-pub read_on-byte : (Reads : List ℕ → StateID → Type 0) (m : Machine) (direct : Bool) (s : Search) (from at i : ℕ) (sid after_byte : StateID) (before mid after : Steps) (byte : ℕ)
-    → s.start ≤ from → from ≤ i → i < s.end → s.end ≤ length s.haystack → byte ≡ get_or s.haystack i 0
-    → ((text : List ℕ) (state : StateID) → Reads text state → (live : Option ℕ) × IsLive m s.anchored text live)
-    → ((text : List ℕ) → Reads text sid → Reads (text ++ byte ∷ []) after_byte)
-    → ((text : List ℕ) (live live_after : Option ℕ) → Reads text sid → IsLive m s.anchored text live → IsLive m s.anchored (text ++ byte ∷ []) live_after → IsStep direct (live_len text live) (live_len (text ++ byte ∷ []) live_after) mid after)
-    → HasReadOn Reads m direct s from at i (i + 1) sid before mid → HasReadOn Reads m direct s from at (i + 1) (i + 1) after_byte before after
-read_on-byte Reads m direct s from at i sid after_byte before mid after byte f g h inside is lives next step read =
+-- a state with no matches tells nothing
+pub told_from-empty : (m : Dictionary) (s : Search) (at : ℕ) (ns : List ℕ) → ns ≡ [] → told_from m s at ns 0 ≡ []
+told_from-empty m s at ns none = told_from-none m s at ns 0 (counted-past m s.anchored (at - s.start) ns 0 (omega (arith, ap length none)))
+
+-- What ends after a place is what ends at a further one or later, where nothing is told in between.
+ending_from-quiet : (m : Dictionary) (anchored : Anchored) (t : Search) (i bytes : ℕ) → IsPlace m anchored t i → i + 1 + bytes ≤ t.end + 1
+    → ((k : ℕ) → i < k → k < i + 1 + bytes → IsQuiet m anchored (read_to t k))
+    → ending_from t (i + 1) ≡ ending_from t (i + 1 + bytes)
+ending_from-quiet m anchored t i zero is le quiet = let e : i + 1 + 0 ≡ i + 1 = omega arith in ap (ending_from t) (sym e)
+ending_from-quiet m anchored t i (suc bytes) is le quiet =
+    let first = ending_from-quiet m anchored t i bytes is (omega arith) (λ k lt below. quiet k lt (omega arith)) in
+    let at : ℕ = i + 1 + bytes in
+    let g = is.from in
+    let here : IsPlace m anchored t at = record { by = is.by; anchor = is.anchor; standard = is.standard; from = omega arith; to = omega arith; inside = is.inside } in
+    let told = ending_from-split m anchored t at [] here (quiet at (omega arith) (omega arith)).nothing in
+    let none = told_from-empty m t at [] refl in
+    let next : at + 1 ≡ i + 1 + suc bytes = omega arith in
+    first ∙ told ∙ ap (λ (xs : List Occurrence). xs ++ ending_from t (at + 1)) none ∙ ap (ending_from t) next
+
+-- on to the next state that is asked
+pub walked_on-further : (Reads : List ℕ → StateID → Type 0) (b : Built) (anchored : Anchored) (s : Search) (from at : ℕ) (cursor next : Cursor) (before mid after : Steps)
+    → IsPlace b.dictionary anchored (starting_at s from) cursor.at → s.start ≤ from → cursor.from ≡ from → is_anchored anchored ≡ s.anchored
+    → IsCursor Reads s next → next.from ≡ from
+    → ((text : List ℕ) (state : StateID) → Reads text state → (live : Option ℕ) × IsLive b.dictionary s.anchored text live)
+    → HasReadOn b anchored s cursor next mid after
+    → HasWalkedOn Reads b.dictionary b.deterministic s from at cursor.at (cursor.at + 1) cursor.sid before mid
+    → HasWalkedOn Reads b.dictionary b.deterministic s from at next.at next.at next.sid before after
+walked_on-further Reads b anchored s from at cursor next before mid after place behind begun free stands same lives on had =
+    let m = b.dictionary in
     let t = starting_at s from in
-    let text : read_to t (i + 1) ≡ read_to t i ++ byte ∷ [] = read_to-more t i g h inside ∙ ap (λ (b : ℕ). read_to t i ++ b ∷ []) (sym is) in
-    let reads : Reads (read_to t i ++ byte ∷ []) after_byte = next (read_to t i) read.reads in
-    let live = lives (read_to t i) sid read.reads in
-    let live_after = lives (read_to t i ++ byte ∷ []) after_byte reads in
-    let done = step (read_to t i) live.0 live_after.0 read.reads live.1 live_after.1 in
+    let lt = on.further in
+    let within = stands.within in
+    let ordered = place.from in
+    let quiet : (k : ℕ) → cursor.at < k → k < next.at → IsQuiet m anchored (read_to t k) = λ k after_it below. subst (λ (f : ℕ). IsQuiet m anchored (read_to (starting_at s f) k)) begun (on.quiet k after_it below) in
+    let bytes : ℕ = next.at - cursor.at - 1 in
+    let to : cursor.at + 1 + bytes ≡ next.at = omega arith in
+    let later = ending_from-quiet m anchored t cursor.at bytes place (omega arith) (λ k after_it below. quiet k after_it (omega arith)) ∙ ap (ending_from t) to in
+    let cost : (live live_after : Option ℕ) → IsLive m s.anchored (read_to t cursor.at) live → IsLive m s.anchored (read_to t next.at) live_after → IsLookups b.deterministic (next.at - cursor.at) (live_len (read_to t cursor.at) live) (live_len (read_to t next.at) live_after) mid after =
+    subst (λ (f : ℕ). (live live_after : Option ℕ) → IsLive m s.anchored (read_to (starting_at s f) cursor.at) live → IsLive m s.anchored (read_to (starting_at s f) next.at) live_after → IsLookups b.deterministic (next.at - cursor.at) (live_len (read_to (starting_at s f) cursor.at) live) (live_len (read_to (starting_at s f) next.at) live_after) mid after) begun
+    (subst (λ (a : Bool). (live live_after : Option ℕ) → IsLive m a (read_to (starting_at s cursor.from) cursor.at) live → IsLive m a (read_to (starting_at s cursor.from) next.at) live_after → IsLookups b.deterministic (next.at - cursor.at) (live_len (read_to (starting_at s cursor.from) cursor.at) live) (live_len (read_to (starting_at s cursor.from) next.at) live_after) mid after) free on.lookups) in
+    let reads : Reads (read_to t next.at) next.sid = subst (λ (f : ℕ). Reads (read_to (starting_at s f) next.at) next.sid) same stands.reads in
+    let live = lives (read_to t cursor.at) cursor.sid had.reads in
+    let live_after = lives (read_to t next.at) next.sid reads in
+    let done = cost live.0 live_after.0 live.1 live_after.1 in
     let some = done.some in
-    let rose = read.only.rose in
+    let rose = had.only.rose in
     record {
-      reads = subst (λ (w : List ℕ). Reads w after_byte) (sym text) reads;
-      later = read.later;
+      reads = reads;
+      later = had.later ∙ later;
       pays = λ looks more paid e.
           let between : ℕ = looks + looked_of mid - looked_of before in
           let first : looks + looked_of mid ≡ between + looked_of before = omega arith in
-          paid-step m direct s from i between more mid after byte f g text live (λ l k here there. step (read_to t i) l k read.reads here there) (omega arith) (read.pays looks between paid first);
-      only = record { rose = omega arith; scanned = done.scanned ∙ read.only.scanned; moved = done.moved ∙ read.only.moved };
+          paid-on m b.deterministic s from cursor.at next.at between more mid after behind ordered (omega arith) live cost (omega arith) (had.pays looks between paid first);
+      only = record { rose = omega arith; scanned = done.scanned ∙ had.only.scanned; moved = done.moved ∙ had.only.moved };
     }
 
 -- a place where nothing is told is behind the search
-pub read_on-settled : (Reads : List ℕ → StateID → Type 0) (m : Machine) (direct : Bool) (anchored : Anchored) (s : Search) (from at i : ℕ) (ns : List ℕ) (sid : StateID) (before after : Steps)
+pub read_on-settled : (Reads : List ℕ → StateID → Type 0) (m : Dictionary) (deterministic : Bool) (anchored : Anchored) (s : Search) (from at i : ℕ) (ns : List ℕ) (sid : StateID) (before after : Steps)
     → IsPlace m anchored (starting_at s from) i → Tells m anchored (read_to (starting_at s from) i) ns → told_from m (starting_at s from) i ns 0 ≡ []
-    → HasReadOn Reads m direct s from at i i sid before after → HasReadOn Reads m direct s from at i (i + 1) sid before after
-read_on-settled Reads m direct anchored s from at i ns sid before after is tells none read =
+    → HasWalkedOn Reads m deterministic s from at i i sid before after → HasWalkedOn Reads m deterministic s from at i (i + 1) sid before after
+read_on-settled Reads m deterministic anchored s from at i ns sid before after is tells none read =
     let t = starting_at s from in
     record {
       reads = read.reads;
@@ -443,34 +460,30 @@ read_on-settled Reads m direct anchored s from at i ns sid before after is tells
       only = read.only;
     }
 
--- a state with no entries tells nothing
-pub told_from-empty : (m : Machine) (s : Search) (at : ℕ) (ns : List ℕ) → ns ≡ [] → told_from m s at ns 0 ≡ []
-told_from-empty m s at ns none = told_from-none m s at ns 0 (counted-past m s.anchored (at - s.start) ns 0 (omega (arith, ap length none)))
-
 -- where the search is over behind a place, all is paid for
-pub pays-over : (Reads : List ℕ → StateID → Type 0) (m : Machine) (direct : Bool) (s : Search) (from at i next : ℕ) (sid : StateID) (before after : Steps) (r : Shown)
+pub pays-over : (Reads : List ℕ → StateID → Type 0) (m : Dictionary) (deterministic : Bool) (s : Search) (from at i next : ℕ) (sid : StateID) (before after : Steps) (r : Shown)
     → s.start ≤ i → i ≤ s.end
     → ((text : List ℕ) (state : StateID) → Reads text state → (live : Option ℕ) × IsLive m s.anchored text live)
-    → HasReadOn Reads m direct s from at i next sid before after → r.place ≡ Over
-    → (looks more : ℕ) → IsPaidAt m direct s from at looks → looks + looked_of after ≡ more + looked_of before → IsPaidBy m direct s (Shows r) more
-pays-over Reads m direct s from at i next sid before after r g h lives read over looks more paid e =
-    subst (λ (p : Place). IsPaid m direct s p more) (sym over) (paid-to m direct s from i s.end more g h (lives (read_to (starting_at s from) i) sid read.reads) (read.pays looks more paid e))
+    → HasWalkedOn Reads m deterministic s from at i next sid before after → r.place ≡ Over
+    → (looks more : ℕ) → IsPaidAt m deterministic s from at looks → looks + looked_of after ≡ more + looked_of before → IsPaidBy m deterministic s (Found r) more
+pays-over Reads m deterministic s from at i next sid before after r g h lives read over looks more paid e =
+    subst (λ (p : Place). IsPaid m deterministic s p more) (sym over) (paid-to m deterministic s from i s.end more g h (lives (read_to (starting_at s from) i) sid read.reads) (read.pays looks more paid e))
 
 -- where the search stands at the place that it has read on to, that is paid for
-pub pays-at : (Reads : List ℕ → StateID → Type 0) (m : Machine) (direct : Bool) (s : Search) (from at i next : ℕ) (sid state : StateID) (before after : Steps) (index : ℕ) (r : Shown)
-    → HasReadOn Reads m direct s from at i next sid before after → r.place ≡ At state from i index
-    → (looks more : ℕ) → IsPaidAt m direct s from at looks → looks + looked_of after ≡ more + looked_of before → IsPaidBy m direct s (Shows r) more
-pays-at Reads m direct s from at i next sid state before after index r read is looks more paid e =
-    subst (λ (p : Place). IsPaid m direct s p more) (sym is) (read.pays looks more paid e)
+pub pays-at : (Reads : List ℕ → StateID → Type 0) (m : Dictionary) (deterministic : Bool) (s : Search) (from at i next : ℕ) (sid state : StateID) (before after : Steps) (index : ℕ) (r : Shown)
+    → HasWalkedOn Reads m deterministic s from at i next sid before after → r.place ≡ At state from i index
+    → (looks more : ℕ) → IsPaidAt m deterministic s from at looks → looks + looked_of after ≡ more + looked_of before → IsPaidBy m deterministic s (Found r) more
+pays-at Reads m deterministic s from at i next sid state before after index r read is looks more paid e =
+    subst (λ (p : Place). IsPaid m deterministic s p more) (sym is) (read.pays looks more paid e)
 
 -- and so it is where the walk is back at the start
-pub pays-back : (Reads : List ℕ → StateID → Type 0) (m : Machine) (direct : Bool) (s : Search) (from at i next : ℕ) (sid : StateID) (before after : Steps)
+pub pays-back : (Reads : List ℕ → StateID → Type 0) (m : Dictionary) (deterministic : Bool) (s : Search) (from at i next : ℕ) (sid : StateID) (before after : Steps)
     → s.start ≤ i
     → ((text : List ℕ) (state : StateID) → Reads text state → (live : Option ℕ) × IsLive m s.anchored text live)
-    → HasReadOn Reads m direct s from at i next sid before after
-    → (looks more : ℕ) → IsPaidAt m direct s from at looks → looks + looked_of after ≡ more + looked_of before → IsPaidBy m direct s (Back i) more
-pays-back Reads m direct s from at i next sid before after g lives read looks more paid e =
-    paid-to m direct s from i i more g (omega arith) (lives (read_to (starting_at s from) i) sid read.reads) (read.pays looks more paid e)
+    → HasWalkedOn Reads m deterministic s from at i next sid before after
+    → (looks more : ℕ) → IsPaidAt m deterministic s from at looks → looks + looked_of after ≡ more + looked_of before → IsPaidBy m deterministic s (Idle i) more
+pays-back Reads m deterministic s from at i next sid before after g lives read looks more paid e =
+    paid-to m deterministic s from i i more g (omega arith) (lives (read_to (starting_at s from) i) sid read.reads) (read.pays looks more paid e)
 
 -- ---- between calls
 
@@ -510,78 +523,79 @@ left-after L n None e = slice_get-none (drop n L) e
 left-after L n (Some o) e = drop-one_more L n
 
 -- where a search stands that begins, or comes from earlier calls
-pub came-stands : (Reads : Anchored → List ℕ → StateID → Type 0) (entries : StateID → List ℕ) (m : Machine) (direct : Bool) (held : Option Filter) (asked : Asked) (state : OverlappingState) (first : Place)
-    → IsLeft (Reads asked.anchored) entries m (search_in m asked) first (listing_of (search_in m asked)) → IsPaid m direct (search_in m asked) first 0
-    → CameFrom Reads entries m direct held asked state → StandsAt (Reads asked.anchored) entries m direct (scans_bytes held) (search_in m asked) (unwrap_or state.place first) (shown_of state) (sums_of state)
-came-stands Reads entries m direct held asked state first left paid came =
-    let s = search_in m asked in
-    let Stands = StandsAt (Reads asked.anchored) entries m direct (scans_bytes held) s in
+pub came-stands : (b : Built) (Reads : Anchored → List ℕ → StateID → Type 0) (matches : StateID → List ℕ) (asked : Asked) (state : OverlappingState) (first : Place)
+    → IsLeft (Reads asked.anchored) matches b.dictionary (searched b asked) first (listing_of (searched b asked)) → IsPaid b.dictionary b.deterministic (searched b asked) first 0
+    → CameFrom b Reads matches asked state → StandsAt (Reads asked.anchored) matches b.dictionary b.deterministic (searched b asked) (unwrap_or state.place first) (shown_of state) (sums_of state)
+came-stands b Reads matches asked state first left paid came =
+    let m = b.dictionary in
+    let deterministic = b.deterministic in
+    let s = searched b asked in
     ⊎_elim
-    (λ (fresh : IsFresh state).
-    let there : StandsAt (Reads asked.anchored) entries m direct (scans_bytes held) s first (shown_of state) (sums_of state) = record {
-      left = subst (λ (n : ℕ). IsLeft (Reads asked.anchored) entries m s first (drop n (listing_of s))) (sym fresh.shown) left;
-      paid = subst (λ (n : ℕ). IsPaid m direct s first n) (sym fresh.sums.looked) paid;
-      scanned = λ _. let none = fresh.sums.scanned in omega arith;
+    (λ (fresh : IsFreshState state).
+    let there : StandsAt (Reads asked.anchored) matches m deterministic s first (shown_of state) (sums_of state) = record {
+      left = subst (λ (n : ℕ). IsLeft (Reads asked.anchored) matches m s first (drop n (listing_of s))) (sym fresh.shown) left;
+      paid = subst (λ (n : ℕ). IsPaid m deterministic s first n) (sym fresh.sums.looked) paid;
+      scanned = let none = fresh.sums.scanned in omega arith;
       moved = fresh.sums.moved;
     } in
-    subst (λ (p : Option Place). StandsAt (Reads asked.anchored) entries m direct (scans_bytes held) s (unwrap_or p first) (shown_of state) (sums_of state)) (sym fresh.place) there)
-    (λ (stands : (place : Place) × (state.place ≡ Some place) × StandsAt (Reads asked.anchored) entries m direct (scans_bytes held) s place (shown_of state) (sums_of state)).
-    subst (λ (p : Option Place). StandsAt (Reads asked.anchored) entries m direct (scans_bytes held) s (unwrap_or p first) (shown_of state) (sums_of state)) (sym stands.1) stands.2)
+    subst (λ (p : Option Place). StandsAt (Reads asked.anchored) matches m deterministic s (unwrap_or p first) (shown_of state) (sums_of state)) (sym fresh.place) there)
+    (λ (stands : (place : Place) × (state.place ≡ Some place) × StandsAt (Reads asked.anchored) matches m deterministic s place (shown_of state) (sums_of state)).
+    subst (λ (p : Option Place). StandsAt (Reads asked.anchored) matches m deterministic s (unwrap_or p first) (shown_of state) (sums_of state)) (sym stands.1) stands.2)
     came
 
 -- where it stands behind a call
-pub stands-after : (Reads : List ℕ → StateID → Type 0) (entries : StateID → List ℕ) (m : Machine) (direct by_bytes : Bool) (s : Search) (place : Place) (n : ℕ) (r : Shown) (sums start done after : Steps)
-    → StandsAt Reads entries m direct by_bytes s place n sums → ShowsFirst Reads entries m s (drop n (listing_of s)) r → GoesOnPaying m direct by_bytes s place r.place start done → AreNone start → Added done sums after
-    → StandsAt Reads entries m direct by_bytes s r.place (if is_some r.found then n + 1 else n) after
-stands-after Reads entries m direct by_bytes s place n r sums start done after stands shows pays none added =
+pub stands-after : (Reads : List ℕ → StateID → Type 0) (matches : StateID → List ℕ) (m : Dictionary) (deterministic : Bool) (s : Search) (place : Place) (n : ℕ) (r : Shown) (sums start done after : Steps)
+    → StandsAt Reads matches m deterministic s place n sums → ShowsFirst Reads matches m s (drop n (listing_of s)) r → KeepsBudget m deterministic s place r.place start done → AreNone start → Added done sums after
+    → StandsAt Reads matches m deterministic s r.place (if is_some r.found then n + 1 else n) after
+stands-after Reads matches m deterministic s place n r sums start done after stands shows pays none added =
     let looked = added.looked in
     let zero_looked = none.looked in
     let scanned = added.scanned in
     let zero_scanned = none.scanned in
     record {
-      left = subst (IsLeft Reads entries m s r.place) (left-after (listing_of s) n r.found shows.0) shows.1;
+      left = subst (IsLeft Reads matches m s r.place) (left-after (listing_of s) n r.found shows.0) shows.1;
       paid = pays.looks (looked_of sums) (looked_of after) stands.paid (omega arith);
       scanned = pays.scans (scanned_of sums) (scanned_of after) stands.scanned (omega arith);
       moved = let a = added.moved in let b = pays.moved in let c = none.moved in let d = stands.moved in omega arith;
     }
 
 -- and what it showed
-pub found-after : (Reads : List ℕ → StateID → Type 0) (entries : StateID → List ℕ) (m : Machine) (s : Search) (n : ℕ) (r : Shown) → ShowsFirst Reads entries m s (drop n (listing_of s)) r → r.found ≡ slice_get (listing_of s) n
-found-after Reads entries m s n r shows = shows.0 ∙ slice_get-drop (listing_of s) n
+pub found-after : (Reads : List ℕ → StateID → Type 0) (matches : StateID → List ℕ) (m : Dictionary) (s : Search) (n : ℕ) (r : Shown) → ShowsFirst Reads matches m s (drop n (listing_of s)) r → r.found ≡ slice_get (listing_of s) n
+found-after Reads matches m s n r shows = shows.0 ∙ slice_get-drop (listing_of s) n
 
 -- the looks are within what one walk over the span may cost
-pub paid-within : (Reads : List ℕ → StateID → Type 0) (entries : StateID → List ℕ) (m : Machine) (direct : Bool) (s : Search) (place : Place) (left : List Occurrence) (looks : ℕ)
+pub paid-within : (Reads : List ℕ → StateID → Type 0) (matches : StateID → List ℕ) (m : Dictionary) (deterministic : Bool) (s : Search) (place : Place) (left : List Occurrence) (looks : ℕ)
     → ((text : List ℕ) (state : StateID) → Reads text state → (live : Option ℕ) × IsLive m s.anchored text live)
-    → IsLeft Reads entries m s place left → IsPaid m direct s place looks → looks ≤ looks_each direct * (s.end - s.start)
-paid-within Reads entries m direct s (At sid from at index) left looks lives is paid =
-    paid-to m direct s from at s.end looks (omega (arith, is.0.behind, is.0.ordered)) is.0.within (lives (read_to (starting_at s from) at) sid is.0.reads) paid
-paid-within Reads entries m direct s Over left looks lives is paid = paid
+    → IsLeft Reads matches m s place left → IsPaid m deterministic s place looks → looks ≤ lookups_per_byte deterministic * (s.end - s.start)
+paid-within Reads matches m deterministic s (At sid from at index) left looks lives is paid =
+    paid-to m deterministic s from at s.end looks (omega (arith, is.0.behind, is.0.ordered)) is.0.within (lives (read_to (starting_at s from) at) sid is.0.reads) paid
+paid-within Reads matches m deterministic s Over left looks lives is paid = paid
 
 -- so are the scans
-scanned-within : (Reads : List ℕ → StateID → Type 0) (entries : StateID → List ℕ) (m : Machine) (by_bytes : Bool) (s : Search) (place : Place) (left : List Occurrence) (scans : ℕ) → IsLeft Reads entries m s place left → IsScannedTo by_bytes s (come_to s place) scans → IsScannedTo by_bytes s s.end scans
-scanned-within Reads entries m by_bytes s (At sid from at index) left scans is scanned t = omega (arith, is.0.within, scanned t)
-scanned-within Reads entries m by_bytes s Over left scans is scanned t = scanned t
+scanned-within : (Reads : List ℕ → StateID → Type 0) (matches : StateID → List ℕ) (m : Dictionary) (s : Search) (place : Place) (left : List Occurrence) (scans : ℕ) → IsLeft Reads matches m s place left → IsScannedTo s (come_to s place) scans → IsScannedTo s s.end scans
+scanned-within Reads matches m s (At sid from at index) left scans is scanned = omega (arith, is.0.within, scanned)
+scanned-within Reads matches m s Over left scans is scanned = scanned
 
 -- so is all that was done
-pub stands-work : (Reads : List ℕ → StateID → Type 0) (entries : StateID → List ℕ) (m : Machine) (direct by_bytes : Bool) (s : Search) (place : Place) (n : ℕ) (sums : Steps)
+pub stands-work : (Reads : List ℕ → StateID → Type 0) (matches : StateID → List ℕ) (m : Dictionary) (deterministic : Bool) (s : Search) (place : Place) (n : ℕ) (sums : Steps)
     → ((text : List ℕ) (state : StateID) → Reads text state → (live : Option ℕ) × IsLive m s.anchored text live)
-    → StandsAt Reads entries m direct by_bytes s place n sums → IsOverlappingWork direct by_bytes s sums
-stands-work Reads entries m direct by_bytes s place n sums lives stands =
+    → StandsAt Reads matches m deterministic s place n sums → IsOverlappingWork deterministic s sums
+stands-work Reads matches m deterministic s place n sums lives stands =
     record {
-      looked = paid-within Reads entries m direct s place (drop n (listing_of s)) (looked_of sums) lives stands.left stands.paid;
-      scanned = scanned-within Reads entries m by_bytes s place (drop n (listing_of s)) (scanned_of sums) stands.left stands.scanned;
+      looked = paid-within Reads matches m deterministic s place (drop n (listing_of s)) (looked_of sums) lives stands.left stands.paid;
+      scanned = scanned-within Reads matches m s place (drop n (listing_of s)) (scanned_of sums) stands.left stands.scanned;
       moved = stands.moved;
     }
 
 -- the same of a state
-pub came-work : (Reads : Anchored → List ℕ → StateID → Type 0) (entries : StateID → List ℕ) (m : Machine) (direct : Bool) (held : Option Filter) (asked : Asked) (state : OverlappingState)
-    → ((text : List ℕ) (sid : StateID) → Reads asked.anchored text sid → (live : Option ℕ) × IsLive m (is_anchored asked.anchored) text live)
-    → CameFrom Reads entries m direct held asked state → IsOverlappingWork direct (scans_bytes held) (search_in m asked) (sums_of state)
-came-work Reads entries m direct held asked state lives came =
+pub came-work : (b : Built) (Reads : Anchored → List ℕ → StateID → Type 0) (matches : StateID → List ℕ) (asked : Asked) (state : OverlappingState)
+    → ((text : List ℕ) (sid : StateID) → Reads asked.anchored text sid → (live : Option ℕ) × IsLive b.dictionary (is_anchored asked.anchored) text live)
+    → CameFrom b Reads matches asked state → IsOverlappingCost b asked (sums_of state)
+came-work b Reads matches asked state lives came =
     ⊎_elim
-    (λ (fresh : IsFresh state). record { looked = let none = fresh.sums.looked in omega arith; scanned = λ _. let none = fresh.sums.scanned in omega arith; moved = fresh.sums.moved })
-    (λ (stands : (place : Place) × (state.place ≡ Some place) × StandsAt (Reads asked.anchored) entries m direct (scans_bytes held) (search_in m asked) place (shown_of state) (sums_of state)).
-    stands-work (Reads asked.anchored) entries m direct (scans_bytes held) (search_in m asked) stands.0 (shown_of state) (sums_of state) lives stands.2)
+    (λ (fresh : IsFreshState state). record { looked = let none = fresh.sums.looked in omega arith; scanned = let none = fresh.sums.scanned in omega arith; moved = fresh.sums.moved })
+    (λ (stands : (place : Place) × (state.place ≡ Some place) × StandsAt (Reads asked.anchored) matches b.dictionary b.deterministic (searched b asked) place (shown_of state) (sums_of state)).
+    stands-work (Reads asked.anchored) matches b.dictionary b.deterministic (searched b asked) stands.0 (shown_of state) (sums_of state) lives stands.2)
     came
 
 -- so what is left yields its first, if it has one

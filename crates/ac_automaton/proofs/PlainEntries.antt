@@ -1,4 +1,4 @@
--- The entries of a state of the plain automaton are what the definitions ask of them.
+-- The matches of a state of the plain automaton are what the definitions ask of them.
 use Rattle.std.proofs.Common.{◌≡◌, ◌≢◌, ◌⊎◌, inl, inr, ⊎_elim, ℕ, ◌+◌, ◌-◌, ◌*◌, ◌/◌, ◌%◌, ◌<◌, ◌≤◌, Bool, true, false, not, ◌&&◌, List, [], ◌∷◌, length, take, drop, Option, Some, None, IsTrue, slice_range, sym, ap, ap₂, subst, refl, ◌∙◌, arith, length-drop}
 use Rattle.std.specs.Prelude.{nat_lt, ◌==◌}
 use Rattle.std.proofs.lemmas.Bool.{and_parts, and_from, false≢true, cases_lt, eqb-true, false_from_ne_true}
@@ -11,7 +11,7 @@ use Rattle.ac_input.specs.Same.{same_text}
 use Rattle.ac_input.specs.Occurrence.{Occurrence, Occurs}
 use Rattle.ac_input.specs.Best.{IsBest}
 use Rattle.ac_input.specs.Computed.{best_of}
-use Rattle.ac_input.specs.Machine.{Machine, IsPattern, Begins, IsEntered, BeginsEntered, whole, IsLive}
+use Rattle.ac_input.specs.Dictionary.{Dictionary, IsPattern, Begins, IsEntered, BeginsEntered, whole, IsLive}
 use Rattle.ac_input.specs.LiveLaws.{IsOwnInverse}
 use Rattle.ac_input.specs.Tells.{ending}
 use Rattle.ac_input.proofs.OrderLemmas.{same_text-length, occurs-end, occurrence_from_parts}
@@ -20,7 +20,7 @@ use Rattle.ac_input.proofs.BestLemmas.{best_of-best, best-computed}
 use Rattle.ac_input.proofs.RisingLemmas.{IsBefore, less_by_start, less_by_number}
 use Rattle.ac_input.proofs.LiveLemmas.{BeginsEntered-from, occurs-append}
 use Rattle.ac_input.proofs.StateLemmas.{new-behind}
-use Rattle.ac_automaton.specs.PlainAutomaton.{any_below, pattern_of, text_of, shadows, is_first, is_entered, is_ending, is_news, is_entry}
+use Rattle.ac_automaton.specs.PlainAutomaton.{any_below, pattern_of, state_text, shadows, is_first, is_entered, is_ending, is_news, is_entry}
 use Rattle.ac_automaton.proofs.Gathered.{any-from, any-has}
 use Rattle.ac_automaton.proofs.PlainStates.{same_text-drop}
 
@@ -47,11 +47,11 @@ not_both true false e h g = false≢true g
 not_both false b e h g = false≢true e
 
 -- the pattern that has a number
-pub pattern_is : (m : Machine) (n : ℕ) (p : List ℕ) → IsPattern m n p → pattern_of m n ≡ p
+pub pattern_is : (m : Dictionary) (n : ℕ) (p : List ℕ) → IsPattern m n p → pattern_of m n ≡ p
 pattern_is m n p is = get_or_from_slice_get m.patterns n p [] is
 
 -- a number that passes is that of an entered pattern
-pub entered-from : (m : Machine) (n : ℕ) → is_entered m n ≡ true → IsEntered m n (pattern_of m n)
+pub entered-from : (m : Dictionary) (n : ℕ) → is_entered m n ≡ true → IsEntered m n (pattern_of m n)
 unfolding is_entered
 entered-from m n h =
     let parts = and_parts (nat_lt n (length m.patterns)) (not (is_first m.kind && any_below (shadows m (pattern_of m n)) n)) h in (
@@ -64,7 +64,7 @@ entered-from m n h =
     )
 
 -- and the number of an entered pattern passes
-pub entered-to : (m : Machine) (n : ℕ) (p : List ℕ) → IsEntered m n p → is_entered m n ≡ true
+pub entered-to : (m : Dictionary) (n : ℕ) (p : List ℕ) → IsEntered m n p → is_entered m n ≡ true
 unfolding is_entered
 entered-to m n p h = and_from (nat_lt n (length m.patterns)) (not (is_first m.kind && any_below (shadows m (pattern_of m n)) n)) (lt-to n (length m.patterns) (slice_get_within m.patterns n p h.0)) (by (is_first m.kind) (any_below (shadows m (pattern_of m n)) n) refl refl)
   where
@@ -87,31 +87,31 @@ entered-to m n p h = and_from (nat_lt n (length m.patterns)) (not (is_first m.ki
     by false b f g = refl
 
 -- past the last pattern none is entered
-pub entered-past : (m : Machine) (n : ℕ) → length m.patterns ≤ n → false ≡ is_entered m n
+pub entered-past : (m : Dictionary) (n : ℕ) → length m.patterns ≤ n → false ≡ is_entered m n
 unfolding is_entered
 entered-past m n past = sym (false_from_ne_true (is_entered m n) (λ h. let lt = lt-from n (length m.patterns) (and_parts (nat_lt n (length m.patterns)) (not (is_first m.kind && any_below (shadows m (pattern_of m n)) n)) h).0 in absurd (omega arith)))
 
 -- under leftmost-first what no earlier pattern shadows is entered
-pub entered-first : (m : Machine) (n : ℕ) → n < length m.patterns → m.kind ≡ LeftmostFirst → not (any_below (shadows m (pattern_of m n)) n) ≡ is_entered m n
+pub entered-first : (m : Dictionary) (n : ℕ) → n < length m.patterns → m.kind ≡ LeftmostFirst → not (any_below (shadows m (pattern_of m n)) n) ≡ is_entered m n
 unfolding is_entered
 entered-first m n lt first = sym (ap₂ (λ (a b : Bool). a && not (b && any_below (shadows m (pattern_of m n)) n)) (lt-to n (length m.patterns) lt) (ap is_first first))
 
 -- under the other kinds every pattern is
-pub entered-other : (m : Machine) (n : ℕ) → n < length m.patterns → (m.kind ≡ Standard) ⊎ (m.kind ≡ LeftmostLongest) → true ≡ is_entered m n
+pub entered-other : (m : Dictionary) (n : ℕ) → n < length m.patterns → (m.kind ≡ Standard) ⊎ (m.kind ≡ LeftmostLongest) → true ≡ is_entered m n
 unfolding is_entered
 entered-other m n lt other = sym (ap₂ (λ (a b : Bool). a && not (b && any_below (shadows m (pattern_of m n)) n)) (lt-to n (length m.patterns) lt) (⊎_elim (λ standard. ap is_first standard) (λ longest. ap is_first longest) other))
 
--- ---- which texts may have entries
+-- ---- which texts may have matches
 
 -- under a leftmost kind
-news-leftmost : (kind : MatchKind) (m : Machine) (v : List ℕ) → kind ≢ Standard → is_news kind m v ≡ is_ending (length v) (best_of kind (whole m v false))
+news-leftmost : (kind : MatchKind) (m : Dictionary) (v : List ℕ) → kind ≢ Standard → is_news kind m v ≡ is_ending (length v) (best_of kind (whole m v false))
 unfolding is_news
 news-leftmost Standard m v leftmost = absurd (leftmost refl)
 news-leftmost LeftmostFirst m v leftmost = refl
 news-leftmost LeftmostLongest m v leftmost = refl
 
 -- under the standard kind
-pub news-standard : (kind : MatchKind) (m : Machine) (v : List ℕ) → kind ≡ Standard → is_news kind m v ≡ true
+pub news-standard : (kind : MatchKind) (m : Dictionary) (v : List ℕ) → kind ≡ Standard → is_news kind m v ≡ true
 unfolding is_news
 news-standard Standard m v e = refl
 news-standard LeftmostFirst m v e = cc
@@ -126,23 +126,23 @@ ending-from end (Some b) h = (b, refl, eqb-true b.end end h)
 pub eq-to : (a b : ℕ) → a ≡ b → (a == b) ≡ true
 eq-to a b h = grind (arith, nat_tests)
 
--- under a leftmost kind a text that may have entries has a best that ends where it ends
-pub news-best : (m : Machine) (v : List ℕ) → m.kind ≢ Standard → is_news m.kind m v ≡ true → (b : Occurrence) × IsBest m.kind (whole m v false) (Some b) × (b.end ≡ length v)
+-- under a leftmost kind a text that may have matches has a best that ends where it ends
+pub news-best : (m : Dictionary) (v : List ℕ) → m.kind ≢ Standard → is_news m.kind m v ≡ true → (b : Occurrence) × IsBest m.kind (whole m v false) (Some b) × (b.end ≡ length v)
 news-best m v leftmost h =
     let r = ending-from (length v) (best_of m.kind (whole m v false)) (sym (news-leftmost m.kind m v leftmost) ∙ h) in
     (r.0, subst (IsBest m.kind (whole m v false)) r.1 (best_of-best m.kind (whole m v false) (omega arith)), r.2)
 
 -- and back
-pub best-news : (m : Machine) (v : List ℕ) (b : Occurrence) → m.kind ≢ Standard → IsBest m.kind (whole m v false) (Some b) → b.end ≡ length v → is_news m.kind m v ≡ true
+pub best-news : (m : Dictionary) (v : List ℕ) (b : Occurrence) → m.kind ≢ Standard → IsBest m.kind (whole m v false) (Some b) → b.end ≡ length v → is_news m.kind m v ≡ true
 best-news m v b leftmost best end =
     news-leftmost m.kind m v leftmost ∙ sym (ap (is_ending (length v)) (best-computed m.kind (whole m v false) (omega arith) (Some b) best)) ∙ eq-to b.end (length v) end
 
 -- what is found of a best that is there
-pub news-some : (m : Machine) (v : List ℕ) (r : Option Occurrence) (o : Occurrence) → m.kind ≢ Standard → r ≡ best_of m.kind (whole m v false) → r ≡ Some o → (o.end == length v) ≡ is_news m.kind m v
+pub news-some : (m : Dictionary) (v : List ℕ) (r : Option Occurrence) (o : Occurrence) → m.kind ≢ Standard → r ≡ best_of m.kind (whole m v false) → r ≡ Some o → (o.end == length v) ≡ is_news m.kind m v
 news-some m v r o leftmost is some = ap (is_ending (length v)) (sym some ∙ is) ∙ sym (news-leftmost m.kind m v leftmost)
 
 -- what is found where there is none
-pub news-none : (m : Machine) (v : List ℕ) (r : Option Occurrence) → m.kind ≢ Standard → r ≡ best_of m.kind (whole m v false) → r ≡ None → false ≡ is_news m.kind m v
+pub news-none : (m : Dictionary) (v : List ℕ) (r : Option Occurrence) → m.kind ≢ Standard → r ≡ best_of m.kind (whole m v false) → r ≡ None → false ≡ is_news m.kind m v
 news-none m v r leftmost is none = ap (is_ending (length v)) (sym none ∙ is) ∙ sym (news-leftmost m.kind m v leftmost)
 
 -- ---- numbers that stand for a start and a pattern
@@ -165,13 +165,13 @@ split-number start n lt = omega arith
 
 -- ---- what the code finds
 
--- where there may be entries, and the pattern is entered, it is one where it lies there
-pub entry-yes : (m : Machine) (v : List ℕ) (k : ℕ) (b : Bool) → is_news m.kind m v ≡ true → is_entered m (k % 256) ≡ true → b ≡ same_text m.pairing (pattern_of m (k % 256)) (drop (k / 256) v) → b ≡ is_entry m v k
+-- where there may be matches, and the pattern is entered, it is one where it lies there
+pub entry-yes : (m : Dictionary) (v : List ℕ) (k : ℕ) (b : Bool) → is_news m.kind m v ≡ true → is_entered m (k % 256) ≡ true → b ≡ same_text m.pairing (pattern_of m (k % 256)) (drop (k / 256) v) → b ≡ is_entry m v k
 unfolding is_entry
 entry-yes m v k b news entered is = is ∙ sym (ap₂ (λ (x y : Bool). x && (y && same_text m.pairing (pattern_of m (k % 256)) (drop (k / 256) v))) news entered)
 
 -- where there may be none, or the pattern isn't entered, it is none
-pub entry-no : (m : Machine) (v : List ℕ) (k : ℕ) → (is_news m.kind m v ≡ false) ⊎ (is_entered m (k % 256) ≡ false) → false ≡ is_entry m v k
+pub entry-no : (m : Dictionary) (v : List ℕ) (k : ℕ) → (is_news m.kind m v ≡ false) ⊎ (is_entered m (k % 256) ≡ false) → false ≡ is_entry m v k
 unfolding is_entry
 entry-no m v k none =
     sym (false_from_ne_true (is_entry m v k) (λ h.
@@ -180,7 +180,7 @@ entry-no m v k none =
     ⊎_elim (λ e. false≢true (sym e ∙ outer.0)) (λ e. false≢true (sym e ∙ inner.0)) none))
 
 -- an entry is a pattern
-pub entry-known : (m : Machine) (v : List ℕ) (k : ℕ) → is_entry m v k ≡ true → k % 256 < length m.patterns
+pub entry-known : (m : Dictionary) (v : List ℕ) (k : ℕ) → is_entry m v k ≡ true → k % 256 < length m.patterns
 unfolding is_entry is_entered
 entry-known m v k h =
     let outer = and_parts (is_news m.kind m v) (is_entered m (k % 256) && same_text m.pairing (pattern_of m (k % 256)) (drop (k / 256) v)) h in
@@ -188,7 +188,7 @@ entry-known m v k h =
     lt-from (k % 256) (length m.patterns) (and_parts (nat_lt (k % 256) (length m.patterns)) (not (is_first m.kind && any_below (shadows m (pattern_of m (k % 256))) (k % 256))) inner.0).0
 
 -- the state of a beginning of an entered pattern
-pub state-found : (m : Machine) (text : List ℕ) (number sid : ℕ) → IsOwnInverse m.pairing → is_entered m number ≡ true → Begins m.pairing text (pattern_of m number) → length (pattern_of m number) ≤ 255 → sid ≡ 1 + number * 256 + length text → BeginsEntered m text × (sid ≢ 0) × IsTrue (same_text m.pairing (text_of m sid) text)
+pub state-found : (m : Dictionary) (text : List ℕ) (number sid : ℕ) → IsOwnInverse m.pairing → is_entered m number ≡ true → Begins m.pairing text (pattern_of m number) → length (pattern_of m number) ≤ 255 → sid ≡ 1 + number * 256 + length text → BeginsEntered m text × (sid ≢ 0) × IsTrue (same_text m.pairing (state_text m sid) text)
 state-found m text number sid inverse enters begins short is =
     let le = begins.0 in
     let bytes : (sid - 1) % 256 ≡ length text = omega arith in
@@ -199,15 +199,15 @@ state-found m text number sid inverse enters begins short is =
     )
 
 -- a text that begins no entered pattern, of which there are so many
-pub none-begins : (m : Machine) (text : List ℕ) (number : ℕ) → length text ≢ 0 → length m.patterns ≤ number → ((n : ℕ) → n < number → ¬ ((is_entered m n ≡ true) × Begins m.pairing text (pattern_of m n))) → ¬ BeginsEntered m text
+pub none-begins : (m : Dictionary) (text : List ℕ) (number : ℕ) → length text ≢ 0 → length m.patterns ≤ number → ((n : ℕ) → n < number → ¬ ((is_entered m n ≡ true) × Begins m.pairing text (pattern_of m n))) → ¬ BeginsEntered m text
 none-begins m [] number some all none h = absurd (some refl)
 none-begins m (b ∷ bs) number some all none h =
     let within = slice_get_within m.patterns h.0 h.1 h.2.0 in
     none h.0 (omega arith) (entered-to m h.0 h.1 h.2, subst (λ (p : List ℕ). Begins m.pairing (b ∷ bs) p) (sym (pattern_is m h.0 h.1 h.2.0)) h.3)
 
--- ---- the entries, in a text of which the state's text is what is live
+-- ---- the matches, in a text of which the state's text is what is live
 
-module _ (m : Machine) (anchored : Bool) (w v : List ℕ) (from : ℕ) (inverse : IsOwnInverse m.pairing) (few : length m.patterns ≤ 256) (live : IsLive m anchored w (Some from)) (like : IsTrue (same_text m.pairing v (drop from w))) where
+module _ (m : Dictionary) (anchored : Bool) (w v : List ℕ) (from : ℕ) (inverse : IsOwnInverse m.pairing) (few : length m.patterns ≤ 256) (live : IsLive m anchored w (Some from)) (like : IsTrue (same_text m.pairing v (drop from w))) where
   -- where an entry lies in the text
   abbrev pub place : ℕ → Occurrence
   place k = ending m w (k % 256)
@@ -247,7 +247,7 @@ module _ (m : Machine) (anchored : Bool) (w v : List ℕ) (from : ℕ) (inverse 
         start = omega arith;
       }
 
-  -- entries come in the order of their numbers
+  -- matches come in the order of their numbers
   pub entry-before : (j k : ℕ) → j < k → k < (length v + 1) * 256 → is_entry m v j ≡ true → is_entry m v k ≡ true → IsBefore (place j) (place k)
   entry-before j k lt below g h =
       let a = entry-parts j (omega arith) g in

@@ -1,6 +1,6 @@
 -- What the lists of the plain automaton's states say of the text: the laws of an automaton.
 use Rattle.std.proofs.Common.{◌≡◌, ◌≢◌, ◌↔◌, inl, inr, ⊎_elim, ℕ, ◌+◌, ◌-◌, ◌*◌, ◌%◌, ◌<◌, ◌≤◌, Bool, true, false, cond, ◌&&◌, List, [], ◌∷◌, ◌++◌, length, take, drop, map, Option, Some, None, IsTrue, slice_get, slice_range, Greater, sym, ap, subst, refl, ◌∙◌, arith, length-append, length-drop}
-use Rattle.std.specs.Prelude.{◌==◌}
+use Rattle.std.specs.Prelude.{◌==◌, ◌||◌, ◌⊎◌, not}
 use Rattle.std.proofs.lemmas.Bool.{and_parts, and_from, false≢true, cases_lt, eqb-true, false_from_ne_true}
 use Rattle.std.proofs.lemmas.Bool.Decides.{nat_tests}
 use Rattle.std.proofs.lemmas.List.{take-take}
@@ -14,7 +14,7 @@ use Rattle.ac_input.specs.Occurrence.{Occurrence, Occurs}
 use Rattle.ac_input.specs.Best.{preference, IsBest}
 use Rattle.ac_input.specs.Input.{is_anchored}
 use Rattle.ac_input.specs.Listing.{ListsAll}
-use Rattle.ac_input.specs.Machine.{Machine, IsEntered, whole, IsLive}
+use Rattle.ac_input.specs.Dictionary.{Dictionary, IsEntered, whole, IsLive}
 use Rattle.ac_input.specs.LiveLaws.{IsOwnInverse, shifted, shifted_best}
 use Rattle.ac_input.specs.Tells.{ending, before_last, TellsUnanchored, TellsAnchored, Tells}
 use Rattle.ac_input.proofs.OrderLemmas.{same_text-length, occurs-end, occurs-same_end, occurrence_from_parts}
@@ -25,8 +25,10 @@ use Rattle.ac_input.proofs.ContainsLemmas.{Contains-nil, Contains-head, Contains
 use Rattle.ac_input.proofs.LiveLemmas.{kind_cases, occurs-append, leftmost-no_later, whole-best, whole-best_some, best-entered, entered-begins, final-from_lies, dead-best}
 use Rattle.ac_input.proofs.ShiftLemmas.{alive-best}
 use Rattle.ac_input.proofs.StateLemmas.{standard-entered}
-use Rattle.ac_automaton.specs.Automaton.{shortest}
-use Rattle.ac_automaton.specs.PlainAutomaton.{gathered, pattern_of, text_of, is_news, is_entry, entries_of, IsReached}
+use Rattle.ac_input.specs.Work.{shortest}
+use Rattle.ac_automaton.specs.PlainAutomaton.{gathered, pattern_of, state_text, is_news, is_entry, entries_of, IsReachedBy, IsRead, is_special_of, is_start_of, built_as}
+use Rattle.ac_automaton.specs.Automaton.{IsSpecial}
+use Rattle.ac_input.specs.Candidate.{Filter}
 use Rattle.ac_automaton.proofs.Gathered.{map-gathered, filter-gathered, gathered-lists, gathered-at}
 use Rattle.ac_automaton.proofs.PlainStates.{best-same}
 use Rattle.ac_automaton.proofs.PlainEntries.{place, lengths, entry-parts, entry-before, entry-occurs, occurs-entry, entered-from, news-standard, news-best, best-news, eq-to}
@@ -39,11 +41,11 @@ split-last b [] = (b, refl)
 split-last b (c ∷ cs) = let r = split-last c cs in (r.0, ap (◌∷◌ b) r.1)
 
 -- the empty text, which then has no best
-quiet-empty : (kind : MatchKind) (m : Machine) → ((b : Occurrence) → IsBest kind (whole m [] false) (Some b) → b.end ≢ 0) → IsBest kind (whole m [] false) None
+quiet-empty : (kind : MatchKind) (m : Dictionary) → ((b : Occurrence) → IsBest kind (whole m [] false) (Some b) → b.end ≢ 0) → IsBest kind (whole m [] false) None
 quiet-empty kind m ends = λ o h. let best = whole-best_some kind m [] false o h in let w = best.1.0.within in ends best.0 best.1 (omega arith)
 
 -- a text of some bytes
-quiet-more : (kind : MatchKind) (m : Machine) (b : ℕ) (bs : List ℕ) → ((o : Occurrence) → IsBest kind (whole m (b ∷ bs) false) (Some o) → o.end ≢ length (b ∷ bs)) → (r : Option Occurrence) → IsBest kind (whole m (before_last (b ∷ bs)) false) r ↔ IsBest kind (whole m (b ∷ bs) false) r
+quiet-more : (kind : MatchKind) (m : Dictionary) (b : ℕ) (bs : List ℕ) → ((o : Occurrence) → IsBest kind (whole m (b ∷ bs) false) (Some o) → o.end ≢ length (b ∷ bs)) → (r : Option Occurrence) → IsBest kind (whole m (before_last (b ∷ bs)) false) r ↔ IsBest kind (whole m (b ∷ bs) false) r
 quiet-more kind m b bs ends r =
     let split = split-last b bs in
     let both = length-append (before_last (b ∷ bs)) (split.0 ∷ []) in
@@ -52,17 +54,17 @@ quiet-more kind m b bs ends r =
     (final-from_lies kind m false (before_last (b ∷ bs)) (split.0 ∷ []) (λ o best. let is = subst (λ (xs : List ℕ). IsBest kind (whole m xs false) (Some o)) split.1 best in let apart = ends o is in let w = is.0.within in omega arith) r)
 
 -- its best is what it was before the last byte
-quiet : (kind : MatchKind) (m : Machine) (text : List ℕ) → kind ≢ Standard → ((b : Occurrence) → IsBest kind (whole m text false) (Some b) → b.end ≢ length text) → TellsUnanchored kind m text []
+quiet : (kind : MatchKind) (m : Dictionary) (text : List ℕ) → kind ≢ Standard → ((b : Occurrence) → IsBest kind (whole m text false) (Some b) → b.end ≢ length text) → TellsUnanchored kind m text []
 quiet Standard m text leftmost ends = absurd (leftmost refl)
 quiet LeftmostFirst m [] leftmost ends = quiet-empty LeftmostFirst m ends
 quiet LeftmostLongest m [] leftmost ends = quiet-empty LeftmostLongest m ends
 quiet LeftmostFirst m (b ∷ bs) leftmost ends = quiet-more LeftmostFirst m b bs ends
 quiet LeftmostLongest m (b ∷ bs) leftmost ends = quiet-more LeftmostLongest m b bs ends
 
--- ---- of a text that has entries
+-- ---- of a text that has matches
 
 -- a list that begins with the best
-headed : (kind : MatchKind) (m : Machine) (text : List ℕ) (n : ℕ) (ns : List ℕ) → kind ≢ Standard → IsBest kind (whole m text false) (Some (ending m text n)) → TellsUnanchored kind m text (n ∷ ns)
+headed : (kind : MatchKind) (m : Dictionary) (text : List ℕ) (n : ℕ) (ns : List ℕ) → kind ≢ Standard → IsBest kind (whole m text false) (Some (ending m text n)) → TellsUnanchored kind m text (n ∷ ns)
 headed Standard m text n ns leftmost best = absurd (leftmost refl)
 headed LeftmostFirst m [] n ns leftmost best = best
 headed LeftmostFirst m (b ∷ bs) n ns leftmost best = best
@@ -94,7 +96,7 @@ first-preferred kind h b leftmost end before best =
     (cases_lt b.start h.start)
 
 -- where an entered pattern is the whole of a text, its best ends where it ends
-longest-ends : (kind : MatchKind) (m : Machine) (w : List ℕ) (o b : Occurrence) (p : List ℕ) → kind ≡ m.kind → kind ≢ Standard → IsOwnInverse m.pairing → o.start ≡ 0 → o.end ≡ length w → Occurs (whole m w false) o → IsEntered m o.pattern p → IsBest kind (whole m w false) (Some b) → b.end ≡ length w
+longest-ends : (kind : MatchKind) (m : Dictionary) (w : List ℕ) (o b : Occurrence) (p : List ℕ) → kind ≡ m.kind → kind ≢ Standard → IsOwnInverse m.pairing → o.start ≡ 0 → o.end ≡ length w → Occurs (whole m w false) o → IsEntered m o.pattern p → IsBest kind (whole m w false) (Some b) → b.end ≡ length w
 longest-ends Standard m w o b p is leftmost inverse start end h entered best = absurd (leftmost refl)
 longest-ends LeftmostLongest m w o b p is leftmost inverse start end h entered best =
     let sooner = leftmost-no_later LeftmostLongest b o leftmost (best.1 o h) in
@@ -148,19 +150,19 @@ longest-ends LeftmostFirst m w o b p is leftmost inverse start end h entered bes
 
 -- ---- the laws, where the state's text is what is live
 
-module _ (m : Machine) (w v : List ℕ) (from : ℕ) (inverse : IsOwnInverse m.pairing) (few : length m.patterns ≤ 256) (like : IsTrue (same_text m.pairing v (drop from w))) where
-  -- the entries
-  abbrev entries : List ℕ
-  entries = gathered (λ k. k % 256) (is_entry m v) ((length v + 1) * 256)
+module _ (m : Dictionary) (w v : List ℕ) (from : ℕ) (inverse : IsOwnInverse m.pairing) (few : length m.patterns ≤ 256) (like : IsTrue (same_text m.pairing v (drop from w))) where
+  -- the matches
+  abbrev matches : List ℕ
+  matches = gathered (λ k. k % 256) (is_entry m v) ((length v + 1) * 256)
 
   -- what an entry is, of the text
   abbrev Enters : Occurrence → Type 0
   Enters o = Occurs (whole m w false) o × (o.end ≡ length w) × ((p : List ℕ) × IsEntered m o.pattern p) × (is_news m.kind m v ≡ true)
 
   module _ (live : IsLive m false w (Some from)) where
-    -- the entries are all patterns that are entered and end where the text ends
-    entries-list : ListsAll Enters (map (ending m w) entries)
-    entries-list =
+    -- the matches are all patterns that are entered and end where the text ends
+    matches-list : ListsAll Enters (map (ending m w) matches)
+    matches-list =
         subst (ListsAll Enters) (sym (map-gathered (ending m w) (λ k. k % 256) (is_entry m v) ((length v + 1) * 256)))
         (gathered-lists Enters (place m false w v from inverse few live like) (is_entry m v) ((length v + 1) * 256)
         (entry-before m false w v from inverse few live like)
@@ -168,12 +170,12 @@ module _ (m : Machine) (w v : List ℕ) (from : ℕ) (inverse : IsOwnInverse m.p
         (λ o p. occurs-entry m false w v from inverse few live like o p.2.0 p.0 p.0 p.1 p.2.1 p.3))
 
     -- under the standard kind
-    standard-tells : (kind : MatchKind) → m.kind ≡ kind → kind ≡ Standard → TellsUnanchored kind m w entries
+    standard-tells : (kind : MatchKind) → m.kind ≡ kind → kind ≡ Standard → TellsUnanchored kind m w matches
     standard-tells Standard is e = (
-      entries-list.0,
+      matches-list.0,
       λ o. (
-        λ has. let p = (entries-list.1 o).0 has in (p.0, p.1),
-        λ p. (entries-list.1 o).1 (p.0, p.1, (p.0.same.0, standard-entered m o.pattern p.0.same.0 is p.0.same.1), news-standard m.kind m v is),
+        λ has. let p = (matches-list.1 o).0 has in (p.0, p.1),
+        λ p. (matches-list.1 o).1 (p.0, p.1, (p.0.same.0, standard-entered m o.pattern p.0.same.0 is p.0.same.1), news-standard m.kind m v is),
       ),
     )
     standard-tells LeftmostFirst is e = cc
@@ -183,7 +185,7 @@ module _ (m : Machine) (w v : List ℕ) (from : ℕ) (inverse : IsOwnInverse m.p
     best-there : (r : Option Occurrence) → m.kind ≢ Standard → IsBest m.kind (whole m v false) r → IsBest m.kind (whole m w false) (shifted_best from r)
     best-there r leftmost best = (alive-best m m.kind w from r leftmost live.0).0 (best-same m.kind m v (drop from w) false r inverse like best)
 
-    -- so a text that has a best which ends where it ends has entries
+    -- so a text that has a best which ends where it ends has matches
     news-here : (b : Occurrence) → m.kind ≢ Standard → IsBest m.kind (whole m w false) (Some b) → b.end ≡ length w → is_news m.kind m v ≡ true
     news-here b leftmost best end = by (whole-best m.kind m v false).0 (whole-best m.kind m v false).1
       where
@@ -221,15 +223,15 @@ module _ (m : Machine) (w v : List ℕ) (from : ℕ) (inverse : IsOwnInverse m.p
         headed m.kind m w n ns leftmost (subst (λ (o : Occurrence). IsBest m.kind (whole m w false) (Some o)) (sym (first-best (ending m w n) (shifted from news.0) (map (ending m w) ns) leftmost lists best (omega arith))) best)
 
     -- whatever the kind
-    pub unanchored-tells : TellsUnanchored m.kind m w entries
-    unanchored-tells = ⊎_elim (λ standard. standard-tells m.kind refl standard) (λ leftmost. leftmost-tells entries leftmost entries-list) (kind_cases m.kind)
+    pub unanchored-tells : TellsUnanchored m.kind m w matches
+    unanchored-tells = ⊎_elim (λ standard. standard-tells m.kind refl standard) (λ leftmost. leftmost-tells matches leftmost matches-list) (kind_cases m.kind)
 
   module _ (live : IsLive m true w (Some from)) where
     -- an anchored search has all of the text live
     like-all : IsTrue (same_text m.pairing w v)
     like-all = same_text-back m.pairing inverse v w (subst (λ (n : ℕ). IsTrue (same_text m.pairing v (drop n w))) (live.0.anchor refl) like)
 
-    -- an entered pattern that is the whole of the text makes it have entries
+    -- an entered pattern that is the whole of the text makes it have matches
     whole-news : (o : Occurrence) (p : List ℕ) → o.start ≡ 0 → o.end ≡ length w → Occurs (whole m w false) o → IsEntered m o.pattern p → is_news m.kind m v ≡ true
     whole-news o p start end h entered =
         ⊎_elim
@@ -274,8 +276,8 @@ module _ (m : Machine) (w v : List ℕ) (from : ℕ) (inverse : IsOwnInverse m.p
         let as_long : length (pattern_of m (r.0 % 256)) ≡ length w = omega arith in
         (r.0, r.1, and_from (is_entry m v r.0) (length (pattern_of m (r.0 % 256)) == length w) r.2 (eq-to (length (pattern_of m (r.0 % 256))) (length w) as_long), r.3)
 
-    -- the entries that count for an anchored search
-    pub anchored-tells : TellsAnchored m w entries
+    -- the matches that count for an anchored search
+    pub anchored-tells : TellsAnchored m w matches
     anchored-tells =
         let kept = filter-gathered (λ n. length (pattern_of m n) == length w) (λ k. k % 256) (is_entry m v) ((length v + 1) * 256) in
         let moved = map-gathered (ending m w) (λ k. k % 256) is_whole ((length v + 1) * 256) in
@@ -288,7 +290,7 @@ module _ (m : Machine) (w v : List ℕ) (from : ℕ) (inverse : IsOwnInverse m.p
 -- ---- the laws
 
 -- a dead text has no best that ends where it ends
-dead-ends : (m : Machine) (w : List ℕ) (b : Occurrence) → IsOwnInverse m.pairing → IsLive m false w None → IsBest m.kind (whole m w false) (Some b) → b.end ≢ length w
+dead-ends : (m : Dictionary) (w : List ℕ) (b : Occurrence) → IsOwnInverse m.pairing → IsLive m false w None → IsBest m.kind (whole m w false) (Some b) → b.end ≢ length w
 dead-ends m w b inverse dead best end =
     let within = best.0.within in
     let entered = best-entered m false false w b best.0.same.0 inverse best best.0.same.1 in
@@ -300,7 +302,7 @@ dead-ends m w b inverse dead best end =
     })
 
 -- a text that is dead to an anchored search is no pattern
-dead-whole : (m : Machine) (w : List ℕ) (o : Occurrence) (p : List ℕ) → IsOwnInverse m.pairing → IsLive m true w None → Occurs (whole m w true) o → o.end ≡ length w → IsEntered m o.pattern p → ⊥
+dead-whole : (m : Dictionary) (w : List ℕ) (o : Occurrence) (p : List ℕ) → IsOwnInverse m.pairing → IsLive m true w None → Occurs (whole m w true) o → o.end ≡ length w → IsEntered m o.pattern p → ⊥
 dead-whole m w o p inverse dead h end entered =
     let first : o.start ≡ 0 = h.anchor refl in
     dead o.start (record {
@@ -310,59 +312,59 @@ dead-whole m w o p inverse dead h end entered =
       no_later = inl refl;
     })
 
--- the dead state has no entries
-pub entries-dead : (m : Machine) (sid : ℕ) → sid ≡ 0 → entries_of m sid ≡ []
+-- the dead state has no matches
+pub matches-dead : (m : Dictionary) (sid : ℕ) → sid ≡ 0 → entries_of m sid ≡ []
 unfolding entries_of
-entries-dead m sid h = ap (λ (b : Bool). cond b [] (gathered (λ k. k % 256) (is_entry m (text_of m sid)) ((length (text_of m sid) + 1) * 256))) (eq-to sid 0 h)
+matches-dead m sid h = ap (λ (b : Bool). cond b [] (gathered (λ k. k % 256) (is_entry m (state_text m sid)) ((length (state_text m sid) + 1) * 256))) (eq-to sid 0 h)
 
 -- every other one has those of its text
-pub entries-alive : (m : Machine) (sid : ℕ) → sid ≢ 0 → entries_of m sid ≡ gathered (λ k. k % 256) (is_entry m (text_of m sid)) ((length (text_of m sid) + 1) * 256)
+pub matches-alive : (m : Dictionary) (sid : ℕ) → sid ≢ 0 → entries_of m sid ≡ gathered (λ k. k % 256) (is_entry m (state_text m sid)) ((length (state_text m sid) + 1) * 256)
 unfolding entries_of
-entries-alive m sid h = ap (λ (b : Bool). cond b [] (gathered (λ k. k % 256) (is_entry m (text_of m sid)) ((length (text_of m sid) + 1) * 256))) (false_from_ne_true (sid == 0) (λ e. h (eqb-true sid 0 e)))
+matches-alive m sid h = ap (λ (b : Bool). cond b [] (gathered (λ k. k % 256) (is_entry m (state_text m sid)) ((length (state_text m sid) + 1) * 256))) (false_from_ne_true (sid == 0) (λ e. h (eqb-true sid 0 e)))
 
 -- what the list of a state says of the text
-pub tells : (m : Machine) (anchored : Anchored) (text : List ℕ) (sid : ℕ) → IsReached m (is_anchored anchored) text sid → Tells m anchored text (entries_of m sid)
+pub tells : (m : Dictionary) (anchored : Anchored) (text : List ℕ) (sid : ℕ) → IsReachedBy m (is_anchored anchored) text sid → Tells m anchored text (entries_of m sid)
 tells m No text sid reads =
     ⊎_elim
-    (λ dead. subst (TellsUnanchored m.kind m text) (sym (entries-dead m sid dead.0)) (quiet m.kind m text (dead-best m text dead.1).0 (λ b best. dead-ends m text b reads.inverse dead.1 best)))
-    (λ alive. subst (TellsUnanchored m.kind m text) (sym (entries-alive m sid alive.0)) (unanchored-tells m text (text_of m sid) alive.1.0 reads.inverse reads.few alive.1.2 alive.1.1))
+    (λ dead. subst (TellsUnanchored m.kind m text) (sym (matches-dead m sid dead.0)) (quiet m.kind m text (dead-best m text dead.1).0 (λ b best. dead-ends m text b reads.inverse dead.1 best)))
+    (λ alive. subst (TellsUnanchored m.kind m text) (sym (matches-alive m sid alive.0)) (unanchored-tells m text (state_text m sid) alive.1.0 reads.inverse reads.few alive.1.2 alive.1.1))
     reads.stands
 tells m Yes text sid reads =
     ⊎_elim
-    (λ dead. subst (TellsAnchored m text) (sym (entries-dead m sid dead.0)) (tt, λ o. (λ has. absurd (Contains-nil o has), λ h. absurd (dead-whole m text o h.2.0 reads.inverse dead.1 h.0 h.1 h.2.1))))
-    (λ alive. subst (TellsAnchored m text) (sym (entries-alive m sid alive.0)) (anchored-tells m text (text_of m sid) alive.1.0 reads.inverse reads.few alive.1.2 alive.1.1))
+    (λ dead. subst (TellsAnchored m text) (sym (matches-dead m sid dead.0)) (tt, λ o. (λ has. absurd (Contains-nil o has), λ h. absurd (dead-whole m text o h.2.0 reads.inverse dead.1 h.0 h.1 h.2.1))))
+    (λ alive. subst (TellsAnchored m text) (sym (matches-alive m sid alive.0)) (anchored-tells m text (state_text m sid) alive.1.0 reads.inverse reads.few alive.1.2 alive.1.1))
     reads.stands
 
 -- a text has a live prefix, or is dead
-pub lives : (m : Machine) (anchored : Bool) (text : List ℕ) (sid : ℕ) → IsReached m anchored text sid → (from : Option ℕ) × IsLive m anchored text from
+pub lives : (m : Dictionary) (anchored : Bool) (text : List ℕ) (sid : ℕ) → IsReachedBy m anchored text sid → (from : Option ℕ) × IsLive m anchored text from
 lives m anchored text sid reads = ⊎_elim (λ dead. let r : (from : Option ℕ) × IsLive m anchored text from = (None, dead.1) in r) (λ alive. let r : (from : Option ℕ) × IsLive m anchored text from = (Some alive.1.0, alive.1.1) in r) reads.stands
 
 -- ---- what the code finds
 
--- how many entries there are
-pub entries-count : (m : Machine) (sid : ℕ) (v : List ℕ) (n k : ℕ) → v ≡ text_of m sid → sid ≢ 0 → n ≡ length (gathered (λ i. i % 256) (is_entry m v) k) → k ≡ (length v + 1) * 256 → n ≡ length (entries_of m sid)
-entries-count m sid v n k is some count all =
-    count ∙ ap (λ (j : ℕ). length (gathered (λ i. i % 256) (is_entry m v) j)) all ∙ ap (λ (xs : List ℕ). length (gathered (λ i. i % 256) (is_entry m xs) ((length xs + 1) * 256))) is ∙ sym (ap length (entries-alive m sid some))
+-- how many matches there are
+pub matches-count : (m : Dictionary) (sid : ℕ) (v : List ℕ) (n k : ℕ) → v ≡ state_text m sid → sid ≢ 0 → n ≡ length (gathered (λ i. i % 256) (is_entry m v) k) → k ≡ (length v + 1) * 256 → n ≡ length (entries_of m sid)
+matches-count m sid v n k is some count all =
+    count ∙ ap (λ (j : ℕ). length (gathered (λ i. i % 256) (is_entry m v) j)) all ∙ ap (λ (xs : List ℕ). length (gathered (λ i. i % 256) (is_entry m xs) ((length xs + 1) * 256))) is ∙ sym (ap length (matches-alive m sid some))
 
 -- a state that has an entry is not the dead one
-pub entries-some : (m : Machine) (sid index : ℕ) → index < length (entries_of m sid) → sid ≢ 0
-entries-some m sid index lt is_zero = let none : length (entries_of m sid) ≡ 0 = ap length (entries-dead m sid is_zero) in absurd (omega arith)
+pub matches-some : (m : Dictionary) (sid index : ℕ) → index < length (entries_of m sid) → sid ≢ 0
+matches-some m sid index lt is_zero = let none : length (entries_of m sid) ≡ 0 = ap length (matches-dead m sid is_zero) in absurd (omega arith)
 
 -- which entry stands at a place of the list
-pub entries-at : (m : Machine) (sid : ℕ) (v : List ℕ) (k index result : ℕ) → v ≡ text_of m sid → sid ≢ 0 → k < (length v + 1) * 256 → is_entry m v k ≡ true → index ≡ length (gathered (λ i. i % 256) (is_entry m v) k) → result ≡ k % 256 → slice_get (entries_of m sid) index ≡ Some result
-entries-at m sid v k index result is some lt entry at value =
-    let list : gathered (λ i. i % 256) (is_entry m v) ((length v + 1) * 256) ≡ entries_of m sid = ap (λ (xs : List ℕ). gathered (λ i. i % 256) (is_entry m xs) ((length xs + 1) * 256)) is ∙ sym (entries-alive m sid some) in
+pub matches-at : (m : Dictionary) (sid : ℕ) (v : List ℕ) (k index result : ℕ) → v ≡ state_text m sid → sid ≢ 0 → k < (length v + 1) * 256 → is_entry m v k ≡ true → index ≡ length (gathered (λ i. i % 256) (is_entry m v) k) → result ≡ k % 256 → slice_get (entries_of m sid) index ≡ Some result
+matches-at m sid v k index result is some lt entry at value =
+    let list : gathered (λ i. i % 256) (is_entry m v) ((length v + 1) * 256) ≡ entries_of m sid = ap (λ (xs : List ℕ). gathered (λ i. i % 256) (is_entry m xs) ((length xs + 1) * 256)) is ∙ sym (matches-alive m sid some) in
     subst (λ (xs : List ℕ). slice_get xs index ≡ Some result) list
     (subst (λ (i : ℕ). slice_get (gathered (λ i. i % 256) (is_entry m v) ((length v + 1) * 256)) i ≡ Some result) (sym at)
     (gathered-at (λ i. i % 256) (is_entry m v) ((length v + 1) * 256) k lt entry ∙ ap Some (sym value)))
 
 -- at the state of the empty text no byte is live
-pub start-live : (m : Machine) (anchored : Bool) (text : List ℕ) (sid : ℕ) → IsReached m anchored text sid → sid ≢ 0 → length (text_of m sid) ≡ 0 → IsLive m anchored text (Some (length text))
+pub start-live : (m : Dictionary) (anchored : Bool) (text : List ℕ) (sid : ℕ) → IsReachedBy m anchored text sid → sid ≢ 0 → length (state_text m sid) ≡ 0 → IsLive m anchored text (Some (length text))
 start-live m anchored text sid reads some empty =
     ⊎_elim
     (λ dead. absurd (some dead.0))
     (λ alive.
-    let same_length = same_text-length m.pairing (text_of m sid) (drop alive.1.0 text) alive.1.2 in
+    let same_length = same_text-length m.pairing (state_text m sid) (drop alive.1.0 text) alive.1.2 in
     let rest = length-drop alive.1.0 text in
     let within = alive.1.1.0.within in
     let end : alive.1.0 ≡ length text = omega arith in
@@ -373,3 +375,79 @@ start-live m anchored text sid reads some empty =
 pub shortest-fits : (ps : List (List ℕ)) → shortest ps ≤ 18446744073709551615
 shortest-fits [] = omega arith
 shortest-fits (p ∷ ps) = let le = shortest-fits ps in omega arith
+
+-- ---- where a search stops
+
+or-true : (a b : Bool) → (a || b) ≡ true → (a ≡ true) ⊎ (b ≡ true)
+or-true true b h = inl refl
+or-true false b h = inr h
+
+or-left : (a b : Bool) → a ≡ true → (a || b) ≡ true
+or-left true b h = refl
+or-left false b h = absurd (false≢true h)
+
+or-right : (a b : Bool) → b ≡ true → (a || b) ≡ true
+or-right true b h = refl
+or-right false b h = h
+
+some-listed : (ns : List ℕ) → not (length ns == 0) ≡ true → ns ≢ []
+some-listed [] h = λ e. false≢true h
+some-listed (n ∷ ns) h = λ e. cc
+
+listed-some : (ns : List ℕ) → ns ≢ [] → not (length ns == 0) ≡ true
+listed-some [] h = absurd (h refl)
+listed-some (n ∷ ns) h = grind (arith, nat_tests)
+
+-- a state is dead exactly where it is number 0
+dead-zero : (m : Dictionary) (anchored : Anchored) (text : List ℕ) (sid : ℕ) → IsReachedBy m (is_anchored anchored) text sid → ((sid == 0) ≡ true) ↔ IsLive m (is_anchored anchored) text None
+dead-zero m anchored text sid reads = (
+  λ h. let e : sid ≡ 0 = grind (arith, nat_tests) in ⊎_elim (λ dead. dead.1) (λ alive. absurd (alive.0 e)) reads.stands,
+  λ dead. ⊎_elim
+      (λ zero_state. let e : sid ≡ 0 = zero_state.0 in grind (arith, nat_tests))
+      (λ alive. absurd (dead alive.1.0 alive.1.1.0))
+      reads.stands,
+)
+
+-- without a prefilter
+plain-stops : (m : Dictionary) (anchored : Anchored) (text : List ℕ) (sid : ℕ) → IsReachedBy m (is_anchored anchored) text sid → (is_special_of m sid ≡ true) ↔ IsSpecial (built_as m None) (entries_of m sid) (is_start_of m sid) anchored text
+plain-stops m anchored text sid reads = (
+  λ h. ⊎_elim
+      (λ zero_state. inl ((dead-zero m anchored text sid reads).0 zero_state))
+      (λ some. inr (inl (some-listed (entries_of m sid) some)))
+      (or-true (sid == 0) (not (length (entries_of m sid) == 0)) h),
+  λ special. ⊎_elim
+      (λ dead. or-left (sid == 0) (not (length (entries_of m sid) == 0)) ((dead-zero m anchored text sid reads).1 dead))
+      (λ more. ⊎_elim
+      (λ some. or-right (sid == 0) (not (length (entries_of m sid) == 0)) (listed-some (entries_of m sid) some))
+      (λ start. absurd (start.1 refl))
+      more)
+      special,
+)
+
+-- with one
+ahead-stops : (m : Dictionary) (f : Filter) (anchored : Anchored) (text : List ℕ) (sid : ℕ) → IsReachedBy m (is_anchored anchored) text sid → ((is_special_of m sid || is_start_of m sid) ≡ true) ↔ IsSpecial (built_as m (Some f)) (entries_of m sid) (is_start_of m sid) anchored text
+ahead-stops m f anchored text sid reads = (
+  λ h. ⊎_elim
+      (λ special. ⊎_elim
+      (λ dead. inl dead)
+      (λ more. inr (⊎_elim (λ some. inl some) (λ start. absurd (start.1 refl)) more))
+      ((plain-stops m anchored text sid reads).0 special))
+      (λ start. inr (inr (start, λ none. cc)))
+      (or-true (is_special_of m sid) (is_start_of m sid) h),
+  λ special. ⊎_elim
+      (λ dead. or-left (is_special_of m sid) (is_start_of m sid) ((plain-stops m anchored text sid reads).1 (inl dead)))
+      (λ more. ⊎_elim
+      (λ some. or-left (is_special_of m sid) (is_start_of m sid) ((plain-stops m anchored text sid reads).1 (inr (inl some))))
+      (λ start. or-right (is_special_of m sid) (is_start_of m sid) start.0)
+      more)
+      special,
+)
+
+-- so a state that is reached is read
+pub read-from : (m : Dictionary) (anchored : Anchored) (text : List ℕ) (sid : ℕ) → IsReachedBy m (is_anchored anchored) text sid → IsRead m anchored text sid
+read-from m anchored text sid reached = record {
+  reached = reached;
+  tells = tells m anchored text sid reached;
+  stops = plain-stops m anchored text sid reached;
+  stops_ahead = λ f. ahead-stops m f anchored text sid reached;
+}

@@ -16,7 +16,7 @@ use Rattle.ac_input.specs.Occurrence.{Search, Occurrence, Occurs}
 use Rattle.ac_input.specs.Best.{preference, IsLeast, IsBest, asked_kind}
 use Rattle.ac_input.specs.Input.{is_anchored}
 use Rattle.ac_input.specs.Listing.{ListsAll}
-use Rattle.ac_input.specs.Machine.{Machine, IsPattern, Begins, IsEntered, whole}
+use Rattle.ac_input.specs.Dictionary.{Dictionary, IsPattern, Begins, IsEntered, whole}
 use Rattle.ac_input.specs.LiveLaws.{IsOwnInverse}
 use Rattle.ac_input.specs.Tells.{ending, before_last, TellsUnanchored, Tells}
 use Rattle.ac_input.proofs.ContainsLemmas.{Contains-nil, Contains-head, Contains-cases}
@@ -25,7 +25,7 @@ use Rattle.ac_input.proofs.RisingLemmas.{IsRising-head}
 use Rattle.ac_input.proofs.BestLemmas.{IsLeast-like, IsLeast-none_stronger, IsLeast-stronger, least-unique}
 use Rattle.ac_input.proofs.SameLemmas.{same_text-take, same_text-back, same_text-transitive}
 use Rattle.ac_input.proofs.LiveLemmas.{occurs-append, occurs-front, whole-best, kind_cases, best-entered}
-use Rattle.ac_automaton.specs.Stretch.{counted}
+use Rattle.ac_automaton.specs.Cursor.{counted}
 
 -- ---- one end
 
@@ -64,15 +64,15 @@ best-first s at (b ∷ os) ends lists = (
 -- ---- what ended before the last byte
 
 -- the best of what ended before the end of the text
-pub record IsEarlier (kind : MatchKind) (m : Machine) (anchored : Bool) (text : List ℕ) (r : Option Occurrence) : Type 0 where
+pub record IsEarlier (kind : MatchKind) (m : Dictionary) (anchored : Bool) (text : List ℕ) (r : Option Occurrence) : Type 0 where
   pub least : IsLeast kind (λ o. Occurs (whole m text anchored) o × (o.end < length text)) r
 
 -- nothing ends before the end of no text
-pub earlier-start : (kind : MatchKind) (m : Machine) (anchored : Bool) → IsEarlier kind m anchored [] None
+pub earlier-start : (kind : MatchKind) (m : Dictionary) (anchored : Bool) → IsEarlier kind m anchored [] None
 earlier-start kind m anchored = record { least = λ o h. let lt = h.1 in omega arith }
 
 -- the best of a text is what ended before the end of the text and a byte
-pub earlier-append : (kind : MatchKind) (m : Machine) (anchored : Bool) (text : List ℕ) (b : ℕ) (r : Option Occurrence) → IsBest kind (whole m text anchored) r → IsEarlier kind m anchored (text ++ b ∷ []) r
+pub earlier-append : (kind : MatchKind) (m : Dictionary) (anchored : Bool) (text : List ℕ) (b : ℕ) (r : Option Occurrence) → IsBest kind (whole m text anchored) r → IsEarlier kind m anchored (text ++ b ∷ []) r
 earlier-append kind m anchored text b r best =
     let both = length-append text (b ∷ []) in
     record { least = IsLeast-like kind (Occurs (whole m text anchored)) (λ o. Occurs (whole m (text ++ b ∷ []) anchored) o × (o.end < length (text ++ b ∷ []))) (λ o. (λ h. let w = h.within in (occurs-append m anchored text (b ∷ []) o h, omega arith), λ h. let lt = h.1 in occurs-front m anchored text (b ∷ []) o (omega arith) h.0)) r best }
@@ -83,7 +83,7 @@ split_last b [] = (b, refl)
 split_last b (c ∷ bs) = let r = split_last c bs in (r.0, ap (λ (l : List ℕ). b ∷ l) r.1)
 
 -- so what ended before its end is the best of what it was before the last byte
-earlier-best_before : (kind : MatchKind) (m : Machine) (anchored : Bool) (b : ℕ) (bs : List ℕ) (r : Option Occurrence) → IsEarlier kind m anchored (b ∷ bs) r → IsBest kind (whole m (before_last (b ∷ bs)) anchored) r
+earlier-best_before : (kind : MatchKind) (m : Dictionary) (anchored : Bool) (b : ℕ) (bs : List ℕ) (r : Option Occurrence) → IsEarlier kind m anchored (b ∷ bs) r → IsBest kind (whole m (before_last (b ∷ bs)) anchored) r
 earlier-best_before kind m anchored b bs r earlier = by (before_last (b ∷ bs)) (split_last b bs)
   where
     by : (text : List ℕ) → ((last : ℕ) × (text ++ last ∷ [] ≡ b ∷ bs)) → IsBest kind (whole m text anchored) r
@@ -94,11 +94,11 @@ earlier-best_before kind m anchored b bs r earlier = by (before_last (b ∷ bs))
         IsLeast-like kind (λ o. Occurs (whole m (text ++ more) anchored) o × (o.end < length (text ++ more))) (Occurs (whole m text anchored)) (λ o. (λ h. let lt = h.1 in occurs-front m anchored text more o (omega arith) h.0, λ h. let w = h.within in (occurs-append m anchored text more o h, omega arith))) r here.least
 
 -- where nothing ended before the end, everything ends there
-earlier-ends : (kind : MatchKind) (m : Machine) (anchored : Bool) (text : List ℕ) → IsEarlier kind m anchored text None → (o : Occurrence) → Occurs (whole m text anchored) o → o.end ≡ length text
+earlier-ends : (kind : MatchKind) (m : Dictionary) (anchored : Bool) (text : List ℕ) → IsEarlier kind m anchored text None → (o : Occurrence) → Occurs (whole m text anchored) o → o.end ≡ length text
 earlier-ends kind m anchored text earlier o h = ⊎_elim (λ (lt : o.end < length text). absurd (earlier.least o (h, lt))) (λ (le : length text ≤ o.end). let w = h.within in omega arith) (cases_lt o.end (length text))
 
 -- where the best of the text isn't new, it is what it was
-earlier-stays : (kind : MatchKind) (m : Machine) (anchored : Bool) (text : List ℕ) (r : Option Occurrence) → IsEarlier kind m anchored text r → ((o : Occurrence) → IsBest kind (whole m text anchored) (Some o) → o.end < length text) → IsBest kind (whole m text anchored) r
+earlier-stays : (kind : MatchKind) (m : Dictionary) (anchored : Bool) (text : List ℕ) (r : Option Occurrence) → IsEarlier kind m anchored text r → ((o : Occurrence) → IsBest kind (whole m text anchored) (Some o) → o.end < length text) → IsBest kind (whole m text anchored) r
 earlier-stays kind m anchored text r earlier lies = by (whole-best kind m text anchored).0 (whole-best kind m text anchored).1
   where
     least : (b : Option Occurrence) → IsBest kind (whole m text anchored) b → IsLeast kind (λ o. Occurs (whole m text anchored) o × (o.end < length text)) b
@@ -110,14 +110,14 @@ earlier-stays kind m anchored text r earlier lies = by (whole-best kind m text a
 
 -- ---- unanchored
 
--- the best of a text from the best of what ended before, where the machine is a standard one
-told-standard : (m : Machine) (text ns : List ℕ) → IsEarlier Standard m false text None → TellsUnanchored Standard m text ns → IsBest Standard (whole m text false) (option_map (ending m text) (slice_get ns 0))
+-- the best of a text from the best of what ended before, where the dictionary is a standard one
+told-standard : (m : Dictionary) (text ns : List ℕ) → IsEarlier Standard m false text None → TellsUnanchored Standard m text ns → IsBest Standard (whole m text false) (option_map (ending m text) (slice_get ns 0))
 told-standard m text ns earlier tells =
     subst (λ (r : Option Occurrence). IsBest Standard (whole m text false) r) (slice_get-map (ending m text) ns 0)
     (best-first (whole m text false) (length text) (map (ending m text) ns) (earlier-ends Standard m false text earlier) tells)
 
 -- where it is a leftmost one, and asked for its kind
-told-leftmost : (kind : MatchKind) (m : Machine) (text ns : List ℕ) (r : Option Occurrence) → kind ≢ Standard → IsEarlier kind m false text r → TellsUnanchored kind m text ns → IsBest kind (whole m text false) (option_or (option_map (ending m text) (slice_get ns 0)) r)
+told-leftmost : (kind : MatchKind) (m : Dictionary) (text ns : List ℕ) (r : Option Occurrence) → kind ≢ Standard → IsEarlier kind m false text r → TellsUnanchored kind m text ns → IsBest kind (whole m text false) (option_or (option_map (ending m text) (slice_get ns 0)) r)
 told-leftmost Standard m text ns r leftmost earlier tells = absurd (leftmost refl)
 told-leftmost LeftmostFirst m [] [] r leftmost earlier tells = earlier-stays LeftmostFirst m false [] r earlier (λ o best. absurd (tells o best.0))
 told-leftmost LeftmostFirst m [] (n ∷ ns) r leftmost earlier tells = tells
@@ -134,11 +134,11 @@ option_or-none None = refl
 option_or-none (Some x) = refl
 
 -- none is the least of every kind
-earlier-none : (kind other : MatchKind) (m : Machine) (anchored : Bool) (text : List ℕ) → IsEarlier kind m anchored text None → IsEarlier other m anchored text None
+earlier-none : (kind other : MatchKind) (m : Dictionary) (anchored : Bool) (text : List ℕ) → IsEarlier kind m anchored text None → IsEarlier other m anchored text None
 earlier-none kind other m anchored text earlier = record { least = earlier.least }
 
 -- where it is a leftmost one, and asked for the standard best: nothing ended before
-told-earliest : (kind : MatchKind) (m : Machine) (text ns : List ℕ) → kind ≢ Standard → IsEarlier Standard m false text None → TellsUnanchored kind m text ns → IsBest Standard (whole m text false) (option_map (ending m text) (slice_get ns 0))
+told-earliest : (kind : MatchKind) (m : Dictionary) (text ns : List ℕ) → kind ≢ Standard → IsEarlier Standard m false text None → TellsUnanchored kind m text ns → IsBest Standard (whole m text false) (option_map (ending m text) (slice_get ns 0))
 told-earliest kind m text ns leftmost earlier tells =
     best-one_end kind (whole m text false) (length text) (option_map (ending m text) (slice_get ns 0)) (earlier-ends Standard m false text earlier)
     (subst (λ (r : Option Occurrence). IsBest kind (whole m text false) r) (option_or-none (option_map (ending m text) (slice_get ns 0)))
@@ -147,7 +147,7 @@ told-earliest kind m text ns leftmost earlier tells =
 -- ---- anchored
 
 -- where an occurrence ends at the start of an anchored text, and what its pattern is
-anchored-length : (m : Machine) (text : List ℕ) (o : Occurrence) → Occurs (whole m text true) o → (o.start ≡ 0) × ((p : List ℕ) × IsPattern m o.pattern p × (o.end ≡ length p) × IsTrue (same_text m.pairing p (take o.end text)))
+anchored-length : (m : Dictionary) (text : List ℕ) (o : Occurrence) → Occurs (whole m text true) o → (o.start ≡ 0) × ((p : List ℕ) × IsPattern m o.pattern p × (o.end ≡ length p) × IsTrue (same_text m.pairing p (take o.end text)))
 anchored-length m text o h =
     let first : o.start ≡ 0 = h.anchor refl in
     let found = occurs-end (whole m text true) o (omega arith) h in
@@ -159,7 +159,7 @@ anchored-length m text o h =
     (first, (found.0, found.1, omega arith, subst (λ (p : List ℕ). IsTrue (same_text m.pairing p (take o.end text))) one here))
 
 -- of two occurrences from the start, the shorter one's pattern begins the longer one's
-anchored-begins : (m : Machine) (text : List ℕ) (a b : Occurrence) (p q : List ℕ) → IsOwnInverse m.pairing → Occurs (whole m text true) a → Occurs (whole m text true) b → IsPattern m a.pattern p → IsPattern m b.pattern q → a.end < b.end → (length p < length q) × Begins m.pairing p q
+anchored-begins : (m : Dictionary) (text : List ℕ) (a b : Occurrence) (p q : List ℕ) → IsOwnInverse m.pairing → Occurs (whole m text true) a → Occurs (whole m text true) b → IsPattern m a.pattern p → IsPattern m b.pattern q → a.end < b.end → (length p < length q) × Begins m.pairing p q
 anchored-begins m text a b p q inverse g h is also sooner =
     let ga = anchored-length m text a g in
     let hb = anchored-length m text b h in
@@ -176,7 +176,7 @@ anchored-begins m text a b p q inverse g h is also sooner =
     (omega arith, (omega arith, subst (λ (n : ℕ). IsTrue (same_text m.pairing p (take n q))) (sym lp) both))
 
 -- An entered pattern that is the whole text is preferred by a leftmost kind to whatever ended before.
-anchored-new_first : (m : Machine) (text : List ℕ) (old new : Occurrence) (p : List ℕ) → IsOwnInverse m.pairing → m.kind ≢ Standard → Occurs (whole m text true) old → Occurs (whole m text true) new → old.end < new.end → IsEntered m new.pattern p → preference m.kind old new ≡ Greater
+anchored-new_first : (m : Dictionary) (text : List ℕ) (old new : Occurrence) (p : List ℕ) → IsOwnInverse m.pairing → m.kind ≢ Standard → Occurs (whole m text true) old → Occurs (whole m text true) new → old.end < new.end → IsEntered m new.pattern p → preference m.kind old new ≡ Greater
 anchored-new_first m text old new p inverse leftmost g h sooner entered = by m.kind refl
   where
     starts : old.start ≡ new.start
@@ -203,7 +203,7 @@ anchored-new_first m text old new p inverse leftmost g h sooner entered = by m.k
         subst (λ (k : MatchKind). preference k old new ≡ Greater) (sym is)
         (ap (λ (r : Ordering). ordering_then r (ordering_then (nat_cmp new.end old.end) (nat_cmp old.pattern new.pattern))) (nat_cmp-equal old.start new.start starts) ∙ ap (λ (r : Ordering). ordering_then r (nat_cmp old.pattern new.pattern)) (nat_cmp-greater new.end old.end sooner))
 
--- an asked kind is the standard one or the machine's own
+-- an asked kind is the standard one or the dictionary's own
 pub asked_cases : (kind : MatchKind) (earliest : Bool) → (asked_kind kind earliest ≡ Standard) ⊎ ((asked_kind kind earliest ≡ kind) × (kind ≢ Standard) × (earliest ≡ false))
 asked_cases kind true = inl refl
 asked_cases Standard false = inl refl
@@ -211,11 +211,11 @@ asked_cases LeftmostFirst false = inr (refl, λ e. cc, refl)
 asked_cases LeftmostLongest false = inr (refl, λ e. cc, refl)
 
 -- the listed ones that are the whole of an anchored text
-abbrev IsWhole : Machine → List ℕ → Occurrence → Type 0
+abbrev IsWhole : Dictionary → List ℕ → Occurrence → Type 0
 IsWhole m text o = Occurs (whole m text true) o × (o.end ≡ length text) × ((p : List ℕ) × IsEntered m o.pattern p)
 
 -- where no listed one is the whole text, the best is what it was
-told-anchored_none : (m : Machine) (earliest : Bool) (text : List ℕ) (r : Option Occurrence) → IsOwnInverse m.pairing → IsEarlier (asked_kind m.kind earliest) m true text r → ListsAll (IsWhole m text) [] → IsBest (asked_kind m.kind earliest) (whole m text true) r
+told-anchored_none : (m : Dictionary) (earliest : Bool) (text : List ℕ) (r : Option Occurrence) → IsOwnInverse m.pairing → IsEarlier (asked_kind m.kind earliest) m true text r → ListsAll (IsWhole m text) [] → IsBest (asked_kind m.kind earliest) (whole m text true) r
 told-anchored_none m earliest text r inverse earlier lists =
     earlier-stays (asked_kind m.kind earliest) m true text r earlier
     (λ o best. ⊎_elim
@@ -227,7 +227,7 @@ told-anchored_none m earliest text r inverse earlier lists =
     (cases_lt o.end (length text)))
 
 -- where some are, the first of them is the best
-told-anchored_some : (m : Machine) (earliest : Bool) (text : List ℕ) (r : Option Occurrence) (first : Occurrence) (os : List Occurrence) → IsOwnInverse m.pairing → IsEarlier (asked_kind m.kind earliest) m true text r → (asked_kind m.kind earliest ≡ Standard → r ≡ None) → ListsAll (IsWhole m text) (first ∷ os) → IsBest (asked_kind m.kind earliest) (whole m text true) (Some first)
+told-anchored_some : (m : Dictionary) (earliest : Bool) (text : List ℕ) (r : Option Occurrence) (first : Occurrence) (os : List Occurrence) → IsOwnInverse m.pairing → IsEarlier (asked_kind m.kind earliest) m true text r → (asked_kind m.kind earliest ≡ Standard → r ≡ None) → ListsAll (IsWhole m text) (first ∷ os) → IsBest (asked_kind m.kind earliest) (whole m text true) (Some first)
 told-anchored_some m earliest text r first os inverse earlier fresh lists = by (whole-best (asked_kind m.kind earliest) m text true).0 (whole-best (asked_kind m.kind earliest) m text true).1
   where
     listed : IsWhole m text first
@@ -266,14 +266,14 @@ told-anchored_some m earliest text r first os inverse earlier fresh lists = by (
     by (Some b) best = subst (λ (x : Occurrence). IsBest (asked_kind m.kind earliest) (whole m text true) (Some x)) (same b best) best
 
 -- the best of an anchored text from the best of what ended before
-told-anchored : (m : Machine) (earliest : Bool) (text ns : List ℕ) (r : Option Occurrence) → IsOwnInverse m.pairing → IsEarlier (asked_kind m.kind earliest) m true text r → (asked_kind m.kind earliest ≡ Standard → r ≡ None) → ListsAll (IsWhole m text) (map (ending m text) ns) → IsBest (asked_kind m.kind earliest) (whole m text true) (option_or (option_map (ending m text) (slice_get ns 0)) r)
+told-anchored : (m : Dictionary) (earliest : Bool) (text ns : List ℕ) (r : Option Occurrence) → IsOwnInverse m.pairing → IsEarlier (asked_kind m.kind earliest) m true text r → (asked_kind m.kind earliest ≡ Standard → r ≡ None) → ListsAll (IsWhole m text) (map (ending m text) ns) → IsBest (asked_kind m.kind earliest) (whole m text true) (option_or (option_map (ending m text) (slice_get ns 0)) r)
 told-anchored m earliest text [] r inverse earlier fresh lists = told-anchored_none m earliest text r inverse earlier lists
 told-anchored m earliest text (n ∷ ns) r inverse earlier fresh lists = told-anchored_some m earliest text r (ending m text n) (map (ending m text) ns) inverse earlier fresh lists
 
 -- ---- both
 
 -- the best of the text that is unanchored
-told-unanchored : (m : Machine) (earliest : Bool) (text ns : List ℕ) (r : Option Occurrence) → IsEarlier (asked_kind m.kind earliest) m false text r → (asked_kind m.kind earliest ≡ Standard → r ≡ None) → TellsUnanchored m.kind m text ns → IsBest (asked_kind m.kind earliest) (whole m text false) (option_or (option_map (ending m text) (slice_get ns 0)) r)
+told-unanchored : (m : Dictionary) (earliest : Bool) (text ns : List ℕ) (r : Option Occurrence) → IsEarlier (asked_kind m.kind earliest) m false text r → (asked_kind m.kind earliest ≡ Standard → r ≡ None) → TellsUnanchored m.kind m text ns → IsBest (asked_kind m.kind earliest) (whole m text false) (option_or (option_map (ending m text) (slice_get ns 0)) r)
 told-unanchored m earliest text ns r earlier fresh tells = ⊎_elim
     (λ (standard : asked_kind m.kind earliest ≡ Standard).
     let none : r ≡ None = fresh standard in
@@ -293,7 +293,7 @@ told-unanchored m earliest text ns r earlier fresh tells = ⊎_elim
 
 -- The best of a text from the best of what ended before its end, and the list of the state: the first entry that counts, and
 -- else what it was.
-pub told : (m : Machine) (anchored : Anchored) (earliest : Bool) (text ns : List ℕ) (r : Option Occurrence)
+pub told : (m : Dictionary) (anchored : Anchored) (earliest : Bool) (text ns : List ℕ) (r : Option Occurrence)
     → IsOwnInverse m.pairing
     → IsEarlier (asked_kind m.kind earliest) m (is_anchored anchored) text r
     → (asked_kind m.kind earliest ≡ Standard → r ≡ None)
@@ -305,7 +305,7 @@ told m Yes earliest text ns r inverse earlier fresh tells = told-anchored m earl
 -- ---- how far back an entry starts
 
 -- what ends at the end of a text is no longer than it
-pub ending-fits : (m : Machine) (anchored : Bool) (text : List ℕ) (n : ℕ) → Occurs (whole m text anchored) (ending m text n) → length (get_or m.patterns n []) ≤ length text
+pub ending-fits : (m : Dictionary) (anchored : Bool) (text : List ℕ) (n : ℕ) → Occurs (whole m text anchored) (ending m text n) → length (get_or m.patterns n []) ≤ length text
 ending-fits m anchored text n h =
     let found = occurs-end (whole m text anchored) (ending m text n) (omega arith) h in
     let one : length (get_or m.patterns n []) ≡ length found.0 = ap length (get_or_from_slice_get m.patterns n found.0 [] found.1) in
@@ -313,7 +313,7 @@ ending-fits m anchored text n h =
     omega arith
 
 -- the first entry of an unanchored list occurs
-told-first_occurs : (kind : MatchKind) (m : Machine) (text ns : List ℕ) (n : ℕ) → TellsUnanchored kind m text ns → slice_get ns 0 ≡ Some n → Occurs (whole m text false) (ending m text n)
+told-first_occurs : (kind : MatchKind) (m : Dictionary) (text ns : List ℕ) (n : ℕ) → TellsUnanchored kind m text ns → slice_get ns 0 ≡ Some n → Occurs (whole m text false) (ending m text n)
 told-first_occurs kind m text [] n tells is = absurd (let e : None ≡ Some n = is in cc)
 told-first_occurs Standard m text (k ∷ ns) n tells is = subst (λ (x : ℕ). Occurs (whole m text false) (ending m text x)) (same_Some k n is) ((tells.1 (ending m text k)).0 (Contains-head (ending m text k) (map (ending m text) ns))).0
 told-first_occurs LeftmostFirst m [] (k ∷ ns) n tells is = subst (λ (x : ℕ). Occurs (whole m [] false) (ending m [] x)) (same_Some k n is) tells.0
@@ -322,5 +322,5 @@ told-first_occurs LeftmostLongest m [] (k ∷ ns) n tells is = subst (λ (x : �
 told-first_occurs LeftmostLongest m (b ∷ bs) (k ∷ ns) n tells is = subst (λ (x : ℕ). Occurs (whole m (b ∷ bs) false) (ending m (b ∷ bs) x)) (same_Some k n is) tells.0
 
 -- so it is no longer than the text
-pub told-first_fits : (m : Machine) (text ns : List ℕ) (n : ℕ) → Tells m No text ns → slice_get ns 0 ≡ Some n → length (get_or m.patterns n []) ≤ length text
+pub told-first_fits : (m : Dictionary) (text ns : List ℕ) (n : ℕ) → Tells m No text ns → slice_get ns 0 ≡ Some n → length (get_or m.patterns n []) ≤ length text
 told-first_fits m text ns n tells is = ending-fits m false text n (told-first_occurs m.kind m text ns n tells is)

@@ -1,16 +1,108 @@
--- What a search by an automaton is refused with, and lengths of patterns.
-use Rattle.std.specs.Prelude.{ℕ, min, List, [], ◌∷◌, length}
+-- What an automaton was built as, what its calls on states say, and what its searches answer and cost.
+use Rattle.std.specs.Prelude.{◌≡◌, ◌≢◌, ◌⊎◌, ◌↔◌, ℕ, ◌<◌, ◌≤◌, Bool, List, [], ◌++◌, length, take, IsTrue, Option, None, Some, slice_get}
+use Rattle.ac_input.specs.declared.primitives.state_id.StateID.{StateID}
 use Rattle.ac_input.specs.declared.search.Anchored.{Anchored}
 use Rattle.ac_input.specs.declared.search.Anchored.TheVariants.{No, Yes}
+use Rattle.ac_input.specs.declared.search.MatchKind.{MatchKind}
+use Rattle.ac_input.specs.declared.steps.Steps.{Steps}
+use Rattle.ac_input.specs.Best.{IsBest, asked_kind}
+use Rattle.ac_input.specs.Candidate.{Filter}
+use Rattle.ac_input.specs.Computed.{walk_of, listing_of}
+use Rattle.ac_input.specs.Dictionary.{Dictionary, IsLive, live_len}
+use Rattle.ac_input.specs.Input.{Asked, is_anchored, search_in}
+use Rattle.ac_input.specs.Occurrence.{Search, Occurrence}
+use Rattle.ac_input.specs.Work.{IsLookups, IsFindWork}
 use Rattle.ac_automaton.specs.declared.error.MatchErrorKind.{MatchErrorKind}
 use Rattle.ac_automaton.specs.declared.error.MatchErrorKind.TheVariants.{InvalidInputAnchored, InvalidInputUnanchored}
+
+-- What an automaton was built as: what it finds, whether it looks at exactly one state for a byte, and the prefilter that it holds.
+pub record Built : Type 0 where
+  pub dictionary : Dictionary
+  pub deterministic : Bool
+  pub prefilter : Option Filter
+
+-- ---- states
+
+-- a state that is reached from one start, by some text
+abbrev pub IsReached : (List ℕ → StateID → Type 0) → StateID → Type 0
+IsReached Reads sid = (text : List ℕ) × Reads text sid
+
+-- a state that is reached from some start, by some text
+abbrev pub IsState : (Anchored → List ℕ → StateID → Type 0) → StateID → Type 0
+IsState Reads sid = (anchored : Anchored) × (text : List ℕ) × Reads anchored text sid
+
+-- this holds of each text by which the state is reached, from each start
+abbrev pub AtEach : (Anchored → List ℕ → StateID → Type 0) → StateID → (Anchored → List ℕ → Type 0) → Type 0
+AtEach Reads sid P = (anchored : Anchored) (text : List ℕ) → Reads anchored text sid → P anchored text
+
+-- whatever was read before, these bytes lead from the one state to the other
+abbrev pub Leads : (List ℕ → StateID → Type 0) → StateID → List ℕ → StateID → Type 0
+Leads Reads from bytes to = (text : List ℕ) → Reads text from → Reads (text ++ bytes) to
+
+-- what it may cost to read these bytes on from a state
+abbrev pub IsReadCost : Built → (Anchored → List ℕ → StateID → Type 0) → Anchored → StateID → List ℕ → Steps → Steps → Type 0
+IsReadCost b Reads anchored sid bytes old new =
+    (text : List ℕ) (before after : Option ℕ) → Reads anchored text sid
+    → IsLive b.dictionary (is_anchored anchored) text before
+    → IsLive b.dictionary (is_anchored anchored) (text ++ bytes) after
+    → IsLookups b.deterministic (length bytes) (live_len text before) (live_len (text ++ bytes) after) old new
+
+-- a text after which nothing more can be found
+abbrev pub IsDead : Built → Anchored → List ℕ → Type 0
+IsDead b anchored text = IsLive b.dictionary (is_anchored anchored) text None
+
+-- the answer tells whether the text is dead
+abbrev pub TellsDead : Built → Bool → Anchored → List ℕ → Type 0
+TellsDead b dead anchored text = IsTrue dead ↔ IsDead b anchored text
+
+-- a start is not dead
+abbrev pub StartIsAlive : Built → Bool → Anchored → List ℕ → Type 0
+StartIsAlive b start anchored text = IsTrue start → ¬ IsDead b anchored text
+
+-- at a start that matches nothing no byte that was read is live any more
+abbrev pub StartIsEmpty : Built → List ℕ → Bool → Anchored → List ℕ → Type 0
+StartIsEmpty b matches start anchored text = IsTrue start → matches ≡ [] → IsLive b.dictionary (is_anchored anchored) text (Some (length text))
+
+-- A state at which a search has more to do than to read on: the text is dead, or patterns match, or it is a start and there is a
+-- prefilter to ask.
+abbrev pub IsSpecial : Built → List ℕ → Bool → Anchored → List ℕ → Type 0
+IsSpecial b matches start anchored text = IsDead b anchored text ⊎ (matches ≢ []) ⊎ (IsTrue start × (b.prefilter ≢ None))
+
+-- at least one byte is taken where there is one, and no more than there are
+abbrev pub TakesSome : List ℕ → ℕ → Type 0
+TakesSome bytes taken = (taken ≤ length bytes) × (0 < length bytes → 0 < taken)
+
+-- no state on the way is special, but for the one after the last of so many bytes
+abbrev pub PassesPlain : (List ℕ → StateID → Type 0) → (StateID → Bool) → StateID → List ℕ → ℕ → Type 0
+PassesPlain Reads special sid bytes taken = (at : ℕ) → 0 < at → at < taken → (mid : StateID) × Leads Reads sid (take at bytes) mid × ¬ IsTrue (special mid)
+
+-- ---- searches
 
 -- why a search of this anchoring is refused where there is no start for it
 abbrev pub refusal_of : Anchored → MatchErrorKind
 refusal_of No = InvalidInputUnanchored
 refusal_of Yes = InvalidInputAnchored
 
--- the length of the shortest pattern; the greatest number of a `usize` where there is none
-abbrev pub shortest : List (List ℕ) → ℕ
-shortest [] = 18446744073709551615
-shortest (p ∷ ps) = min (length p) (shortest ps)
+-- the kind of match that a search asks
+abbrev pub kind_asked : Built → Asked → MatchKind
+kind_asked b asked = asked_kind b.dictionary.kind asked.earliest
+
+-- the search that is asked
+abbrev pub searched : Built → Asked → Search
+searched b asked = search_in b.dictionary asked
+
+-- the match that a find answers
+abbrev pub IsFound : Built → Asked → Option Occurrence → Type 0
+IsFound b asked r = IsBest (kind_asked b asked) (searched b asked) r
+
+-- what it may cost
+abbrev pub IsFindCost : Built → Asked → Steps → Steps → Option Occurrence → Type 0
+IsFindCost b asked before after r = IsFindWork (kind_asked b asked) b.deterministic (searched b asked) r before after
+
+-- all matches, one after another
+abbrev pub walk_in : Built → Asked → List Occurrence
+walk_in b asked = walk_of (kind_asked b asked) (searched b asked)
+
+-- all occurrences, by end, start and number
+abbrev pub listing_in : Built → Asked → List Occurrence
+listing_in b asked = listing_of (searched b asked)

@@ -2,6 +2,8 @@
 use Rattle.std.specs.Prelude.{ℕ, List, Option, Some, None, codes}
 use Rattle.ac_automaton.specs.declared.error.MatchErrorKind.{MatchErrorKind}
 use Rattle.ac_automaton.specs.declared.error.MatchErrorKind.TheVariants.{InvalidInputAnchored, InvalidInputUnanchored, UnsupportedStream, UnsupportedOverlapping, UnsupportedEmpty}
+use Rattle.ac_automaton.specs.declared.error.ReplaceError.{ReplaceError}
+use Rattle.ac_automaton.specs.declared.error.ReplaceError.TheVariants.{Match, Memory as NoMemory}
 use Rattle.ac_automaton.specs.declared.error.StreamError.{StreamError}
 use Rattle.ac_automaton.specs.declared.error.StreamError.TheVariants.{Config, Read, Write, WriteZero, Memory, Position}
 
@@ -12,6 +14,11 @@ match_error_text InvalidInputUnanchored = codes "unanchored search is not suppor
 match_error_text (UnsupportedStream got) = codes "stream search needs the standard kind"
 match_error_text (UnsupportedOverlapping got) = codes "overlapping search needs the standard kind"
 match_error_text UnsupportedEmpty = codes "stream search takes no empty pattern"
+
+-- the text of a refused replacement
+abbrev pub replace_error_text : ReplaceError → List ℕ
+replace_error_text (Match error) = match_error_text error
+replace_error_text NoMemory = codes "out of memory"
 
 -- the text of an error of a stream, but for those that pass on the text of a device
 abbrev pub stream_error_text : StreamError → Option (List ℕ)

@@ -1,28 +1,69 @@
--- How a stretch of a search ends, and what it costs.
-use Rattle.std.specs.Prelude.{◌≡◌, ℕ, ◌+◌, ◌-◌, ◌*◌, ◌<◌, ◌≤◌, Bool, true, List}
-use Rattle.ac_input.specs.declared.search.Anchored.{Anchored}
+-- How a part of a search ends, what a prefilter's answer means for it, and what that costs.
+use Rattle.std.specs.Prelude.{◌≡◌, ℕ, ◌+◌, ◌-◌, ◌*◌, ◌<◌, ◌≤◌, Bool, Option}
 use Rattle.ac_input.specs.declared.search.MatchKind.{MatchKind}
-use Rattle.ac_input.specs.declared.search.Span.{Span}
 use Rattle.ac_input.specs.declared.steps.Steps.{Steps}
 use Rattle.ac_input.specs.Best.{IsBest}
-use Rattle.ac_input.specs.Input.{is_anchored}
-use Rattle.ac_input.specs.Machine.{Machine}
-use Rattle.ac_input.specs.Occurrence.{Search, Occurrence, Occurs}
+use Rattle.ac_input.specs.Input.{Asked}
+use Rattle.ac_input.specs.Occurrence.{Search, Occurrence, Occurs, starting_at}
 use Rattle.ac_input.specs.Steps.{looked_of, scanned_of, moved_of}
-use Rattle.ac_input.specs.Work.{looks_each, IsFindWork}
-use Rattle.ac_automaton.specs.declared.stretch.Stretch.{Stretch}
-use Rattle.ac_automaton.specs.declared.stretch.Stretch.TheVariants.{Answer, Back}
+use Rattle.ac_input.specs.Work.{lookups_per_byte, IsFindWork}
+use Rattle.ac_automaton.specs.Automaton.{Built, kind_asked, searched}
+use Rattle.ac_automaton.specs.declared.cursor.End.{End}
+use Rattle.ac_automaton.specs.declared.cursor.End.TheVariants.{Found, Idle}
 
--- the search of a span by a machine
-abbrev pub search_of : Machine → Anchored → List ℕ → Span → Search
-search_of m anchored haystack span = record { patterns = m.patterns; pairing = m.pairing; haystack = haystack; start = span.start; end = span.end; anchored = is_anchored anchored }
+-- the search that is asked, from a place on
+abbrev pub search_from : Built → Asked → ℕ → Search
+search_from b asked at = starting_at (searched b asked) at
 
--- What the end of a stretch says: this is the answer; or the walk is back at the start, and nothing starts before that place.
-abbrev pub StretchSays : MatchKind → Search → Stretch → Type 0
-StretchSays kind s (Answer r) = IsBest kind s r
-StretchSays kind s (Back at) = (s.start < at) × (at ≤ s.end) × ((o : Occurrence) → Occurs s o → at ≤ o.start)
+-- How a walk from the start of the span ends: this is the answer; or it is back at the start, and nothing starts before that place.
+abbrev pub EndSays : MatchKind → Search → End (Option Occurrence) → Type 0
+EndSays kind s (Found r) = IsBest kind s r
+EndSays kind s (Idle at) = (s.start < at) × (at ≤ s.end) × ((o : Occurrence) → Occurs s o → at ≤ o.start)
 
--- what a stretch may cost: it scans nothing
-abbrev pub IsStretchWork : MatchKind → Bool → Search → Stretch → Steps → Steps → Type 0
-IsStretchWork kind direct s (Answer r) before after = IsFindWork kind direct true s r before after × (scanned_of after ≡ scanned_of before)
-IsStretchWork kind direct s (Back at) before after = (looked_of after ≤ looked_of before + looks_each direct * (at - s.start)) × (scanned_of after ≡ scanned_of before) × (moved_of after ≡ moved_of before)
+-- the same of a walk from a place on of the search that is asked
+abbrev pub WalkSays : Built → Asked → ℕ → End (Option Occurrence) → Type 0
+WalkSays b asked at end = EndSays (kind_asked b asked) (search_from b asked at) end
+
+-- what a walk may cost: it scans nothing
+abbrev pub IsWalkWork : MatchKind → Bool → Search → End (Option Occurrence) → Steps → Steps → Type 0
+IsWalkWork kind deterministic s (Found r) before after = IsFindWork kind deterministic s r before after × (scanned_of after ≡ scanned_of before)
+IsWalkWork kind deterministic s (Idle at) before after = (looked_of after ≤ looked_of before + lookups_per_byte deterministic * (at - s.start)) × (scanned_of after ≡ scanned_of before) × (moved_of after ≡ moved_of before)
+
+-- the same of a walk from a place on
+abbrev pub IsWalkCost : Built → Asked → ℕ → End (Option Occurrence) → Steps → Steps → Type 0
+IsWalkCost b asked at end before after = IsWalkWork (kind_asked b asked) b.deterministic (search_from b asked at) end before after
+
+-- a place of the span before which no occurrence begins
+pub record NoneBefore (s : Search) (at : ℕ) : Type 0 where
+  pub behind : s.start ≤ at
+  pub within : at ≤ s.end
+  pub none : (o : Occurrence) → Occurs s o → at ≤ o.start
+
+-- what a prefilter's answer means: this is the answer; or the search goes on from here, and nothing begins before
+abbrev pub CandidateSays : MatchKind → Search → End (Option Occurrence) → Type 0
+CandidateSays kind s (Found r) = IsBest kind s r
+CandidateSays kind s (Idle at) = NoneBefore s at
+
+-- What it costs to be told. No state is looked at. The scans for bytes cover places of the span, each before the end of every
+-- occurrence; and where the search goes on the last of them is at most 254 after that place.
+pub record IsCandidateWork (s : Search) (told : End (Option Occurrence)) (before after : Steps) : Type 0 where
+  pub looked : looked_of after ≡ looked_of before
+  pub within : scanned_of after + s.start ≤ scanned_of before + s.end
+  pub before_ends : (o : Occurrence) → Occurs s o → scanned_of after + s.start ≤ scanned_of before + o.end
+  pub near : (at : ℕ) → told ≡ Idle at → scanned_of after + s.start ≤ scanned_of before + at + 255
+  pub moved : moved_of after ≡ moved_of before
+
+-- what a search may have cost that has come to a place
+pub record IsWorkTo (deterministic : Bool) (s : Search) (at : ℕ) (before after : Steps) : Type 0 where
+  pub looked : looked_of after ≤ looked_of before + lookups_per_byte deterministic * (at - s.start)
+  pub scanned : scanned_of after ≤ scanned_of before + 256 * (at - s.start)
+  pub moved : moved_of after ≡ moved_of before
+
+-- what a walk may cost for which a prefilter was asked
+abbrev pub IsSearchWork : MatchKind → Bool → Search → End (Option Occurrence) → Steps → Steps → Type 0
+IsSearchWork kind deterministic s (Found r) before after = IsFindWork kind deterministic s r before after
+IsSearchWork kind deterministic s (Idle at) before after = IsWorkTo deterministic s at before after
+
+-- the same of one from a place on
+abbrev pub IsSearchCost : Built → Asked → ℕ → End (Option Occurrence) → Steps → Steps → Type 0
+IsSearchCost b asked at end before after = IsSearchWork (kind_asked b asked) b.deterministic (search_from b asked at) end before after

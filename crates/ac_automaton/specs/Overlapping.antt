@@ -5,99 +5,79 @@ use Rattle.ac_input.specs.declared.search.Anchored.{Anchored}
 use Rattle.ac_input.specs.declared.search.MatchKind.{MatchKind}
 use Rattle.ac_input.specs.declared.search.MatchKind.TheVariants.{Standard}
 use Rattle.ac_input.specs.declared.steps.Steps.{Steps}
-use Rattle.ac_input.specs.Candidate.{Filter}
 use Rattle.ac_input.specs.Computed.{listing_of}
-use Rattle.ac_input.specs.Input.{Asked, search_in}
+use Rattle.ac_input.specs.Input.{Asked}
 use Rattle.ac_input.specs.LiveLaws.{shifted}
-use Rattle.ac_input.specs.Machine.{Machine, IsLive, live_len}
+use Rattle.ac_input.specs.Dictionary.{Dictionary, IsLive, live_len}
 use Rattle.ac_input.specs.Occurrence.{Search, Occurrence, starting_at}
 use Rattle.ac_input.specs.Steps.{AreNone, looked_of, scanned_of, moved_of}
 use Rattle.ac_input.specs.Tells.{ending}
-use Rattle.ac_input.specs.Work.{looks_each, scans_bytes}
-use Rattle.ac_automaton.specs.Automaton.{refusal_of}
+use Rattle.ac_input.specs.Work.{lookups_per_byte}
+use Rattle.ac_automaton.specs.Automaton.{Built, refusal_of, searched, listing_in}
+use Rattle.ac_automaton.specs.Cursor.{read_to, walked, IsCursor, ending_at}
 use Rattle.ac_automaton.specs.declared.error.MatchErrorKind.{MatchErrorKind}
 use Rattle.ac_automaton.specs.declared.error.MatchErrorKind.TheVariants.{UnsupportedOverlapping}
 use Rattle.ac_automaton.specs.declared.overlapping.Entry.{Entry}
 use Rattle.ac_automaton.specs.declared.overlapping.OverlappingState.{OverlappingState}
 use Rattle.ac_automaton.specs.declared.overlapping.Place.{Place}
 use Rattle.ac_automaton.specs.declared.overlapping.Place.TheVariants.{At, Over}
-use Rattle.ac_automaton.specs.declared.overlapping.Reached.{Reached}
-use Rattle.ac_automaton.specs.declared.overlapping.Reading.{Reading}
-use Rattle.ac_automaton.specs.declared.overlapping.Reading.TheVariants.{Shows, Back}
+use Rattle.ac_automaton.specs.declared.cursor.Cursor.{Cursor}
+use Rattle.ac_automaton.specs.declared.cursor.End.{End}
+use Rattle.ac_automaton.specs.declared.cursor.End.TheVariants.{Found, Idle}
 use Rattle.ac_automaton.specs.declared.overlapping.Shown.{Shown}
 
 -- The part of the listing that ends at a place or later.
 abbrev pub ending_from : Search → ℕ → List Occurrence
 ending_from s at = filter (λ o. nat_le at o.end) (listing_of s)
 
--- the text that a search has read where it stands at a place
-abbrev pub read_to : Search → ℕ → List ℕ
-read_to s at = slice_range s.haystack s.start at
-
 -- Whether an entry of a state counts that was reached by so many bytes: from the anchored start those alone that are as long.
-abbrev pub counts : Machine → Bool → ℕ → ℕ → Bool
+abbrev pub counts : Dictionary → Bool → ℕ → ℕ → Bool
 counts m anchored read n = not anchored || (length (get_or m.patterns n []) == read)
 
--- those entries, from an index of the state's list on
-abbrev pub counted_from : Machine → Bool → ℕ → List ℕ → ℕ → List ℕ
+-- those matches, from an index of the state's list on
+abbrev pub counted_from : Dictionary → Bool → ℕ → List ℕ → ℕ → List ℕ
 counted_from m anchored read ns index = filter (counts m anchored read) (drop index ns)
 
 -- the first of them from an index on, and the index behind it
-abbrev pub IsNextEntry : Machine → Bool → ℕ → List ℕ → ℕ → Option Entry → Type 0
+abbrev pub IsNextEntry : Dictionary → Bool → ℕ → List ℕ → ℕ → Option Entry → Type 0
 IsNextEntry m anchored read ns index None = counted_from m anchored read ns index ≡ []
 IsNextEntry m anchored read ns index (Some entry) = (counted_from m anchored read ns index ≡ entry.pattern ∷ counted_from m anchored read ns entry.next) × (entry.pattern < length m.patterns)
 
--- the occurrences that a state tells at a place by its entries from an index on
-abbrev pub told_from : Machine → Search → ℕ → List ℕ → ℕ → List Occurrence
+-- the occurrences that a state tells at a place by its matches from an index on
+abbrev pub told_from : Dictionary → Search → ℕ → List ℕ → ℕ → List Occurrence
 told_from m s at ns index = map (shifted s.start) (map (ending m (read_to s at)) (counted_from m s.anchored (at - s.start) ns index))
 
--- a pattern that ends at a place
-abbrev pub lying_to : Machine → ℕ → ℕ → Occurrence
-lying_to m at n = record { pattern = n; start = at - length (get_or m.patterns n []); end = at }
-
--- the search from the place on where the walk began that reached a state
-abbrev pub walked : Search → Reached → Search
-walked s reached = starting_at s reached.from
-
--- what a state tells first by its entries from an index on, and where that leaves the search
-abbrev pub TellsFirst : (StateID → List ℕ) → Machine → Search → Reached → ℕ → Option Shown → Type 0
-TellsFirst entries m s reached index None = told_from m (walked s reached) reached.at (entries reached.sid) index ≡ []
-TellsFirst entries m s reached index (Some shown) =
-    (o : Occurrence) × (next : ℕ) × (shown.found ≡ Some o) × (shown.place ≡ At reached.sid reached.from reached.at next) × (told_from m (walked s reached) reached.at (entries reached.sid) index ≡ o ∷ told_from m (walked s reached) reached.at (entries reached.sid) next)
-
--- The state was reached by the bytes between two places of the span.
-pub record IsReached (Reads : List ℕ → StateID → Type 0) (s : Search) (reached : Reached) : Type 0 where
-  pub behind : s.start ≤ reached.from
-  pub ordered : reached.from ≤ reached.at
-  pub within : reached.at ≤ s.end
-  pub inside : s.end ≤ length s.haystack
-  pub reads : Reads (read_to (walked s reached) reached.at) reached.sid
+-- what a state tells first by its matches from an index on, and where that leaves the search
+abbrev pub TellsFirst : (StateID → List ℕ) → Dictionary → Search → Cursor → ℕ → Option Shown → Type 0
+TellsFirst matches m s cursor index None = told_from m (walked s cursor) cursor.at (matches cursor.sid) index ≡ []
+TellsFirst matches m s cursor index (Some shown) =
+    (o : Occurrence) × (next : ℕ) × (shown.found ≡ Some o) × (shown.place ≡ At cursor.sid cursor.from cursor.at next) × (told_from m (walked s cursor) cursor.at (matches cursor.sid) index ≡ o ∷ told_from m (walked s cursor) cursor.at (matches cursor.sid) next)
 
 -- This is what is still to be shown of the listing where a search stands: what its state tells from an index on, and all that
 -- ends later.
-abbrev pub IsLeft : (List ℕ → StateID → Type 0) → (StateID → List ℕ) → Machine → Search → Place → List Occurrence → Type 0
-IsLeft Reads entries m s (At sid from at index) left =
-    IsReached Reads s (record { sid = sid; from = from; at = at }) × (left ≡ told_from m (starting_at s from) at (entries sid) index ++ ending_from (starting_at s from) (at + 1))
-IsLeft Reads entries m s Over left = left ≡ []
+abbrev pub IsLeft : (List ℕ → StateID → Type 0) → (StateID → List ℕ) → Dictionary → Search → Place → List Occurrence → Type 0
+IsLeft Reads matches m s (At sid from at index) left =
+    IsCursor Reads s (record { sid = sid; from = from; at = at }) × (left ≡ told_from m (starting_at s from) at (matches sid) index ++ ending_from (starting_at s from) (at + 1))
+IsLeft Reads matches m s Over left = left ≡ []
 
 -- A call showed the first of what was left, if there was anything.
-abbrev pub ShowsFirst : (List ℕ → StateID → Type 0) → (StateID → List ℕ) → Machine → Search → List Occurrence → Shown → Type 0
-ShowsFirst Reads entries m s left r = (r.found ≡ slice_get left 0) × IsLeft Reads entries m s r.place (drop 1 left)
+abbrev pub ShowsFirst : (List ℕ → StateID → Type 0) → (StateID → List ℕ) → Dictionary → Search → List Occurrence → Shown → Type 0
+ShowsFirst Reads matches m s left r = (r.found ≡ slice_get left 0) × IsLeft Reads matches m s r.place (drop 1 left)
 
 -- So many looks are paid for by the bytes up to a place of the span.
 abbrev pub IsPaidTo : Bool → Search → ℕ → ℕ → Type 0
-IsPaidTo direct s at looks = looks ≤ looks_each direct * (at - s.start)
+IsPaidTo deterministic s at looks = looks ≤ lookups_per_byte deterministic * (at - s.start)
 
 -- They are paid for where a walk stands that has read on from one place to another, and what is live there is paid for too.
-abbrev pub IsPaidAt : Machine → Bool → Search → ℕ → ℕ → ℕ → Type 0
-IsPaidAt m direct s from at looks =
+abbrev pub IsPaidAt : Dictionary → Bool → Search → ℕ → ℕ → ℕ → Type 0
+IsPaidAt m deterministic s from at looks =
     (live : Option ℕ) → IsLive m s.anchored (read_to (starting_at s from) at) live
-    → (looks + live_len (read_to (starting_at s from) at) live ≤ 2 * (at - s.start)) × (IsTrue direct → looks ≤ at - s.start)
+    → (looks + live_len (read_to (starting_at s from) at) live ≤ 2 * (at - s.start)) × (IsTrue deterministic → looks ≤ at - s.start)
 
 -- the same where a search stands
-abbrev pub IsPaid : Machine → Bool → Search → Place → ℕ → Type 0
-IsPaid m direct s (At sid from at index) looks = IsPaidAt m direct s from at looks
-IsPaid m direct s Over looks = IsPaidTo direct s s.end looks
+abbrev pub IsPaid : Dictionary → Bool → Search → Place → ℕ → Type 0
+IsPaid m deterministic s (At sid from at index) looks = IsPaidAt m deterministic s from at looks
+IsPaid m deterministic s Over looks = IsPaidTo deterministic s s.end looks
 
 -- how far a search has come
 abbrev pub come_to : Search → Place → ℕ
@@ -105,13 +85,13 @@ come_to s (At sid from at index) = at
 come_to s Over = s.end
 
 -- So many places were scanned for bytes by a search that has come so far.
-abbrev pub IsScannedTo : Bool → Search → ℕ → ℕ → Type 0
-IsScannedTo by_bytes s at scans = IsTrue by_bytes → scans ≤ 256 * (at - s.start)
+abbrev pub IsScannedTo : Search → ℕ → ℕ → Type 0
+IsScannedTo s at scans = scans ≤ 256 * (at - s.start)
 
 -- A call goes on paying: its looks and its scans, which its steps count, come to those before.
-pub record GoesOnPaying (m : Machine) (direct by_bytes : Bool) (s : Search) (from to : Place) (before after : Steps) : Type 0 where
-  pub looks : (looks more : ℕ) → IsPaid m direct s from looks → looks + looked_of after ≡ more + looked_of before → IsPaid m direct s to more
-  pub scans : (scans more : ℕ) → IsScannedTo by_bytes s (come_to s from) scans → scans + scanned_of after ≡ more + scanned_of before → IsScannedTo by_bytes s (come_to s to) more
+pub record KeepsBudget (m : Dictionary) (deterministic : Bool) (s : Search) (from to : Place) (before after : Steps) : Type 0 where
+  pub looks : (looks more : ℕ) → IsPaid m deterministic s from looks → looks + looked_of after ≡ more + looked_of before → IsPaid m deterministic s to more
+  pub scans : (scans more : ℕ) → IsScannedTo s (come_to s from) scans → scans + scanned_of after ≡ more + scanned_of before → IsScannedTo s (come_to s to) more
   pub moved : moved_of after ≡ moved_of before
 
 -- a search stands behind a place, or is over
@@ -121,25 +101,25 @@ IsBehind place Over = Unit {0}
 
 -- How reading on from a place ends: the first of what was left is shown; or the walk is back at the start, and what is left is
 -- what occurs from there on.
-abbrev pub ReadsOn : (List ℕ → StateID → Type 0) → (StateID → List ℕ) → Machine → Search → ℕ → List Occurrence → Reading → Type 0
-ReadsOn Reads entries m s at left (Shows shown) = ShowsFirst Reads entries m s left shown × IsBehind at shown.place
-ReadsOn Reads entries m s at left (Back to) = (at < to) × (to ≤ s.end) × (left ≡ listing_of (starting_at s to))
+abbrev pub ReadsOn : (List ℕ → StateID → Type 0) → (StateID → List ℕ) → Dictionary → Search → ℕ → List Occurrence → End Shown → Type 0
+ReadsOn Reads matches m s at left (Found shown) = ShowsFirst Reads matches m s left shown × IsBehind at shown.place
+ReadsOn Reads matches m s at left (Idle to) = (at < to) × (to ≤ s.end) × (left ≡ listing_of (starting_at s to))
 
 -- so many looks are paid for where reading on ends
-abbrev pub IsPaidBy : Machine → Bool → Search → Reading → ℕ → Type 0
-IsPaidBy m direct s (Shows shown) looks = IsPaid m direct s shown.place looks
-IsPaidBy m direct s (Back to) looks = IsPaidTo direct s to looks
+abbrev pub IsPaidBy : Dictionary → Bool → Search → End Shown → ℕ → Type 0
+IsPaidBy m deterministic s (Found shown) looks = IsPaid m deterministic s shown.place looks
+IsPaidBy m deterministic s (Idle to) looks = IsPaidTo deterministic s to looks
 
 -- how far a search has come where reading on ends
-abbrev pub read_on_to : Search → Reading → ℕ
-read_on_to s (Shows shown) = come_to s shown.place
-read_on_to s (Back to) = to
+abbrev pub read_on_to : Search → End Shown → ℕ
+read_on_to s (Found shown) = come_to s shown.place
+read_on_to s (Idle to) = to
 
 -- What it costs to read on by leaps from a place up to which so many looks and scans were paid for.
-pub record IsLeapCost (m : Machine) (direct by_bytes : Bool) (s : Search) (at : ℕ) (reading : Reading) (before after : Steps) : Type 0 where
+pub record IsSkipCost (m : Dictionary) (deterministic : Bool) (s : Search) (at : ℕ) (reading : End Shown) (before after : Steps) : Type 0 where
   pub rose : looked_of before ≤ looked_of after
-  pub looks : (looks more : ℕ) → IsPaidTo direct s at looks → looks + looked_of after ≡ more + looked_of before → IsPaidBy m direct s reading more
-  pub scans : IsTrue by_bytes → scanned_of after ≤ scanned_of before + 256 * (read_on_to s reading - at)
+  pub looks : (looks more : ℕ) → IsPaidTo deterministic s at looks → looks + looked_of after ≡ more + looked_of before → IsPaidBy m deterministic s reading more
+  pub scans : scanned_of after ≤ scanned_of before + 256 * (read_on_to s reading - at)
   pub moved : moved_of after ≡ moved_of before
 
 -- it looked at states alone
@@ -157,33 +137,36 @@ found_of state = state.found
 
 -- What all calls with one state may cost: they look at no more states than one search does, whatever they show, and scan for no
 -- more bytes.
-pub record IsOverlappingWork (direct by_bytes : Bool) (s : Search) (sums : Steps) : Type 0 where
-  pub looked : looked_of sums ≤ looks_each direct * (s.end - s.start)
-  pub scanned : IsTrue by_bytes → scanned_of sums ≤ 256 * (s.end - s.start)
+pub record IsOverlappingWork (deterministic : Bool) (s : Search) (sums : Steps) : Type 0 where
+  pub looked : looked_of sums ≤ lookups_per_byte deterministic * (s.end - s.start)
+  pub scanned : scanned_of sums ≤ 256 * (s.end - s.start)
   pub moved : moved_of sums ≡ 0
 
+abbrev pub IsOverlappingCost : Built → Asked → Steps → Type 0
+IsOverlappingCost b asked sums = IsOverlappingWork b.deterministic (searched b asked) sums
+
 -- nothing was searched with the state yet
-pub record IsFresh (state : OverlappingState) : Type 0 where
+pub record IsFreshState (state : OverlappingState) : Type 0 where
   pub place : state.place ≡ None
   pub shown : state.shown.value ≡ 0
   pub sums : AreNone state.sums
 
 -- So many of the listing were shown, what is still to come of it is what is left where the search stands, and all looks and
 -- scans are paid for.
-pub record StandsAt (Reads : List ℕ → StateID → Type 0) (entries : StateID → List ℕ) (m : Machine) (direct by_bytes : Bool) (s : Search) (place : Place) (shown : ℕ) (sums : Steps) : Type 0 where
-  pub left : IsLeft Reads entries m s place (drop shown (listing_of s))
-  pub paid : IsPaid m direct s place (looked_of sums)
-  pub scanned : IsScannedTo by_bytes s (come_to s place) (scanned_of sums)
+pub record StandsAt (Reads : List ℕ → StateID → Type 0) (matches : StateID → List ℕ) (m : Dictionary) (deterministic : Bool) (s : Search) (place : Place) (shown : ℕ) (sums : Steps) : Type 0 where
+  pub left : IsLeft Reads matches m s place (drop shown (listing_of s))
+  pub paid : IsPaid m deterministic s place (looked_of sums)
+  pub scanned : IsScannedTo s (come_to s place) (scanned_of sums)
   pub moved : moved_of sums ≡ 0
 
 -- A state that is fresh, or that came from earlier calls with the same automaton and input alone.
-abbrev pub CameFrom : (Anchored → List ℕ → StateID → Type 0) → (StateID → List ℕ) → Machine → Bool → Option Filter → Asked → OverlappingState → Type 0
-CameFrom Reads entries m direct held asked state =
-    IsFresh state ⊎ ((place : Place) × (state.place ≡ Some place) × StandsAt (Reads asked.anchored) entries m direct (scans_bytes held) (search_in m asked) place (shown_of state) state.sums)
+abbrev pub CameFrom : Built → (Anchored → List ℕ → StateID → Type 0) → (StateID → List ℕ) → Asked → OverlappingState → Type 0
+CameFrom b Reads matches asked state =
+    IsFreshState state ⊎ ((place : Place) × (state.place ≡ Some place) × StandsAt (Reads asked.anchored) matches b.dictionary b.deterministic (searched b asked) place (shown_of state) state.sums)
 
 -- A call showed the next of the listing, if there was one more.
-pub record ShowsNext (s : Search) (before after : OverlappingState) : Type 0 where
-  pub found : found_of after ≡ slice_get (listing_of s) (shown_of before)
+pub record ShowsNext (b : Built) (asked : Asked) (before after : OverlappingState) : Type 0 where
+  pub found : found_of after ≡ slice_get (listing_in b asked) (shown_of before)
   pub shown : shown_of after ≡ (if is_some (found_of after) then shown_of before + 1 else shown_of before)
 
 -- what the calls with a state cost up to now
@@ -196,10 +179,55 @@ pub record DoneAlike (before after one another : Steps) : Type 0 where
   pub scanned : scanned_of after + scanned_of one ≡ scanned_of before + scanned_of another
   pub moved : moved_of after + moved_of one ≡ moved_of before + moved_of another
 
--- an overlapping search of this anchoring can be made: there is a start for it, and the kind is the standard one
-abbrev pub CanOverlap : Type 0 → MatchKind → Type 0
-CanOverlap serves kind = serves × (kind ≡ Standard)
+-- an overlapping search of this input can be made: there is a start for its anchoring, and the kind is the standard one
+abbrev pub CanOverlap : Built → (Anchored → Type 0) → Asked → Type 0
+CanOverlap b supports asked = supports asked.anchored × (b.dictionary.kind ≡ Standard)
 
 -- why an overlapping search is refused: first because there is no start, and then because of the kind
-abbrev pub OverlappingRefusal : Type 0 → MatchKind → Anchored → MatchErrorKind → Type 0
-OverlappingRefusal serves kind anchored error = (¬ serves × (error ≡ refusal_of anchored)) ⊎ (serves × (kind ≢ Standard) × (error ≡ UnsupportedOverlapping kind))
+abbrev pub IsOverlappingRefusal : Built → (Anchored → Type 0) → Asked → MatchErrorKind → Type 0
+IsOverlappingRefusal b supports asked error =
+    (¬ supports asked.anchored × (error ≡ refusal_of asked.anchored))
+    ⊎ (supports asked.anchored × (b.dictionary.kind ≢ Standard) × (error ≡ UnsupportedOverlapping b.dictionary.kind))
+
+-- ---- the same, told of an automaton and an input
+
+-- the state was reached by bytes of the input
+abbrev pub StandsIn : Built → (Anchored → List ℕ → StateID → Type 0) → Asked → Cursor → Type 0
+StandsIn b Reads asked cursor = IsCursor (Reads asked.anchored) (searched b asked) cursor
+
+-- what a state has to show from an index of its list on
+abbrev pub ShowsAt : Built → (StateID → List ℕ) → Asked → Cursor → ℕ → Option Shown → Type 0
+ShowsAt b matches asked cursor index shown = TellsFirst matches b.dictionary (searched b asked) cursor index shown
+
+-- What is shown where a walk stands: the first of what is left there, which is nothing where the state is dead; none where the
+-- state tells nothing.
+abbrev pub ShowsHere : Built → (Anchored → List ℕ → StateID → Type 0) → (StateID → List ℕ) → Asked → Cursor → Option Shown → Type 0
+ShowsHere b Reads matches asked cursor None = told_from b.dictionary (walked (searched b asked) cursor) cursor.at (matches cursor.sid) 0 ≡ []
+ShowsHere b Reads matches asked cursor (Some shown) =
+    ShowsFirst (Reads asked.anchored) matches b.dictionary (searched b asked) (ending_from (walked (searched b asked) cursor) cursor.at) shown
+    × ((shown.place ≡ Over) ⊎ ((index : ℕ) × (shown.place ≡ At cursor.sid cursor.from cursor.at index)))
+
+-- How a search ends where a walk stands: with what is shown there; or nothing is told, and what is left begins here or later.
+-- None where it goes on: nothing is told.
+abbrev pub EndsHere : Built → (Anchored → List ℕ → StateID → Type 0) → (StateID → List ℕ) → Asked → Cursor → Option (End Shown) → Type 0
+EndsHere b Reads matches asked cursor None = told_from b.dictionary (walked (searched b asked) cursor) cursor.at (matches cursor.sid) 0 ≡ []
+EndsHere b Reads matches asked cursor (Some (Found shown)) = ShowsHere b Reads matches asked cursor (Some shown)
+EndsHere b Reads matches asked cursor (Some (Idle at)) =
+    (at ≡ cursor.at) × (ending_from (walked (searched b asked) cursor) cursor.at ≡ listing_of (starting_at (searched b asked) cursor.at))
+
+-- the first of what ends after the place where a walk stands is shown; or the walk is back at the start
+abbrev pub ShowsLater : Built → (Anchored → List ℕ → StateID → Type 0) → (StateID → List ℕ) → Asked → Cursor → End Shown → Type 0
+ShowsLater b Reads matches asked cursor end =
+    ReadsOn (Reads asked.anchored) matches b.dictionary (searched b asked) cursor.at (ending_from (walked (searched b asked) cursor) (cursor.at + 1)) end
+
+-- the first of what begins at a place or later is shown; or the walk is back at the start
+abbrev pub ShowsFrom : Built → (Anchored → List ℕ → StateID → Type 0) → (StateID → List ℕ) → Asked → ℕ → End Shown → Type 0
+ShowsFrom b Reads matches asked at end =
+    ReadsOn (Reads asked.anchored) matches b.dictionary (searched b asked) at (listing_of (starting_at (searched b asked) at)) end
+
+-- what is paid for where a walk stands pays for what it costs to read on
+abbrev pub PaysLater : Built → Asked → Cursor → End Shown → Steps → Steps → Type 0
+PaysLater b asked cursor end before after =
+    (looks more : ℕ) → IsPaidAt b.dictionary b.deterministic (searched b asked) cursor.from cursor.at looks
+    → looks + looked_of after ≡ more + looked_of before
+    → IsPaidBy b.dictionary b.deterministic (searched b asked) end more

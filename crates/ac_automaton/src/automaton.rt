@@ -6,61 +6,72 @@
 //! once from the trait's clauses and laws, so every automaton that meets them gives the same answers.
 //!
 //! A caller who searches needs `try_find` and its kin alone. The calls on states serve those who write a search of their own: a
-//! state comes from `start_state` or `next_state` of the same automaton, and each step goes on from there.
+//! state comes from `start_state`, `next_state` or `advance` of the same automaton, and each step goes on from there.
+//!
+//! Nearly all the time of a search is spent in `advance`, which reads on over the states that ask for nothing but the next byte.
+//! So an automaton makes that call itself, as fast as its tables allow; the provided one looks up one byte after another, and serves
+//! an automaton that has nothing better.
 pub mod reference;
 
-use crate::error::MatchError;
+use crate::error::{MatchError, ReplaceError};
 use crate::iter::FindIter;
 use crate::overlapping::{FindOverlappingIter, OverlappingState};
-use crate::{find, iter, overlapping};
+use crate::{find, iter, overlapping, replace};
 use ac_input::primitives::{PatternID, StateID};
 use ac_input::search::{Anchored, Input, Match, MatchKind};
 use ac_input::steps::Steps;
 use ac_literal::prefilter::Prefilter;
+use std::alloc::{AllocError, Global};
+
+/// A state, and how many bytes were taken to come to it.
+#[derive(Clone, Copy, Debug)]
+pub struct Advance {
+    /// The state.
+    pub sid: StateID,
+    /// How many bytes were taken.
+    pub taken: usize,
+}
 
 /// An automaton that finds patterns in a text.
 pub trait Automaton {
-    ghost use Rattle.std.specs.Prelude.{◌≡◌, ◌≢◌, ◌⊎◌, ℕ, ◌<◌, ◌↔◌, Bool, List, [], ◌∷◌, ◌++◌, length, IsTrue, IfOk, IfErr, IfSome, IsOk, get_or, Option, None, Some, slice_get, option_map};
+    ghost use Rattle.std.specs.Prelude.{◌≡◌, ◌≢◌, ℕ, ◌<◌, ◌↔◌, Bool, List, [], ◌∷◌, ◌++◌, length, map, take, IsTrue, IfOk, IfErr, IsOk, OnOk, get_or, Option, slice_get, option_map};
+    ghost use Rattle.std.specs.String.{string_bytes};
     ghost use Rattle.ac_input.specs.declared.search.Anchored.{Anchored};
     ghost use Rattle.ac_input.specs.declared.primitives.state_id.StateID.{StateID};
-    ghost use Rattle.ac_input.specs.Best.{IsBest, asked_kind};
     ghost use Rattle.ac_input.specs.Candidate.{Filter};
-    ghost use Rattle.ac_input.specs.Computed.{walk_of, listing_of};
-    ghost use Rattle.ac_input.specs.Input.{is_anchored, search_in};
+    ghost use Rattle.ac_input.specs.Input.{is_anchored};
     ghost use Rattle.ac_input.specs.LiveLaws.{IsOwnInverse};
-    ghost use Rattle.ac_input.specs.Machine.{Machine, IsLive, live_len};
+    ghost use Rattle.ac_input.specs.Dictionary.{IsLive};
     ghost use Rattle.ac_input.specs.Tells.{Tells};
-    ghost use Rattle.ac_input.specs.Work.{IsStep, IsFindWork, scans_bytes, longest};
-    ghost use Rattle.ac_automaton.specs.Automaton.{refusal_of, shortest};
+    ghost use Rattle.ac_input.specs.Work.{longest, shortest};
+    ghost use Rattle.ac_automaton.specs.Automaton.{Built, IsReached, IsState, AtEach, Leads, IsReadCost, TellsDead, StartIsAlive, StartIsEmpty, IsSpecial, TakesSome, PassesPlain, refusal_of, searched, IsFound, IsFindCost, walk_in, listing_in};
     ghost use Rattle.ac_automaton.specs.Iter.{fresh_walk, left_of};
-    ghost use Rattle.ac_automaton.specs.Overlapping.{CameFrom, ShowsNext, IsOverlappingWork, CanOverlap, OverlappingRefusal, sums_of};
-    ghost use Rattle.ac_automaton.specs.OverlappingIter.{CanRun, RunRefusal, fresh_run, rest_of};
+    ghost use Rattle.ac_automaton.specs.Overlapping.{CameFrom, ShowsNext, IsOverlappingCost, CanOverlap, IsOverlappingRefusal, sums_of};
+    ghost use Rattle.ac_automaton.specs.OverlappingIter.{CanRun, IsRunRefusal, fresh_run, rest_of};
+    ghost use Rattle.ac_automaton.specs.Replace.{IsForMatches, IsReplaceRefusal, IsReplacedWith, IsRefusedWith, matches_in, text_matches_in, with_replaced};
 
-    /// The patterns, the pairing and the kind that it was made from.
-    ghost machine: { Self → Machine };
+    /// What it was built as: its patterns, pairing and kind, whether it looks at exactly one state for a byte, its prefilter.
+    ghost built: { Self → Built };
 
     /// Which searches it has a start for.
-    ghost serves: { Self → Anchored → Type 0 };
+    ghost supports: { Self → Anchored → Type 0 };
 
     /// The state is reached from the start of this anchoring by these bytes.
     ghost Reads: { Self → Anchored → List ℕ → StateID → Type 0 };
 
     /// The patterns that match at a state, in order.
-    ghost entries: { Self → StateID → List ℕ };
+    ghost matches: { Self → StateID → List ℕ };
 
     /// The states of which `is_start` is true.
     ghost starts: { Self → StateID → Bool };
 
-    /// Whether it looks at exactly one state for a byte.
-    ghost direct: { Self → Bool };
-
-    /// The prefilter that it holds.
-    ghost filter: { Self → Option Filter };
+    /// The states of which `is_special` is true.
+    ghost special: { Self → StateID → Bool };
 
     /// The state in which a search begins. It is refused where the automaton has no start for the anchoring.
     fn start_state(&self, anchored: Anchored) -> Result<StateID, MatchError>
         ensures start { IfOk result (λ sid. Reads self.now anchored [] sid) }
-        ensures served { IsOk result ↔ serves self.now anchored }
+        ensures supported { IsOk result ↔ supports self.now anchored }
         ensures refused { IfErr result (λ error. error ≡ refusal_of anchored) };
 
     /// The state after one more byte, where the search began with this anchoring; and counts the states that it looks at.
@@ -71,92 +82,129 @@ pub trait Automaton {
         byte: u8,
         steps: &mut Steps,
     ) -> StateID
-        requires { (text : List ℕ) × Reads self.now anchored text sid }
-        ensures next { (text : List ℕ) → Reads self.now anchored text sid → Reads self.now anchored (text ++ byte ∷ []) result }
-        ensures step { (text : List ℕ) (before after : Option ℕ) → Reads self.now anchored text sid
-            → IsLive (machine self.now) (is_anchored anchored) text before
-            → IsLive (machine self.now) (is_anchored anchored) (text ++ byte ∷ []) after
-            → IsStep (direct self.now) (live_len text before) (live_len (text ++ byte ∷ []) after) steps.old steps.new };
+        requires { IsReached (Reads self.now anchored) sid }
+        ensures next { Leads (Reads self.now anchored) sid (byte ∷ []) result }
+        ensures cost { IsReadCost (built self.now) (Reads self.now) anchored sid
+            (byte ∷ []) steps.old steps.new };
+
+    /// Reads on from a state over bytes, to the first state that is special, or to the last byte. It takes a byte at least, where
+    /// there is one; and counts the states that it looks at, as many as `next_state_counted` would.
+    ///
+    /// This one makes a call of `next_state_counted` and one of `is_special` for each byte. An automaton with a faster way has its own.
+    fn advance(&self, anchored: Anchored, sid: StateID, bytes: &[u8], steps: &mut Steps) -> Advance
+        requires { IsReached (Reads self.now anchored) sid }
+        ensures taken { TakesSome bytes.now result.taken }
+        ensures reads { Leads (Reads self.now anchored) sid
+            (take result.taken bytes.now) result.sid }
+        ensures plain { PassesPlain (Reads self.now anchored) (special self.now) sid
+            bytes.now result.taken }
+        ensures stops { result.taken < length bytes.now → IsTrue (special self.now result.sid) }
+        ensures cost { IsReadCost (built self.now) (Reads self.now) anchored sid
+            (take result.taken bytes.now) steps.old steps.new }
+    {
+        let mut current = sid;
+        for (read, byte) in bytes.iter().enumerate() {
+            current = self.next_state_counted(anchored, current, *byte, steps);
+            if self.is_special(current) {
+                return Advance {
+                    sid: current,
+                    taken: read + 1,
+                };
+            }
+        }
+        Advance {
+            sid: current,
+            taken: bytes.len(),
+        }
+    }
 
     /// Whether a search has more to do here than to read on: the state is dead, or matches, or is a start and there is a
     /// prefilter to ask.
     fn is_special(&self, sid: StateID) -> bool
-        requires { (anchored : Anchored) × (text : List ℕ) × Reads self.now anchored text sid }
-        ensures { (anchored : Anchored) (text : List ℕ) → Reads self.now anchored text sid
-            → (IsTrue result ↔ (IsLive (machine self.now) (is_anchored anchored) text None ⊎ (entries self.now sid ≢ []) ⊎ (IsTrue (starts self.now sid) × (filter self.now ≢ None)))) };
+        requires { IsState (Reads self.now) sid }
+        ensures { result ≡ special self.now sid };
 
     /// Whether nothing more can be found from here on.
     fn is_dead(&self, sid: StateID) -> bool
-        requires { (anchored : Anchored) × (text : List ℕ) × Reads self.now anchored text sid }
-        ensures { (anchored : Anchored) (text : List ℕ) → Reads self.now anchored text sid → (IsTrue result ↔ IsLive (machine self.now) (is_anchored anchored) text None) };
+        requires { IsState (Reads self.now) sid }
+        ensures { AtEach (Reads self.now) sid (TellsDead (built self.now) result) };
 
     /// Whether a pattern matches here.
     fn is_match(&self, sid: StateID) -> bool
-        requires { (anchored : Anchored) × (text : List ℕ) × Reads self.now anchored text sid }
-        ensures { IsTrue result ↔ (entries self.now sid ≢ []) };
+        requires { IsState (Reads self.now) sid }
+        ensures { IsTrue result ↔ (matches self.now sid ≢ []) };
 
     /// Whether it is a start. Then no byte that was read is live any more, unless the state matches.
     fn is_start(&self, sid: StateID) -> bool
-        requires { (anchored : Anchored) × (text : List ℕ) × Reads self.now anchored text sid }
+        requires { IsState (Reads self.now) sid }
         ensures value { result ≡ starts self.now sid }
-        ensures alive { (anchored : Anchored) (text : List ℕ) → Reads self.now anchored text sid → IsTrue result → ¬ IsLive (machine self.now) (is_anchored anchored) text None }
-        ensures empty { (anchored : Anchored) (text : List ℕ) → Reads self.now anchored text sid → IsTrue result → entries self.now sid ≡ [] → IsLive (machine self.now) (is_anchored anchored) text (Some (length text)) };
+        ensures alive { AtEach (Reads self.now) sid (StartIsAlive (built self.now) result) }
+        ensures empty { AtEach (Reads self.now) sid
+            (StartIsEmpty (built self.now) (matches self.now sid) result) };
 
     /// The kind that it was made for.
     fn match_kind(&self) -> MatchKind
-        ensures { result ≡ (machine self.now).kind };
+        ensures { result ≡ (built self.now).dictionary.kind };
 
     /// How many patterns match at a state that matches.
     fn match_len(&self, sid: StateID) -> usize
-        requires valid { (anchored : Anchored) × (text : List ℕ) × Reads self.now anchored text sid }
-        requires matches { entries self.now sid ≢ [] }
-        ensures { result ≡ length (entries self.now sid) };
+        requires valid { IsState (Reads self.now) sid }
+        requires matches { matches self.now sid ≢ [] }
+        ensures { result ≡ length (matches self.now sid) };
 
     /// The pattern of this index of those that match at a state.
     fn match_pattern(&self, sid: StateID, index: usize) -> PatternID
-        requires valid { (anchored : Anchored) × (text : List ℕ) × Reads self.now anchored text sid }
-        requires within { index < length (entries self.now sid) }
-        ensures value { slice_get (entries self.now sid) index ≡ Some result }
-        ensures known { result < length (machine self.now).patterns };
+        requires valid { IsState (Reads self.now) sid }
+        requires within { index < length (matches self.now sid) }
+        ensures value { slice_get (matches self.now sid) index ≡ Some result }
+        ensures known { result < length (built self.now).dictionary.patterns };
 
     /// How many patterns it was made from.
     fn patterns_len(&self) -> usize
-        ensures { result ≡ length (machine self.now).patterns };
+        ensures { result ≡ length (built self.now).dictionary.patterns };
 
     /// How many bytes the pattern has.
     fn pattern_len(&self, pattern: PatternID) -> usize
-        requires { pattern < length (machine self.now).patterns }
-        ensures { result ≡ length (get_or (machine self.now).patterns pattern []) };
+        requires { pattern < length (built self.now).dictionary.patterns }
+        ensures { result ≡ length (get_or (built self.now).dictionary.patterns pattern []) };
 
     /// How many bytes the shortest pattern has; `usize::MAX` where there is none.
     fn min_pattern_len(&self) -> usize
-        ensures { result ≡ shortest (machine self.now).patterns };
+        ensures { result ≡ shortest (built self.now).dictionary.patterns };
 
     /// How many bytes the longest pattern has; 0 where there is none.
     fn max_pattern_len(&self) -> usize
-        ensures { result ≡ longest (machine self.now).patterns };
+        ensures { result ≡ longest (built self.now).dictionary.patterns };
 
     /// About how many bytes of memory it holds.
     fn memory_usage(&self) -> usize;
 
     /// The prefilter that it holds, if it holds one.
     fn prefilter(&self) -> Option<&Prefilter>
-        ensures value { option_map (λ prefilter. prefilter.now) result ≡ filter self.now }
-        ensures made { (f : Filter) → filter self.now ≡ Some f → f.machine ≡ machine self.now };
+        ensures value { option_map (λ p. p.now) result ≡ (built self.now).prefilter }
+        ensures made { (f : Filter) → (built self.now).prefilter ≡ Some f
+            → f.dictionary ≡ (built self.now).dictionary };
 
     /// What the list of a state says of the bytes that were read.
-    ghost tells: { (self : Self) (anchored : Anchored) (text : List ℕ) (sid : StateID) → Reads self anchored text sid → Tells (machine self) anchored text (entries self sid) };
+    ghost tells: { (self : Self) (anchored : Anchored) (text : List ℕ) (sid : StateID)
+        → Reads self anchored text sid → Tells (built self).dictionary anchored text (matches self sid) };
 
     /// A text has a live prefix, or is dead.
-    ghost lives: { (self : Self) (anchored : Anchored) (text : List ℕ) (sid : StateID) → Reads self anchored text sid → (from : Option ℕ) × IsLive (machine self) (is_anchored anchored) text from };
+    ghost lives: { (self : Self) (anchored : Anchored) (text : List ℕ) (sid : StateID)
+        → Reads self anchored text sid → (from : Option ℕ) × IsLive (built self).dictionary (is_anchored anchored) text from };
 
     /// Each byte is the partner of its partner.
-    ghost pairs: { (self : Self) (anchored : Anchored) (text : List ℕ) (sid : StateID) → Reads self anchored text sid → IsOwnInverse (machine self).pairing };
+    ghost pairs: { (self : Self) (anchored : Anchored) (text : List ℕ) (sid : StateID)
+        → Reads self anchored text sid → IsOwnInverse (built self).dictionary.pairing };
+
+    /// At which states a search has more to do than to read on.
+    ghost stops: { (self : Self) (anchored : Anchored) (text : List ℕ) (sid : StateID)
+        → Reads self anchored text sid → (IsTrue (special self sid) ↔ IsSpecial (built self) (matches self sid) (starts self sid) anchored text) };
 
     /// The state after one more byte, where the search began with this anchoring.
     final fn next_state(&self, anchored: Anchored, sid: StateID, byte: u8) -> StateID
-        requires { (text : List ℕ) × Reads self.now anchored text sid }
-        ensures { (text : List ℕ) → Reads self.now anchored text sid → Reads self.now anchored (text ++ byte ∷ []) result }
+        requires { IsReached (Reads self.now anchored) sid }
+        ensures { Leads (Reads self.now anchored) sid (byte ∷ []) result }
     {
         let mut steps = Steps::new();
         self.next_state_counted(anchored, sid, byte, &mut steps)
@@ -166,8 +214,8 @@ pub trait Automaton {
     ///
     /// It is refused where the automaton has no start for the input's anchoring, and for no other reason.
     final fn try_find(&self, input: &Input<'_>) -> Result<Option<Match>, MatchError>
-        ensures found { IfOk result (λ r. IsBest (asked_kind (machine self.now).kind input.now.earliest) (search_in (machine self.now) input.now) r) }
-        ensures served { IsOk result ↔ serves self.now input.now.anchored }
+        ensures found { IfOk result (IsFound (built self.now) input.now) }
+        ensures supported { IsOk result ↔ supports self.now input.now.anchored }
         ensures refused { IfErr result (λ error. error ≡ refusal_of input.now.anchored) }
     {
         let mut steps = Steps::new();
@@ -180,10 +228,10 @@ pub trait Automaton {
         input: &Input<'_>,
         steps: &mut Steps,
     ) -> Result<Option<Match>, MatchError>
-        ensures found { IfOk result (λ r. IsBest (asked_kind (machine self.now).kind input.now.earliest) (search_in (machine self.now) input.now) r) }
-        ensures served { IsOk result ↔ serves self.now input.now.anchored }
+        ensures found { IfOk result (IsFound (built self.now) input.now) }
+        ensures supported { IsOk result ↔ supports self.now input.now.anchored }
         ensures refused { IfErr result (λ error. error ≡ refusal_of input.now.anchored) }
-        ensures work { IfOk result (λ r. IsFindWork (asked_kind (machine self.now).kind input.now.earliest) (direct self.now) (scans_bytes (filter self.now)) (search_in (machine self.now) input.now) r steps.old steps.new) }
+        ensures cost { IfOk result (IsFindCost (built self.now) input.now steps.old steps.new) }
         ensures idle { IfErr result (λ error. steps.new ≡ steps.old) }
     {
         find::find(self, input, steps)
@@ -196,15 +244,16 @@ pub trait Automaton {
     ) -> Result<FindIter<'a, 'h, Self>, MatchError>
     where
         Self: Sized,
-        ensures walk { IfOk result (λ iterator. iterator ≡ fresh_walk (machine self.now) (direct self.now) (filter self.now) input.entry) }
-        ensures all { IfOk result (λ iterator. left_of iterator ≡ walk_of (asked_kind (machine self.now).kind input.entry.earliest) (search_in (machine self.now) input.entry)) }
-        ensures served { IsOk result ↔ serves self.now input.entry.anchored }
+        ensures walk { IfOk result (λ matches. matches ≡ fresh_walk (built self.now) input.entry) }
+        ensures all { IfOk result
+            (λ matches. left_of matches ≡ walk_in (built self.now) input.entry) }
+        ensures supported { IsOk result ↔ supports self.now input.entry.anchored }
         ensures refused { IfErr result (λ error. error ≡ refusal_of input.entry.anchored) }
     {
         iter::find_iter(self, input)
     }
 
-    /// Shows the next occurrence of the search of the input, in the order of end, start and number, and each once; behind the last
+    /// Shows the next occurrence of the search of the input, in the order of end, start and number, and each once; after the last
     /// one it shows none. The state tells what was shown: it is fresh before the first call, and belongs to this automaton and this
     /// input from then on.
     ///
@@ -215,12 +264,17 @@ pub trait Automaton {
         input: &Input<'_>,
         state: &mut OverlappingState,
     ) -> Result<(), MatchError>
-        requires { CameFrom (Reads self.now) (entries self.now) (machine self.now) (direct self.now) (filter self.now) input.now state.old }
-        ensures came { CameFrom (Reads self.now) (entries self.now) (machine self.now) (direct self.now) (filter self.now) input.now state.new }
-        ensures shows { IfOk result (λ _. ShowsNext (search_in (machine self.now) input.now) state.old state.new) }
-        ensures work { IsOverlappingWork (direct self.now) (scans_bytes (filter self.now)) (search_in (machine self.now) input.now) (sums_of state.new) }
-        ensures served { IsOk result ↔ CanOverlap (serves self.now input.now.anchored) (machine self.now).kind }
-        ensures refused { IfErr result (OverlappingRefusal (serves self.now input.now.anchored) (machine self.now).kind input.now.anchored) }
+        requires { CameFrom (built self.now) (Reads self.now) (matches self.now) input.now
+            state.old }
+        ensures came { CameFrom (built self.now) (Reads self.now) (matches self.now)
+            input.now state.new }
+        ensures shows { IfOk result
+            (λ _. ShowsNext (built self.now) input.now state.old state.new) }
+        ensures cost { IsOverlappingCost (built self.now) input.now (sums_of state.new) }
+        ensures supported { IsOk result
+            ↔ CanOverlap (built self.now) (supports self.now) input.now }
+        ensures refused { IfErr result (IsOverlappingRefusal (built self.now) (supports self.now)
+            input.now) }
         ensures idle { IfErr result (λ _. state.new ≡ state.old) }
     {
         let mut steps = Steps::new();
@@ -236,11 +290,94 @@ pub trait Automaton {
     ) -> Result<FindOverlappingIter<'a, 'h, Self>, MatchError>
     where
         Self: Sized,
-        ensures run { IfOk result (λ iterator. iterator ≡ fresh_run (machine self.now) (direct self.now) (scans_bytes (filter self.now)) input.entry) }
-        ensures all { IfOk result (λ iterator. rest_of iterator ≡ listing_of (search_in (machine self.now) input.entry)) }
-        ensures served { IsOk result ↔ CanRun (serves self.now input.entry.anchored) (machine self.now).kind input.entry.anchored }
-        ensures refused { IfErr result (RunRefusal (serves self.now input.entry.anchored) (machine self.now).kind input.entry.anchored) }
+        ensures run { IfOk result (λ matches. matches ≡ fresh_run (built self.now) input.entry) }
+        ensures all { IfOk result
+            (λ matches. rest_of matches ≡ listing_in (built self.now) input.entry) }
+        ensures supported { IsOk result ↔ CanRun (built self.now) (supports self.now) input.entry }
+        ensures refused { IfErr result (IsRunRefusal (built self.now) (supports self.now)
+            input.entry) }
     {
         overlapping::iter::find_overlapping_iter(self, input)
+    }
+
+    /// The text with each match exchanged for the replacement of its pattern. There is one replacement for each pattern. A match
+    /// that begins or ends within a character is passed over: its bytes stay.
+    ///
+    /// It is refused where the automaton has no start for a search that isn't anchored, and where memory is.
+    final fn try_replace_all(
+        &self,
+        alloc: Global,
+        haystack: &str,
+        replacements: &[&str],
+    ) -> Result<String, ReplaceError>
+        requires { length replacements.now ≡ length (built self.now).dictionary.patterns }
+        ensures replaced { IfOk result (λ replaced. string_bytes replaced ≡ with_replaced
+            haystack.now
+            (map (λ r. r.now) replacements.now) (text_matches_in (built self.now) haystack.now)) }
+        ensures supported { OnOk result (supports self.now Anchored.No) }
+        ensures refused { IfErr result (IsReplaceRefusal (supports self.now)) }
+    {
+        replace::replace_all(self, alloc, haystack, replacements)
+    }
+
+    /// The same of bytes: there every match is replaced.
+    final fn try_replace_all_bytes(
+        &self,
+        alloc: Global,
+        haystack: &[u8],
+        replacements: &[&[u8]],
+    ) -> Result<Vec<u8>, ReplaceError>
+        requires { length replacements.now ≡ length (built self.now).dictionary.patterns }
+        ensures replaced { IfOk result (λ replaced. replaced.items ≡ with_replaced haystack.now
+            (map (λ r. r.now) replacements.now) (matches_in (built self.now) haystack.now)) }
+        ensures supported { OnOk result (supports self.now Anchored.No) }
+        ensures refused { IfErr result (IsReplaceRefusal (supports self.now)) }
+    {
+        replace::replace_all_bytes(self, alloc, haystack, replacements)
+    }
+
+    /// Appends the text to the destination, and in place of each match what the closure appends: it is given the match, its text
+    /// and the destination. A match that begins or ends within a character is passed over. A closure that answers `false` is not
+    /// called again, and the rest is copied.
+    ///
+    /// It is refused as `try_replace_all` is. Where memory is refused, what was appended stays. The destination grows by the
+    /// allocator that it was made with.
+    final fn try_replace_all_with<F>(
+        &self,
+        _alloc: Global,
+        haystack: &str,
+        dst: &mut String,
+        replace_with: F,
+    ) -> Result<(), ReplaceError>
+    where
+        F: FnMut(&Match, &str, &mut String) -> Result<bool, AllocError>,
+        requires { IsForMatches F.FnMut (length (built self.now).dictionary.patterns) replace_with }
+        ensures replaced { OnOk result (IsReplacedWith string_bytes F.FnMut haystack.now
+            (text_matches_in (built self.now) haystack.now) replace_with dst.old dst.new) }
+        ensures supported { OnOk result (supports self.now Anchored.No) }
+        ensures refused { IfErr result (IsRefusedWith string_bytes F.FnMut haystack.now
+            (text_matches_in (built self.now) haystack.now) replace_with dst.old dst.new (supports self.now)) }
+    {
+        replace::replace_all_with(self, haystack, dst, replace_with)
+    }
+
+    /// The same of bytes: there the closure is called for every match.
+    final fn try_replace_all_with_bytes<F>(
+        &self,
+        _alloc: Global,
+        haystack: &[u8],
+        dst: &mut Vec<u8>,
+        replace_with: F,
+    ) -> Result<(), ReplaceError>
+    where
+        F: FnMut(&Match, &[u8], &mut Vec<u8>) -> Result<bool, AllocError>,
+        requires { IsForMatches F.FnMut (length (built self.now).dictionary.patterns) replace_with }
+        ensures replaced { OnOk result (IsReplacedWith (λ v. v.items) F.FnMut haystack.now
+            (matches_in (built self.now) haystack.now) replace_with dst.old dst.new) }
+        ensures supported { OnOk result (supports self.now Anchored.No) }
+        ensures refused { IfErr result (IsRefusedWith (λ v. v.items) F.FnMut haystack.now
+            (matches_in (built self.now) haystack.now) replace_with dst.old dst.new (supports self.now)) }
+    {
+        replace::replace_all_with_bytes(self, haystack, dst, replace_with)
     }
 }

@@ -5,7 +5,8 @@
 //! failed; a [`StreamError`] tells these apart, so that a caller knows which side of a copy to blame.
 ghost use Rattle.std.specs.Prelude.{◌≡◌, Some};
 ghost use Rattle.ac_automaton.specs.declared.error.StreamError.TheVariants.{Memory};
-ghost use Rattle.ac_automaton.specs.Errors.{match_error_text, stream_error_text};
+ghost use Rattle.ac_automaton.specs.declared.error.ReplaceError.TheVariants.{Match, Memory as NoMemory};
+ghost use Rattle.ac_automaton.specs.Errors.{match_error_text, replace_error_text, stream_error_text};
 
 use ac_input::search::MatchKind;
 use std::alloc::AllocError;
@@ -129,6 +130,44 @@ impl fmt::Display for MatchError {
 
 impl Error for MatchError {}
 
+/// Why a replacement in memory was refused.
+#[derive(Debug, Drop)]
+pub enum ReplaceError {
+    /// The search was refused.
+    Match(MatchError),
+    /// There was no memory for the result.
+    Memory,
+}
+
+impl From<MatchError> for ReplaceError {
+    ghost from_gives = { λ refused error. error ≡ Match refused };
+
+    fn from(refused: MatchError) -> ReplaceError {
+        ReplaceError::Match(refused)
+    }
+}
+
+impl From<AllocError> for ReplaceError {
+    ghost from_gives = { λ _ error. error ≡ NoMemory };
+
+    fn from(_error: AllocError) -> ReplaceError {
+        ReplaceError::Memory
+    }
+}
+
+impl fmt::Display for ReplaceError {
+    ghost output = { λ error. Some (replace_error_text error) };
+
+    fn fmt<W: fmt::Write>(&self, f: &mut fmt::Formatter<W>) -> fmt::Result {
+        match self {
+            ReplaceError::Match(error) => write!(f, "{error}"),
+            ReplaceError::Memory => write!(f, "out of memory"),
+        }
+    }
+}
+
+impl Error for ReplaceError {}
+
 /// Why a search of a stream stopped.
 ///
 /// It is never taken back: what was read up to then is lost to the search, and what was written stays written.
@@ -175,7 +214,7 @@ impl Error for StreamError {}
 
 #[cfg(test)]
 mod tests {
-    use super::{MatchError, MatchErrorKind, StreamError};
+    use super::{MatchError, MatchErrorKind, ReplaceError, StreamError};
     use ac_input::search::MatchKind;
     use std::test::Fail;
 
@@ -220,6 +259,16 @@ mod tests {
         let outcome = StreamError::Config(error);
         let said = outcome.to_string(rt.alloc())?;
         assert_eq!(rt; said.as_str(), "stream search needs the standard kind");
+        Ok(())
+    }
+
+    #[test]
+    fn says_why_nothing_was_replaced(rt: HostRuntime) -> Result<(), Fail> {
+        let refused = ReplaceError::from(MatchError::invalid_input_unanchored());
+        let said = refused.to_string(rt.alloc())?;
+        assert_eq!(rt; said.as_str(), "unanchored search is not supported");
+        let said = ReplaceError::Memory.to_string(rt.alloc())?;
+        assert_eq!(rt; said.as_str(), "out of memory");
         Ok(())
     }
 }

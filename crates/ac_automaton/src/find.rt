@@ -1,159 +1,246 @@
 //! The search for one match.
 //!
+//! A walk begins at the start state and reads on from one special state to the next. Under the standard kind the first match ends
+//! it. Under a leftmost kind a later match is better than an earlier one, since the automaton tells only those that are; so the
+//! walk keeps the last one, and ends where no more can come.
+//!
 //! Without a prefilter a search is one walk over the span. With one, the prefilter is asked first, and the walk begins where it
 //! points: bytes that it skips cost no look at a state. Where the walk is back at the start of the automaton, nothing that was
-//! read can grow into a match any more, and the prefilter is asked again from there. So a search is a row of leaps, each one
-//! question and one walk, until one of them has the answer. Each leap ends further on than it began.
+//! read can grow into a match any more, and the prefilter is asked again from there. Each walk ends further on than it began.
 //!
 //! A prefilter may know the match itself. It is the best of the automaton's kind, so an earliest search, which stops at the first
 //! end, takes its place alone and walks from there.
-ghost use Rattle.std.specs.Prelude.{◌≡◌, ◌↔◌, ◌≤◌, Bool, [], length, IfOk, IfErr, IsOk};
-ghost use Rattle.ac_input.specs.Best.{IsBest, asked_kind};
-ghost use Rattle.ac_input.specs.Candidate.{ahead_of};
-ghost use Rattle.ac_input.specs.Input.{search_in};
-ghost use Rattle.ac_input.specs.Work.{IsFindWork, scans_bytes};
-ghost use Rattle.ac_automaton.specs.Ahead.{ToldSays, IsToldWork, IsLeapWork};
-ghost use Rattle.ac_automaton.specs.Automaton.{refusal_of};
-ghost use Rattle.ac_automaton.specs.Find.{StretchSays, search_of};
+ghost use Rattle.std.specs.Prelude.{◌≡◌, ◌≢◌, ◌⊎◌, ◌↔◌, ℕ, ◌-◌, ◌≤◌, List, [], length, Option, IfOk, IfErr, IfSome, IsOk, IsTrue};
+ghost use Rattle.ac_automaton.specs.Automaton.{AtEach, IsFindCost, IsFound, IsState, StartIsEmpty, kind_asked, refusal_of, searched};
+ghost use Rattle.ac_automaton.specs.Cursor.{IsCursor, taken};
+ghost use Rattle.ac_automaton.specs.Find.{CandidateSays, IsCandidateWork, IsSearchCost, IsWalkCost, WalkSays, search_from};
 
 use crate::automaton::Automaton;
+use crate::cursor::{Cursor, End, read_on};
 use crate::error::MatchError;
-use crate::stretch::{Stretch, walk};
 use ac_input::primitives::StateID;
 use ac_input::search::{Anchored, Candidate, Input, Match, MatchKind, Span};
 use ac_input::steps::Steps;
 use ac_literal::prefilter::Prefilter;
 
-/// What a prefilter's answer means for the search.
-#[derive(Clone, Copy)]
-enum Told {
-    /// This is the match of the span, or there is none.
-    Answer(Option<Match>),
-    /// No match starts before this place, and the search goes on from here.
-    GoOn(usize),
+/// The first of the patterns that match at a state, where the search isn't anchored. It ends at the place.
+fn first_match<A: Automaton>(automaton: &A, sid: StateID, at: usize) -> Match
+    requires reads { (text : List ℕ) × A.Reads automaton.now Anchored.No text sid × (length text ≤ at) }
+    requires matches { A.matches automaton.now sid ≢ [] }
+    ensures { Option.Some result ≡ taken (A.built automaton.now).dictionary Anchored.No at 0 (A.matches automaton.now sid) }
+{
+    let pattern = automaton.match_pattern(sid, 0);
+    let start = at - automaton.pattern_len(pattern);
+    Match::new(pattern, Span { start, end: at })
 }
 
-/// Asks the prefilter where in the span a match may start. The kind is the one that it was made for.
-///
-/// Its match is the answer, but in an earliest search under a leftmost kind: there another one may end sooner.
-fn ask(
-    prefilter: &Prefilter,
-    kind: MatchKind,
-    haystack: &[u8],
-    span: Span,
-    earliest: bool,
-    steps: &mut Steps,
-) -> Told
-    requires made { kind ≡ prefilter.now.machine.kind }
+/// The first of the patterns that match at a state and are as long as what was read, where the search is anchored.
+fn whole_match<A: Automaton>(automaton: &A, sid: StateID, span: Span) -> Option<Match>
+    requires reads { (text : List ℕ) × A.Reads automaton.now Anchored.Yes text sid }
     requires ordered { span.start ≤ span.end }
-    requires within { span.end ≤ length haystack.now }
-    ensures says { ToldSays (asked_kind kind earliest) (ahead_of prefilter.now.machine haystack.now span) result }
-    ensures work { IsToldWork prefilter.now.by_bytes (ahead_of prefilter.now.machine haystack.now span) result steps.old steps.new }
+    requires matches { A.matches automaton.now sid ≢ [] }
+    ensures { result ≡ taken (A.built automaton.now).dictionary Anchored.Yes span.end (span.end - span.start) (A.matches automaton.now sid) }
 {
-    match prefilter.find_in_counted(haystack, span, steps) {
-        Candidate::None => Told::Answer(None),
-        Candidate::Match(found) => {
-            if kind.asked(earliest) == kind {
-                Told::Answer(Some(found))
+    for index in 0..automaton.match_len(sid) {
+        let pattern = automaton.match_pattern(sid, index);
+        if automaton.pattern_len(pattern) == span.end - span.start {
+            return Some(Match::new(pattern, span));
+        }
+    }
+    None
+}
+
+/// The match that the state tells where a search stands, if it tells one.
+fn match_at<A: Automaton>(automaton: &A, input: &Input<'_>, cursor: &Cursor) -> Option<Match>
+    requires { IsCursor (A.Reads automaton.now input.now.anchored)
+        (searched (A.built automaton.now) input.now) cursor.now }
+    ensures { result ≡ taken (A.built automaton.now).dictionary input.now.anchored
+        cursor.now.at (cursor.now.at - cursor.now.from) (A.matches automaton.now cursor.now.sid) }
+{
+    if !automaton.is_match(cursor.sid) {
+        return None;
+    }
+    match input.get_anchored() {
+        Anchored::No => Some(first_match(automaton, cursor.sid, cursor.at)),
+        Anchored::Yes => {
+            let span = Span {
+                start: cursor.from,
+                end: cursor.at,
+            };
+            whole_match(automaton, cursor.sid, span)
+        }
+    }
+}
+
+/// Whether the first match that is found is the answer.
+fn takes_first<A: Automaton>(automaton: &A, input: &Input<'_>) -> bool
+    ensures { IsTrue result ↔ (kind_asked (A.built automaton.now) input.now ≡ MatchKind.Standard) }
+{
+    match automaton.match_kind().asked(input.get_earliest()) {
+        MatchKind::Standard => true,
+        MatchKind::LeftmostFirst | MatchKind::LeftmostLongest => false,
+    }
+}
+
+/// Whether a search that isn't anchored is back at the start.
+pub(crate) fn is_back<A: Automaton>(automaton: &A, input: &Input<'_>, sid: StateID) -> bool
+    requires { IsState (A.Reads automaton.now) sid }
+    ensures free { IsTrue result → input.now.anchored ≡ Anchored.No }
+    ensures empty { AtEach (A.Reads automaton.now) sid
+        (StartIsEmpty (A.built automaton.now) (A.matches automaton.now sid) result) }
+{
+    match input.get_anchored() {
+        Anchored::No => automaton.is_start(sid),
+        Anchored::Yes => false,
+    }
+}
+
+/// Walks from the start state on, over what is left of the span from a place on.
+fn walk<A: Automaton>(
+    automaton: &A,
+    input: &Input<'_>,
+    start: StateID,
+    at: usize,
+    steps: &mut Steps,
+) -> End<Option<Match>>
+    requires starts { A.Reads automaton.now input.now.anchored [] start }
+    requires from { input.now.span.start ≤ at }
+    requires to { at ≤ input.now.span.end }
+    ensures says { WalkSays (A.built automaton.now) input.now at result }
+    ensures free { (place : ℕ) → result ≡ End.Idle place → input.now.anchored ≡ Anchored.No }
+    ensures work { IsWalkCost (A.built automaton.now) input.now at result steps.old steps.new }
+{
+    let first_wins = takes_first(automaton, input);
+    let end = input.end();
+    let mut best = None;
+    let mut cursor = Cursor {
+        sid: start,
+        from: at,
+        at,
+    };
+    loop {
+        best = match_at(automaton, input, &cursor).or(best);
+        let won = first_wins && best.is_some();
+        if won || cursor.at == end || automaton.is_dead(cursor.sid) {
+            return End::Found(best);
+        }
+        if best.is_none() && cursor.at > at && is_back(automaton, input, cursor.sid) {
+            return End::Idle(cursor.at);
+        }
+        cursor = read_on(automaton, input, cursor, steps);
+    }
+}
+
+/// The prefilter that a search may ask, if there is one: where it isn't anchored, and nothing matches at the start itself.
+pub(crate) fn usable_prefilter<'a, A: Automaton>(
+    automaton: &'a A,
+    anchored: Anchored,
+    start: StateID,
+) -> Option<&'a Prefilter>
+    requires { A.Reads automaton.now anchored [] start }
+    ensures made { IfSome result (λ p. p.now.dictionary ≡ (A.built automaton.now).dictionary) }
+    ensures free { IfSome result (λ _. anchored ≡ Anchored.No) }
+    ensures empty { IfSome result (λ _. A.matches automaton.now start ≡ []) }
+    ensures none { result ≡ Option.None → (anchored ≡ Anchored.Yes)
+        ⊎ (A.matches automaton.now start ≢ []) ⊎ ((A.built automaton.now).prefilter ≡ Option.None) }
+{
+    match anchored {
+        Anchored::Yes => None,
+        Anchored::No => {
+            if automaton.is_match(start) {
+                None
             } else {
-                Told::GoOn(found.start())
+                automaton.prefilter()
             }
         }
-        Candidate::PossibleStartOfMatch(at) => Told::GoOn(at),
     }
 }
 
-/// Asks the prefilter about the span, and walks from where it points: up to the answer, or to where the prefilter may be asked
-/// again.
-fn leap<A: Automaton>(
+/// Asks the prefilter where in what is left of the span a match may start.
+///
+/// Its match is the answer, but in an earliest search under a leftmost kind: there another one may end sooner.
+fn candidate<A: Automaton>(
     automaton: &A,
     prefilter: &Prefilter,
-    sid: StateID,
-    haystack: &[u8],
-    span: Span,
-    earliest: bool,
+    input: &Input<'_>,
+    at: usize,
     steps: &mut Steps,
-) -> Stretch
-    requires made { prefilter.now.machine ≡ A.machine automaton.now }
-    requires starts { A.Reads automaton.now Anchored.No [] sid }
-    requires ordered { span.start ≤ span.end }
-    requires within { span.end ≤ length haystack.now }
-    ensures says { StretchSays (asked_kind (A.machine automaton.now).kind earliest) (search_of (A.machine automaton.now) Anchored.No haystack.now span) result }
-    ensures work { IsLeapWork (asked_kind (A.machine automaton.now).kind earliest) (A.direct automaton.now) prefilter.now.by_bytes (search_of (A.machine automaton.now) Anchored.No haystack.now span) result steps.old steps.new }
+) -> End<Option<Match>>
+    requires made { prefilter.now.dictionary ≡ (A.built automaton.now).dictionary }
+    requires free { input.now.anchored ≡ Anchored.No }
+    requires from { input.now.span.start ≤ at }
+    requires to { at ≤ input.now.span.end }
+    ensures says { CandidateSays (kind_asked (A.built automaton.now) input.now)
+        (search_from (A.built automaton.now) input.now at) result }
+    ensures work { IsCandidateWork (search_from (A.built automaton.now) input.now at) result
+        steps.old steps.new }
 {
     let kind = automaton.match_kind();
-    match ask(prefilter, kind, haystack, span, earliest, steps) {
-        Told::Answer(found) => Stretch::Answer(found),
-        Told::GoOn(at) => {
-            let rest = Span {
-                start: at,
-                end: span.end,
-            };
-            walk(
-                automaton,
-                Anchored::No,
-                sid,
-                haystack,
-                rest,
-                earliest,
-                true,
-                steps,
-            )
+    let rest = Span {
+        start: at,
+        end: input.end(),
+    };
+    match prefilter.find_in_counted(input.haystack(), rest, steps) {
+        Candidate::None => End::Found(None),
+        Candidate::Match(found) => {
+            if kind.asked(input.get_earliest()) == kind {
+                End::Found(Some(found))
+            } else {
+                End::Idle(found.start())
+            }
         }
+        Candidate::PossibleStartOfMatch(place) => End::Idle(place),
     }
 }
 
-/// The match of the span, if it has one, by leaps.
-fn find_by_leaps<A: Automaton>(
+/// Walks over what is left of the span from a place on, or from where the prefilter points.
+fn search_from_candidate<A: Automaton>(
     automaton: &A,
-    prefilter: &Prefilter,
-    sid: StateID,
-    haystack: &[u8],
-    span: Span,
-    earliest: bool,
+    prefilter: Option<&Prefilter>,
+    input: &Input<'_>,
+    start: StateID,
+    at: usize,
+    steps: &mut Steps,
+) -> End<Option<Match>>
+    requires made { IfSome prefilter (λ p. p.now.dictionary ≡ (A.built automaton.now).dictionary) }
+    requires free { IfSome prefilter (λ _. input.now.anchored ≡ Anchored.No) }
+    requires starts { A.Reads automaton.now input.now.anchored [] start }
+    requires from { input.now.span.start ≤ at }
+    requires to { at ≤ input.now.span.end }
+    ensures says { WalkSays (A.built automaton.now) input.now at result }
+    ensures free { (place : ℕ) → result ≡ End.Idle place → input.now.anchored ≡ Anchored.No }
+    ensures work { IsSearchCost (A.built automaton.now) input.now at result steps.old steps.new }
+{
+    let Some(prefilter) = prefilter else {
+        return walk(automaton, input, start, at, steps);
+    };
+    match candidate(automaton, prefilter, input, at, steps) {
+        End::Found(found) => End::Found(found),
+        End::Idle(place) => walk(automaton, input, start, place, steps),
+    }
+}
+
+/// The match of the span, if it has one.
+fn search<A: Automaton>(
+    automaton: &A,
+    prefilter: Option<&Prefilter>,
+    input: &Input<'_>,
+    start: StateID,
     steps: &mut Steps,
 ) -> Option<Match>
-    requires made { prefilter.now.machine ≡ A.machine automaton.now }
-    requires starts { A.Reads automaton.now Anchored.No [] sid }
-    requires ordered { span.start ≤ span.end }
-    requires within { span.end ≤ length haystack.now }
-    ensures found { IsBest (asked_kind (A.machine automaton.now).kind earliest) (search_of (A.machine automaton.now) Anchored.No haystack.now span) result }
-    ensures work { IsFindWork (asked_kind (A.machine automaton.now).kind earliest) (A.direct automaton.now) prefilter.now.by_bytes (search_of (A.machine automaton.now) Anchored.No haystack.now span) result steps.old steps.new }
+    requires made { IfSome prefilter (λ p. p.now.dictionary ≡ (A.built automaton.now).dictionary) }
+    requires free { IfSome prefilter (λ _. input.now.anchored ≡ Anchored.No) }
+    requires starts { A.Reads automaton.now input.now.anchored [] start }
+    requires ordered { input.now.span.start ≤ input.now.span.end }
+    ensures found { IsFound (A.built automaton.now) input.now result }
+    ensures cost { IsFindCost (A.built automaton.now) input.now steps.old steps.new result }
 {
-    let mut start = span.start;
+    let mut at = input.start();
     loop {
-        let rest = Span {
-            start,
-            end: span.end,
-        };
-        match leap(automaton, prefilter, sid, haystack, rest, earliest, steps) {
-            Stretch::Answer(found) => return found,
-            Stretch::Back(at) => start = at,
+        match search_from_candidate(automaton, prefilter, input, start, at, steps) {
+            End::Found(found) => return found,
+            End::Idle(place) => at = place,
         }
-    }
-}
-
-/// The match of the span, if it has one, by one walk.
-fn find_by_walk<A: Automaton>(
-    automaton: &A,
-    anchored: Anchored,
-    sid: StateID,
-    haystack: &[u8],
-    span: Span,
-    earliest: bool,
-    steps: &mut Steps,
-) -> Option<Match>
-    requires starts { A.Reads automaton.now anchored [] sid }
-    requires ordered { span.start ≤ span.end }
-    requires within { span.end ≤ length haystack.now }
-    ensures found { IsBest (asked_kind (A.machine automaton.now).kind earliest) (search_of (A.machine automaton.now) anchored haystack.now span) result }
-    ensures work { (by_bytes : Bool) → IsFindWork (asked_kind (A.machine automaton.now).kind earliest) (A.direct automaton.now) by_bytes (search_of (A.machine automaton.now) anchored haystack.now span) result steps.old steps.new }
-{
-    match walk(
-        automaton, anchored, sid, haystack, span, earliest, false, steps,
-    ) {
-        Stretch::Answer(found) => found,
-        Stretch::Back(_) => unreachable!(),
     }
 }
 
@@ -165,25 +252,17 @@ pub fn find<A: Automaton>(
     input: &Input<'_>,
     steps: &mut Steps,
 ) -> Result<Option<Match>, MatchError>
-    ensures found { IfOk result (λ r. IsBest (asked_kind (A.machine automaton.now).kind input.now.earliest) (search_in (A.machine automaton.now) input.now) r) }
-    ensures served { IsOk result ↔ A.serves automaton.now input.now.anchored }
+    ensures found { IfOk result (IsFound (A.built automaton.now) input.now) }
+    ensures supported { IsOk result ↔ A.supports automaton.now input.now.anchored }
     ensures refused { IfErr result (λ error. error ≡ refusal_of input.now.anchored) }
-    ensures work { IfOk result (λ r. IsFindWork (asked_kind (A.machine automaton.now).kind input.now.earliest) (A.direct automaton.now) (scans_bytes (A.filter automaton.now)) (search_in (A.machine automaton.now) input.now) r steps.old steps.new) }
+    ensures cost { IfOk result (IsFindCost (A.built automaton.now) input.now steps.old steps.new) }
     ensures idle { IfErr result (λ error. steps.new ≡ steps.old) }
 {
     let anchored = input.get_anchored();
-    let sid = automaton.start_state(anchored)?;
+    let start = automaton.start_state(anchored)?;
     if input.is_done() {
         return Ok(None);
     }
-    let haystack = input.haystack();
-    let span = input.get_span();
-    let earliest = input.get_earliest();
-    let found = match (anchored, automaton.prefilter()) {
-        (Anchored::No, Some(prefilter)) => {
-            find_by_leaps(automaton, prefilter, sid, haystack, span, earliest, steps)
-        }
-        _ => find_by_walk(automaton, anchored, sid, haystack, span, earliest, steps),
-    };
-    Ok(found)
+    let prefilter = usable_prefilter(automaton, anchored, start);
+    Ok(search(automaton, prefilter, input, start, steps))
 }

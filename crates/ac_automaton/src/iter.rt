@@ -5,17 +5,13 @@
 //! walk takes at each turn what starts at the very place where it looks, and ends where nothing does.
 //!
 //! [`FindIter`] is the walk as an iterator. It holds two references and a few numbers, and takes no memory. Under the standard kind
-//! it reads on from the end of each match, and so each byte of the span once. Under a leftmost kind it has to read behind a match
+//! it reads on from the end of each match, and so each byte of the span once. Under a leftmost kind it has to read past a match
 //! before it knows that it is the one, by as much as the longest pattern, and reads those bytes again.
 ghost use Rattle.std.specs.Prelude.{◌≡◌, ◌↔◌, ◌<◌, ◌≤◌, ⊤, IfOk, IfErr, IfSome, IsOk, IsTrue};
 ghost use Rattle.std.specs.Iterator.{YieldsFirst, item_count, MakesProgress};
-ghost use Rattle.ac_input.specs.Best.{IsBest, asked_kind};
-ghost use Rattle.ac_input.specs.Computed.{walk_of};
-ghost use Rattle.ac_input.specs.Input.{search_in};
-ghost use Rattle.ac_input.specs.Walk.{IsPick, Repeats};
-ghost use Rattle.ac_input.specs.Work.{IsFindWork, scans_bytes};
-ghost use Rattle.ac_automaton.specs.Automaton.{refusal_of};
-ghost use Rattle.ac_automaton.specs.Iter.{fresh_walk, left_of, GoesOn, Counts, IsNextPick, IsPickWork, IsNextWork, IsOnItsWay};
+ghost use Rattle.ac_input.specs.Walk.{Repeats};
+ghost use Rattle.ac_automaton.specs.Automaton.{IsFound, IsFindCost, refusal_of, walk_in};
+ghost use Rattle.ac_automaton.specs.Iter.{fresh_walk, left_of, IsWalkAfter, WalkCounts, IsNextPick, IsPickOf, IsPickCost, IsNextWork, IsOnItsWay};
 
 use crate::automaton::Automaton;
 use crate::error::MatchError;
@@ -41,12 +37,11 @@ impl<'a, 'h, A: Automaton> Model for FindIter<'a, 'h, A> {
 
     ghost Value = { Walk };
 
-    ghost view = { λ i.
-        walk_at (A.machine i.automaton.now) (A.direct i.automaton.now) (A.filter i.automaton.now) i.first.value i.input i.last i.sums };
+    ghost view = { λ i. walk_at (A.built i.automaton.now) i.first.value i.input i.last i.sums };
 
     ghost invariant = { λ i.
-        A.serves i.automaton.now i.input.anchored
-        × IsOnItsWay (walk_at (A.machine i.automaton.now) (A.direct i.automaton.now) (A.filter i.automaton.now) i.first.value i.input i.last i.sums) };
+        A.supports i.automaton.now i.input.anchored
+        × IsOnItsWay (walk_at (A.built i.automaton.now) i.first.value i.input i.last i.sums) };
 }
 
 /// All matches of the input, one after another.
@@ -54,9 +49,11 @@ pub fn find_iter<'a, 'h, A: Automaton>(
     automaton: &'a A,
     input: Input<'h>,
 ) -> Result<FindIter<'a, 'h, A>, MatchError>
-    ensures walk { IfOk result (λ iterator. iterator ≡ fresh_walk (A.machine automaton.now) (A.direct automaton.now) (A.filter automaton.now) input.entry) }
-    ensures all { IfOk result (λ iterator. left_of iterator ≡ walk_of (asked_kind (A.machine automaton.now).kind input.entry.earliest) (search_in (A.machine automaton.now) input.entry)) }
-    ensures served { IsOk result ↔ A.serves automaton.now input.entry.anchored }
+    ensures walk { IfOk result (λ matches. matches ≡ fresh_walk (A.built automaton.now)
+        input.entry) }
+    ensures all { IfOk result (λ matches. left_of matches ≡ walk_in (A.built automaton.now)
+        input.entry) }
+    ensures supported { IsOk result ↔ A.supports automaton.now input.entry.anchored }
     ensures refused { IfErr result (λ error. error ≡ refusal_of input.entry.anchored) }
 {
     automaton.start_state(input.get_anchored())?;
@@ -70,11 +67,11 @@ pub fn find_iter<'a, 'h, A: Automaton>(
     })
 }
 
-/// The match of an input that the automaton serves.
+/// The match of an input that the automaton supports.
 fn best<A: Automaton>(automaton: &A, input: &Input<'_>, steps: &mut Steps) -> Option<Match>
-    requires { A.serves automaton.now input.now.anchored }
-    ensures found { IsBest (asked_kind (A.machine automaton.now).kind input.now.earliest) (search_in (A.machine automaton.now) input.now) result }
-    ensures work { IsFindWork (asked_kind (A.machine automaton.now).kind input.now.earliest) (A.direct automaton.now) (scans_bytes (A.filter automaton.now)) (search_in (A.machine automaton.now) input.now) result steps.old steps.new }
+    requires { A.supports automaton.now input.now.anchored }
+    ensures found { IsFound (A.built automaton.now) input.now result }
+    ensures cost { IsFindCost (A.built automaton.now) input.now steps.old steps.new result }
 {
     automaton.try_find_counted(input, steps).unwrap()
 }
@@ -96,12 +93,12 @@ fn next_pick<A: Automaton>(
     last: Option<usize>,
     steps: &mut Steps,
 ) -> Option<Match>
-    requires served { A.serves automaton.now input.old.anchored }
+    requires supported { A.supports automaton.now input.old.anchored }
     requires within { input.old.span.start ≤ input.old.span.end }
     requires last { IfSome last (λ end. end ≤ input.old.span.start) }
-    ensures pick { IsPick (asked_kind (A.machine automaton.now).kind input.old.earliest) (search_in (A.machine automaton.now) input.old) input.old.span.start last result }
+    ensures pick { IsPickOf (A.built automaton.now) input.old last result }
     ensures asked { input.new ≡ record input.old { span = record input.old.span { start = input.new.span.start } } }
-    ensures work { IsPickWork (asked_kind (A.machine automaton.now).kind input.old.earliest) (A.direct automaton.now) (scans_bytes (A.filter automaton.now)) (search_in (A.machine automaton.now) input.old) input.old.span.start result steps.old steps.new }
+    ensures work { IsPickCost (A.built automaton.now) input.old steps.old steps.new result }
 {
     let found = best(automaton, input, steps);
     if !repeats(last, &found) {
@@ -118,8 +115,8 @@ impl<'a, 'h, A: Automaton> FindIter<'a, 'h, A> {
     /// The next match, as `next` gives it; and counts what it does.
     pub fn next_counted(&mut self, steps: &mut Steps) -> Option<Match>
         ensures pick { IsNextPick self.old result }
-        ensures walk { GoesOn self.old result self.new }
-        ensures sums { Counts self.old self.new steps.old steps.new }
+        ensures walk { IsWalkAfter self.old result self.new }
+        ensures sums { WalkCounts self.old self.new steps.old steps.new }
         ensures work { IsNextWork self.old result steps.old steps.new }
         ensures kept { IsOnItsWay self.new }
     {

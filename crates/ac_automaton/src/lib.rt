@@ -2,11 +2,19 @@
 #![tactic(auto)]
 
 pub mod automaton;
+mod buffer;
+mod cursor;
 pub mod error;
-pub mod find;
+mod find;
 pub mod iter;
 pub mod overlapping;
-pub mod stretch;
+mod replace;
 #[cfg(test)]
 mod tests;
 pub mod watched;
+
+pub use ac_input::pairing::{Pairing, PairingError};
+pub use ac_input::primitives::{PatternID, StateID};
+pub use ac_input::search::{Anchored, Input, Match, MatchKind, Span};
+pub use ac_input::steps::Steps;
+pub use ac_literal::prefilter::{Candidate, Prefilter, PrefilterBuilder};

@@ -14,19 +14,21 @@
 ghost use Rattle.std.specs.Prelude.{◌≡◌, ◌≢◌, ◌⊎◌, ◌↔◌, ⊤, ℕ, ◌+◌, ◌-◌, ◌<◌, ◌≤◌, List, ◌++◌, None, Some, Option, is_some, if◌then◌else◌, [], length, drop, get_or, IsTrue, IsOk, IfOk, IfErr, IfSome};
 ghost use Rattle.ac_input.specs.declared.search.Anchored.TheVariants.{No, Yes};
 ghost use Rattle.ac_input.specs.declared.search.MatchKind.TheVariants.{Standard};
-ghost use Rattle.ac_input.specs.Computed.{listing_of};
-ghost use Rattle.ac_input.specs.Input.{is_anchored, search_in};
-ghost use Rattle.ac_input.specs.Occurrence.{Occurrence, starting_at};
-ghost use Rattle.ac_input.specs.Steps.{Added, looked_of};
-ghost use Rattle.ac_input.specs.Work.{scans_bytes};
+ghost use Rattle.ac_input.specs.Input.{is_anchored};
+ghost use Rattle.ac_input.specs.Occurrence.{Occurrence};
+ghost use Rattle.ac_input.specs.Steps.{Added};
 ghost use Rattle.ac_automaton.specs.declared.overlapping.Place.TheVariants.{At, Over};
-ghost use Rattle.ac_automaton.specs.declared.overlapping.Reading.TheVariants.{Shows, Back};
-ghost use Rattle.ac_automaton.specs.Overlapping.{IsNextEntry, IsReached, IsLeft, ShowsFirst, TellsFirst, ReadsOn, IsPaid, IsPaidAt, IsPaidBy, IsLeapCost, GoesOnPaying, OnlyLooked, IsFresh, CameFrom, ShowsNext, IsOverlappingWork, DoneAlike, CanOverlap, OverlappingRefusal, counts, told_from, ending_from, walked, lying_to, found_of, shown_of, sums_of};
+ghost use Rattle.ac_automaton.specs.declared.cursor.End.TheVariants.{Found};
+ghost use Rattle.ac_automaton.specs.Overlapping.{IsNextEntry, IsLeft, ShowsFirst, ShowsAt, ShowsHere, EndsHere, ShowsLater, ShowsFrom, PaysLater, StandsIn, IsPaid, IsSkipCost, KeepsBudget, OnlyLooked, IsFreshState, CameFrom, ShowsNext, IsOverlappingCost, DoneAlike, CanOverlap, IsOverlappingRefusal, counts, told_from, ending_from, found_of, shown_of, sums_of};
+ghost use Rattle.ac_automaton.specs.Automaton.{searched, listing_in};
+ghost use Rattle.ac_automaton.specs.Cursor.{walked, ending_at};
 
 pub mod iter;
 
 use crate::automaton::Automaton;
+use crate::cursor::{Cursor, End, read_on};
 use crate::error::MatchError;
+use crate::find::{is_back, usable_prefilter};
 use ac_input::history::Count;
 use ac_input::primitives::{PatternID, StateID};
 use ac_input::search::{Anchored, Input, Match, MatchKind, Span};
@@ -38,7 +40,7 @@ use std::alloc::AllocError;
 /// Where an overlapping search stands between two calls.
 #[derive(Clone, Copy)]
 pub(crate) enum Place {
-    /// In this state, which was reached from the start by the bytes between two places. Of its list the entries before `index`
+    /// In this state, which was reached from the start by the bytes between two places. Of its list the matches before `index`
     /// were shown.
     At {
         sid: StateID,
@@ -46,16 +48,8 @@ pub(crate) enum Place {
         at: usize,
         index: usize,
     },
-    /// Behind the last occurrence.
+    /// After the last occurrence.
     Over,
-}
-
-/// A state, and the bytes by which it was reached from the start: those from one place up to another.
-#[derive(Clone, Copy)]
-struct Reached {
-    sid: StateID,
-    from: usize,
-    at: usize,
 }
 
 /// Where a search begins: its start state, and the place where it stands first.
@@ -65,7 +59,7 @@ pub(crate) struct Beginning {
     place: Place,
 }
 
-/// An entry of a state's list that counts, and the index behind it.
+/// An entry of a state's list that counts, and the index after it.
 #[derive(Clone, Copy)]
 struct Entry {
     pattern: PatternID,
@@ -77,15 +71,6 @@ struct Entry {
 pub(crate) struct Shown {
     place: Place,
     found: Option<Match>,
-}
-
-/// How reading on ended.
-#[derive(Clone, Copy)]
-enum Reading {
-    /// This is shown, and the search stands there.
-    Shows(Shown),
-    /// The walk is back at the start, and what is left begins at this place or later.
-    Back(usize),
 }
 
 /// How far an overlapping search has come.
@@ -102,7 +87,7 @@ pub struct OverlappingState {
 impl OverlappingState {
     /// The state of a search that has not begun.
     pub fn start() -> OverlappingState
-        ensures fresh { IsFresh result }
+        ensures fresh { IsFreshState result }
         ensures found { found_of result ≡ None }
     {
         OverlappingState {
@@ -113,7 +98,7 @@ impl OverlappingState {
         }
     }
 
-    /// The match that the last search showed; none before the first, and behind the last occurrence.
+    /// The match that the last search showed; none before the first, and after the last occurrence.
     pub fn get_match(&self) -> Option<Match>
         ensures { result ≡ found_of self.now }
     {
@@ -168,8 +153,8 @@ fn is_counted<A: Automaton>(
     pattern: PatternID,
     read: usize,
 ) -> bool
-    requires { pattern < length (A.machine automaton.now).patterns }
-    ensures { result ≡ counts (A.machine automaton.now) (is_anchored anchored) read pattern }
+    requires { pattern < length (A.built automaton.now).dictionary.patterns }
+    ensures { result ≡ counts (A.built automaton.now).dictionary (is_anchored anchored) read pattern }
 {
     match anchored {
         Anchored::No => true,
@@ -186,7 +171,7 @@ fn next_entry<A: Automaton>(
     read: usize,
 ) -> Option<Entry>
     requires { (text : List ℕ) × A.Reads automaton.now anchored text sid }
-    ensures { IsNextEntry (A.machine automaton.now) (is_anchored anchored) read (A.entries automaton.now sid) from result }
+    ensures { IsNextEntry (A.built automaton.now).dictionary (is_anchored anchored) read (A.matches automaton.now sid) from result }
 {
     if !automaton.is_match(sid) {
         return None;
@@ -205,9 +190,9 @@ fn next_entry<A: Automaton>(
 
 /// The match of an entry at the place where its pattern ends.
 fn match_of<A: Automaton>(automaton: &A, pattern: PatternID, at: usize) -> Match
-    requires known { pattern < length (A.machine automaton.now).patterns }
-    requires fits { length (get_or (A.machine automaton.now).patterns pattern []) ≤ at }
-    ensures { result ≡ lying_to (A.machine automaton.now) at pattern }
+    requires known { pattern < length (A.built automaton.now).dictionary.patterns }
+    requires fits { length (get_or (A.built automaton.now).dictionary.patterns pattern []) ≤ at }
+    ensures { result ≡ ending_at (A.built automaton.now).dictionary at pattern }
 {
     let start = at - automaton.pattern_len(pattern);
     Match::new(pattern, Span { start, end: at })
@@ -228,111 +213,128 @@ fn over() -> Shown
 fn show<A: Automaton>(
     automaton: &A,
     input: &Input<'_>,
-    reached: Reached,
+    cursor: Cursor,
     index: usize,
 ) -> Option<Shown>
-    requires standard { (A.machine automaton.now).kind ≡ Standard }
-    requires reached { IsReached (A.Reads automaton.now input.now.anchored) (search_in (A.machine automaton.now) input.now) reached }
-    ensures { TellsFirst (A.entries automaton.now) (A.machine automaton.now) (search_in (A.machine automaton.now) input.now) reached index result }
+    requires standard { (A.built automaton.now).dictionary.kind ≡ Standard }
+    requires cursor { StandsIn (A.built automaton.now) (A.Reads automaton.now) input.now cursor }
+    ensures { ShowsAt (A.built automaton.now) (A.matches automaton.now) input.now cursor index result }
 {
-    let read = reached.at - reached.from;
-    let entry = next_entry(automaton, input.get_anchored(), reached.sid, index, read)?;
+    let read = cursor.at - cursor.from;
+    let entry = next_entry(automaton, input.get_anchored(), cursor.sid, index, read)?;
     Some(Shown {
         place: Place::At {
-            sid: reached.sid,
-            from: reached.from,
-            at: reached.at,
+            sid: cursor.sid,
+            from: cursor.from,
+            at: cursor.at,
             index: entry.next,
         },
-        found: Some(match_of(automaton, entry.pattern, reached.at)),
+        found: Some(match_of(automaton, entry.pattern, cursor.at)),
     })
 }
 
-/// Reads on from a state to the next one that has something to show, and shows the first of it. It stops where the walk is back
-/// at the start only if `asks` is true.
-fn read_on<A: Automaton>(
+/// What is shown where a walk stands: the first that the state tells; or nothing more, where it is dead.
+fn show_at<A: Automaton>(automaton: &A, input: &Input<'_>, cursor: &Cursor) -> Option<Shown>
+    requires standard { (A.built automaton.now).dictionary.kind ≡ Standard }
+    requires cursor { StandsIn (A.built automaton.now) (A.Reads automaton.now) input.now cursor.now }
+    ensures { ShowsHere (A.built automaton.now) (A.Reads automaton.now) (A.matches automaton.now)
+        input.now cursor.now result }
+{
+    if automaton.is_dead(cursor.sid) {
+        return Some(over());
+    }
+    show(automaton, input, *cursor, 0)
+}
+
+/// How a search ends where a walk stands, if it does: it shows something, or the state is dead, or the walk is back at the start.
+fn end_at<A: Automaton>(automaton: &A, input: &Input<'_>, cursor: &Cursor) -> Option<End<Shown>>
+    requires standard { (A.built automaton.now).dictionary.kind ≡ Standard }
+    requires cursor { StandsIn (A.built automaton.now) (A.Reads automaton.now) input.now cursor.now }
+    ensures { EndsHere (A.built automaton.now) (A.Reads automaton.now) (A.matches automaton.now)
+        input.now cursor.now result }
+{
+    if let Some(shown) = show_at(automaton, input, cursor) {
+        return Some(End::Found(shown));
+    }
+    if is_back(automaton, input, cursor.sid) {
+        return Some(End::Idle(cursor.at));
+    }
+    None
+}
+
+/// Reads on from a state to the next one that has something to show, and shows the first of it.
+fn read_to_end<A: Automaton>(
     automaton: &A,
     input: &Input<'_>,
-    reached: Reached,
-    asks: bool,
+    cursor: Cursor,
     steps: &mut Steps,
-) -> Reading
-    requires standard { (A.machine automaton.now).kind ≡ Standard }
-    requires reached { IsReached (A.Reads automaton.now input.now.anchored) (search_in (A.machine automaton.now) input.now) reached }
-    requires asks { IsTrue asks → input.now.anchored ≡ No }
-    ensures reads { ReadsOn (A.Reads automaton.now input.now.anchored) (A.entries automaton.now) (A.machine automaton.now) (search_in (A.machine automaton.now) input.now) reached.at (ending_from (walked (search_in (A.machine automaton.now) input.now) reached) (reached.at + 1)) result }
-    ensures asked { (to : ℕ) → result ≡ Back to → IsTrue asks }
-    ensures pays { (looks more : ℕ) → IsPaidAt (A.machine automaton.now) (A.direct automaton.now) (search_in (A.machine automaton.now) input.now) reached.from reached.at looks → looks + looked_of steps.new ≡ more + looked_of steps.old → IsPaidBy (A.machine automaton.now) (A.direct automaton.now) (search_in (A.machine automaton.now) input.now) result more }
+) -> Shown
+    requires standard { (A.built automaton.now).dictionary.kind ≡ Standard }
+    requires cursor { StandsIn (A.built automaton.now) (A.Reads automaton.now) input.now cursor }
+    ensures reads { ShowsLater (A.built automaton.now) (A.Reads automaton.now) (A.matches automaton.now)
+        input.now cursor (Found result) }
+    ensures pays { PaysLater (A.built automaton.now) input.now cursor (Found result)
+        steps.old steps.new }
     ensures only { OnlyLooked steps.old steps.new }
 {
-    let anchored = input.get_anchored();
-    let haystack = input.haystack();
-    let mut sid = reached.sid;
-    for i in reached.at..input.end() {
-        sid = automaton.next_state_counted(anchored, sid, haystack[i], steps);
-        if automaton.is_special(sid) {
-            if automaton.is_dead(sid) {
-                return Reading::Shows(over());
-            }
-            let now = Reached {
-                sid,
-                from: reached.from,
-                at: i + 1,
-            };
-            if let Some(shown) = show(automaton, input, now, 0) {
-                return Reading::Shows(shown);
-            }
-            if asks && automaton.is_start(sid) {
-                return Reading::Back(i + 1);
-            }
+    let mut cursor = cursor;
+    loop {
+        if cursor.at == input.end() {
+            return over();
+        }
+        cursor = read_on(automaton, input, cursor, steps);
+        if let Some(shown) = show_at(automaton, input, &cursor) {
+            return shown;
         }
     }
-    Reading::Shows(over())
 }
 
-/// The prefilter that a search may ask, if there is one: where it isn't anchored, and nothing is shown at the start itself.
-fn ahead<'a, A: Automaton>(
-    automaton: &'a A,
-    anchored: Anchored,
-    start: StateID,
-) -> Option<&'a Prefilter>
-    requires { A.Reads automaton.now anchored [] start }
-    ensures made { IfSome result (λ prefilter. prefilter.now.machine ≡ (A.machine automaton.now)) }
-    ensures held { IfSome result (λ prefilter. scans_bytes (A.filter automaton.now) ≡ prefilter.now.by_bytes) }
-    ensures free { IfSome result (λ _. anchored ≡ No) }
-    ensures empty { IfSome result (λ _. A.entries automaton.now start ≡ []) }
-    ensures none { result ≡ None → (anchored ≡ Yes) ⊎ (A.entries automaton.now start ≢ []) ⊎ (A.filter automaton.now ≡ None) }
+/// The same, but it stops also where the walk is back at the start.
+fn read_to_start<A: Automaton>(
+    automaton: &A,
+    input: &Input<'_>,
+    cursor: Cursor,
+    steps: &mut Steps,
+) -> End<Shown>
+    requires standard { (A.built automaton.now).dictionary.kind ≡ Standard }
+    requires cursor { StandsIn (A.built automaton.now) (A.Reads automaton.now) input.now cursor }
+    ensures reads { ShowsLater (A.built automaton.now) (A.Reads automaton.now) (A.matches automaton.now)
+        input.now cursor result }
+    ensures pays { PaysLater (A.built automaton.now) input.now cursor result steps.old steps.new }
+    ensures only { OnlyLooked steps.old steps.new }
 {
-    match anchored {
-        Anchored::Yes => None,
-        Anchored::No => {
-            if automaton.is_match(start) {
-                None
-            } else {
-                automaton.prefilter()
-            }
+    let mut cursor = cursor;
+    loop {
+        if cursor.at == input.end() {
+            return End::Found(over());
+        }
+        cursor = read_on(automaton, input, cursor, steps);
+        if let Some(end) = end_at(automaton, input, &cursor) {
+            return end;
         }
     }
 }
 
-/// Asks the prefilter where in the rest of the span an occurrence may begin, and reads on from there.
-fn leap<A: Automaton>(
+/// Asks the prefilter where in what is left of the span an occurrence may begin, and reads on from there.
+fn search_from_candidate<A: Automaton>(
     automaton: &A,
     prefilter: &Prefilter,
     input: &Input<'_>,
     start: StateID,
     at: usize,
     steps: &mut Steps,
-) -> Reading
-    requires standard { (A.machine automaton.now).kind ≡ Standard }
-    requires made { prefilter.now.machine ≡ (A.machine automaton.now) }
+) -> End<Shown>
+    requires standard { (A.built automaton.now).dictionary.kind ≡ Standard }
+    requires made { prefilter.now.dictionary ≡ (A.built automaton.now).dictionary }
     requires free { input.now.anchored ≡ No }
     requires starts { A.Reads automaton.now No [] start }
-    requires empty { A.entries automaton.now start ≡ [] }
+    requires empty { A.matches automaton.now start ≡ [] }
     requires from { input.now.span.start ≤ at }
     requires to { at ≤ input.now.span.end }
-    ensures reads { ReadsOn (A.Reads automaton.now input.now.anchored) (A.entries automaton.now) (A.machine automaton.now) (search_in (A.machine automaton.now) input.now) at (listing_of (starting_at (search_in (A.machine automaton.now) input.now) at)) result }
-    ensures cost { IsLeapCost (A.machine automaton.now) (A.direct automaton.now) prefilter.now.by_bytes (search_in (A.machine automaton.now) input.now) at result steps.old steps.new }
+    ensures reads { ShowsFrom (A.built automaton.now) (A.Reads automaton.now) (A.matches automaton.now)
+        input.now at result }
+    ensures cost { IsSkipCost (A.built automaton.now).dictionary (A.built automaton.now).deterministic
+        (searched (A.built automaton.now) input.now) at result steps.old steps.new }
 {
     let rest = Span {
         start: at,
@@ -340,20 +342,20 @@ fn leap<A: Automaton>(
     };
     let candidate = prefilter.find_in_counted(input.haystack(), rest, steps);
     match candidate.into_option() {
-        None => Reading::Shows(over()),
+        None => End::Found(over()),
         Some(from) => {
-            let reached = Reached {
+            let cursor = Cursor {
                 sid: start,
                 from,
                 at: from,
             };
-            read_on(automaton, input, reached, true, steps)
+            read_to_start(automaton, input, cursor, steps)
         }
     }
 }
 
-/// Reads on by leaps from a place before which nothing that is left begins.
-fn read_by_leaps<A: Automaton>(
+/// Reads on from a place before which nothing that is left begins, by one candidate after another.
+fn search_by_candidates<A: Automaton>(
     automaton: &A,
     prefilter: &Prefilter,
     input: &Input<'_>,
@@ -361,51 +363,54 @@ fn read_by_leaps<A: Automaton>(
     at: usize,
     steps: &mut Steps,
 ) -> Shown
-    requires standard { (A.machine automaton.now).kind ≡ Standard }
-    requires made { prefilter.now.machine ≡ (A.machine automaton.now) }
+    requires standard { (A.built automaton.now).dictionary.kind ≡ Standard }
+    requires made { prefilter.now.dictionary ≡ (A.built automaton.now).dictionary }
     requires free { input.now.anchored ≡ No }
     requires starts { A.Reads automaton.now No [] start }
-    requires empty { A.entries automaton.now start ≡ [] }
+    requires empty { A.matches automaton.now start ≡ [] }
     requires from { input.now.span.start ≤ at }
     requires to { at ≤ input.now.span.end }
-    ensures reads { ReadsOn (A.Reads automaton.now input.now.anchored) (A.entries automaton.now) (A.machine automaton.now) (search_in (A.machine automaton.now) input.now) at (listing_of (starting_at (search_in (A.machine automaton.now) input.now) at)) (Shows result) }
-    ensures cost { IsLeapCost (A.machine automaton.now) (A.direct automaton.now) prefilter.now.by_bytes (search_in (A.machine automaton.now) input.now) at (Shows result) steps.old steps.new }
+    ensures reads { ShowsFrom (A.built automaton.now) (A.Reads automaton.now) (A.matches automaton.now)
+        input.now at (Found result) }
+    ensures cost { IsSkipCost (A.built automaton.now).dictionary (A.built automaton.now).deterministic
+        (searched (A.built automaton.now) input.now) at (Found result) steps.old steps.new }
 {
     let mut place = at;
     loop {
-        match leap(automaton, prefilter, input, start, place, steps) {
-            Reading::Shows(shown) => return shown,
-            Reading::Back(to) => place = to,
+        match search_from_candidate(automaton, prefilter, input, start, place, steps) {
+            End::Found(shown) => return shown,
+            End::Idle(to) => place = to,
         }
     }
 }
 
-/// Shows the first of what ends behind the bytes that were read.
+/// Shows the first of what ends after the bytes that were read.
 fn show_later<A: Automaton>(
     automaton: &A,
     input: &Input<'_>,
     start: StateID,
-    reached: Reached,
+    cursor: Cursor,
     steps: &mut Steps,
 ) -> Shown
-    requires standard { (A.machine automaton.now).kind ≡ Standard }
+    requires standard { (A.built automaton.now).dictionary.kind ≡ Standard }
     requires starts { A.Reads automaton.now input.now.anchored [] start }
-    requires reached { IsReached (A.Reads automaton.now input.now.anchored) (search_in (A.machine automaton.now) input.now) reached }
-    ensures shows { ShowsFirst (A.Reads automaton.now input.now.anchored) (A.entries automaton.now) (A.machine automaton.now) (search_in (A.machine automaton.now) input.now) (ending_from (walked (search_in (A.machine automaton.now) input.now) reached) (reached.at + 1)) result }
-    ensures pays { GoesOnPaying (A.machine automaton.now) (A.direct automaton.now) (scans_bytes (A.filter automaton.now)) (search_in (A.machine automaton.now) input.now) (At reached.sid reached.from reached.at 0) result.place steps.old steps.new }
+    requires cursor { StandsIn (A.built automaton.now) (A.Reads automaton.now) input.now cursor }
+    ensures shows { ShowsFirst (A.Reads automaton.now input.now.anchored) (A.matches automaton.now)
+        (A.built automaton.now).dictionary (searched (A.built automaton.now) input.now)
+        (ending_from (walked (searched (A.built automaton.now) input.now) cursor) (cursor.at + 1)) result }
+    ensures pays { KeepsBudget (A.built automaton.now).dictionary (A.built automaton.now).deterministic
+        (searched (A.built automaton.now) input.now)
+        (At cursor.sid cursor.from cursor.at 0) result.place steps.old steps.new }
 {
-    let Some(prefilter) = ahead(automaton, input.get_anchored(), start) else {
-        return match read_on(automaton, input, reached, false, steps) {
-            Reading::Shows(shown) => shown,
-            Reading::Back(_) => unreachable!(),
-        };
+    let Some(prefilter) = usable_prefilter(automaton, input.get_anchored(), start) else {
+        return read_to_end(automaton, input, cursor, steps);
     };
-    if reached.at == reached.from {
-        return read_by_leaps(automaton, prefilter, input, start, reached.at, steps);
+    if cursor.at == cursor.from {
+        return search_by_candidates(automaton, prefilter, input, start, cursor.at, steps);
     }
-    match read_on(automaton, input, reached, true, steps) {
-        Reading::Shows(shown) => shown,
-        Reading::Back(at) => read_by_leaps(automaton, prefilter, input, start, at, steps),
+    match read_to_start(automaton, input, cursor, steps) {
+        End::Found(shown) => shown,
+        End::Idle(at) => search_by_candidates(automaton, prefilter, input, start, at, steps),
     }
 }
 
@@ -414,20 +419,28 @@ fn show_next<A: Automaton>(
     automaton: &A,
     input: &Input<'_>,
     start: StateID,
-    reached: &Reached,
+    cursor: &Cursor,
     index: usize,
     steps: &mut Steps,
 ) -> Shown
-    requires standard { (A.machine automaton.now).kind ≡ Standard }
+    requires standard { (A.built automaton.now).dictionary.kind ≡ Standard }
     requires starts { A.Reads automaton.now input.now.anchored [] start }
-    requires reached { IsReached (A.Reads automaton.now input.now.anchored) (search_in (A.machine automaton.now) input.now) reached.now }
-    ensures shows { ShowsFirst (A.Reads automaton.now input.now.anchored) (A.entries automaton.now) (A.machine automaton.now) (search_in (A.machine automaton.now) input.now) (told_from (A.machine automaton.now) (walked (search_in (A.machine automaton.now) input.now) reached.now) reached.now.at (A.entries automaton.now reached.now.sid) index ++ ending_from (walked (search_in (A.machine automaton.now) input.now) reached.now) (reached.now.at + 1)) result }
-    ensures pays { GoesOnPaying (A.machine automaton.now) (A.direct automaton.now) (scans_bytes (A.filter automaton.now)) (search_in (A.machine automaton.now) input.now) (At reached.now.sid reached.now.from reached.now.at index) result.place steps.old steps.new }
+    requires cursor { StandsIn (A.built automaton.now) (A.Reads automaton.now) input.now cursor.now }
+    ensures shows { ShowsFirst (A.Reads automaton.now input.now.anchored) (A.matches automaton.now)
+        (A.built automaton.now).dictionary (searched (A.built automaton.now) input.now)
+        (told_from (A.built automaton.now).dictionary
+        (walked (searched (A.built automaton.now) input.now) cursor.now)
+        cursor.now.at (A.matches automaton.now cursor.now.sid) index
+        ++ ending_from (walked (searched (A.built automaton.now) input.now) cursor.now)
+        (cursor.now.at + 1)) result }
+    ensures pays { KeepsBudget (A.built automaton.now).dictionary (A.built automaton.now).deterministic
+        (searched (A.built automaton.now) input.now)
+        (At cursor.now.sid cursor.now.from cursor.now.at index) result.place steps.old steps.new }
 {
-    if let Some(shown) = show(automaton, input, *reached, index) {
+    if let Some(shown) = show(automaton, input, *cursor, index) {
         return shown;
     }
-    show_later(automaton, input, start, *reached, steps)
+    show_later(automaton, input, start, *cursor, steps)
 }
 
 /// Shows the next occurrence of a search that stands at a place; `start` is where it began.
@@ -438,11 +451,18 @@ pub(crate) fn advance<A: Automaton>(
     place: Place,
     steps: &mut Steps,
 ) -> Shown
-    requires standard { (A.machine automaton.now).kind ≡ Standard }
+    requires standard { (A.built automaton.now).dictionary.kind ≡ Standard }
     requires starts { A.Reads automaton.now input.now.anchored [] start }
-    requires left { (left : List Occurrence) × IsLeft (A.Reads automaton.now input.now.anchored) (A.entries automaton.now) (A.machine automaton.now) (search_in (A.machine automaton.now) input.now) place left }
-    ensures shows { (left : List Occurrence) → IsLeft (A.Reads automaton.now input.now.anchored) (A.entries automaton.now) (A.machine automaton.now) (search_in (A.machine automaton.now) input.now) place left → ShowsFirst (A.Reads automaton.now input.now.anchored) (A.entries automaton.now) (A.machine automaton.now) (search_in (A.machine automaton.now) input.now) left result }
-    ensures pays { GoesOnPaying (A.machine automaton.now) (A.direct automaton.now) (scans_bytes (A.filter automaton.now)) (search_in (A.machine automaton.now) input.now) place result.place steps.old steps.new }
+    requires left { (left : List Occurrence)
+        × IsLeft (A.Reads automaton.now input.now.anchored) (A.matches automaton.now)
+        (A.built automaton.now).dictionary (searched (A.built automaton.now) input.now) place left }
+    ensures shows { (left : List Occurrence)
+        → IsLeft (A.Reads automaton.now input.now.anchored) (A.matches automaton.now)
+        (A.built automaton.now).dictionary (searched (A.built automaton.now) input.now) place left
+        → ShowsFirst (A.Reads automaton.now input.now.anchored) (A.matches automaton.now)
+        (A.built automaton.now).dictionary (searched (A.built automaton.now) input.now) left result }
+    ensures pays { KeepsBudget (A.built automaton.now).dictionary (A.built automaton.now).deterministic
+        (searched (A.built automaton.now) input.now) place result.place steps.old steps.new }
 {
     match place {
         Place::Over => over(),
@@ -452,8 +472,8 @@ pub(crate) fn advance<A: Automaton>(
             at,
             index,
         } => {
-            let reached = Reached { sid, from, at };
-            show_next(automaton, input, start, &reached, index, steps)
+            let cursor = Cursor { sid, from, at };
+            show_next(automaton, input, start, &cursor, index, steps)
         }
     }
 }
@@ -461,10 +481,16 @@ pub(crate) fn advance<A: Automaton>(
 /// Where a search begins.
 pub(crate) fn begin<A: Automaton>(automaton: &A, input: &Input<'_>) -> Result<Beginning, MatchError>
     ensures starts { IfOk result (λ beginning. A.Reads automaton.now input.now.anchored [] beginning.start) }
-    ensures left { IfOk result (λ beginning. IsLeft (A.Reads automaton.now input.now.anchored) (A.entries automaton.now) (A.machine automaton.now) (search_in (A.machine automaton.now) input.now) beginning.place (listing_of (search_in (A.machine automaton.now) input.now))) }
-    ensures paid { IfOk result (λ beginning. IsPaid (A.machine automaton.now) (A.direct automaton.now) (search_in (A.machine automaton.now) input.now) beginning.place 0) }
-    ensures served { IsOk result ↔ CanOverlap (A.serves automaton.now input.now.anchored) (A.machine automaton.now).kind }
-    ensures refused { IfErr result (OverlappingRefusal (A.serves automaton.now input.now.anchored) (A.machine automaton.now).kind input.now.anchored) }
+    ensures left { IfOk result (λ beginning. IsLeft (A.Reads automaton.now input.now.anchored)
+        (A.matches automaton.now) (A.built automaton.now).dictionary
+        (searched (A.built automaton.now) input.now) beginning.place
+        (listing_in (A.built automaton.now) input.now)) }
+    ensures paid { IfOk result (λ beginning. IsPaid (A.built automaton.now).dictionary
+        (A.built automaton.now).deterministic (searched (A.built automaton.now) input.now)
+        beginning.place 0) }
+    ensures supported { IsOk result ↔ CanOverlap (A.built automaton.now) (A.supports automaton.now) input.now }
+    ensures refused { IfErr result (IsOverlappingRefusal (A.built automaton.now)
+        (A.supports automaton.now) input.now) }
 {
     let start = automaton.start_state(input.get_anchored())?;
     let kind = automaton.match_kind();
@@ -489,7 +515,7 @@ pub(crate) fn begin<A: Automaton>(automaton: &A, input: &Input<'_>) -> Result<Be
     })
 }
 
-/// Shows the next occurrence of the search of the input, if there is one more, and counts what it does. The state tells it.
+/// Found the next occurrence of the search of the input, if there is one more, and counts what it does. The state tells it.
 ///
 /// All calls with one state together look at the states of one walk over the span. The search is refused where the automaton
 /// has no start for the input's anchoring, or isn't of the standard kind; the state is then as it was.
@@ -499,13 +525,19 @@ pub fn find_overlapping<A: Automaton>(
     state: &mut OverlappingState,
     steps: &mut Steps,
 ) -> Result<(), MatchError>
-    requires { CameFrom (A.Reads automaton.now) (A.entries automaton.now) (A.machine automaton.now) (A.direct automaton.now) (A.filter automaton.now) input.now state.old }
-    ensures came { CameFrom (A.Reads automaton.now) (A.entries automaton.now) (A.machine automaton.now) (A.direct automaton.now) (A.filter automaton.now) input.now state.new }
-    ensures shows { IfOk result (λ _. ShowsNext (search_in (A.machine automaton.now) input.now) state.old state.new) }
-    ensures work { IsOverlappingWork (A.direct automaton.now) (scans_bytes (A.filter automaton.now)) (search_in (A.machine automaton.now) input.now) (sums_of state.new) }
+    requires { CameFrom (A.built automaton.now) (A.Reads automaton.now) (A.matches automaton.now)
+        input.now state.old }
+    ensures came { CameFrom (A.built automaton.now) (A.Reads automaton.now)
+        (A.matches automaton.now)
+        input.now state.new }
+    ensures shows { IfOk result (λ _. ShowsNext (A.built automaton.now) input.now state.old
+        state.new) }
+    ensures cost { IsOverlappingCost (A.built automaton.now) input.now (sums_of state.new) }
     ensures counted { DoneAlike (sums_of state.old) (sums_of state.new) steps.old steps.new }
-    ensures served { IsOk result ↔ CanOverlap (A.serves automaton.now input.now.anchored) (A.machine automaton.now).kind }
-    ensures refused { IfErr result (OverlappingRefusal (A.serves automaton.now input.now.anchored) (A.machine automaton.now).kind input.now.anchored) }
+    ensures supported { IsOk result ↔ CanOverlap (A.built automaton.now) (A.supports automaton.now)
+        input.now }
+    ensures refused { IfErr result (IsOverlappingRefusal (A.built automaton.now)
+        (A.supports automaton.now) input.now) }
     ensures idle { IfErr result (λ _. (state.new ≡ state.old) × (steps.new ≡ steps.old)) }
 {
     let beginning = begin(automaton, input)?;

@@ -172,6 +172,54 @@ fn states(rt: HostRuntime) -> Result<(), Fail> {
 }
 
 #[test]
+fn anchored_in_a_sentence(rt: HostRuntime) -> Result<(), Fail> {
+    let patterns: [&[u8]; 3] = [b"b", b"abc", b"abcd"];
+    let automaton = PlainAutomaton::new(&patterns, false, MatchKind::LeftmostFirst).ok_or(
+        "few patterns",
+    )?;
+    let free = Input::new(b"foo abcd");
+    finds(&rt, &automaton, &free, Some(Match::must(1, 4..7)))?;
+    let bound = Input::new(b"foo abcd").anchored(Anchored::Yes);
+    finds(&rt, &automaton, &bound, None)?;
+    let part = Input::new(b"foo abcd").range(4..8).anchored(Anchored::Yes);
+    finds(&rt, &automaton, &part, Some(Match::must(1, 4..7)))?;
+    let whole = Input::new(b"abcd").anchored(Anchored::Yes);
+    finds(&rt, &automaton, &whole, Some(Match::must(1, 0..3)))
+}
+
+#[test]
+fn overlapping_iterator_of_an_anchored_input(rt: HostRuntime) -> Result<(), Fail> {
+    let patterns: [&[u8]; 1] = [b"a"];
+    let automaton = PlainAutomaton::new(&patterns, false, MatchKind::Standard).ok_or(
+        "few patterns",
+    )?;
+    let bound = Served::new(automaton, Anchored::Yes);
+    let input = Input::new(b"a").anchored(Anchored::Yes);
+    let error = bound
+        .try_find_overlapping_iter(input)
+        .err()
+        .ok_or("refused")?;
+    assert_eq!(rt; *error.kind(), MatchErrorKind::InvalidInputAnchored);
+    Ok(())
+}
+
+#[test]
+fn lengths_of_no_pattern_and_of_an_empty_one(rt: HostRuntime) -> Result<(), Fail> {
+    let none: [&[u8]; 0] = [];
+    let empty: [&[u8]; 2] = [b"ab", b""];
+    let automaton = PlainAutomaton::new(&none, false, MatchKind::Standard).ok_or("few patterns")?;
+    assert_eq!(rt; automaton.patterns_len(), 0);
+    assert_eq!(rt; automaton.min_pattern_len(), usize::MAX);
+    assert_eq!(rt; automaton.max_pattern_len(), 0);
+    finds(&rt, &automaton, &Input::new(b"ab"), None)?;
+    let automaton = PlainAutomaton::new(&empty, false, MatchKind::Standard).ok_or("few patterns")?;
+    assert_eq!(rt; automaton.patterns_len(), 2);
+    assert_eq!(rt; automaton.min_pattern_len(), 0);
+    assert_eq!(rt; automaton.max_pattern_len(), 2);
+    Ok(())
+}
+
+#[test]
 fn dead(rt: HostRuntime) -> Result<(), Fail> {
     let patterns: [&[u8]; 1] = [b"ab"];
     let automaton = PlainAutomaton::new(&patterns, false, MatchKind::LeftmostFirst).ok_or(

@@ -72,7 +72,8 @@ impl<T: Read> Watched<T> {
         ensures gave { IfOk result (ReadGave self.old self.new buf.new) }
         ensures failed { OnErr result (ReadFailed self.old self.new) }
         ensures writes { NoneTaken self.old self.new }
-        ensures device { ReadConsumes (T.remaining (inner_of self.old)) (T.remaining (inner_of self.new)) result buf.new }
+        ensures device { ReadConsumes (T.remaining (inner_of self.old))
+            (T.remaining (inner_of self.new)) result buf.new }
     {
         match self.inner.read(buf) {
             Ok(n) => {
@@ -96,7 +97,8 @@ impl<T: Write> Watched<T> {
         ensures took { IfOk result (WriteTook self.old self.new buf.now) }
         ensures failed { OnErr result (TookNone self.old self.new) }
         ensures reads { NoneRead self.old self.new }
-        ensures device { WriteAppends (T.contents (inner_of self.old)) (T.contents (inner_of self.new)) result buf.now }
+        ensures device { WriteAppends (T.contents (inner_of self.old))
+            (T.contents (inner_of self.new)) result buf.now }
     {
         match self.inner.write(buf) {
             Ok(n) => {
@@ -140,7 +142,8 @@ pub fn write_whole<W: Write>(writer: &mut Watched<W>, bytes: &[u8]) -> Result<()
     ensures front { OnErr result (TookFront W.contents writer.old writer.new bytes.now) }
     ensures kind { IfErr result (IsOfWrite writer.old writer.new) }
     ensures reads { NoneRead writer.old writer.new }
-    ensures device { OnOk result (Appends (W.contents (inner_of writer.old)) (W.contents (inner_of writer.new)) bytes.now) }
+    ensures device { OnOk result (Appends (W.contents (inner_of writer.old))
+        (W.contents (inner_of writer.new)) bytes.now) }
 {
     let mut written = 0;
     while written < bytes.len() {

@@ -12,7 +12,7 @@ use Rattle.ac_input.specs.Occurrence.{Search, Occurrence, Occurs, starting_at}
 use Rattle.ac_input.specs.Best.{preference, IsBest, asked_kind}
 use Rattle.ac_input.specs.Walk.{Repeats, IsPick, Here, Further, IsWalk}
 use Rattle.ac_input.specs.Listing.{IsListing}
-use Rattle.ac_input.specs.Machine.{Machine, whole}
+use Rattle.ac_input.specs.Dictionary.{Dictionary, whole}
 use Rattle.ac_input.specs.Text.{listed}
 use Rattle.ac_input.specs.Computed.{walk_of, listing_of}
 use Rattle.ac_input.specs.BeginningLaws.{IsBeginning, longer}
@@ -127,7 +127,7 @@ pub listing-longer : (s : Search) (more : List ℕ) (end : ℕ) (fewer all : Lis
 listing-longer s more end fewer all inside le g h = (behind s.end all, listing-unique (longer s more end) all (fewer ++ behind s.end all) h (listing-longer_is s more end fewer all inside le g h))
 
 -- under standard the computed walk of a beginning of a text is a beginning of the text's
-pub whole-walk_begins : (m : Machine) (text more : List ℕ) (anchored : Bool) → IsBeginning (walk_of Standard (whole m text anchored)) (walk_of Standard (whole m (text ++ more) anchored))
+pub whole-walk_begins : (m : Dictionary) (text more : List ℕ) (anchored : Bool) → IsBeginning (walk_of Standard (whole m text anchored)) (walk_of Standard (whole m (text ++ more) anchored))
 whole-walk_begins m text more anchored =
     let inside : length text ≤ length text = omega arith in
     let le : length text ≤ length (text ++ more) = omega (arith, length-append text more) in
@@ -137,11 +137,11 @@ whole-walk_begins m text more anchored =
     (walk_of-walk Standard (whole m (text ++ more) anchored) inside_whole)
 
 -- and its list a beginning of the text's list
-pub whole-listed_begins : (m : Machine) (text more : List ℕ) (anchored : Bool) → IsBeginning (listed (walk_of Standard (whole m text anchored))) (listed (walk_of Standard (whole m (text ++ more) anchored)))
+pub whole-listed_begins : (m : Dictionary) (text more : List ℕ) (anchored : Bool) → IsBeginning (listed (walk_of Standard (whole m text anchored))) (listed (walk_of Standard (whole m (text ++ more) anchored)))
 whole-listed_begins m text more anchored = listed-beginning (walk_of Standard (whole m text anchored)) (walk_of Standard (whole m (text ++ more) anchored)) (whole-walk_begins m text more anchored)
 
 -- the computed overlapping listing of a beginning of a text is a beginning of the text's
-whole-listing_begins : (m : Machine) (text more : List ℕ) (anchored : Bool) → IsBeginning (listing_of (whole m text anchored)) (listing_of (whole m (text ++ more) anchored))
+whole-listing_begins : (m : Dictionary) (text more : List ℕ) (anchored : Bool) → IsBeginning (listing_of (whole m text anchored)) (listing_of (whole m (text ++ more) anchored))
 whole-listing_begins m text more anchored =
     let inside : length text ≤ length text = omega arith in
     let le : length text ≤ length (text ++ more) = omega (arith, length-append text more) in
@@ -151,7 +151,7 @@ whole-listing_begins m text more anchored =
     (listing_of-lists (whole m (text ++ more) anchored) inside_whole)
 
 -- and so is what is written of it
-pub whole-overlapping_begins : (m : Machine) (text more : List ℕ) (anchored : Bool) → IsBeginning (listing_of (whole m text anchored)) (listing_of (whole m (text ++ more) anchored)) × IsBeginning (listed (listing_of (whole m text anchored))) (listed (listing_of (whole m (text ++ more) anchored)))
+pub whole-overlapping_begins : (m : Dictionary) (text more : List ℕ) (anchored : Bool) → IsBeginning (listing_of (whole m text anchored)) (listing_of (whole m (text ++ more) anchored)) × IsBeginning (listed (listing_of (whole m text anchored))) (listed (listing_of (whole m (text ++ more) anchored)))
 whole-overlapping_begins m text more anchored =
     let begins = whole-listing_begins m text more anchored in
     (begins, listed-beginning (listing_of (whole m text anchored)) (listing_of (whole m (text ++ more) anchored)) begins)

@@ -9,7 +9,7 @@ use Rattle.ac_input.specs.declared.search.MatchKind.TheVariants.{Standard}
 use Rattle.ac_input.specs.Occurrence.{Search, Occurrence, Occurs, starting_at}
 use Rattle.ac_input.specs.Best.{IsBest}
 use Rattle.ac_input.specs.Walk.{Repeats, IsPick, Here, Further, IsWalk}
-use Rattle.ac_input.specs.Machine.{Machine, whole}
+use Rattle.ac_input.specs.Dictionary.{Dictionary, whole}
 use Rattle.ac_input.specs.Cut.{IsCut}
 use Rattle.ac_input.specs.Text.{replaced_from, listed}
 use Rattle.ac_input.specs.Computed.{walk_of}
@@ -81,13 +81,13 @@ replaced-longer s more end at last replacements (o ∷ os) rest ends le free her
     )
 
 -- what is written and listed of a front is a beginning of what is written and listed of a whole text
-abbrev pub IsFinal : Machine → MatchKind → List (List ℕ) → List ℕ → List ℕ → Type 0
+abbrev pub IsFinal : Dictionary → MatchKind → List (List ℕ) → List ℕ → List ℕ → Type 0
 IsFinal m kind replacements front text =
     IsBeginning (replaced_from 0 front replacements (walk_of kind (whole m front false))) (replaced_from 0 text replacements (walk_of kind (whole m text false)))
     × IsBeginning (listed (walk_of kind (whole m front false))) (listed (walk_of kind (whole m text false)))
 
 -- so it is of a text up to where it goes on, if that is a cut
-front-final : (m : Machine) (front more : List ℕ) (replacements : List (List ℕ)) → m.kind ≡ Standard → IsCut m (front ++ more) (length front) → IsFinal m Standard replacements front (front ++ more)
+front-final : (m : Dictionary) (front more : List ℕ) (replacements : List (List ℕ)) → m.kind ≡ Standard → IsCut m (front ++ more) (length front) → IsFinal m Standard replacements front (front ++ more)
 front-final m front more replacements standard cut =
     let s = whole m front false in
     let end = length (front ++ more) in
@@ -108,7 +108,7 @@ front-final m front more replacements standard cut =
     )
 
 -- what comes before a cut is final
-pub cut-final : (m : Machine) (text : List ℕ) (cut : ℕ) (replacements : List (List ℕ)) → m.kind ≡ Standard → IsCut m text cut → IsFinal m m.kind replacements (take cut text) text
+pub cut-final : (m : Dictionary) (text : List ℕ) (cut : ℕ) (replacements : List (List ℕ)) → m.kind ≡ Standard → IsCut m text cut → IsFinal m m.kind replacements (take cut text) text
 cut-final m text cut replacements standard is_cut =
     let split = take-append-drop cut text in
     let len = length-take-le cut text is_cut.0 in

@@ -15,5 +15,17 @@ pub mod ShiftLemmas
 pub mod SpanLemmas
 pub mod UnpairedLemmas
 pub mod StateLemmas
+pub mod FailureLemmas
+pub mod AlikeLemmas
+pub mod StateListLemmas
+pub mod LeftmostListLemmas
+pub mod TellsLemmas
+pub mod ShadowLemmas
+pub mod DistinctLemmas
+pub mod TrieLemmas
+pub mod StatesLemmas
+pub mod SomeLemmas
+pub mod LeadsLemmas
 pub mod Rows
 pub mod AlphabetLemmas
+pub mod LimitLemmas

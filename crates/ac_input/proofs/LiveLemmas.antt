@@ -10,7 +10,7 @@ use Rattle.ac_input.specs.declared.search.MatchKind.TheVariants.{Standard, Leftm
 use Rattle.ac_input.specs.Same.{same_text}
 use Rattle.ac_input.specs.Occurrence.{Occurrence, Occurs}
 use Rattle.ac_input.specs.Best.{preference, IsBest, asked_kind}
-use Rattle.ac_input.specs.Machine.{Machine, IsPattern, Begins, IsEntered, BeginsEntered, whole, IsAlive, IsLive}
+use Rattle.ac_input.specs.Dictionary.{Dictionary, IsPattern, Begins, IsEntered, BeginsEntered, whole, IsAlive, IsLive}
 use Rattle.ac_input.specs.Computed.{best_of}
 use Rattle.ac_input.specs.LiveLaws.{IsOwnInverse}
 use Rattle.ac_input.proofs.OrderLemmas.{preference-same, occurs-end}
@@ -32,31 +32,31 @@ Begins-front pairing front more p h =
     (within, subst (λ (xs : List ℕ). IsTrue (same_text pairing xs (take n p))) left (subst (λ (ys : List ℕ). IsTrue (same_text pairing (take n (front ++ more)) ys)) right (same_text-take pairing n (front ++ more) (take (length (front ++ more)) p) h.1)))
 
 -- the beginning of what begins an entered pattern begins one
-pub BeginsEntered-front : (m : Machine) (front more : List ℕ) → BeginsEntered m (front ++ more) → BeginsEntered m front
+pub BeginsEntered-front : (m : Dictionary) (front more : List ℕ) → BeginsEntered m (front ++ more) → BeginsEntered m front
 BeginsEntered-front m [] more h = tt
 BeginsEntered-front m (b ∷ bs) more h = (h.0, h.1, h.2, Begins-front m.pairing (b ∷ bs) more h.1 h.3)
 
 -- what begins one entered pattern begins an entered one
-pub BeginsEntered-from : (m : Machine) (text : List ℕ) (n : ℕ) (p : List ℕ) → IsEntered m n p → Begins m.pairing text p → BeginsEntered m text
+pub BeginsEntered-from : (m : Dictionary) (text : List ℕ) (n : ℕ) (p : List ℕ) → IsEntered m n p → Begins m.pairing text p → BeginsEntered m text
 BeginsEntered-from m [] n p e h = tt
 BeginsEntered-from m (b ∷ bs) n p e h = (n, p, e, h)
 
 -- ---- occurrences in a text and more
 
 -- what occurs in a text occurs in the text and more
-pub occurs-append : (m : Machine) (anchored : Bool) (text more : List ℕ) (o : Occurrence) → Occurs (whole m text anchored) o → Occurs (whole m (text ++ more) anchored) o
+pub occurs-append : (m : Dictionary) (anchored : Bool) (text more : List ℕ) (o : Occurrence) → Occurs (whole m text anchored) o → Occurs (whole m (text ++ more) anchored) o
 occurs-append m anchored text more o h = occurs-longer (whole m text anchored) more (length (text ++ more)) o (omega arith) (omega (arith, length-append text more)) h
 
 -- what occurs in a text and more occurs in the text where it ends in it
-pub occurs-front : (m : Machine) (anchored : Bool) (text more : List ℕ) (o : Occurrence) → o.end ≤ length text → Occurs (whole m (text ++ more) anchored) o → Occurs (whole m text anchored) o
+pub occurs-front : (m : Dictionary) (anchored : Bool) (text more : List ℕ) (o : Occurrence) → o.end ≤ length text → Occurs (whole m (text ++ more) anchored) o → Occurs (whole m text anchored) o
 occurs-front m anchored text more o inside h = longer-occurs (whole m text anchored) more (length (text ++ more)) o (omega arith) inside h
 
--- a machine's whole text has a best or none
-pub whole-best : (kind : MatchKind) (m : Machine) (text : List ℕ) (anchored : Bool) → (r : Option Occurrence) × IsBest kind (whole m text anchored) r
+-- a dictionary's whole text has a best or none
+pub whole-best : (kind : MatchKind) (m : Dictionary) (text : List ℕ) (anchored : Bool) → (r : Option Occurrence) × IsBest kind (whole m text anchored) r
 whole-best kind m text anchored = (best_of kind (whole m text anchored), best_of-best kind (whole m text anchored) (omega arith))
 
 -- and one, where something occurs
-pub whole-best_some : (kind : MatchKind) (m : Machine) (text : List ℕ) (anchored : Bool) (o : Occurrence) → Occurs (whole m text anchored) o → (b : Occurrence) × IsBest kind (whole m text anchored) (Some b)
+pub whole-best_some : (kind : MatchKind) (m : Dictionary) (text : List ℕ) (anchored : Bool) (o : Occurrence) → Occurs (whole m text anchored) o → (b : Occurrence) × IsBest kind (whole m text anchored) (Some b)
 whole-best_some kind m text anchored o h = by (best_of kind (whole m text anchored)) (best_of-best kind (whole m text anchored) (omega arith))
   where
     by : (r : Option Occurrence) → IsBest kind (whole m text anchored) r → (b : Occurrence) × IsBest kind (whole m text anchored) (Some b)
@@ -98,7 +98,7 @@ kind_cases LeftmostFirst = inr (λ e. cc)
 kind_cases LeftmostLongest = inr (λ e. cc)
 
 -- the best of a text starts no earlier than the best of the text and more
-pub best-no_later : (kind : MatchKind) (m : Machine) (anchored : Bool) (text more : List ℕ) (before after : Occurrence) → IsBest kind (whole m text anchored) (Some before) → IsBest kind (whole m (text ++ more) anchored) (Some after) → after.start ≤ before.start
+pub best-no_later : (kind : MatchKind) (m : Dictionary) (anchored : Bool) (text more : List ℕ) (before after : Occurrence) → IsBest kind (whole m text anchored) (Some before) → IsBest kind (whole m (text ++ more) anchored) (Some after) → after.start ≤ before.start
 best-no_later kind m anchored text more before after g h =
     let longer = occurs-append m anchored text more before g.0 in
     ⊎_elim
@@ -115,7 +115,7 @@ best-no_later kind m anchored text more before after g h =
 -- ---- places that are alive
 
 -- a place of a text that is alive after more bytes was alive before them
-pub alive-front : (m : Machine) (anchored : Bool) (text more : List ℕ) (from : ℕ) → from ≤ length text → IsAlive m anchored (text ++ more) from → IsAlive m anchored text from
+pub alive-front : (m : Dictionary) (anchored : Bool) (text more : List ℕ) (from : ℕ) → from ≤ length text → IsAlive m anchored (text ++ more) from → IsAlive m anchored text from
 alive-front m anchored text more from inside h =
     record {
       within = inside;
@@ -125,7 +125,7 @@ alive-front m anchored text more from inside h =
     }
 
 -- the end of a text is alive where nothing that starts before it is preferred
-alive-end : (m : Machine) (text : List ℕ) → ((m.kind ≡ Standard) ⊎ ((best : Occurrence) → IsBest m.kind (whole m text false) (Some best) → length text ≤ best.start)) → IsAlive m false text (length text)
+pub alive-end : (m : Dictionary) (text : List ℕ) → ((m.kind ≡ Standard) ⊎ ((best : Occurrence) → IsBest m.kind (whole m text false) (Some best) → length text ≤ best.start)) → IsAlive m false text (length text)
 alive-end m text no_later =
     record {
       within = omega arith;
@@ -135,7 +135,7 @@ alive-end m text no_later =
     }
 
 -- A text that is dead to a search that isn't anchored has a best, which starts before its end; the kind is a leftmost one.
-pub dead-best : (m : Machine) (text : List ℕ) → IsLive m false text None → (m.kind ≢ Standard) × ((b : Occurrence) × IsBest m.kind (whole m text false) (Some b) × (b.start < length text))
+pub dead-best : (m : Dictionary) (text : List ℕ) → IsLive m false text None → (m.kind ≢ Standard) × ((b : Occurrence) × IsBest m.kind (whole m text false) (Some b) × (b.start < length text))
 dead-best m text dead = (λ standard. dead (length text) (alive-end m text (inl standard)), by (best_of m.kind (whole m text false)) (best_of-best m.kind (whole m text false) (omega arith)))
   where
     by : (r : Option Occurrence) → IsBest m.kind (whole m text false) r → (b : Occurrence) × IsBest m.kind (whole m text false) (Some b) × (b.start < length text)
@@ -146,7 +146,7 @@ dead-best m text dead = (λ standard. dead (length text) (alive-end m text (inl 
         (cases_lt b.start (length text))
 
 -- a text that is dead stays so, whatever follows
-pub dead-append : (m : Machine) (anchored : Bool) (text more : List ℕ) → IsLive m anchored text None → IsLive m anchored (text ++ more) None
+pub dead-append : (m : Dictionary) (anchored : Bool) (text more : List ℕ) → IsLive m anchored text None → IsLive m anchored (text ++ more) None
 dead-append m true text more dead from alive =
     let first : from ≡ 0 = alive.anchor refl in
     dead from (alive-front m true text more from (omega arith) alive)
@@ -177,7 +177,7 @@ take-slice_range : (n : ℕ) (text : List ℕ) (a b : ℕ) → n ≤ b - a → t
 take-slice_range n text a b h = take-take n (b - a) (drop a text) h
 
 -- where a pattern lies, what begins it lies too
-begins-occurs : (m : Machine) (anchored : Bool) (text : List ℕ) (o : Occurrence) (p : List ℕ) (n : ℕ) (q : List ℕ) → IsOwnInverse m.pairing → Occurs (whole m text anchored) o → IsPattern m o.pattern p → IsPattern m n q → Begins m.pairing q p → (o.start + length p ≡ o.end) × Occurs (whole m text anchored) (lying n o.start q)
+begins-occurs : (m : Dictionary) (anchored : Bool) (text : List ℕ) (o : Occurrence) (p : List ℕ) (n : ℕ) (q : List ℕ) → IsOwnInverse m.pairing → Occurs (whole m text anchored) o → IsPattern m o.pattern p → IsPattern m n q → Begins m.pairing q p → (o.start + length p ≡ o.end) × Occurs (whole m text anchored) (lying n o.start q)
 begins-occurs m anchored text o p n q inverse h is named begins =
     let w = h.within in
     let found = occurs-end (whole m text anchored) o (omega arith) h in
@@ -200,7 +200,7 @@ begins-occurs m anchored text o p n q inverse h is named begins =
     )
 
 -- the pattern of the best is entered: one that shadows it would be preferred
-pub best-entered : (m : Machine) (anchored earliest : Bool) (text : List ℕ) (o : Occurrence) (p : List ℕ) → IsOwnInverse m.pairing → IsBest (asked_kind m.kind earliest) (whole m text anchored) (Some o) → IsPattern m o.pattern p → IsEntered m o.pattern p
+pub best-entered : (m : Dictionary) (anchored earliest : Bool) (text : List ℕ) (o : Occurrence) (p : List ℕ) → IsOwnInverse m.pairing → IsBest (asked_kind m.kind earliest) (whole m text anchored) (Some o) → IsPattern m o.pattern p → IsEntered m o.pattern p
 best-entered m anchored earliest text o p inverse best is = (
   is,
   λ first shadow.
@@ -211,7 +211,7 @@ best-entered m anchored earliest text o p inverse best is = (
 )
 
 -- where an entered pattern lies across the end of a text, or ends there, what is left of the text from its start begins it
-pub entered-begins : (m : Machine) (anchored : Bool) (text more : List ℕ) (o : Occurrence) (p : List ℕ) → IsOwnInverse m.pairing → Occurs (whole m (text ++ more) anchored) o → IsEntered m o.pattern p → o.start ≤ length text → length text ≤ o.end → BeginsEntered m (drop o.start text)
+pub entered-begins : (m : Dictionary) (anchored : Bool) (text more : List ℕ) (o : Occurrence) (p : List ℕ) → IsOwnInverse m.pairing → Occurs (whole m (text ++ more) anchored) o → IsEntered m o.pattern p → o.start ≤ length text → length text ≤ o.end → BeginsEntered m (drop o.start text)
 entered-begins m anchored text more o p inverse h entered inside past =
     let w = h.within in
     let rest = drop o.start text in
@@ -228,7 +228,7 @@ entered-begins m anchored text more o p inverse h entered inside past =
     BeginsEntered-from m rest o.pattern p entered (omega arith, same)
 
 -- the best of a dead text and more lies in the text
-pub dead-lies : (m : Machine) (anchored earliest : Bool) (text more : List ℕ) (o : Occurrence) → IsOwnInverse m.pairing → IsLive m anchored text None → IsBest (asked_kind m.kind earliest) (whole m (text ++ more) anchored) (Some o) → o.end ≤ length text
+pub dead-lies : (m : Dictionary) (anchored earliest : Bool) (text more : List ℕ) (o : Occurrence) → IsOwnInverse m.pairing → IsLive m anchored text None → IsBest (asked_kind m.kind earliest) (whole m (text ++ more) anchored) (Some o) → o.end ≤ length text
 dead-lies m anchored earliest text more o inverse dead best = ⊎_elim (λ (past : length text < o.end). absurd (by anchored earliest dead best past)) (λ (le : o.end ≤ length text). le) (cases_lt (length text) o.end)
   where
     begins : (anchored earliest : Bool) → IsBest (asked_kind m.kind earliest) (whole m (text ++ more) anchored) (Some o) → o.start ≤ length text → length text < o.end → BeginsEntered m (drop o.start text)
@@ -252,7 +252,7 @@ dead-lies m anchored earliest text more o inverse dead best = ⊎_elim (λ (past
         dead o.start (record { within = inside; begins = begins false false best inside past; anchor = λ a. absurd (false≢true a); no_later = inr (inr (λ other is. best-no_later m.kind m false text more other o is best)) })
 
 -- where the best of a text and more lies in the text, more bytes change nothing
-pub final-from_lies : (kind : MatchKind) (m : Machine) (anchored : Bool) (text more : List ℕ) → ((o : Occurrence) → IsBest kind (whole m (text ++ more) anchored) (Some o) → o.end ≤ length text) → (r : Option Occurrence) → IsBest kind (whole m text anchored) r ↔ IsBest kind (whole m (text ++ more) anchored) r
+pub final-from_lies : (kind : MatchKind) (m : Dictionary) (anchored : Bool) (text more : List ℕ) → ((o : Occurrence) → IsBest kind (whole m (text ++ more) anchored) (Some o) → o.end ≤ length text) → (r : Option Occurrence) → IsBest kind (whole m text anchored) r ↔ IsBest kind (whole m (text ++ more) anchored) r
 final-from_lies kind m anchored text more lies r = (
   λ h.
       let longer = whole-best kind m (text ++ more) anchored in
@@ -265,5 +265,5 @@ final-from_lies kind m anchored text more lies r = (
     back (Some b) best = IsLeast-stronger kind (Occurs (whole m (text ++ more) anchored)) (Occurs (whole m text anchored)) (occurs-append m anchored text more) b (occurs-front m anchored text more b (lies b best) best.0) best
 
 -- the best of a dead text is final
-pub dead-final : (m : Machine) (anchored earliest : Bool) (text more : List ℕ) (r : Option Occurrence) → IsOwnInverse m.pairing → IsLive m anchored text None → IsBest (asked_kind m.kind earliest) (whole m text anchored) r ↔ IsBest (asked_kind m.kind earliest) (whole m (text ++ more) anchored) r
+pub dead-final : (m : Dictionary) (anchored earliest : Bool) (text more : List ℕ) (r : Option Occurrence) → IsOwnInverse m.pairing → IsLive m anchored text None → IsBest (asked_kind m.kind earliest) (whole m text anchored) r ↔ IsBest (asked_kind m.kind earliest) (whole m (text ++ more) anchored) r
 dead-final m anchored earliest text more r inverse dead = final-from_lies (asked_kind m.kind earliest) m anchored text more (λ o best. dead-lies m anchored earliest text more o inverse dead best) r

@@ -9,7 +9,7 @@ use Rattle.ac_input.specs.declared.search.MatchKind.TheVariants.{Standard, Leftm
 use Rattle.ac_input.specs.Same.{same_text}
 use Rattle.ac_input.specs.Occurrence.{Occurrence, Occurs}
 use Rattle.ac_input.specs.Best.{preference, IsBest}
-use Rattle.ac_input.specs.Machine.{Machine, whole, IsAlive}
+use Rattle.ac_input.specs.Dictionary.{Dictionary, whole, IsAlive}
 use Rattle.ac_input.specs.LiveLaws.{shifted, shifted_best}
 use Rattle.ac_input.proofs.OrderLemmas.{occurrence_from_parts}
 use Rattle.ac_input.proofs.LiveLemmas.{leftmost-no_later, whole-best_some}
@@ -31,7 +31,7 @@ slice_range-drop text from a b =
     ap₂ (λ (n : ℕ) (xs : List ℕ). take n xs) span (drop-drop a from text)
 
 -- what occurs in a suffix occurs in the text, further on
-pub occurs-shifted : (m : Machine) (text : List ℕ) (from : ℕ) (o : Occurrence) → from ≤ length text → Occurs (whole m (drop from text) false) o → Occurs (whole m text false) (shifted from o)
+pub occurs-shifted : (m : Dictionary) (text : List ℕ) (from : ℕ) (o : Occurrence) → from ≤ length text → Occurs (whole m (drop from text) false) o → Occurs (whole m text false) (shifted from o)
 occurs-shifted m text from o inside h =
     let w = h.within in
     let long = length-drop from text in
@@ -42,7 +42,7 @@ occurs-shifted m text from o inside h =
     }
 
 -- and what occurs further on in the text occurs in the suffix
-pub occurs-from_shifted : (m : Machine) (text : List ℕ) (from : ℕ) (o : Occurrence) → from ≤ length text → Occurs (whole m text false) (shifted from o) → Occurs (whole m (drop from text) false) o
+pub occurs-from_shifted : (m : Dictionary) (text : List ℕ) (from : ℕ) (o : Occurrence) → from ≤ length text → Occurs (whole m text false) (shifted from o) → Occurs (whole m (drop from text) false) o
 occurs-from_shifted m text from o inside h =
     let w = h.within in
     let long = length-drop from text in
@@ -61,11 +61,11 @@ pub shifted-back_by : (from : ℕ) (o : Occurrence) → from ≤ o.start → o.s
 shifted-back_by from o g h = occurrence_from_parts (shifted from (back_by from o)) o refl (omega arith) (omega arith)
 
 -- where nothing occurs before a place, what occurs in the text occurs in the suffix from that place
-pub occurs-back_by : (m : Machine) (text : List ℕ) (from : ℕ) (o : Occurrence) → from ≤ length text → from ≤ o.start → Occurs (whole m text false) o → Occurs (whole m (drop from text) false) (back_by from o)
+pub occurs-back_by : (m : Dictionary) (text : List ℕ) (from : ℕ) (o : Occurrence) → from ≤ length text → from ≤ o.start → Occurs (whole m text false) o → Occurs (whole m (drop from text) false) (back_by from o)
 occurs-back_by m text from o inside le h = occurs-from_shifted m text from (back_by from o) inside (subst (Occurs (whole m text false)) (sym (shifted-back_by from o le h.within.1)) h)
 
 -- where nothing occurs before a place, the best of the suffix from there is the best of the text
-pub best-shifted : (kind : MatchKind) (m : Machine) (text : List ℕ) (from : ℕ) (r : Option Occurrence) → from ≤ length text → ((o : Occurrence) → Occurs (whole m text false) o → from ≤ o.start) → IsBest kind (whole m (drop from text) false) r ↔ IsBest kind (whole m text false) (shifted_best from r)
+pub best-shifted : (kind : MatchKind) (m : Dictionary) (text : List ℕ) (from : ℕ) (r : Option Occurrence) → from ≤ length text → ((o : Occurrence) → Occurs (whole m text false) o → from ≤ o.start) → IsBest kind (whole m (drop from text) false) r ↔ IsBest kind (whole m text false) (shifted_best from r)
 best-shifted kind m text from None inside behind = (
   λ none. λ o h. none (back_by from o) (occurs-back_by m text from o inside (behind o h) h),
   λ none. λ o h. none (shifted from o) (occurs-shifted m text from o inside h),
@@ -84,7 +84,7 @@ best-shifted kind m text from (Some b) inside behind = (
 )
 
 -- under a leftmost kind nothing occurs before a place that is alive
-pub alive-first : (m : Machine) (text : List ℕ) (from : ℕ) (o : Occurrence) → m.kind ≢ Standard → IsAlive m false text from → Occurs (whole m text false) o → from ≤ o.start
+pub alive-first : (m : Dictionary) (text : List ℕ) (from : ℕ) (o : Occurrence) → m.kind ≢ Standard → IsAlive m false text from → Occurs (whole m text false) o → from ≤ o.start
 alive-first m text from o leftmost alive h =
     let best = whole-best_some m.kind m text false o h in
     let le = leftmost-no_later m.kind best.0 o leftmost (best.1.1 o h) in
@@ -94,5 +94,5 @@ alive-first m text from o leftmost alive h =
     alive.no_later
 
 -- under a leftmost kind a text has the best of each suffix that is alive
-pub alive-best : (m : Machine) (kind : MatchKind) (text : List ℕ) (from : ℕ) (r : Option Occurrence) → m.kind ≢ Standard → IsAlive m false text from → IsBest kind (whole m (drop from text) false) r ↔ IsBest kind (whole m text false) (shifted_best from r)
+pub alive-best : (m : Dictionary) (kind : MatchKind) (text : List ℕ) (from : ℕ) (r : Option Occurrence) → m.kind ≢ Standard → IsAlive m false text from → IsBest kind (whole m (drop from text) false) r ↔ IsBest kind (whole m text false) (shifted_best from r)
 alive-best m kind text from r leftmost alive = best-shifted kind m text from r alive.within (λ o h. alive-first m text from o leftmost alive h)

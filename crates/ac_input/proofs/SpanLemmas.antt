@@ -6,7 +6,7 @@ use Rattle.ac_input.specs.declared.search.MatchKind.{MatchKind}
 use Rattle.ac_input.specs.Same.{same_text}
 use Rattle.ac_input.specs.Occurrence.{Search, Occurrence, Occurs, starting_at}
 use Rattle.ac_input.specs.Best.{preference, IsLeast, IsBest}
-use Rattle.ac_input.specs.Machine.{Machine, whole, IsSearchBy}
+use Rattle.ac_input.specs.Dictionary.{Dictionary, whole, IsSearchBy}
 use Rattle.ac_input.specs.LiveLaws.{shifted, shifted_best}
 use Rattle.ac_input.proofs.OrderLemmas.{occurrence_from_parts, slice_range-length}
 use Rattle.ac_input.proofs.ShiftLemmas.{back_by, shifted-back_by, preference-shifted}
@@ -37,8 +37,8 @@ part_to s at =
       anchored = s.anchored;
     }
 
--- it is the machine's
-pub part_to-whole : (m : Machine) (s : Search) (at : ℕ) → IsSearchBy m s → part_to s at ≡ whole m (slice_range s.haystack s.start at) s.anchored
+-- it is the dictionary's
+pub part_to-whole : (m : Dictionary) (s : Search) (at : ℕ) → IsSearchBy m s → part_to s at ≡ whole m (slice_range s.haystack s.start at) s.anchored
 part_to-whole m s at by =
     ap₂
     (λ (patterns : List (List ℕ)) (pairing : List ℕ). whole (record { patterns = patterns; pairing = pairing; kind = m.kind }) (slice_range s.haystack s.start at) s.anchored)
@@ -70,11 +70,11 @@ occurs-part_to s at o g h inside ends occurs =
     }
 
 -- what occurs in the whole of a part of the span occurs in the search, further on
-pub whole-occurs_in_span : (m : Machine) (s : Search) (at : ℕ) (o : Occurrence) → IsSearchBy m s → s.start ≤ at → at ≤ s.end → s.end ≤ length s.haystack → Occurs (whole m (slice_range s.haystack s.start at) s.anchored) o → Occurs s (shifted s.start o) × (s.start + o.end ≤ at)
+pub whole-occurs_in_span : (m : Dictionary) (s : Search) (at : ℕ) (o : Occurrence) → IsSearchBy m s → s.start ≤ at → at ≤ s.end → s.end ≤ length s.haystack → Occurs (whole m (slice_range s.haystack s.start at) s.anchored) o → Occurs s (shifted s.start o) × (s.start + o.end ≤ at)
 whole-occurs_in_span m s at o by g h inside occurs = part_to-occurs s at o g h inside (subst (λ (t : Search). Occurs t o) (sym (part_to-whole m s at by)) occurs)
 
 -- what occurs in the search up to a place is what occurs in the whole of that part, further on
-pub occurs-in_whole_of_span : (m : Machine) (s : Search) (at : ℕ) (o : Occurrence) → IsSearchBy m s → s.start ≤ at → at ≤ s.end → s.end ≤ length s.haystack → Occurs s o → o.end ≤ at → Occurs (whole m (slice_range s.haystack s.start at) s.anchored) (back_by s.start o) × (o ≡ shifted s.start (back_by s.start o))
+pub occurs-in_whole_of_span : (m : Dictionary) (s : Search) (at : ℕ) (o : Occurrence) → IsSearchBy m s → s.start ≤ at → at ≤ s.end → s.end ≤ length s.haystack → Occurs s o → o.end ≤ at → Occurs (whole m (slice_range s.haystack s.start at) s.anchored) (back_by s.start o) × (o ≡ shifted s.start (back_by s.start o))
 occurs-in_whole_of_span m s at o by g h inside occurs ends =
     let w = occurs.within in
     let there : shifted s.start (back_by s.start o) ≡ o = shifted-back_by s.start o w.0 w.1 in
@@ -82,7 +82,7 @@ occurs-in_whole_of_span m s at o by g h inside occurs ends =
     (subst (λ (t : Search). Occurs t (back_by s.start o)) (part_to-whole m s at by) part, sym there)
 
 -- both at once
-pub span-whole : (m : Machine) (s : Search) (at : ℕ) (o : Occurrence) → IsSearchBy m s → s.start ≤ at → at ≤ s.end → s.end ≤ length s.haystack
+pub span-whole : (m : Dictionary) (s : Search) (at : ℕ) (o : Occurrence) → IsSearchBy m s → s.start ≤ at → at ≤ s.end → s.end ≤ length s.haystack
     → (Occurs s o × (o.end ≤ at)) ↔ ((inner : Occurrence) × Occurs (whole m (slice_range s.haystack s.start at) s.anchored) inner × (o ≡ shifted s.start inner))
 span-whole m s at o by g h inside = (
   λ (occurs, ends). let there = occurs-in_whole_of_span m s at o by g h inside occurs ends in (back_by s.start o, there.0, there.1),
@@ -117,7 +117,7 @@ least-shifted kind n P Q f g (Some b) = (
 )
 
 -- the best of a search is the best of the whole of its span, further on
-pub best-of_span : (kind : MatchKind) (m : Machine) (s : Search) (r : Option Occurrence) → IsSearchBy m s → s.start ≤ s.end → s.end ≤ length s.haystack → IsBest kind (whole m (slice_range s.haystack s.start s.end) s.anchored) r ↔ IsBest kind s (shifted_best s.start r)
+pub best-of_span : (kind : MatchKind) (m : Dictionary) (s : Search) (r : Option Occurrence) → IsSearchBy m s → s.start ≤ s.end → s.end ≤ length s.haystack → IsBest kind (whole m (slice_range s.haystack s.start s.end) s.anchored) r ↔ IsBest kind s (shifted_best s.start r)
 best-of_span kind m s r by g inside =
     let last : s.end ≤ s.end = omega arith in
     least-shifted kind s.start (Occurs (whole m (slice_range s.haystack s.start s.end) s.anchored)) (Occurs s)
@@ -126,7 +126,7 @@ best-of_span kind m s r by g inside =
     r
 
 -- so each best of a search is one of the whole of its span, further on
-pub best-is_shifted : (kind : MatchKind) (m : Machine) (s : Search) (r : Option Occurrence) → IsSearchBy m s → s.start ≤ s.end → s.end ≤ length s.haystack → IsBest kind s r → (inner : Option Occurrence) × IsBest kind (whole m (slice_range s.haystack s.start s.end) s.anchored) inner × (r ≡ shifted_best s.start inner)
+pub best-is_shifted : (kind : MatchKind) (m : Dictionary) (s : Search) (r : Option Occurrence) → IsSearchBy m s → s.start ≤ s.end → s.end ≤ length s.haystack → IsBest kind s r → (inner : Option Occurrence) × IsBest kind (whole m (slice_range s.haystack s.start s.end) s.anchored) inner × (r ≡ shifted_best s.start inner)
 best-is_shifted kind m s None by g inside best = (None, (best-of_span kind m s None by g inside).1 best, refl)
 best-is_shifted kind m s (Some b) by g inside best =
     let w = best.0.within in
@@ -143,7 +143,7 @@ occurs-later s from o free le = (
 )
 
 -- what starts at a place of the span or later is what occurs in the whole of the rest, further on
-pub rest-whole : (m : Machine) (s : Search) (from : ℕ) (o : Occurrence) → IsSearchBy m s → s.anchored ≡ false → s.start ≤ from → from ≤ s.end → s.end ≤ length s.haystack
+pub rest-whole : (m : Dictionary) (s : Search) (from : ℕ) (o : Occurrence) → IsSearchBy m s → s.anchored ≡ false → s.start ≤ from → from ≤ s.end → s.end ≤ length s.haystack
     → (Occurs s o × (from ≤ o.start)) ↔ ((inner : Occurrence) × Occurs (whole m (slice_range s.haystack from s.end) false) inner × (o ≡ shifted from inner))
 rest-whole m s from o by free le g inside =
     let last : s.end ≤ s.end = omega arith in
@@ -154,5 +154,5 @@ rest-whole m s from o by free le g inside =
     )
 
 -- and the best from that place on is the best of that whole, further on
-pub best-of_rest : (kind : MatchKind) (m : Machine) (s : Search) (from : ℕ) (r : Option Occurrence) → IsSearchBy m s → s.anchored ≡ false → from ≤ s.end → s.end ≤ length s.haystack → IsBest kind (whole m (slice_range s.haystack from s.end) false) r ↔ IsBest kind (starting_at s from) (shifted_best from r)
+pub best-of_rest : (kind : MatchKind) (m : Dictionary) (s : Search) (from : ℕ) (r : Option Occurrence) → IsSearchBy m s → s.anchored ≡ false → from ≤ s.end → s.end ≤ length s.haystack → IsBest kind (whole m (slice_range s.haystack from s.end) false) r ↔ IsBest kind (starting_at s from) (shifted_best from r)
 best-of_rest kind m s from r by free g inside = subst (λ (b : Bool). IsBest kind (whole m (slice_range s.haystack from s.end) b) r ↔ IsBest kind (starting_at s from) (shifted_best from r)) free (best-of_span kind m (starting_at s from) r by g inside)

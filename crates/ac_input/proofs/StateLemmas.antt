@@ -6,20 +6,20 @@ use Rattle.ac_input.specs.declared.search.MatchKind.{MatchKind}
 use Rattle.ac_input.specs.declared.search.MatchKind.TheVariants.{Standard, LeftmostFirst}
 use Rattle.ac_input.specs.Occurrence.{Occurrence, Occurs}
 use Rattle.ac_input.specs.Best.{IsBest}
-use Rattle.ac_input.specs.Machine.{Machine, IsEntered, BeginsEntered, whole, IsAlive, IsLive}
+use Rattle.ac_input.specs.Dictionary.{Dictionary, IsEntered, BeginsEntered, whole, IsAlive, IsLive}
 use Rattle.ac_input.specs.LiveLaws.{IsOwnInverse, shifted, shifted_best, shifted_place}
 use Rattle.ac_input.proofs.LiveLemmas.{occurs-append, occurs-front, entered-begins, best-entered, best-no_later, leftmost-no_later, whole-best_some, alive-front, kind_cases}
 use Rattle.ac_input.proofs.ShiftLemmas.{alive-first, best-shifted, back_by, shifted-back_by}
 
 -- a text has one live prefix, or none
-pub live-one : (m : Machine) (anchored : Bool) (text : List ℕ) (r s : Option ℕ) → IsLive m anchored text r → IsLive m anchored text s → r ≡ s
+pub live-one : (m : Dictionary) (anchored : Bool) (text : List ℕ) (r s : Option ℕ) → IsLive m anchored text r → IsLive m anchored text s → r ≡ s
 live-one m anchored text None None g h = refl
 live-one m anchored text None (Some b) g h = absurd (g b h.0)
 live-one m anchored text (Some a) None g h = absurd (h a g.0)
 live-one m anchored text (Some a) (Some b) g h = let le = g.1 b h.0 in let ge = h.1 a g.0 in let e : a ≡ b = omega arith in ap Some e
 
 -- nothing before the live prefix becomes alive
-pub live-behind : (m : Machine) (anchored : Bool) (text more : List ℕ) (from at : ℕ) → IsLive m anchored text (Some from) → IsAlive m anchored (text ++ more) at → from ≤ at
+pub live-behind : (m : Dictionary) (anchored : Bool) (text more : List ℕ) (from at : ℕ) → IsLive m anchored text (Some from) → IsAlive m anchored (text ++ more) at → from ≤ at
 live-behind m anchored text more from at live alive =
     let within = live.0.within in
     ⊎_elim
@@ -28,11 +28,11 @@ live-behind m anchored text more from at live alive =
     (cases_lt (length text) at)
 
 -- as a text grows, its live prefix never begins sooner
-pub live-forward : (m : Machine) (anchored : Bool) (text more : List ℕ) (before after : ℕ) → IsLive m anchored text (Some before) → IsLive m anchored (text ++ more) (Some after) → before ≤ after
+pub live-forward : (m : Dictionary) (anchored : Bool) (text more : List ℕ) (before after : ℕ) → IsLive m anchored text (Some before) → IsLive m anchored (text ++ more) (Some after) → before ≤ after
 live-forward m anchored text more before after g h = live-behind m anchored text more before after g h.0
 
 -- under a leftmost kind the best of a text and more starts in the live prefix of the text or later
-best-behind : (m : Machine) (text more : List ℕ) (from : ℕ) (b : Occurrence) → IsOwnInverse m.pairing → m.kind ≢ Standard → IsLive m false text (Some from) → IsBest m.kind (whole m (text ++ more) false) (Some b) → from ≤ b.start
+best-behind : (m : Dictionary) (text more : List ℕ) (from : ℕ) (b : Occurrence) → IsOwnInverse m.pairing → m.kind ≢ Standard → IsLive m false text (Some from) → IsBest m.kind (whole m (text ++ more) false) (Some b) → from ≤ b.start
 best-behind m text more from b inverse leftmost live best =
     let within = live.0.within in
     ⊎_elim
@@ -51,7 +51,7 @@ best-behind m text more from b inverse leftmost live best =
     (cases_lt b.start from)
 
 -- so does every occurrence
-pub occurs-behind : (m : Machine) (text more : List ℕ) (from : ℕ) (o : Occurrence) → IsOwnInverse m.pairing → m.kind ≢ Standard → IsLive m false text (Some from) → Occurs (whole m (text ++ more) false) o → from ≤ o.start
+pub occurs-behind : (m : Dictionary) (text more : List ℕ) (from : ℕ) (o : Occurrence) → IsOwnInverse m.pairing → m.kind ≢ Standard → IsLive m false text (Some from) → Occurs (whole m (text ++ more) false) o → from ≤ o.start
 occurs-behind m text more from o inverse leftmost live h =
     let best = whole-best_some m.kind m (text ++ more) false o h in
     let first = best-behind m text more from best.0 inverse leftmost live best.1 in
@@ -59,7 +59,7 @@ occurs-behind m text more from o inverse leftmost live h =
     omega arith
 
 -- under a leftmost kind a text and more has the best of its live prefix and more
-pub live-best : (m : Machine) (kind : MatchKind) (text more : List ℕ) (from : ℕ) (r : Option Occurrence) → IsOwnInverse m.pairing → m.kind ≢ Standard → IsLive m false text (Some from) → IsBest kind (whole m (drop from text ++ more) false) r ↔ IsBest kind (whole m (text ++ more) false) (shifted_best from r)
+pub live-best : (m : Dictionary) (kind : MatchKind) (text more : List ℕ) (from : ℕ) (r : Option Occurrence) → IsOwnInverse m.pairing → m.kind ≢ Standard → IsLive m false text (Some from) → IsBest kind (whole m (drop from text ++ more) false) r ↔ IsBest kind (whole m (text ++ more) false) (shifted_best from r)
 live-best m kind text more from r inverse leftmost live =
     let within = live.0.within in
     let both = length-append text more in
@@ -68,11 +68,11 @@ live-best m kind text more from r inverse leftmost live =
     (best-shifted kind m (text ++ more) from r (omega arith) (λ o h. occurs-behind m text more from o inverse leftmost live h))
 
 -- under the standard kind each pattern is entered
-pub standard-entered : (m : Machine) (n : ℕ) (p : List ℕ) → m.kind ≡ Standard → slice_get m.patterns n ≡ Some p → IsEntered m n p
+pub standard-entered : (m : Dictionary) (n : ℕ) (p : List ℕ) → m.kind ≡ Standard → slice_get m.patterns n ≡ Some p → IsEntered m n p
 standard-entered m n p standard is = (is, λ first. let e : Standard ≡ LeftmostFirst = sym standard ∙ first in cc)
 
 -- whatever the kind, what ends at the end of the text or later starts in its live prefix or behind it
-pub new-behind : (m : Machine) (anchored : Bool) (text more : List ℕ) (from : ℕ) (o : Occurrence) → IsOwnInverse m.pairing → IsLive m anchored text (Some from) → Occurs (whole m (text ++ more) anchored) o → length text ≤ o.end → from ≤ o.start
+pub new-behind : (m : Dictionary) (anchored : Bool) (text more : List ℕ) (from : ℕ) (o : Occurrence) → IsOwnInverse m.pairing → IsLive m anchored text (Some from) → Occurs (whole m (text ++ more) anchored) o → length text ≤ o.end → from ≤ o.start
 new-behind m true text more from o inverse live h past = let first : from ≡ 0 = live.0.anchor refl in omega arith
 new-behind m false text more from o inverse live h past =
     let within = live.0.within in
@@ -91,7 +91,7 @@ new-behind m false text more from o inverse live h past =
     (kind_cases m.kind)
 
 -- whatever the kind, a text and more has the best of its live prefix and more, where nothing ends before the end of the text
-pub live-new : (m : Machine) (kind : MatchKind) (text more : List ℕ) (from : ℕ) (r : Option Occurrence) → IsOwnInverse m.pairing → IsLive m false text (Some from) → ((o : Occurrence) → Occurs (whole m (text ++ more) false) o → length text ≤ o.end) → IsBest kind (whole m (drop from text ++ more) false) r ↔ IsBest kind (whole m (text ++ more) false) (shifted_best from r)
+pub live-new : (m : Dictionary) (kind : MatchKind) (text more : List ℕ) (from : ℕ) (r : Option Occurrence) → IsOwnInverse m.pairing → IsLive m false text (Some from) → ((o : Occurrence) → Occurs (whole m (text ++ more) false) o → length text ≤ o.end) → IsBest kind (whole m (drop from text ++ more) false) r ↔ IsBest kind (whole m (text ++ more) false) (shifted_best from r)
 live-new m kind text more from r inverse live ends =
     let within = live.0.within in
     let both = length-append text more in
@@ -100,11 +100,11 @@ live-new m kind text more from r inverse live ends =
     (best-shifted kind m (text ++ more) from r (omega arith) (λ o h. new-behind m false text more from o inverse live h (ends o h)))
 
 -- so has the text itself, where nothing ends before its end
-pub live-new_here : (m : Machine) (kind : MatchKind) (text : List ℕ) (from : ℕ) (r : Option Occurrence) → IsOwnInverse m.pairing → IsLive m false text (Some from) → ((o : Occurrence) → Occurs (whole m text false) o → o.end ≡ length text) → IsBest kind (whole m (drop from text) false) r ↔ IsBest kind (whole m text false) (shifted_best from r)
+pub live-new_here : (m : Dictionary) (kind : MatchKind) (text : List ℕ) (from : ℕ) (r : Option Occurrence) → IsOwnInverse m.pairing → IsLive m false text (Some from) → ((o : Occurrence) → Occurs (whole m text false) o → o.end ≡ length text) → IsBest kind (whole m (drop from text) false) r ↔ IsBest kind (whole m text false) (shifted_best from r)
 live-new_here m kind text from r inverse live ends = best-shifted kind m text from r live.0.within (λ o h. new-behind m false text [] from o inverse live (occurs-append m false text [] o h) (let e = ends o h in omega arith))
 
 -- where nothing occurs before a place, what is alive in the suffix from there is alive in the text, further on
-alive-shifted : (m : Machine) (text : List ℕ) (from at : ℕ) → from ≤ length text → (m.kind ≢ Standard → (o : Occurrence) → Occurs (whole m text false) o → from ≤ o.start) → IsAlive m false (drop from text) at ↔ IsAlive m false text (from + at)
+pub alive-shifted : (m : Dictionary) (text : List ℕ) (from at : ℕ) → from ≤ length text → (m.kind ≢ Standard → (o : Occurrence) → Occurs (whole m text false) o → from ≤ o.start) → IsAlive m false (drop from text) at ↔ IsAlive m false text (from + at)
 alive-shifted m text from at inside behind =
     let long = length-drop from text in
     let rest : drop at (drop from text) ≡ drop (from + at) text = drop-drop at from text in (
@@ -144,7 +144,7 @@ alive-shifted m text from at inside behind =
         alive.no_later
 
 -- what is alive of a live prefix and more is alive of the text and more, further on
-pub alive-of_live : (m : Machine) (text more : List ℕ) (from at : ℕ) → IsOwnInverse m.pairing → IsLive m false text (Some from) → IsAlive m false (drop from text ++ more) at ↔ IsAlive m false (text ++ more) (from + at)
+pub alive-of_live : (m : Dictionary) (text more : List ℕ) (from at : ℕ) → IsOwnInverse m.pairing → IsLive m false text (Some from) → IsAlive m false (drop from text ++ more) at ↔ IsAlive m false (text ++ more) (from + at)
 alive-of_live m text more from at inverse live =
     let within = live.0.within in
     let both = length-append text more in
@@ -153,11 +153,11 @@ alive-of_live m text more from at inverse live =
     (alive-shifted m (text ++ more) from at (omega arith) (λ leftmost o h. occurs-behind m text more from o inverse leftmost live h))
 
 -- a place behind the live prefix's beginning, counted from there
-from_behind : (from at : ℕ) → from ≤ at → from + (at - from) ≡ at
+pub from_behind : (from at : ℕ) → from ≤ at → from + (at - from) ≡ at
 from_behind from at le = omega arith
 
 -- what is live of a text and more is what is live of its live prefix and more
-pub live-of_live : (m : Machine) (text more : List ℕ) (from : ℕ) (r : Option ℕ) → IsOwnInverse m.pairing → IsLive m false text (Some from) → IsLive m false (drop from text ++ more) r ↔ IsLive m false (text ++ more) (shifted_place from r)
+pub live-of_live : (m : Dictionary) (text more : List ℕ) (from : ℕ) (r : Option ℕ) → IsOwnInverse m.pairing → IsLive m false text (Some from) → IsLive m false (drop from text ++ more) r ↔ IsLive m false (text ++ more) (shifted_place from r)
 live-of_live m text more from r inverse live = by r
   where
     here : (at : ℕ) → IsAlive m false (text ++ more) at → IsAlive m false (drop from text ++ more) (at - from)

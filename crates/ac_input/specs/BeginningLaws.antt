@@ -6,7 +6,7 @@ use Rattle.ac_input.specs.Occurrence.{Search, Occurrence, Occurs}
 use Rattle.ac_input.specs.Best.{asked_kind, IsBest}
 use Rattle.ac_input.specs.Walk.{IsPick, IsWalk}
 use Rattle.ac_input.specs.Listing.{IsListing}
-use Rattle.ac_input.specs.Machine.{Machine, whole}
+use Rattle.ac_input.specs.Dictionary.{Dictionary, whole}
 use Rattle.ac_input.specs.Cut.{IsCut}
 use Rattle.ac_input.specs.Text.{replaced_from, listed}
 use Rattle.ac_input.specs.Computed.{walk_of, listing_of}
@@ -39,7 +39,7 @@ WalkOfBeginningBegins =
 -- under standard the list of the matches of a beginning of the text is a beginning of the list of the text
 abbrev pub ListOfBeginningBegins : Type 0
 ListOfBeginningBegins =
-    (m : Machine) (text more : List ℕ) (anchored : Bool)
+    (m : Dictionary) (text more : List ℕ) (anchored : Bool)
     → IsBeginning (listed (walk_of Standard (whole m text anchored))) (listed (walk_of Standard (whole m (text ++ more) anchored)))
 
 -- whatever the kind, the overlapping listing of a beginning is a beginning of the overlapping listing
@@ -51,7 +51,7 @@ ListingOfBeginningBegins =
 -- the same of the computed listings of a text and of one that goes on, and of what is written of them
 abbrev pub OverlappingListOfBeginningBegins : Type 0
 OverlappingListOfBeginningBegins =
-    (m : Machine) (text more : List ℕ) (anchored : Bool)
+    (m : Dictionary) (text more : List ℕ) (anchored : Bool)
     → IsBeginning (listing_of (whole m text anchored)) (listing_of (whole m (text ++ more) anchored))
     × IsBeginning (listed (listing_of (whole m text anchored))) (listed (listing_of (whole m (text ++ more) anchored)))
 
@@ -59,7 +59,7 @@ OverlappingListOfBeginningBegins =
 -- and its list a beginning of the whole text's list.
 abbrev pub FrontOfCutIsFinal : Type 0
 FrontOfCutIsFinal =
-    (m : Machine) (text : List ℕ) (cut : ℕ) (replacements : List (List ℕ)) → m.kind ≡ Standard → IsCut m text cut
+    (m : Dictionary) (text : List ℕ) (cut : ℕ) (replacements : List (List ℕ)) → m.kind ≡ Standard → IsCut m text cut
     → IsBeginning (replaced_from 0 (take cut text) replacements (walk_of m.kind (whole m (take cut text) false))) (replaced_from 0 text replacements (walk_of m.kind (whole m text false)))
     × IsBeginning (listed (walk_of m.kind (whole m (take cut text) false))) (listed (walk_of m.kind (whole m text false)))
 

@@ -1,14 +1,15 @@
 -- What a prefilter may answer, and what it costs.
-use Rattle.std.specs.Prelude.{◌≡◌, ◌≢◌, ℕ, ◌+◌, ◌<◌, ◌≤◌, Bool, false, List, length, Contains, IsTrue, Option, None, Some, slice_index}
+use Rattle.std.specs.Prelude.{◌≡◌, ◌≢◌, ℕ, ◌+◌, ◌-◌, ◌<◌, ◌≤◌, List, [], ◌∷◌, length, Contains, IsTrue, Option, None, Some, slice_index}
 use Rattle.ac_input.specs.declared.search.MatchKind.{MatchKind}
 use Rattle.ac_input.specs.declared.search.MatchKind.TheVariants.{Standard}
-use Rattle.ac_input.specs.declared.search.Span.{Span}
+use Rattle.ac_input.specs.declared.steps.Steps.{Steps}
 use Rattle.ac_input.specs.declared.search.candidate.Candidate.{Candidate}
 use Rattle.ac_input.specs.declared.search.candidate.Candidate.TheVariants as candidates
 use Rattle.ac_input.specs.Same.{same}
 use Rattle.ac_input.specs.Occurrence.{Search, Occurrence, Occurs}
 use Rattle.ac_input.specs.Best.{IsBest}
-use Rattle.ac_input.specs.Machine.{Machine}
+use Rattle.ac_input.specs.Dictionary.{Dictionary}
+use Rattle.ac_input.specs.Steps.{Done}
 
 -- the place from which a search goes on
 abbrev pub start_of : Candidate → Option ℕ
@@ -16,14 +17,11 @@ start_of candidates.None = None
 start_of (candidates.Match o) = Some o.start
 start_of (candidates.PossibleStartOfMatch at) = Some at
 
--- what a prefilter is made for: searches by this machine; and whether it scans for single bytes
+-- what a prefilter is made for: searches by this dictionary; and the bytes that it scans for, none where it searches for whole
+-- patterns
 pub record Filter : Type 0 where
-  pub machine : Machine
-  pub by_bytes : Bool
-
--- the search that a prefilter runs ahead of: an unanchored one of a span
-abbrev pub ahead_of : Machine → List ℕ → Span → Search
-ahead_of m haystack span = record { patterns = m.patterns; pairing = m.pairing; haystack = haystack; start = span.start; end = span.end; anchored = false }
+  pub dictionary : Dictionary
+  pub needles : List ℕ
 
 -- No occurrence that is whole in the span begins before the candidate, which lies in the span. A match is the answer itself:
 -- of the leftmost kind, and with one pattern of every kind; under standard it comes only with one pattern.
@@ -36,10 +34,35 @@ IsCandidate kind s (candidates.PossibleStartOfMatch at) = (s.start ≤ at) × (a
 abbrev pub HasNoByte : Search → Type 0
 HasNoByte s = (p : List ℕ) (byte at : ℕ) → Contains s.patterns p → Contains p byte → s.start ≤ at → at < s.end → ¬ IsTrue (same s.pairing byte (slice_index s.haystack at))
 
--- A scan for bytes covered so many places, from the span's start on. Each of them lies before the end of every occurrence that
--- is whole in the span; and where there is a candidate the last of them lies at the candidate or at most 254 behind it.
-pub record IsScan (s : Search) (places : ℕ) (c : Candidate) : Type 0 where
-  pub within : s.start + places ≤ s.end
+-- the first place of the span that holds one of these bytes, or none where no place does
+abbrev pub IsFirstOf : List ℕ → Search → Option ℕ → Type 0
+IsFirstOf bytes s None = (at : ℕ) → s.start ≤ at → at < s.end → ¬ Contains bytes (slice_index s.haystack at)
+IsFirstOf bytes s (Some found) = (s.start ≤ found) × (found < s.end) × Contains bytes (slice_index s.haystack found) × ((at : ℕ) → s.start ≤ at → at < found → ¬ Contains bytes (slice_index s.haystack at))
+
+-- how many places a scan passes, with the one that it finds
+abbrev pub scan_len : Search → Option ℕ → ℕ
+scan_len s None = s.end - s.start
+scan_len s (Some found) = found + 1 - s.start
+
+-- what a scan for bytes answers: none where it found none, else a place at most 254 before the byte that it found
+abbrev pub IsNearFound : Option ℕ → Candidate → Type 0
+IsNearFound None c = c ≡ candidates.None
+IsNearFound (Some found) c = (at : ℕ) × (c ≡ candidates.PossibleStartOfMatch at) × (at ≤ found) × (found ≤ at + 254)
+
+-- A scan for bytes covered exactly these places of the span: those up to the first byte that it looks for, and that one; or all
+-- of them, where there is none. They lie before the end of every occurrence that is whole in the span.
+pub record IsScan (bytes : List ℕ) (s : Search) (places : ℕ) (c : Candidate) : Type 0 where
+  pub found : Option ℕ
+  pub first : IsFirstOf bytes s found
+  pub exact : places ≡ scan_len s found
+  pub near : IsNearFound found c
   pub before_ends : (o : Occurrence) → Occurs s o → s.start + places ≤ o.end
-  pub near : (at : ℕ) → c ≡ candidates.PossibleStartOfMatch at → (at < s.start + places) × (s.start + places ≤ at + 255)
-  pub no_match : (o : Occurrence) → c ≢ candidates.Match o
+
+-- how many places a prefilter scanned that gave this answer: none, where it searches for whole patterns
+abbrev pub IsScanned : List ℕ → Search → ℕ → Candidate → Type 0
+IsScanned [] s places c = places ≡ 0
+IsScanned (byte ∷ bytes) s places c = IsScan (byte ∷ bytes) s places c
+
+-- a prefilter counted the places that it scanned, and nothing else
+abbrev pub IsScanCounted : List ℕ → Search → Candidate → Steps → Steps → Type 0
+IsScanCounted needles s c before after = (places : ℕ) × Done 0 places 0 before after × IsScanned needles s places c

@@ -2,8 +2,8 @@
 use Rattle.std.specs.Prelude.{ℕ, ◌<◌, ◌≤◌, List, length, Contains, None, false}
 use Rattle.ac_input.specs.Occurrence.{Occurrence}
 use Rattle.ac_input.specs.Walk.{IsWalk}
-use Rattle.ac_input.specs.Machine.{Machine, whole}
+use Rattle.ac_input.specs.Dictionary.{Dictionary, whole}
 
 -- no pick of the walk of the text lies across the place
-abbrev pub IsCut : Machine → List ℕ → ℕ → Type 0
+abbrev pub IsCut : Dictionary → List ℕ → ℕ → Type 0
 IsCut m x k = (k ≤ length x) × ((os : List Occurrence) → IsWalk m.kind (whole m x false) 0 None os → (o : Occurrence) → Contains os o → o.start < k → o.end ≤ k)

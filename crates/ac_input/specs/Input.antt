@@ -4,7 +4,7 @@ use Rattle.ac_input.specs.declared.search.Span.{Span}
 use Rattle.ac_input.specs.declared.search.Anchored.{Anchored}
 use Rattle.ac_input.specs.declared.search.Anchored.TheVariants.{No, Yes}
 use Rattle.ac_input.specs.Occurrence.{Search}
-use Rattle.ac_input.specs.Machine.{Machine}
+use Rattle.ac_input.specs.Dictionary.{Dictionary}
 
 -- a haystack, the span of it that is searched, whether a match starts where the span starts, and whether the first end will do
 pub record Asked : Type 0 where
@@ -26,14 +26,18 @@ abbrev pub is_anchored : Anchored → Bool
 is_anchored No = false
 is_anchored Yes = true
 
--- the search of what is asked, for what the machine is made from
-abbrev pub search_in : Machine → Asked → Search
-search_in m asked =
+-- the search of a span, for what is in the dictionary
+abbrev pub search_of : Dictionary → Anchored → List ℕ → Span → Search
+search_of m anchored haystack span =
     record {
       patterns = m.patterns;
       pairing = m.pairing;
-      haystack = asked.haystack;
-      start = asked.span.start;
-      end = asked.span.end;
-      anchored = is_anchored asked.anchored;
+      haystack = haystack;
+      start = span.start;
+      end = span.end;
+      anchored = is_anchored anchored;
     }
+
+-- the search of what is asked
+abbrev pub search_in : Dictionary → Asked → Search
+search_in m asked = search_of m asked.anchored asked.haystack asked.span

@@ -5,8 +5,9 @@ pub mod Best
 pub mod Walk
 pub mod Listing
 pub mod Text
-pub mod Machine
+pub mod Dictionary
 pub mod Tells
+pub mod Failure
 pub mod Candidate
 pub mod Cut
 pub mod Chain
@@ -15,6 +16,10 @@ pub mod Computed
 pub mod Laws
 pub mod BeginningLaws
 pub mod LiveLaws
+pub mod FailureLaws
+pub mod Limits
+pub mod States
+pub mod StateLaws
 pub mod Number
 pub mod Steps
 pub mod Input

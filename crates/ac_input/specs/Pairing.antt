@@ -1,8 +1,8 @@
 -- What a pairing is, and which one a list of pairs makes.
-use Rattle.std.specs.Prelude.{◌≡◌, ℕ, ◌+◌, ◌-◌, ◌<◌, nat_lt, ◌==◌, ◌&&◌, if◌then◌else◌, List, [], ◌∷◌, ◌++◌, length, Contains}
+use Rattle.std.specs.Prelude.{◌≡◌, ℕ, ◌+◌, ◌-◌, ◌<◌, nat_lt, ◌==◌, ◌&&◌, if◌then◌else◌, Bool, true, false, List, [], ◌∷◌, ◌++◌, length, Contains}
 use Rattle.ac_input.specs.declared.pairing.PairingError.{PairingError}
 use Rattle.ac_input.specs.declared.pairing.PairingError.TheVariants.{Twice}
-use Rattle.ac_input.specs.Same.{other}
+use Rattle.ac_input.specs.Same.{other, IsUnpaired}
 
 -- the table of a pairing: 256 bytes, each the partner of its partner
 pub record IsPairing (table : List ℕ) : Type 0 where
@@ -20,8 +20,8 @@ abbrev pub partner : List (ℕ × ℕ) → ℕ → ℕ
 partner [] byte = byte
 partner (pair ∷ pairs) byte = if pair.0 == byte then pair.1 else (if pair.1 == byte then pair.0 else partner pairs byte)
 
--- no byte stands twice
-abbrev pub IsDistinct : List ℕ → Type 0
+-- nothing stands twice
+abbrev pub IsDistinct : {X : Type 0} → List X → Type 0
 IsDistinct [] = Unit {0}
 IsDistinct (x ∷ xs) = (¬ Contains xs x) × IsDistinct xs
 
@@ -32,6 +32,11 @@ IsFirstTwice bytes twice = (front more : List ℕ) × (bytes ≡ front ++ twice 
 -- the other case of an ASCII letter, else the byte itself
 abbrev pub other_case : ℕ → ℕ
 other_case byte = if nat_lt 64 byte && nat_lt byte 91 then byte + 32 else (if nat_lt 96 byte && nat_lt byte 123 then byte - 32 else byte)
+
+-- with case folded the ASCII letters are paired, and without it nothing is
+abbrev pub IsFolded : Bool → List ℕ → Type 0
+IsFolded true pairing = (byte : ℕ) → other pairing byte ≡ other_case byte
+IsFolded false pairing = IsUnpaired pairing
 
 -- the byte that an error names
 abbrev pub twice_of : PairingError → ℕ

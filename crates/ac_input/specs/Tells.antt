@@ -8,10 +8,10 @@ use Rattle.ac_input.specs.declared.search.Anchored.TheVariants.{No, Yes}
 use Rattle.ac_input.specs.Occurrence.{Occurrence, Occurs}
 use Rattle.ac_input.specs.Best.{IsBest}
 use Rattle.ac_input.specs.Listing.{ListsAll}
-use Rattle.ac_input.specs.Machine.{Machine, IsEntered, whole}
+use Rattle.ac_input.specs.Dictionary.{Dictionary, IsEntered, whole}
 
 -- a pattern at the end of a text
-abbrev pub ending : Machine → List ℕ → ℕ → Occurrence
+abbrev pub ending : Dictionary → List ℕ → ℕ → Occurrence
 ending m text n = record { pattern = n; start = length text - length (get_or m.patterns n []); end = length text }
 
 -- all but the last byte
@@ -23,7 +23,7 @@ before_last (b ∷ c ∷ bs) = b ∷ before_last (c ∷ bs)
 -- From the unanchored start. Under standard the list is all patterns that the text ends in, the longest first, then by
 -- number. Under a leftmost kind a list that isn't empty begins with the best of the text, which ends where the text
 -- ends; under an empty one the best is what it was before the last byte, and none where the text is empty.
-abbrev pub TellsUnanchored : MatchKind → Machine → List ℕ → List ℕ → Type 0
+abbrev pub TellsUnanchored : MatchKind → Dictionary → List ℕ → List ℕ → Type 0
 TellsUnanchored Standard m text ns = ListsAll (λ o. Occurs (whole m text false) o × (o.end ≡ length text)) (map (ending m text) ns)
 TellsUnanchored kind m [] [] = IsBest kind (whole m [] false) None
 TellsUnanchored kind m (b ∷ bs) [] = (r : Option Occurrence) → IsBest kind (whole m (before_last (b ∷ bs)) false) r ↔ IsBest kind (whole m (b ∷ bs) false) r
@@ -31,12 +31,12 @@ TellsUnanchored kind m text (n ∷ ns) = IsBest kind (whole m text false) (Some 
 
 -- From the anchored start: those entries that are as long as the text are the entered patterns that are the whole of it, by
 -- number, each once. Entries of another length come from failure states and do not count.
-abbrev pub TellsAnchored : Machine → List ℕ → List ℕ → Type 0
+abbrev pub TellsAnchored : Dictionary → List ℕ → List ℕ → Type 0
 TellsAnchored m text ns =
     ListsAll (λ o. Occurs (whole m text true) o × (o.end ≡ length text) × ((p : List ℕ) × IsEntered m o.pattern p))
     (map (ending m text) (filter (λ n. length (get_or m.patterns n []) == length text) ns))
 
 -- from the start of either anchoring
-abbrev pub Tells : Machine → Anchored → List ℕ → List ℕ → Type 0
+abbrev pub Tells : Dictionary → Anchored → List ℕ → List ℕ → Type 0
 Tells m No text ns = TellsUnanchored m.kind m text ns
 Tells m Yes text ns = TellsAnchored m text ns

@@ -95,6 +95,3 @@ pub fn bad_line_is_one()
 pub fn unpaired_search_alike()
     ensures { UnpairedSearchAlike }
 {}
-
-#[cfg(test)]
-mod tests;

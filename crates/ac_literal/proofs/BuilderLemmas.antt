@@ -8,26 +8,28 @@ use Rattle.std.proofs.lemmas.Bool.Decides.{nat_tests}
 use Rattle.std.proofs.lemmas.Grind.{get_or_default_zero}
 use Rattle.std.proofs.lemmas.List.Elements.{Contains-push, Contains-append_left, Contains-push_cases}
 use Rattle.ac_input.specs.Same.{other}
-use Rattle.ac_input.specs.Machine.{Machine}
+use Rattle.ac_input.specs.Dictionary.{Dictionary}
 use Rattle.ac_input.proofs.ContainsLemmas.{Contains-head, Contains-tail}
 use Rattle.ac_literal.specs.declared.packed.api.MatchKind.{MatchKind}
 use Rattle.ac_literal.specs.Packed.{Packed, Building, fresh, is_too_much, added, added_all, built, search_kind, AreServed}
-use Rattle.ac_literal.specs.Needles.{is_needle, all_ascii, with_byte, AreNeedles, HasFour, AreFew, few_has, few_surely_has}
-use Rattle.ac_literal.specs.Finder.{AreFull, begins_same, is_start, StandsInSome, AreStarts, AreRare, IsPacked}
-use Rattle.ac_literal.specs.Rare.{IsRareSoFar}
-use Rattle.ac_literal.specs.Prefilter.{Serves, MemmemServes, PackedDemand, StartBytesDemand, IsAdmissible}
-use Rattle.ac_literal.specs.Builder.{with_pattern, IsSoleOf, IsPackedSoFar, IsCollected, IsBuilder}
+use Rattle.ac_literal.specs.Needles.{is_needle, needle_list, all_ascii, with_byte, AreNeedles, HasFour, AreFew, few_has, few_surely_has}
+use Rattle.ac_literal.specs.Strategy.{AreFull, begins_same, is_start, StandsInSome, AreStarts, AreRareOf, IsPacked}
+use Rattle.ac_literal.specs.RareBytes.{IsRareSoFar}
+use Rattle.ac_literal.specs.Prefilter.{IsStrategyOf, needles_of, MemmemServes, PackedDemand, AreStartBytes, AreRareBytes, StartBytesDemand, IsAdmissible, IsWayOf}
+use Rattle.ac_literal.specs.Builder.{IsMemmemSoFar, IsPackedSoFar, IsCollected, IsBuilder}
+use Rattle.ac_input.specs.Limits.{with_pattern}
 use Rattle.ac_literal.specs.declared.prefilter.needles.Needles.{Needles}
 use Rattle.ac_literal.specs.declared.prefilter.needles.Needles.TheVariants.{One, Two, Three}
 use Rattle.ac_literal.specs.declared.prefilter.needles.FewBytes.{FewBytes}
 use Rattle.ac_literal.specs.declared.prefilter.needles.FewBytes.TheVariants as few
-use Rattle.ac_literal.specs.declared.prefilter.builder.Collected.{Collected}
-use Rattle.ac_literal.specs.declared.prefilter.finder.Finder.{Finder}
-use Rattle.ac_literal.specs.declared.prefilter.finder.Finder.TheVariants as finders
-use Rattle.ac_literal.proofs.NeedleLemmas.{ascii-below, ascii-from, four-in_three}
-use Rattle.ac_literal.proofs.StartLemmas.{is_start-given, start-stands}
+use Rattle.ac_literal.specs.declared.prefilter.builder.Builders.{Builders}
+use Rattle.ac_literal.specs.declared.prefilter.strategy.RareBytes.{RareBytes}
+use Rattle.ac_literal.specs.declared.prefilter.strategy.Strategy.{Strategy}
+use Rattle.ac_literal.specs.declared.prefilter.strategy.Strategy.TheVariants as strategies
+use Rattle.ac_literal.proofs.NeedleLemmas.{ascii-below, ascii-from, four-in_three, needle-listed}
+use Rattle.ac_literal.proofs.StartBytesLemmas.{is_start-given, start-stands}
 use Rattle.ac_literal.proofs.ChoiceLemmas.{same-self}
-use Rattle.ac_literal.proofs.LeftmostLemmas.{leftmost}
+use Rattle.ac_literal.proofs.PackedLemmas.{leftmost}
 
 -- tests joined by or
 or-nothing : (a : Bool) → (a || false) ≡ a
@@ -105,7 +107,7 @@ added_all-served kind front (p ∷ ps) few_enough full =
     fits long count some room = grind (arith, nat_tests)
 
 -- what packed search has with one more pattern
-packed-push : (m : Machine) (p : List ℕ) (old : Option Building) → IsPackedSoFar m old → IsPackedSoFar (with_pattern m p) (option_map (λ b. added b p) old)
+packed-push : (m : Dictionary) (p : List ℕ) (old : Option Building) → IsPackedSoFar m old → IsPackedSoFar (with_pattern m p) (option_map (λ b. added b p) old)
 packed-push m p None h = h
 packed-push m p (Some b) h =
     let kind = added-kind b p in (
@@ -115,12 +117,12 @@ packed-push m p (Some b) h =
     )
 
 -- what is collected with one more pattern
-pub collected-push : (m : Machine) (p : List ℕ) (old new : Collected) → 0 < length p → IsCollected m old → IsSoleOf (m.patterns ++ p ∷ []) new.sole → new.packed ≡ option_map (λ b. added b p) old.packed
-    → AreFew new.starts (is_start m.pairing (m.patterns ++ p ∷ [])) → IsRareSoFar m.pairing (m.patterns ++ p ∷ []) new.rare → IsCollected (with_pattern m p) new
-collected-push m p old new some so_far sole packed starts rare =
+pub collected-push : (m : Dictionary) (p : List ℕ) (old new : Builders) → 0 < length p → IsCollected m old → IsMemmemSoFar (m.patterns ++ p ∷ []) new.memmem → new.packed ≡ option_map (λ b. added b p) old.packed
+    → AreFew new.start_bytes (is_start m.pairing (m.patterns ++ p ∷ [])) → IsRareSoFar m.pairing (m.patterns ++ p ∷ []) new.rare_bytes → IsCollected (with_pattern m p) new
+collected-push m p old new some so_far memmem packed starts rare =
     record {
       full = λ q given. elim (Contains-push_cases m.patterns p q given) [ inl earlier ↦ so_far.full q earlier | inr this ↦ subst (λ (r : List ℕ). 0 < length r) this some ];
-      sole = sole;
+      memmem = memmem;
       packed = subst (IsPackedSoFar (with_pattern m p)) (sym packed) (packed-push m p old.packed so_far.packed);
       starts = starts;
       rare = rare;
@@ -146,7 +148,7 @@ some_given : (ps : List (List ℕ)) (p : List ℕ) → Contains ps p → 0 < len
 some_given ps p given = omega (arith, given.1)
 
 -- start bytes that are ASCII serve
-pub starts-serve : (m : Machine) (c : Collected) (needles : Needles) → IsCollected m c → c.starts ≡ few.Some needles → IsTrue (all_ascii needles) → AreStarts m needles
+pub starts-serve : (m : Dictionary) (c : Builders) (needles : Needles) → IsCollected m c → c.start_bytes ≡ few.Some needles → IsTrue (all_ascii needles) → AreStarts m needles
 starts-serve m c needles col is ascii =
     let are : AreNeedles needles (is_start m.pairing m.patterns) = subst (λ (x : FewBytes). AreFew x (is_start m.pairing m.patterns)) is col.starts in
     let first = some_needle needles in
@@ -158,13 +160,13 @@ starts-serve m c needles col is ascii =
     }
 
 -- where start bytes serve, they are found
-pub starts-missed : (m : Machine) (c : Collected) → IsCollected m c → ((needles : Needles) → c.starts ≡ few.Some needles → all_ascii needles ≡ false) → ¬ StartBytesDemand m
-starts-missed m c col never demand = by c.starts refl
+pub starts-missed : (m : Dictionary) (c : Builders) → IsCollected m c → ((needles : Needles) → c.start_bytes ≡ few.Some needles → all_ascii needles ≡ false) → ¬ StartBytesDemand m
+starts-missed m c col never demand = by c.start_bytes refl
   where
     full : AreFull m.patterns
     full = demand.0
 
-    by : (these : FewBytes) → c.starts ≡ these → ⊥
+    by : (these : FewBytes) → c.start_bytes ≡ these → ⊥
     by few.None is =
         let none : (byte : ℕ) → is_start m.pairing m.patterns byte ≡ false = subst (λ (x : FewBytes). AreFew x (is_start m.pairing m.patterns)) is col.starts in
         let first : List ℕ = get_or m.patterns 0 [] in
@@ -181,14 +183,14 @@ starts-missed m c col never demand = by c.starts refl
         begins-itself pairing (x ∷ xs) some = same-self pairing x
     by (few.Some needles) is =
         let are : AreNeedles needles (is_start m.pairing m.patterns) = subst (λ (x : FewBytes). AreFew x (is_start m.pairing m.patterns)) is col.starts in
-        let low : (byte : ℕ) → IsTrue (is_needle needles byte) → byte < 128 = λ byte h. (demand.1.2 byte (sym (are.exact byte) ∙ h)).1 in
+        let low : (byte : ℕ) → IsTrue (is_needle needles byte) → byte < 128 = λ byte h. (demand.1.1.1 byte (sym (are.exact byte) ∙ h)).1 in
         false≢true (sym (never needles is) ∙ ascii-from needles low)
     by few.TooMany is =
         let four : HasFour (is_start m.pairing m.patterns) = subst (λ (x : FewBytes). AreFew x (is_start m.pairing m.patterns)) is col.starts in
-        four-in_three demand.1.0 (is_start m.pairing m.patterns) demand.1.1 four (λ byte h. (demand.1.2 byte h).0)
+        four-in_three demand.1.0 (is_start m.pairing m.patterns) demand.1.1.0 four (λ byte h. (demand.1.1.1 byte h).0)
 
 -- rare bytes serve short patterns
-pub rare-serve : (m : Machine) (c : Collected) (needles : Needles) → IsCollected m c → c.rare.few ≡ few.Some needles → c.rare.is_short ≡ true → AreRare m needles c.rare.distances
+pub rare-serve : (m : Dictionary) (c : Builders) (needles : Needles) → IsCollected m c → c.rare_bytes.few ≡ few.Some needles → c.rare_bytes.is_short ≡ true → AreRareOf m (record { needles = needles; distances = c.rare_bytes.distances })
 rare-serve m c needles col is short =
     let rare = col.rare in
     let known : (byte : ℕ) → IsTrue (is_needle needles byte) → StandsInSome m.pairing m.patterns byte = λ byte h. rare.known byte (subst (λ (x : FewBytes). IsTrue (few_surely_has x byte)) (sym is) h) in
@@ -215,7 +217,7 @@ built-none : (kind : MatchKind) (ps : List (List ℕ)) → built kind ps ≡ Non
 built-none kind [] e = refl
 built-none kind (p ∷ ps) e = cc
 
-module _ (m : Machine) (c : Collected) (b : Building) (col : IsCollected m c) (is : c.packed ≡ Some b) where
+module _ (m : Dictionary) (c : Builders) (b : Building) (col : IsCollected m c) (is : c.packed ≡ Some b) where
   -- the builder has what was collected
   so_far : IsPackedSoFar m (Some b)
   so_far = subst (IsPackedSoFar m) is col.packed
@@ -252,71 +254,54 @@ module _ (m : Machine) (c : Collected) (b : Building) (col : IsCollected m c) (i
       let some = subst (λ (ps : List (List ℕ)). 0 < length ps) (sym all ∙ sym taken ∙ none) demand.0.some in
       absurd (omega arith)
 
--- the needles as a list
-abbrev needle_list : Needles → List ℕ
-needle_list (One a) = a ∷ []
-needle_list (Two a b) = a ∷ (b ∷ [])
-needle_list (Three a b c) = a ∷ (b ∷ (c ∷ []))
-
--- a test that one of two passes
-or-cases : (a b : Bool) → IsTrue (a || b) → IsTrue a ⊎ IsTrue b
-or-cases true b h = inl refl
-or-cases false b h = inr h
-
--- what equals the head of a list stands in it
-head-equal : (x a : ℕ) (xs : List ℕ) → IsTrue (x == a) → Contains (a ∷ xs) x
-head-equal x a xs e = subst (λ (y : ℕ). Contains (a ∷ xs) y) (equal e) (Contains-head a xs)
-  where
-    equal : IsTrue (x == a) → a ≡ x
-    equal h = grind (arith, nat_tests)
-
--- each needle is listed
-pub needle-listed : (needles : Needles) (byte : ℕ) → IsTrue (is_needle needles byte) → Contains (needle_list needles) byte
-needle-listed (One a) byte h = head-equal byte a [] h
-needle-listed (Two a b) byte h = elim (or-cases (byte == a) (byte == b) h) [
-  | inl first ↦ head-equal byte a (b ∷ []) first
-  | inr second ↦ Contains-tail a (b ∷ []) byte (head-equal byte b [] second)
-]
-needle-listed (Three a b c) byte h = elim (or-cases ((byte == a) || (byte == b)) (byte == c) h) [
-  | inl early ↦ elim (or-cases (byte == a) (byte == b) early) [
-    | inl first ↦ head-equal byte a (b ∷ (c ∷ [])) first
-    | inr second ↦ Contains-tail a (b ∷ (c ∷ [])) byte (head-equal byte b (c ∷ []) second)
-  ]
-  | inr third ↦ Contains-tail a (b ∷ (c ∷ [])) byte (Contains-tail b (c ∷ []) byte (head-equal byte c [] third))
-]
-
 -- they are at most three
 needles-few : (needles : Needles) → length (needle_list needles) ≤ 3
 needles-few (One a) = omega arith
 needles-few (Two a b) = omega arith
 needles-few (Three a b c) = omega arith
 
--- which prefilter was chosen is one that may be
-pub serves-admissible : (m : Machine) (f : Finder) → Serves m f → IsAdmissible m
-serves-admissible m (finders.Memmem needle) h = (h.full, inl (h.unpaired, ap length h.patterns))
-serves-admissible m (finders.Packed searcher) h = (h.full, inr (inl (λ e. leftmost searcher.kind (h.kind ∙ e), h.unpaired, h.few)))
-serves-admissible m (finders.StartBytes needles) h =
-    (h.full, inr (inr (inl (needle_list needles, needles-few needles, λ byte e. let n : IsTrue (is_needle needles byte) = h.exact byte ∙ e in (needle-listed needles byte n, h.low byte n)))))
-serves-admissible m (finders.RareBytes rare) h = (
-  h.full,
-  inr (inr (inr (
-    needle_list rare.needles,
-    needles-few rare.needles,
-    λ p given.
-        let held = h.held p given in (
-          h.short p given,
-          (slice_index p held.at, (held.at, held.within, get_or_default_zero p held.at (slice_index p held.at) held.within), λ byte e. needle-listed rare.needles byte (held.needle byte e)),
-        ),
-  ))),
+-- the needles of a table of start bytes are start bytes that serve
+starts-are : (m : Dictionary) (needles : Needles) → AreStarts m needles → AreStartBytes m (needle_list needles)
+starts-are m needles h = (needles-few needles, λ byte e. let n : IsTrue (is_needle needles byte) = h.exact byte ∙ e in (needle-listed needles byte n, h.low byte n))
+
+-- those of a table of rare bytes are rare bytes that serve
+rare-are : (m : Dictionary) (rare : RareBytes) → AreRareOf m rare → AreRareBytes m (needle_list rare.needles)
+rare-are m rare h = (
+  needles-few rare.needles,
+  λ p given.
+      let held = h.held p given in (
+        h.short p given,
+        (slice_index p held.at, (held.at, held.within, get_or_default_zero p held.at (slice_index p held.at) held.within), λ byte e. needle-listed rare.needles byte (held.needle byte e)),
+      ),
 )
 
+-- which prefilter was chosen is one that may be
+pub strategy-admissible : (m : Dictionary) (f : Strategy) → IsStrategyOf m f → IsAdmissible m
+strategy-admissible m (strategies.Memmem needle) h = (h.full, inl (h.unpaired, ap length h.patterns))
+strategy-admissible m (strategies.Packed searcher) h = (h.full, inr (inl (λ e. leftmost searcher.kind (h.kind ∙ e), h.unpaired, h.few)))
+strategy-admissible m (strategies.StartBytes needles) h = (h.full, inr (inr (inl (needle_list needles, starts-are m needles h))))
+strategy-admissible m (strategies.RareBytes rare) h = (h.full, inr (inr (inr (needle_list rare.needles, rare-are m rare h))))
+
+-- the way is that of the needles
+way-of_bytes : (m : Dictionary) (needles : Needles) → AreStartBytes m (needle_list needles) ⊎ AreRareBytes m (needle_list needles) → IsWayOf m (needle_list needles)
+way-of_bytes m (One a) h = h
+way-of_bytes m (Two a b) h = h
+way-of_bytes m (Three a b c) h = h
+
+-- what is built scans for bytes only where they serve, and else searches for patterns where that serves
+pub strategy-way : (m : Dictionary) (f : Strategy) → IsStrategyOf m f → IsWayOf m (needles_of f)
+strategy-way m (strategies.Memmem needle) h = inl (h.unpaired, ap length h.patterns)
+strategy-way m (strategies.Packed searcher) h = inr (λ e. leftmost searcher.kind (h.kind ∙ e), h.unpaired, h.few)
+strategy-way m (strategies.StartBytes needles) h = way-of_bytes m needles (inl (starts-are m needles h))
+strategy-way m (strategies.RareBytes rare) h = way-of_bytes m rare.needles (inr (rare-are m rare h))
+
 -- an empty pattern came
-pub builder-empty : (m : Machine) (p : List ℕ) (c : Collected) → IsTrue (length p == 0) → IsBuilder (with_pattern m p) true c
+pub builder-empty : (m : Dictionary) (p : List ℕ) (c : Builders) → IsTrue (length p == 0) → IsBuilder (with_pattern m p) true c
 builder-empty m p c empty = (p, Contains-push m.patterns p, none (length p) empty)
   where
     none : (n : ℕ) → IsTrue (n == 0) → n ≡ 0
     none n e = grind (arith, nat_tests)
 
 -- an empty pattern came before
-pub builder-still_empty : (m : Machine) (p : List ℕ) (c : Collected) → IsBuilder m true c → IsBuilder (with_pattern m p) true c
+pub builder-still_empty : (m : Dictionary) (p : List ℕ) (c : Builders) → IsBuilder m true c → IsBuilder (with_pattern m p) true c
 builder-still_empty m p c h = (h.0, Contains-append_left m.patterns (p ∷ []) h.0 h.1, h.2)

@@ -7,17 +7,22 @@ use Rattle.std.proofs.lemmas.Grind.{get_or_default_zero}
 use Rattle.std.proofs.lemmas.Option.{slice_get_within, get_or_from_slice_get}
 use Rattle.memchr.specs.Find.{Nowhere, Passes}
 use Rattle.ac_input.specs.declared.search.Span.{Span}
+use Rattle.ac_input.specs.declared.search.candidate.Candidate.{Candidate}
 use Rattle.ac_input.specs.declared.search.candidate.Candidate.TheVariants as candidates
 use Rattle.ac_input.specs.declared.steps.Steps.{Steps}
 use Rattle.ac_input.specs.Same.{same, same_text}
 use Rattle.ac_input.specs.Occurrence.{Search, Occurrence, Occurs}
-use Rattle.ac_input.specs.Machine.{Machine}
+use Rattle.ac_input.specs.Dictionary.{Dictionary}
 use Rattle.ac_input.specs.Steps.{Done}
-use Rattle.ac_input.specs.Candidate.{ahead_of, HasNoByte}
+use Rattle.ac_input.specs.declared.search.Anchored.TheVariants.{No}
+use Rattle.ac_input.specs.Input.{search_of}
+use Rattle.ac_input.specs.Candidate.{HasNoByte, IsScan, IsScanned}
 use Rattle.ac_input.proofs.OrderLemmas.{same_text-length, slice_range-length}
-use Rattle.ac_literal.specs.Needles.{is_needle, IsFirstNeedle, covered}
-use Rattle.ac_literal.specs.Finder.{AreFull, StandsInSome, IsScanned}
+use Rattle.ac_literal.specs.Needles.{is_needle, needle_list, IsFirstNeedle, covered}
+use Rattle.ac_literal.specs.Strategy.{AreFull, StandsInSome, IsNeedleScan}
 use Rattle.ac_literal.specs.declared.prefilter.needles.Needles.{Needles}
+use Rattle.ac_literal.specs.declared.prefilter.needles.Needles.TheVariants.{One, Two, Three}
+use Rattle.ac_literal.proofs.NeedleLemmas.{needle-listed, listed-needle}
 use Rattle.ac_literal.proofs.SpanLemmas.{index-part}
 
 -- texts that are the same are so at each place
@@ -66,10 +71,16 @@ no_byte-no_occurrence s inside full no_byte o h =
     default_too : (xs : List ℕ) (k : ℕ) → k < length xs → get_or xs k (slice_index xs k) ≡ slice_index xs k
     default_too xs k within = get_or_default_zero xs k (slice_index xs k) within
 
-module _ (m : Machine) (needles : Needles) (haystack : List ℕ) (span : Span) (ordered : span.start ≤ span.end) (inside : span.end ≤ length haystack) (before after : Steps) where
+-- needles are never none, so what they scanned is said of them
+scan-by_bytes : (needles : Needles) (s : Search) (places : ℕ) (c : Candidate) → IsScan (needle_list needles) s places c → IsScanned (needle_list needles) s places c
+scan-by_bytes (One a) s places c scan = scan
+scan-by_bytes (Two a b) s places c scan = scan
+scan-by_bytes (Three a b d) s places c scan = scan
+
+module _ (m : Dictionary) (needles : Needles) (haystack : List ℕ) (span : Span) (ordered : span.start ≤ span.end) (inside : span.end ≤ length haystack) (before after : Steps) where
   -- the search ahead of which the scan runs
   abbrev s : Search
-  s = ahead_of m haystack span
+  s = search_of m No haystack span
 
   -- a place of the haystack that holds a needle
   abbrev IsHit : ℕ → Type 0
@@ -97,40 +108,46 @@ module _ (m : Machine) (needles : Needles) (haystack : List ℕ) (span : Span) (
       nowhere k.0 (omega arith) (omega arith) k.3
 
   -- a scan that finds nothing
-  pub scanned_none : AllHold → IsFirstNeedle needles haystack span None → Done 0 (covered span None) 0 before after → IsScanned m haystack span before after candidates.None
+  pub scanned_none : AllHold → IsFirstNeedle needles haystack span None → Done 0 (covered span None) 0 before after → IsNeedleScan m needles haystack span before after candidates.None
   scanned_none hold nowhere done =
       record {
         answer = record { candidate = nothing_occurs hold nowhere; none = λ _. refl };
-        places = span.end - span.start;
-        done = done;
-        scan = record {
-          within = omega arith;
-          before_ends = λ o h. absurd (nothing_occurs hold nowhere o h);
-          near = λ at e. cc;
-          no_match = λ o e. cc;
-        };
+        counted = (
+          span.end - span.start,
+          done,
+          scan-by_bytes needles s (span.end - span.start) candidates.None (record {
+            found = None;
+            first = λ at low high listed. nowhere at low high (listed-needle needles (slice_index haystack at) listed);
+            exact = refl;
+            near = refl;
+            before_ends = λ o h. absurd (nothing_occurs hold nowhere o h);
+          }),
+        );
       }
 
   -- a scan that finds a place, from which the candidate is at most 254 bytes back
   pub scanned_some : AllHold → AreKnown → (at start : ℕ) → IsFirstNeedle needles haystack span (Some at) → Done 0 (covered span (Some at)) 0 before after
       → span.start ≤ start → start ≤ at → at ≤ start + 254 → ((o : Occurrence) → Occurs s o → start ≤ o.start)
-      → IsScanned m haystack span before after (candidates.PossibleStartOfMatch start)
+      → IsNeedleScan m needles haystack span before after (candidates.PossibleStartOfMatch start)
   scanned_some hold known at start first done low high near no_earlier =
       let b = first.0 in
       record {
         answer = record { candidate = (low, omega arith, no_earlier); none = λ no_byte. absurd (hit-byte known at b.low b.high first.1 no_byte) };
-        places = at + 1 - span.start;
-        done = done;
-        scan = record {
-          within = omega arith;
-          before_ends = λ o h.
-              let k = hold o h in
-              let w = h.within in
-              elim (cases_lt k.0 at) [
-                | inl earlier ↦ absurd (b.before k.0 (omega arith) earlier k.3)
-                | inr later ↦ omega arith
-              ];
-          near = λ there e. let is : start ≡ there = cc in (omega arith, omega arith);
-          no_match = λ o e. cc;
-        };
+        counted = (
+          at + 1 - span.start,
+          done,
+          scan-by_bytes needles s (at + 1 - span.start) (candidates.PossibleStartOfMatch start) (record {
+            found = Some at;
+            first = (b.low, b.high, needle-listed needles (slice_index haystack at) first.1, λ place below above listed. b.before place below above (listed-needle needles (slice_index haystack place) listed));
+            exact = refl;
+            near = (start, refl, high, near);
+            before_ends = λ o h.
+                let k = hold o h in
+                let w = h.within in
+                elim (cases_lt k.0 at) [
+                  | inl earlier ↦ absurd (b.before k.0 (omega arith) earlier k.3)
+                  | inr later ↦ omega arith
+                ];
+          }),
+        );
       }

@@ -9,11 +9,11 @@ use Rattle.std.proofs.lemmas.List.Elements.{Contains-append_left, Contains-appen
 use Rattle.ac_input.specs.Same.{other, same}
 use Rattle.ac_input.proofs.ContainsLemmas.{Contains-nil, Contains-head}
 use Rattle.ac_literal.specs.Needles.{few_has, few_surely_has, AddsByte}
-use Rattle.ac_literal.specs.Finder.{distance_of, AreDistances, StandsInSome}
-use Rattle.ac_literal.specs.Rare.{rank_of, HoldsFew, IsClosed, IsChosen, AreReached, IsRareSoFar}
+use Rattle.ac_literal.specs.Strategy.{distance_of, AreDistances, StandsInSome}
+use Rattle.ac_literal.specs.RareBytes.{HoldsFew, IsClosed, IsChosen, AreReached, IsRareSoFar}
 use Rattle.ac_literal.specs.declared.prefilter.needles.FewBytes.{FewBytes}
 use Rattle.ac_literal.specs.declared.prefilter.needles.FewBytes.TheVariants as few
-use Rattle.ac_literal.specs.declared.prefilter.rare.RareSoFar.{RareSoFar}
+use Rattle.ac_literal.specs.declared.prefilter.rare_bytes.RareBytesBuilder.{RareBytesBuilder}
 
 -- the distances after a byte may stand at one more place
 abbrev pub lengthened : List ℕ → ℕ → ℕ → List ℕ
@@ -193,7 +193,7 @@ pub near-zeros : (n byte : ℕ) → distance_of (replicate n 0) byte ≤ 254
 near-zeros n byte = elim (cases_lt byte n) [ inl within ↦ grind (arith, common_steps) | inr past ↦ grind (arith, common_steps) ]
 
 -- one more pattern
-module _ (pairing : List ℕ) (patterns : List (List ℕ)) (p : List ℕ) (old : RareSoFar) (these : FewBytes) (distances : List ℕ) (is_short : Bool)
+module _ (pairing : List ℕ) (patterns : List (List ℕ)) (p : List ℕ) (old : RareBytesBuilder) (these : FewBytes) (distances : List ℕ) (is_short : Bool)
     (so_far : IsRareSoFar pairing patterns old) (chosen : IsChosen pairing old.few p these) (reached : AreReached pairing old.distances p distances)
     (short_before : is_short ≡ true → old.is_short ≡ true) (short_now : is_short ≡ true → length p < 256) where
   -- a pattern of the longer list is an earlier one or this one
@@ -229,15 +229,12 @@ module _ (pairing : List ℕ) (patterns : List (List ℕ)) (p : List ℕ) (old :
       }
 
 -- what is no more common than each byte so far, and than the next one
-pub least-more : (p : List ℕ) (best next i : ℕ) → ((k : ℕ) → k < i → rank_of best ≤ rank_of (slice_index p k)) → rank_of next ≤ rank_of best → rank_of next ≤ rank_of (slice_index p i) → (k : ℕ) → k < i + 1 → rank_of next ≤ rank_of (slice_index p k)
-least-more p best next i least below here k within =
+pub least-more : (rank : ℕ → ℕ) (p : List ℕ) (best next i : ℕ) → ((k : ℕ) → k < i → rank best ≤ rank (slice_index p k)) → rank next ≤ rank best → rank next ≤ rank (slice_index p i) → (k : ℕ) → k < i + 1 → rank next ≤ rank (slice_index p k)
+least-more rank p best next i least below here k within =
     elim (cases_lt k i) [
-      | inl earlier ↦ least_of (least k earlier) below
-      | inr later ↦ let is : i ≡ k = omega arith in subst (λ (j : ℕ). rank_of next ≤ rank_of (slice_index p j)) is here
+      | inl earlier ↦ le_through (rank next) (rank best) (rank (slice_index p k)) (least k earlier) below
+      | inr later ↦ let is : i ≡ k = omega arith in subst (λ (j : ℕ). rank next ≤ rank (slice_index p j)) is here
     ]
   where
-    least_of : rank_of best ≤ rank_of (slice_index p k) → rank_of next ≤ rank_of best → rank_of next ≤ rank_of (slice_index p k)
-    least_of = le_through (rank_of next) (rank_of best) (rank_of (slice_index p k))
-      where
-        le_through : (a b c : ℕ) → b ≤ c → a ≤ b → a ≤ c
-        le_through a b c h g = omega arith
+    le_through : (a b c : ℕ) → b ≤ c → a ≤ b → a ≤ c
+    le_through a b c h g = omega arith

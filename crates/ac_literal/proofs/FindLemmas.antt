@@ -11,7 +11,7 @@ use Rattle.ac_literal.specs.declared.packed.api.MatchKind.{MatchKind}
 use Rattle.ac_literal.specs.declared.packed.api.MatchKind.TheVariants.{LeftmostFirst, LeftmostLongest}
 use Rattle.ac_literal.specs.declared.packed.rabinkarp.RabinKarp.{RabinKarp}
 use Rattle.ac_literal.specs.Packed.{search_kind, searched}
-use Rattle.ac_literal.specs.RabinKarp.{hash_of, IsTable, StartsAt}
+use Rattle.ac_literal.specs.RabinKarp.{hash_of, IsTable, StartsAt, NoneBefore, IsFoundBefore}
 use Rattle.ac_literal.proofs.HashLemmas.{hash_of-roll}
 use Rattle.ac_literal.proofs.TextLemmas.{starts-lying}
 
@@ -21,7 +21,7 @@ earlier_start LeftmostFirst a o h = let e = nat_cmp_is a.start o.start Less h in
 earlier_start LeftmostLongest a o h = let e = nat_cmp_is a.start o.start Less h in rw (← e)
 
 -- the preferred one of the first place that has one is the best of all
-pub best-first : (kind : MatchKind) (s : Search) (at : ℕ) (r : Option Occurrence) → is_some r ≡ true → ((o : Occurrence) → Occurs s o → at ≤ o.start) → IsLeast (search_kind kind) (StartsAt s at) r → IsBest (search_kind kind) s r
+pub best-first : (kind : MatchKind) (s : Search) (at : ℕ) (r : Option Occurrence) → is_some r ≡ true → NoneBefore s at → IsLeast (search_kind kind) (StartsAt s at) r → IsBest (search_kind kind) s r
 best-first kind s at None some from least = cc
 best-first kind s at (Some b) some from least = (
   least.0.0,
@@ -32,7 +32,7 @@ best-first kind s at (Some b) some from least = (
 )
 
 -- where nothing starts at a place, what starts no earlier starts later
-pub starts-later : (kind : MatchKind) (s : Search) (at : ℕ) (r : Option Occurrence) → is_some r ≢ true → ((o : Occurrence) → Occurs s o → at ≤ o.start) → IsLeast (search_kind kind) (StartsAt s at) r → (o : Occurrence) → Occurs s o → at + 1 ≤ o.start
+pub starts-later : (kind : MatchKind) (s : Search) (at : ℕ) (r : Option Occurrence) → is_some r ≢ true → NoneBefore s at → IsLeast (search_kind kind) (StartsAt s at) r → (o : Occurrence) → Occurs s o → at + 1 ≤ o.start
 starts-later kind s at (Some b) none from least o h = absurd (none refl)
 starts-later kind s at None none from least o h = elim (cases_lt at o.start) [
   | inl later ↦ omega arith
@@ -47,10 +47,30 @@ occurs-long patterns table haystack start end o is fits h =
     let long = ap (λ (q : Occurrence). q.end) own.1 in
     omega arith
 
--- the preferred one of the last place is the best of all, where nothing starts before and nothing fits behind
-pub best-last : (kind : MatchKind) (s : Search) (at : ℕ) (r : Option Occurrence) → ((o : Occurrence) → Occurs s o → at ≤ o.start) → ((o : Occurrence) → Occurs s o → o.start ≤ at) → IsLeast (search_kind kind) (StartsAt s at) r → IsBest (search_kind kind) s r
-best-last kind s at None from to least = λ o h. least o (h, let a = from o h in let b = to o h in omega arith)
-best-last kind s at (Some b) from to least = best-first kind s at (Some b) refl from least
+-- the preferred one of the first place that has one is found
+pub found-first : (kind : MatchKind) (s : Search) (at to : ℕ) (r : Option Occurrence) → is_some r ≡ true → NoneBefore s at → IsLeast (search_kind kind) (StartsAt s at) r → IsFoundBefore (search_kind kind) s to r
+found-first kind s at to None some from least = cc
+found-first kind s at to (Some b) some from least = best-first kind s at (Some b) some from least
+
+-- the preferred one of a place is found, or nothing starts before the next place
+pub found-place : (kind : MatchKind) (s : Search) (at to : ℕ) (r : Option Occurrence) → to ≡ at + 1 → NoneBefore s at → IsLeast (search_kind kind) (StartsAt s at) r → IsFoundBefore (search_kind kind) s to r
+found-place kind s at to None next from least = λ o h. let later = starts-later kind s at None (λ e. cc) from least o h in omega arith
+found-place kind s at to (Some b) next from least = best-first kind s at (Some b) refl from least
+
+-- what is found is the best
+pub found-best : (kind : MatchKind) (s : Search) (to : ℕ) (r : Option Occurrence) → is_some r ≡ true → IsFoundBefore (search_kind kind) s to r → IsBest (search_kind kind) s r
+found-best kind s to None some found = cc
+found-best kind s to (Some b) some found = found
+
+-- where nothing is found nothing starts
+pub found-none : (kind : MatchKind) (s : Search) (to : ℕ) (r : Option Occurrence) → is_some r ≢ true → IsFoundBefore (search_kind kind) s to r → NoneBefore s to
+found-none kind s to None none found = found
+found-none kind s to (Some b) none found = absurd (none refl)
+
+-- what is found before a place is found before any
+pub found-sooner : (kind : MatchKind) (s : Search) (at to : ℕ) (r : Option Occurrence) → is_some r ≡ true → IsFoundBefore (search_kind kind) s at r → IsFoundBefore (search_kind kind) s to r
+found-sooner kind s at to None some found = cc
+found-sooner kind s at to (Some b) some found = found
 
 -- the first byte of a part
 slice_range-first : (xs : List ℕ) (a b : ℕ) → a < b → a < length xs → slice_range xs a b ≡ get_or xs a 0 ∷ slice_range xs (a + 1) b

@@ -1,10 +1,10 @@
 pub mod SpanLemmas
 pub mod CandidateLemmas
-pub mod RareLemmas
-pub mod StartLemmas
-pub mod SoleLemmas
+pub mod RareBytesLemmas
+pub mod StartBytesLemmas
+pub mod MemmemLemmas
 pub mod NeedleLemmas
-pub mod LeftmostLemmas
+pub mod PackedLemmas
 pub mod ChoiceLemmas
 pub mod BuilderLemmas
 pub mod HashLemmas
@@ -14,3 +14,6 @@ pub mod TextLemmas
 pub mod TableLemmas
 pub mod FindLemmas
 pub mod NextLemmas
+pub mod LaneLemmas
+pub mod BucketLemmas
+pub mod TeddyLemmas

@@ -1,10 +1,11 @@
 -- Tables of a few bytes.
-use Rattle.std.proofs.Common.{◌≡◌, ◌≢◌, ℕ, ◌<◌, ◌≤◌, ◌==◌, ◌||◌, ◌⊎◌, Bool, true, false, List, length, get_or, IsTrue, refl, sym, ap, ◌∙◌, inl, inr, arith}
+use Rattle.std.proofs.Common.{◌≡◌, ◌≢◌, ℕ, ◌<◌, ◌≤◌, ◌==◌, ◌||◌, ◌⊎◌, Bool, true, false, List, [], ◌∷◌, length, get_or, IsTrue, refl, sym, ap, ◌∙◌, subst, inl, inr, arith}
 use Rattle.std.specs.List.{Contains}
 use Rattle.std.proofs.lemmas.Bool.{false≢true}
 use Rattle.std.proofs.lemmas.Bool.Decides.{nat_tests}
 use Rattle.std.proofs.lemmas.Grind.{get_or_default_zero}
-use Rattle.ac_literal.specs.Needles.{is_needle, all_ascii, with_byte, AreNeedles, HasFour, AddsByte}
+use Rattle.ac_input.proofs.ContainsLemmas.{Contains-nil, Contains-head, Contains-tail, Contains-cases}
+use Rattle.ac_literal.specs.Needles.{is_needle, needle_list, all_ascii, with_byte, AreNeedles, HasFour, AddsByte}
 use Rattle.ac_literal.specs.declared.prefilter.needles.Needles.{Needles}
 use Rattle.ac_literal.specs.declared.prefilter.needles.Needles.TheVariants.{One, Two, Three}
 use Rattle.ac_literal.specs.declared.prefilter.needles.FewBytes.TheVariants as few
@@ -138,3 +139,54 @@ few-some needles more added exact =
       has = exact added ∙ with-added (is_needle needles) added;
       only = λ byte n. with-only (is_needle needles) added byte (sym (exact byte) ∙ n);
     }
+
+-- a test that one of two passes
+or-cases : (a b : Bool) → IsTrue (a || b) → IsTrue a ⊎ IsTrue b
+or-cases true b h = inl refl
+or-cases false b h = inr h
+
+-- what equals the head of a list stands in it
+head-equal : (x a : ℕ) (xs : List ℕ) → IsTrue (x == a) → Contains (a ∷ xs) x
+head-equal x a xs e = subst (λ (y : ℕ). Contains (a ∷ xs) y) (equal e) (Contains-head a xs)
+  where
+    equal : IsTrue (x == a) → a ≡ x
+    equal h = grind (arith, nat_tests)
+
+-- each needle is listed
+pub needle-listed : (needles : Needles) (byte : ℕ) → IsTrue (is_needle needles byte) → Contains (needle_list needles) byte
+needle-listed (One a) byte h = head-equal byte a [] h
+needle-listed (Two a b) byte h = elim (or-cases (byte == a) (byte == b) h) [
+  | inl first ↦ head-equal byte a (b ∷ []) first
+  | inr second ↦ Contains-tail a (b ∷ []) byte (head-equal byte b [] second)
+]
+needle-listed (Three a b c) byte h = elim (or-cases ((byte == a) || (byte == b)) (byte == c) h) [
+  | inl early ↦ elim (or-cases (byte == a) (byte == b) early) [
+    | inl first ↦ head-equal byte a (b ∷ (c ∷ [])) first
+    | inr second ↦ Contains-tail a (b ∷ (c ∷ [])) byte (head-equal byte b (c ∷ []) second)
+  ]
+  | inr third ↦ Contains-tail a (b ∷ (c ∷ [])) byte (Contains-tail b (c ∷ []) byte (head-equal byte c [] third))
+]
+
+-- what is listed is a needle
+pub listed-needle : (needles : Needles) (byte : ℕ) → Contains (needle_list needles) byte → IsTrue (is_needle needles byte)
+listed-needle (One a) byte c = subst (λ (y : ℕ). IsTrue (is_needle (One a) y)) (only a byte c) (itself a)
+  where
+    only : (x y : ℕ) → Contains (x ∷ []) y → x ≡ y
+    only x y h = elim (Contains-cases x [] y h) [ inl is ↦ is | inr none ↦ absurd (Contains-nil y none) ]
+listed-needle (Two a b) byte c = elim (Contains-cases a (b ∷ []) byte c) [
+  | inl first ↦ subst (λ (y : ℕ). IsTrue (is_needle (Two a b) y)) first (has_first2 a b)
+  | inr more ↦ elim (Contains-cases b [] byte more) [
+    | inl second ↦ subst (λ (y : ℕ). IsTrue (is_needle (Two a b) y)) second (has_second2 a b)
+    | inr none ↦ absurd (Contains-nil byte none)
+  ]
+]
+listed-needle (Three a b d) byte c = elim (Contains-cases a (b ∷ (d ∷ [])) byte c) [
+  | inl first ↦ subst (λ (y : ℕ). IsTrue (is_needle (Three a b d) y)) first (has_first3 a b d)
+  | inr more ↦ elim (Contains-cases b (d ∷ []) byte more) [
+    | inl second ↦ subst (λ (y : ℕ). IsTrue (is_needle (Three a b d) y)) second (has_second3 a b d)
+    | inr last ↦ elim (Contains-cases d [] byte last) [
+      | inl third ↦ subst (λ (y : ℕ). IsTrue (is_needle (Three a b d) y)) third (has_third3 a b d)
+      | inr none ↦ absurd (Contains-nil byte none)
+    ]
+  ]
+]

@@ -1,41 +1,67 @@
 -- What is collected of the patterns that a prefilter is to be built for.
-use Rattle.std.specs.Prelude.{◌≡◌, ◌≢◌, ℕ, ◌<◌, ◌≤◌, Bool, true, false, List, [], ◌∷◌, ◌++◌, length, Option, None, Some}
+use Rattle.std.specs.Prelude.{◌≡◌, ◌≢◌, ℕ, ◌<◌, ◌≤◌, Bool, true, false, List, [], ◌∷◌, ◌++◌, length, Option, None, Some, IfSome, MatchOption}
 use Rattle.std.specs.List.{Contains}
 use Rattle.ac_input.specs.declared.search.MatchKind.TheVariants.{Standard}
 use Rattle.ac_input.specs.Same.{IsUnpaired}
-use Rattle.ac_input.specs.Machine.{Machine}
+use Rattle.ac_input.specs.Dictionary.{Dictionary}
+use Rattle.ac_input.specs.Limits.{with_pattern}
 use Rattle.ac_literal.specs.Packed.{Building, search_kind, fresh, added_all}
 use Rattle.ac_literal.specs.Needles.{AreFew}
-use Rattle.ac_literal.specs.Finder.{is_start}
-use Rattle.ac_literal.specs.Rare.{IsRareSoFar}
-use Rattle.ac_literal.specs.declared.prefilter.builder.Sole.{Sole}
-use Rattle.ac_literal.specs.declared.prefilter.builder.Sole.TheVariants as soles
-use Rattle.ac_literal.specs.declared.prefilter.builder.Collected.{Collected}
-
--- the same with one more pattern
-abbrev pub with_pattern : Machine → List ℕ → Machine
-with_pattern m p = record m { patterns = m.patterns ++ p ∷ [] }
+use Rattle.ac_literal.specs.Strategy.{is_start, AreStarts, AreRareOf}
+use Rattle.ac_literal.specs.RareBytes.{IsRareSoFar}
+use Rattle.ac_literal.specs.Prefilter.{IsStrategyOf, MemmemServes, PackedDemand}
+use Rattle.ac_literal.specs.declared.prefilter.needles.Needles.{Needles}
+use Rattle.ac_literal.specs.declared.prefilter.needles.FewBytes.{FewBytes}
+use Rattle.ac_literal.specs.declared.prefilter.strategy.RareBytes.{RareBytes}
+use Rattle.ac_literal.specs.declared.prefilter.strategy.Strategy.{Strategy}
+use Rattle.ac_literal.specs.declared.prefilter.builder.MemmemBuilder.{MemmemBuilder}
+use Rattle.ac_literal.specs.declared.prefilter.builder.MemmemBuilder.TheVariants as memmem_builders
+use Rattle.ac_literal.specs.declared.prefilter.builder.Builders.{Builders}
 
 -- the one pattern, where there is one
-abbrev pub IsSoleOf : List (List ℕ) → Sole → Type 0
-IsSoleOf patterns soles.None = patterns ≡ []
-IsSoleOf patterns (soles.One text) = patterns ≡ text.items ∷ []
-IsSoleOf patterns soles.Several = 2 ≤ length patterns
+abbrev pub IsMemmemSoFar : List (List ℕ) → MemmemBuilder → Type 0
+IsMemmemSoFar patterns memmem_builders.None = patterns ≡ []
+IsMemmemSoFar patterns (memmem_builders.One text) = patterns ≡ text.items ∷ []
+IsMemmemSoFar patterns memmem_builders.Several = 2 ≤ length patterns
 
 -- the patterns in a builder of packed search, where the kind is a leftmost one and nothing is paired
-abbrev pub IsPackedSoFar : Machine → Option Building → Type 0
+abbrev pub IsPackedSoFar : Dictionary → Option Building → Type 0
 IsPackedSoFar m None = (m.kind ≢ Standard) → ¬ IsUnpaired m.pairing
 IsPackedSoFar m (Some b) = (search_kind b.kind ≡ m.kind) × IsUnpaired m.pairing × (b ≡ added_all (fresh b.kind) m.patterns)
 
 -- what is collected of patterns, none of which is empty
-pub record IsCollected (m : Machine) (c : Collected) : Type 0 where
+pub record IsCollected (m : Dictionary) (c : Builders) : Type 0 where
   pub full : (p : List ℕ) → Contains m.patterns p → 0 < length p
-  pub sole : IsSoleOf m.patterns c.sole
+  pub memmem : IsMemmemSoFar m.patterns c.memmem
   pub packed : IsPackedSoFar m c.packed
-  pub starts : AreFew c.starts (is_start m.pairing m.patterns)
-  pub rare : IsRareSoFar m.pairing m.patterns c.rare
+  pub starts : AreFew c.start_bytes (is_start m.pairing m.patterns)
+  pub rare : IsRareSoFar m.pairing m.patterns c.rare_bytes
+
+-- one more pattern for the search for one pattern
+abbrev pub AddsMemmem : MemmemBuilder → List ℕ → MemmemBuilder → Type 0
+AddsMemmem old p new = (patterns : List (List ℕ)) → IsMemmemSoFar patterns old → IsMemmemSoFar (patterns ++ p ∷ []) new
+
+-- the bytes that patterns may begin with, and those of one more pattern
+abbrev pub AddsStart : List ℕ → FewBytes → List ℕ → FewBytes → Type 0
+AddsStart pairing old p new = (patterns : List (List ℕ)) → AreFew old (is_start pairing patterns) → AreFew new (is_start pairing (patterns ++ p ∷ []))
+
+-- one more pattern is collected
+abbrev pub AddsPattern : List ℕ → Builders → List ℕ → Builders → Type 0
+AddsPattern pairing old p new = (m : Dictionary) → m.pairing ≡ pairing → IsCollected m old → IsCollected (with_pattern m p) new
+
+-- of what is collected a strategy is built that is right for it, and none only where this is not asked
+abbrev pub BuildsWhere : (Dictionary → Type 0) → List ℕ → Builders → Option Strategy → Type 0
+BuildsWhere asked pairing c made = (m : Dictionary) → m.pairing ≡ pairing → IsCollected m c → MatchOption made (¬ asked m) (IsStrategyOf m)
+
+-- the same of packed search, where the search for one pattern doesn't serve
+abbrev pub BuildsPacked : Builders → Option Strategy → Type 0
+BuildsPacked c made = (m : Dictionary) → ¬ MemmemServes m → IsCollected m c → MatchOption made (¬ PackedDemand m) (IsStrategyOf m)
+
+-- of two scans that are right one is taken, and none only where there are no start bytes
+abbrev pub TakesOne : Option Needles → Option RareBytes → Option Strategy → Type 0
+TakesOne starts rare taken = (m : Dictionary) → IfSome starts (AreStarts m) → IfSome rare (AreRareOf m) → MatchOption taken (starts ≡ None) (IsStrategyOf m)
 
 -- an empty pattern came, or all was collected
-abbrev pub IsBuilder : Machine → Bool → Collected → Type 0
+abbrev pub IsBuilder : Dictionary → Bool → Builders → Type 0
 IsBuilder m true c = (p : List ℕ) × Contains m.patterns p × (length p ≡ 0)
 IsBuilder m false c = IsCollected m c

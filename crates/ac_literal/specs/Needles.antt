@@ -1,11 +1,12 @@
 -- The first of a few bytes, and what it costs to find it.
-use Rattle.std.specs.Prelude.{◌≡◌, ◌≢◌, ℕ, ◌+◌, ◌-◌, ◌⊎◌, Bool, true, false, ◌==◌, nat_lt, ◌&&◌, ◌||◌, List, Option, None, Some, IsTrue}
+use Rattle.std.specs.Prelude.{◌≡◌, ◌≢◌, ℕ, ◌+◌, ◌-◌, ◌⊎◌, Bool, true, false, ◌==◌, nat_lt, ◌&&◌, ◌||◌, List, [], ◌∷◌, Option, None, Some, IsTrue}
 use Rattle.memchr.specs.Find.{Passes, IsFirst, is_byte, is_byte2, is_byte3}
 use Rattle.ac_input.specs.declared.search.Span.{Span}
 use Rattle.ac_literal.specs.declared.prefilter.needles.Needles.{Needles}
 use Rattle.ac_literal.specs.declared.prefilter.needles.Needles.TheVariants.{One, Two, Three}
 use Rattle.ac_literal.specs.declared.prefilter.needles.FewBytes.{FewBytes}
 use Rattle.ac_literal.specs.declared.prefilter.needles.FewBytes.TheVariants as few
+use Rattle.ac_literal.specs.declared.prefilter.needles.TheConstants.{ASCII_LIMIT}
 
 -- whether a byte is one of the needles
 abbrev pub is_needle : Needles → ℕ → Bool
@@ -13,11 +14,17 @@ is_needle (One a) byte = is_byte a byte
 is_needle (Two a b) byte = is_byte2 a b byte
 is_needle (Three a b c) byte = is_byte3 a b c byte
 
+-- the needles, in their order
+abbrev pub needle_list : Needles → List ℕ
+needle_list (One a) = a ∷ []
+needle_list (Two a b) = a ∷ (b ∷ [])
+needle_list (Three a b c) = a ∷ (b ∷ (c ∷ []))
+
 -- whether all needles are ASCII
 abbrev pub all_ascii : Needles → Bool
-all_ascii (One a) = nat_lt a 128
-all_ascii (Two a b) = nat_lt a 128 && nat_lt b 128
-all_ascii (Three a b c) = nat_lt a 128 && nat_lt b 128 && nat_lt c 128
+all_ascii (One a) = nat_lt a ASCII_LIMIT
+all_ascii (Two a b) = nat_lt a ASCII_LIMIT && nat_lt b ASCII_LIMIT
+all_ascii (Three a b c) = nat_lt a ASCII_LIMIT && nat_lt b ASCII_LIMIT && nat_lt c ASCII_LIMIT
 
 -- the first place of the span that holds a needle
 abbrev pub IsFirstNeedle : Needles → List ℕ → Span → Option ℕ → Type 0

@@ -1,64 +1,99 @@
 -- Which prefilters serve, and where one is built.
-use Rattle.std.specs.Prelude.{◌≡◌, ◌≢◌, ℕ, ◌<◌, ◌≤◌, ◌⊎◌, Bool, true, false, List, length, IsTrue}
+use Rattle.std.specs.Prelude.{◌≡◌, ◌≢◌, ℕ, ◌<◌, ◌≤◌, ◌⊎◌, List, [], ◌∷◌, length, IsTrue}
 use Rattle.std.specs.List.{Contains}
 use Rattle.ac_input.specs.declared.search.MatchKind.TheVariants.{Standard}
-use Rattle.ac_input.specs.Same.{other, same, IsUnpaired}
-use Rattle.ac_input.specs.Pairing.{other_case}
-use Rattle.ac_input.specs.Machine.{Machine}
-use Rattle.ac_literal.specs.declared.prefilter.finder.Finder.{Finder}
-use Rattle.ac_literal.specs.declared.prefilter.finder.Finder.TheVariants.{Memmem, Packed, StartBytes, RareBytes}
-use Rattle.ac_literal.specs.Finder.{AreFull, is_start, AreStarts, AreRare, IsPacked, IsSole}
+use Rattle.ac_input.specs.declared.search.Span.{Span}
+use Rattle.ac_input.specs.declared.search.Anchored.TheVariants.{No}
+use Rattle.ac_input.specs.declared.search.candidate.Candidate.{Candidate}
+use Rattle.ac_input.specs.declared.search.candidate.Candidate.TheVariants as candidates
+use Rattle.ac_input.specs.declared.steps.Steps.{Steps}
+use Rattle.ac_input.specs.Same.{same, IsUnpaired}
+use Rattle.ac_input.specs.Dictionary.{Dictionary}
+use Rattle.ac_input.specs.Input.{search_of}
+use Rattle.ac_input.specs.Candidate.{Filter, IsCandidate, HasNoByte, IsScanCounted}
+use Rattle.ac_literal.specs.declared.prefilter.strategy.Strategy.{Strategy}
+use Rattle.ac_literal.specs.declared.prefilter.strategy.Strategy.TheVariants.{Memmem, Packed, StartBytes, RareBytes}
+use Rattle.ac_literal.specs.Needles.{needle_list}
+use Rattle.ac_literal.specs.Strategy.{AreFull, is_start, AreStarts, AreRareOf, IsPacked, IsMemmem}
+use Rattle.ac_literal.specs.declared.prefilter.needles.TheConstants.{ASCII_LIMIT}
+use Rattle.ac_literal.specs.declared.prefilter.rare_bytes.TheConstants.{LEN_LIMIT}
+use Rattle.ac_literal.specs.declared.packed.api.TheConstants.{PATTERN_LIMIT}
 
--- the way of finding candidates is right for the machine
-abbrev pub Serves : Machine → Finder → Type 0
-Serves m (Memmem needle) = IsSole m needle
-Serves m (Packed searcher) = IsPacked m searcher
-Serves m (StartBytes needles) = AreStarts m needles
-Serves m (RareBytes rare) = AreRare m rare.needles rare.distances
+-- the way of finding candidates is right for the dictionary
+abbrev pub IsStrategyOf : Dictionary → Strategy → Type 0
+IsStrategyOf m (Memmem needle) = IsMemmem m needle
+IsStrategyOf m (Packed searcher) = IsPacked m searcher
+IsStrategyOf m (StartBytes needles) = AreStarts m needles
+IsStrategyOf m (RareBytes rare) = AreRareOf m rare
 
--- whether it scans for single bytes
-abbrev pub by_bytes : Finder → Bool
-by_bytes (Memmem needle) = false
-by_bytes (Packed searcher) = false
-by_bytes (StartBytes needles) = true
-by_bytes (RareBytes rare) = true
+-- the bytes that it scans for; none where it searches for whole patterns
+abbrev pub needles_of : Strategy → List ℕ
+needles_of (Memmem needle) = []
+needles_of (Packed searcher) = []
+needles_of (StartBytes needles) = needle_list needles
+needles_of (RareBytes rare) = needle_list rare.needles
 
--- Start bytes serve where the bytes that patterns may begin with are at most three, all below 0x80.
-abbrev pub StartBytesServe : List (List ℕ) → List ℕ → Type 0
-StartBytesServe patterns pairing = (bytes : List ℕ) × (length bytes ≤ 3) × ((byte : ℕ) → IsTrue (is_start pairing patterns byte) → Contains bytes byte × (byte < 128))
+-- what it answers is a candidate of the search of the span
+abbrev pub IsCandidateIn : Filter → List ℕ → Span → Candidate → Type 0
+IsCandidateIn f haystack span c = IsCandidate f.dictionary.kind (search_of f.dictionary No haystack span) c
 
--- Rare bytes serve where every pattern is shorter than 256 bytes, and at most three bytes are such that each pattern holds one
+-- it answers none where no byte of the span is a pattern's
+abbrev pub IsNoneWithoutByte : Filter → List ℕ → Span → Candidate → Type 0
+IsNoneWithoutByte f haystack span c = HasNoByte (search_of f.dictionary No haystack span) → c ≡ candidates.None
+
+-- it counts the places of the span that it scanned for its needles, and nothing else
+abbrev pub IsCountedIn : Filter → List ℕ → Span → Candidate → Steps → Steps → Type 0
+IsCountedIn f haystack span c before after = IsScanCounted f.needles (search_of f.dictionary No haystack span) c before after
+
+-- at most three bytes, all of them ASCII, and patterns begin with no other
+abbrev pub AreStartBytes : Dictionary → List ℕ → Type 0
+AreStartBytes m bytes = (length bytes ≤ 3) × ((byte : ℕ) → IsTrue (is_start m.pairing m.patterns byte) → Contains bytes byte × (byte < ASCII_LIMIT))
+
+-- at most three bytes, of which each pattern, none of them too long, holds one, with what is paired with it among them
+abbrev pub AreRareBytes : Dictionary → List ℕ → Type 0
+AreRareBytes m bytes =
+    (length bytes ≤ 3)
+    × ((p : List ℕ) → Contains m.patterns p → (length p < LEN_LIMIT) × ((rare : ℕ) × Contains p rare × ((byte : ℕ) → IsTrue (same m.pairing rare byte) → Contains bytes byte)))
+
+-- Start bytes serve where the bytes that patterns may begin with are at most three, all of them ASCII.
+abbrev pub StartBytesServe : Dictionary → Type 0
+StartBytesServe m = (bytes : List ℕ) × AreStartBytes m bytes
+
+-- Rare bytes serve where no pattern is too long for a distance, and at most three bytes are such that each pattern holds one
 -- of them, with what is paired with it among them.
-abbrev pub RareBytesServe : List (List ℕ) → List ℕ → Type 0
-RareBytesServe patterns pairing =
-    (bytes : List ℕ) × (length bytes ≤ 3)
-    × ((p : List ℕ) → Contains patterns p → (length p < 256) × ((rare : ℕ) × Contains p rare × ((byte : ℕ) → IsTrue (same pairing rare byte) → Contains bytes byte)))
+abbrev pub RareBytesServe : Dictionary → Type 0
+RareBytesServe m = (bytes : List ℕ) × AreRareBytes m bytes
 
--- Packed search serves 1 to 128 patterns of a leftmost kind, where nothing is paired.
-abbrev pub PackedServes : Machine → Type 0
-PackedServes m = (m.kind ≢ Standard) × IsUnpaired m.pairing × (length m.patterns ≤ 128)
+-- Packed search serves the patterns of a leftmost kind, as many as it takes, where nothing is paired.
+abbrev pub PackedServes : Dictionary → Type 0
+PackedServes m = (m.kind ≢ Standard) × IsUnpaired m.pairing × (length m.patterns ≤ PATTERN_LIMIT)
 
 -- The search for one pattern serves where nothing is paired.
-abbrev pub MemmemServes : Machine → Type 0
+abbrev pub MemmemServes : Dictionary → Type 0
 MemmemServes m = IsUnpaired m.pairing × (length m.patterns ≡ 1)
 
 -- patterns, none of them empty, for which packed search serves
-abbrev pub PackedDemand : Machine → Type 0
+abbrev pub PackedDemand : Dictionary → Type 0
 PackedDemand m = AreFull m.patterns × PackedServes m
 
 -- patterns, none of them empty, for which start bytes serve
-abbrev pub StartBytesDemand : Machine → Type 0
-StartBytesDemand m = AreFull m.patterns × StartBytesServe m.patterns m.pairing
+abbrev pub StartBytesDemand : Dictionary → Type 0
+StartBytesDemand m = AreFull m.patterns × StartBytesServe m
 
 -- where some prefilter is built, if memory suffices
-abbrev pub IsDemanded : Machine → Type 0
+abbrev pub IsDemanded : Dictionary → Type 0
 IsDemanded m = PackedDemand m ⊎ StartBytesDemand m
 
 -- where one may be built
-abbrev pub IsAdmissible : Machine → Type 0
-IsAdmissible m = AreFull m.patterns × (MemmemServes m ⊎ (PackedServes m ⊎ (StartBytesServe m.patterns m.pairing ⊎ RareBytesServe m.patterns m.pairing)))
+abbrev pub IsAdmissible : Dictionary → Type 0
+IsAdmissible m = AreFull m.patterns × (MemmemServes m ⊎ (PackedServes m ⊎ (StartBytesServe m ⊎ RareBytesServe m)))
 
--- with case folded the ASCII letters are paired, and without it nothing is
-abbrev pub IsFolded : Bool → List ℕ → Type 0
-IsFolded true pairing = (byte : ℕ) → other pairing byte ≡ other_case byte
-IsFolded false pairing = IsUnpaired pairing
+-- Which way is built: one that scans for bytes only where they are start bytes or rare bytes that serve, and one that searches
+-- for whole patterns only where the search for one pattern or packed search serves.
+abbrev pub IsWayOf : Dictionary → List ℕ → Type 0
+IsWayOf m [] = MemmemServes m ⊎ PackedServes m
+IsWayOf m (byte ∷ bytes) = AreStartBytes m (byte ∷ bytes) ⊎ AreRareBytes m (byte ∷ bytes)
+
+-- the way of a prefilter that is built
+abbrev pub IsWay : Filter → Type 0
+IsWay f = IsWayOf f.dictionary f.needles

@@ -1,8 +1,9 @@
 -- The rolling hash of a packed search, and its table.
-use Rattle.std.specs.Prelude.{◌≡◌, ◌≢◌, ℕ, ◌+◌, ◌-◌, ◌*◌, ◌%◌, ◌^◌, ◌<◌, ◌≤◌, List, [], ◌∷◌, length, take, get_or}
+use Rattle.std.specs.Prelude.{◌≡◌, ◌≢◌, ℕ, ◌+◌, ◌-◌, ◌*◌, ◌%◌, ◌^◌, ◌<◌, ◌≤◌, List, [], ◌∷◌, length, take, get_or, Option, Some, None}
 use Rattle.std.specs.declared.cmp.Ordering.TheVariants.{Greater}
 use Rattle.ac_input.specs.Occurrence.{Search, Occurrence, Occurs}
-use Rattle.ac_input.specs.Best.{preference}
+use Rattle.ac_input.specs.Best.{preference, IsBest}
+use Rattle.ac_input.specs.declared.search.MatchKind as search
 use Rattle.ac_literal.specs.declared.packed.api.MatchKind.{MatchKind}
 use Rattle.ac_literal.specs.declared.packed.rabinkarp.Entry.{Entry}
 use Rattle.ac_literal.specs.declared.packed.rabinkarp.RabinKarp.{RabinKarp}
@@ -72,6 +73,15 @@ pub record IsTable (patterns : List (List ℕ)) (table : RabinKarp) : Type 0 whe
 -- an occurrence of a search that starts at a place
 abbrev pub StartsAt : Search → ℕ → Occurrence → Type 0
 StartsAt s at o = Occurs s o × (o.start ≡ at)
+
+-- nothing of a search starts before a place
+abbrev pub NoneBefore : Search → ℕ → Type 0
+NoneBefore s at = (o : Occurrence) → Occurs s o → at ≤ o.start
+
+-- the best match of a search; where there is no answer, nothing starts before a place
+abbrev pub IsFoundBefore : search.MatchKind → Search → ℕ → Option Occurrence → Type 0
+IsFoundBefore kind s to None = NoneBefore s to
+IsFoundBefore kind s to (Some best) = IsBest kind s (Some best)
 
 -- the same table in other memory
 pub record IsSameTable (table copy : RabinKarp) : Type 0 where

@@ -6,3 +6,8 @@
 
 pub mod packed;
 pub mod prefilter;
+
+pub use ac_input::pairing::{Pairing, PairingError};
+pub use ac_input::primitives::PatternID;
+pub use ac_input::search::{Candidate, Match, MatchKind, Span};
+pub use ac_input::steps::Steps;

@@ -4,7 +4,7 @@
 //! [`Prefilter`] leaps over those: asked about a span, it answers a [`Candidate`], and no match that is whole in the span
 //! begins before it. The search goes on from there, and asks again when it has come back to its start state.
 //!
-//! There are four ways of leaping, and a [`PrefilterBuilder`] takes the first of them that serves its patterns:
+//! There are four ways of leaping:
 //!
 //! - *One pattern*, where no byte is paired: a search for it. What it finds is the match itself.
 //! - *Packed search*, for up to 128 patterns of a leftmost kind, where no byte is paired. It finds the match itself, too.
@@ -12,19 +12,27 @@
 //! - *Rare bytes*: a scan for one to three bytes of which each pattern holds one. Where one is found, a match may have begun
 //!   some bytes before; how many at most is kept for each byte, so that the scan can be stepped back by that.
 //!
+//! Which of those that serve its patterns a [`PrefilterBuilder`] takes is a matter of speed alone. The search for one pattern
+//! comes first. Then come start bytes or rare bytes, whichever are taken to be the rarer, if they are rare enough: a scan
+//! passes some ten bytes in the time in which packed search passes one, and costs more only where it stops. How rare bytes
+//! are is guessed by their ranks, those of their partners counted. Then comes packed search, which costs the same whatever the
+//! text is. Bytes that are not rare are looked for only where one to three ASCII bytes begin all patterns and nothing else
+//! serves; rare bytes that aren't so rare are not worth their scan, and then there is no prefilter.
+//!
 //! A scan looks at many bytes at a time, and at each once; stepping back makes the automaton look at up to 254 bytes that were
 //! scanned before. A search for patterns costs what packed search costs. A prefilter takes the memory of a table of 256 bytes
 //! and of the patterns that it searches for, and no search takes any.
-pub mod builder;
-pub mod finder;
-pub mod needles;
-pub mod rare;
+mod builder;
+mod needles;
+mod rank;
+mod rare_bytes;
+mod strategy;
 
-ghost use Rattle.std.specs.Prelude.{◌≡◌, ℕ, ◌≤◌, length, IfOk, IsTrue};
-ghost use Rattle.ac_input.specs.Candidate.{Filter, HasNoByte, IsCandidate, IsScan, ahead_of};
-ghost use Rattle.ac_input.specs.Steps.{Done};
+ghost use Rattle.std.specs.Prelude.{◌≡◌, ◌≤◌, length, IfOk};
+ghost use Rattle.ac_input.specs.Candidate.{Filter};
+ghost use Rattle.ac_literal.specs.Prefilter.{IsCandidateIn, IsNoneWithoutByte, IsCountedIn};
 
-use crate::prefilter::finder::{Finder, find_packed, find_sole, find_start};
+use crate::prefilter::strategy::{Strategy, find_memmem, find_packed, find_start};
 use ac_input::history::Pieces;
 use ac_input::pairing::Pairing;
 pub use ac_input::search::Candidate;
@@ -49,19 +57,19 @@ pub struct Prefilter {
     kind: MatchKind,
     pairing: Pairing,
     patterns: Pieces,
-    finder: Finder,
+    strategy: Strategy,
 }
 
 impl Model for Prefilter {
     ghost use Rattle.ac_input.specs.Candidate.{Filter};
-    ghost use Rattle.ac_literal.specs.Prefilter.{Serves, by_bytes};
+    ghost use Rattle.ac_literal.specs.Prefilter.{IsStrategyOf, needles_of};
 
     ghost Value = { Filter };
 
     ghost view = { λ p.
-        record { machine = record { patterns = p.patterns.items; pairing = p.pairing; kind = p.kind }; by_bytes = by_bytes p.finder } };
+        record { dictionary = record { patterns = p.patterns.items; pairing = p.pairing; kind = p.kind }; needles = needles_of p.strategy } };
 
-    ghost invariant = { λ p. Serves (record { patterns = p.patterns.items; pairing = p.pairing; kind = p.kind }) p.finder };
+    ghost invariant = { λ p. IsStrategyOf (record { patterns = p.patterns.items; pairing = p.pairing; kind = p.kind }) p.strategy };
 }
 
 impl Prefilter {
@@ -71,8 +79,8 @@ impl Prefilter {
     pub fn find_in(&self, haystack: &[u8], span: Span) -> Candidate
         requires ordered { span.start ≤ span.end }
         requires within { span.end ≤ length haystack.now }
-        ensures candidate { IsCandidate self.now.machine.kind (ahead_of self.now.machine haystack.now span) result }
-        ensures none { HasNoByte (ahead_of self.now.machine haystack.now span) → result ≡ Candidate.None }
+        ensures candidate { IsCandidateIn self.now haystack.now span result }
+        ensures none { IsNoneWithoutByte self.now haystack.now span result }
     {
         self.find_in_counted(haystack, span, &mut Steps::new())
     }
@@ -83,21 +91,21 @@ impl Prefilter {
     pub fn find_in_counted(&self, haystack: &[u8], span: Span, steps: &mut Steps) -> Candidate
         requires ordered { span.start ≤ span.end }
         requires within { span.end ≤ length haystack.now }
-        ensures candidate { IsCandidate self.now.machine.kind (ahead_of self.now.machine haystack.now span) result }
-        ensures none { HasNoByte (ahead_of self.now.machine haystack.now span) → result ≡ Candidate.None }
-        ensures counted { (places : ℕ) × Done 0 places 0 steps.old steps.new × (IsTrue self.now.by_bytes → IsScan (ahead_of self.now.machine haystack.now span) places result) }
+        ensures candidate { IsCandidateIn self.now haystack.now span result }
+        ensures none { IsNoneWithoutByte self.now haystack.now span result }
+        ensures counted { IsCountedIn self.now haystack.now span result steps.old steps.new }
     {
-        match &self.finder {
-            Finder::Memmem(needle) => find_sole(needle, haystack, span),
-            Finder::Packed(searcher) => find_packed(searcher, haystack, span),
-            Finder::StartBytes(needles) => find_start(needles, haystack, span, steps),
-            Finder::RareBytes(rare) => rare.find_start(haystack, span, steps),
+        match &self.strategy {
+            Strategy::Memmem(needle) => find_memmem(needle, haystack, span),
+            Strategy::Packed(searcher) => find_packed(searcher, haystack, span),
+            Strategy::StartBytes(needles) => find_start(needles, haystack, span, steps),
+            Strategy::RareBytes(rare) => rare.find_start(haystack, span, steps),
         }
     }
 
     /// How many bytes of memory it takes, beside itself.
     pub fn memory_usage(&self) -> usize {
-        self.finder.memory_usage()
+        self.strategy.memory_usage()
     }
 
     /// The same prefilter once more, in memory from `alloc`.
@@ -108,7 +116,7 @@ impl Prefilter {
             kind: self.kind,
             pairing: self.pairing,
             patterns: self.patterns.same(),
-            finder: self.finder.clone(alloc)?,
+            strategy: self.strategy.clone(alloc)?,
         })
     }
 }

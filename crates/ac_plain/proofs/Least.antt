@@ -7,7 +7,7 @@ use Rattle.ac_input.specs.Occurrence.{Occurrence}
 use Rattle.ac_input.specs.Best.{preference, IsLeast}
 use Rattle.ac_input.proofs.OrderLemmas.{preference-itself, preference-transitive, preference-not_less}
 use Rattle.ac_input.proofs.BestLemmas.{IsLeast-like}
-use Rattle.ac_plain.specs.Plain.{IsOnly, preferred}
+use Rattle.ac_plain.specs.Naive.{IsOnly, preferred}
 
 -- the one that is preferred of the least so far and a candidate
 choose : (kind : MatchKind) (P Q : Occurrence → Type 0) (b c : Occurrence) → IsLeast kind P (Some b) → IsOnly Q (Some c) → (less : Bool) → less ≡ is_lt (preference kind c b) → IsLeast kind (λ o. P o ⊎ Q o) (cond less (Some c) (Some b))

@@ -4,7 +4,7 @@ use Rattle.std.specs.Prelude.{slice_get}
 use Rattle.std.proofs.lemmas.Option.{slice_get_within, same_Some}
 use Rattle.ac_input.specs.Occurrence.{Search, Occurrence, Occurs}
 use Rattle.ac_input.proofs.OrderLemmas.{occurs-end, occurrence_from_parts}
-use Rattle.ac_plain.specs.Plain.{StartsAt, EndsAt}
+use Rattle.ac_plain.specs.Naive.{StartsAt, EndsAt}
 
 -- a search lies within its haystack where the same search does
 pub fits_too : {s t : Search} → s ≡ t → s.end ≤ length s.haystack → t.end ≤ length t.haystack

@@ -9,7 +9,7 @@ use Rattle.ac_input.specs.Occurrence.{Search, Occurrence, Occurs}
 use Rattle.ac_input.specs.Best.{preference, IsLeast, IsBest}
 use Rattle.ac_input.proofs.OrderLemmas.{preference-itself, less-not_greater, occurrence_from_parts}
 use Rattle.ac_input.proofs.RisingLemmas.{less_by_number}
-use Rattle.ac_plain.specs.Plain.{StartsAt, LiesAlike}
+use Rattle.ac_plain.specs.Naive.{StartsAt, LiesAlike}
 
 -- the leftmost kinds prefer the earlier start
 earlier_start : (kind : MatchKind) → kind ≢ Standard → (a o : Occurrence) → a.start < o.start → preference kind a o ≡ Less

@@ -4,5 +4,5 @@ pub use Rattle.ac_input.specs.Occurrence
 pub use Rattle.ac_input.specs.Best
 pub use Rattle.ac_input.specs.Walk
 pub use Rattle.ac_input.specs.Listing
-pub mod Plain
+pub mod Naive
 pub use Rattle.ac_input.specs.Computed

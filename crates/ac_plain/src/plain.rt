@@ -1,6 +1,6 @@
 //! Searches by every place and every pattern.
 //!
-//! A [`Plain`] says what is searched for, and where. The best occurrence is found by going through the places of the span in
+//! A [`Naive`] says what is searched for, and where. The best occurrence is found by going through the places of the span in
 //! the order in which the kind prefers them: by ends for the standard kind, by starts for the leftmost ones. At each place one
 //! pass over the patterns finds the preferred one there, and the first place that has one has the best of all. A comparison
 //! stops at the first byte that differs.
@@ -16,7 +16,7 @@ ghost use Rattle.ac_input.specs.Best.{preference, IsLeast, IsBest, asked_kind, I
 ghost use Rattle.ac_input.specs.Walk.{Repeats, IsPick, IsWalk};
 ghost use Rattle.ac_input.specs.Computed.{walk_of};
 ghost use Rattle.ac_input.specs.Listing.{IsListing};
-ghost use Rattle.ac_plain.specs.Plain.{search_of, IsOnly, StartsAt, EndsAt, EndsAfter, ReachesAfter, LiesAlike, preferred};
+ghost use Rattle.ac_plain.specs.Naive.{search_for, IsOnly, StartsAt, EndsAt, EndsAfter, ReachesAfter, LiesAlike, preferred};
 
 pub mod picks;
 
@@ -53,7 +53,7 @@ impl Model for Found {
 ///
 /// It holds references and the 256 bytes of the pairing, and takes no memory to make.
 #[derive(Drop)]
-pub struct Plain<'a> {
+pub struct Naive<'a> {
     patterns: &'a [&'a [u8]],
     pairing: Pairing,
     haystack: &'a [u8],
@@ -61,15 +61,15 @@ pub struct Plain<'a> {
     anchored: Anchored,
 }
 
-impl<'a> Model for Plain<'a> {
+impl<'a> Model for Naive<'a> {
     ghost use Rattle.std.specs.Prelude.{◌+◌, ◌≤◌, map, length};
     ghost use Rattle.ac_input.specs.Occurrence.{Search};
-    ghost use Rattle.ac_plain.specs.Plain.{search_of};
+    ghost use Rattle.ac_plain.specs.Naive.{search_for};
 
     ghost Value = { Search };
 
     ghost view = { λ p.
-        search_of (map (λ q. q.now) p.patterns.now) p.pairing p.haystack.now p.span p.anchored };
+        search_for (map (λ q. q.now) p.patterns.now) p.pairing p.haystack.now p.span p.anchored };
 
     ghost invariant = { λ p. (p.span.start ≤ p.span.end + 1) × (p.span.end ≤ length p.haystack.now) };
 }
@@ -140,7 +140,7 @@ fn repeats(last: Option<usize>, found: &Option<Found>) -> bool
     }
 }
 
-impl<'a> Plain<'a> {
+impl<'a> Naive<'a> {
     /// A search of the haystack within the span, for whatever is the same as a pattern up to the pairing.
     ///
     /// The span lies within the haystack. Its start may be one past its end, as it is for what is left of a walk after an
@@ -151,13 +151,13 @@ impl<'a> Plain<'a> {
         haystack: &'a [u8],
         span: Span,
         anchored: Anchored,
-    ) -> Plain<'a>
+    ) -> Naive<'a>
         requires ordered { span.start ≤ span.end + 1 }
         requires within { span.end ≤ length haystack.now }
         ensures { result
-            ≡ search_of (map (λ q. q.now) patterns.now) pairing haystack.now span anchored }
+            ≡ search_for (map (λ q. q.now) patterns.now) pairing haystack.now span anchored }
     {
-        Plain {
+        Naive {
             patterns,
             pairing,
             haystack,
@@ -167,11 +167,11 @@ impl<'a> Plain<'a> {
     }
 
     /// The same search from another place on.
-    fn starting_at(&self, at: usize) -> Plain<'a>
+    fn starting_at(&self, at: usize) -> Naive<'a>
         requires { at ≤ self.now.end + 1 }
         ensures { result ≡ starting_at self.now at }
     {
-        Plain {
+        Naive {
             patterns: self.patterns,
             pairing: self.pairing,
             haystack: self.haystack,

@@ -1,22 +1,21 @@
 -- What finders find, and that it lies in order.
-use Rattle.std.proofs.Common.{◌≡◌, ℕ, ◌≤◌, List, [], length, None, refl, sym, ap, ◌∙◌, subst, map, arith}
+use Rattle.std.proofs.Common.{◌≡◌, ℕ, List, [], length, None, refl, ap, ◌∙◌, subst, arith}
 use Rattle.std.proofs.lemmas.List.{length-map}
 use Rattle.ac_input.specs.declared.search.MatchKind as kinds
-use Rattle.ac_input.specs.Occurrence.{Search, Occurrence}
 use Rattle.ac_input.specs.Rules.{Rule}
 use Rattle.ac_input.specs.Computed.{walk_of}
 use Rattle.ac_input.proofs.UnpairedLemmas.{walk_after-unpaired}
 use Rattle.ac_input.proofs.WalkLemmas.{walk_of-walk}
 use Rattle.ac_literal.specs.Packed.{Packed, search_kind, searched}
-use Rattle.acsub.specs.Finder.{Serves, whole_search}
-use Rattle.acsub.specs.Rewrite.{LieInOrder}
+use Rattle.acsub.specs.Finder.{IsFinderOf, whole_search}
+use Rattle.ac_automaton.specs.Replace.{LieInOrder}
 use Rattle.acsub.specs.Sides.{patterns_of}
 use Rattle.acsub.specs.declared.finder.Finder.TheVariants as finders
 use Rattle.acsub.specs.declared.settings.Settings.{Settings}
 use Rattle.acsub.proofs.RewriteLemmas.{walk-lies}
 
 -- the walk of a packed search that serves the settings is that of the plain program
-pub packed-walk : (settings : Settings) (patterns : List (List ℕ)) (input : List ℕ) (searcher : Packed) → Serves settings patterns (finders.Packed searcher)
+pub packed-walk : (settings : Settings) (patterns : List (List ℕ)) (input : List ℕ) (searcher : Packed) → IsFinderOf settings patterns (finders.Packed searcher)
     → walk_of (search_kind searcher.kind) (searched searcher.patterns input 0 (length input)) ≡ walk_of settings.kind (whole_search settings patterns input)
 packed-walk settings patterns input searcher serves =
     ap (λ (kind : kinds.MatchKind). walk_of kind (searched searcher.patterns input 0 (length input))) serves.0

@@ -9,3 +9,4 @@ pub mod ParseLemmas
 pub mod PlaceLemmas
 pub mod TypedLemmas
 pub mod FinderLemmas
+pub mod BuiltLemmas

@@ -29,7 +29,8 @@ use Rattle.clap.specs.declared.error.Error.{Error}
 use Rattle.clap.specs.declared.error.kind.ErrorKind.TheVariants as kind
 use Rattle.acsub.specs.declared.words.WordsFault.{WordsFault}
 use Rattle.acsub.specs.declared.words.WordsFault.TheVariants.{Help, Bad, Memory, Pairing}
-use Rattle.acsub.specs.Words.{IsFaultOf, IsTyped, Parses, engine_named, engine_of, kind_named, match_kind_of, mode_named, mode_of, rules_of}
+use Rattle.acsub.specs.declared.words.TheConstants.{MOST_DEPTH}
+use Rattle.acsub.specs.Words.{IsWordsFault, IsTyped, Parses, engine_named, engine_of, kind_named, match_kind_of, mode_named, mode_of, rules_path}
 use Rattle.std.proofs.Common.{lit<}
 use Rattle.acsub.proofs.PlaceLemmas.{same_fault, same_matches}
 use Rattle.acsub.proofs.TypedLemmas.{IsOwn, entry_there, first_accepted, has_value, same_reading}
@@ -199,7 +200,7 @@ module _ (old : Command) (lists : Lists) (names : HasNames lists) (is : app_of o
       choice mode_named 0 an_arg (codes "mode") lists.modes mode_names own (ap (λ (x : Rule). x.id) r) (ap (λ (x : Rule). x.parser) r) (ap (λ (x : Rule). x.ignore_case) r) names.modes refl
       (required_value 0 an_arg (lit< tt) own (ap (λ (x : Rule). x.action) r) (ap (λ (x : Rule). x.range) r) (ap (λ (x : Rule). x.required) r))
 
-  rules_typed : is_some (rules_of (rows_of (found_of m))) ≡ true
+  rules_typed : is_some (rules_path (rows_of (found_of m))) ≡ true
   rules_typed =
       let r : rule_of (slice_index_or (args_of old) 1 an_arg) ≡ placed (codes "rules") = rule_at old lists is 1 an_arg (lit< tt) in
       let own = own_at old lists is 1 an_arg (lit< tt) refl refl in
@@ -220,11 +221,11 @@ module _ (old : Command) (lists : Lists) (names : HasNames lists) (is : app_of o
       choice engine_named 5 an_arg (codes "engine") lists.engines engine_names own (ap (λ (x : Rule). x.id) r) (ap (λ (x : Rule). x.parser) r) (ap (λ (x : Rule). x.ignore_case) r) names.engines refl
       (default_value 5 an_arg (codes "auto") (lit< tt) own (ap (λ (x : Rule). x.action) r) (ap (λ (x : Rule). x.range) r) (ap (λ (x : Rule). x.defaults) r))
 
-  depth_typed : (t : Text) → one_of (codes "dense-depth") (rows_of (found_of m)) ≡ Some t → IsUnsignedIn 0 2147483646 t
+  depth_typed : (t : Text) → one_of (codes "dense-depth") (rows_of (found_of m)) ≡ Some t → IsUnsignedIn 0 MOST_DEPTH t
   depth_typed t e =
       let r : rule_of (slice_index_or (args_of old) 7 an_arg) ≡ depth_rule = rule_at old lists is 7 an_arg (lit< tt) in
       let own = own_at old lists is 7 an_arg (lit< tt) refl refl in
-      let q = parser.Unsigned 0 2147483646 in
+      let q = parser.Unsigned 0 MOST_DEPTH in
       let id : (slice_index_or (args_of old) 7 an_arg).id.now ≡ codes "dense-depth" = ap (λ (x : Rule). x.id) r in
       let same = same_reading old m p plain local 7 (slice_index_or (args_of old) 7 an_arg) own q (ap (λ (x : Rule). x.parser) r) refl in
       let here : one_text (found_of m) (slice_index_or (args_of old) 7 an_arg).id.now ≡ Some t = subst (λ (i : Text). one_text (found_of m) i ≡ Some t) (sym id) (one_text-rows (found_of m) (codes "dense-depth") ∙ e) in
@@ -252,11 +253,11 @@ module _ (old : Command) (lists : Lists) (names : HasNames lists) (is : app_of o
       let rows : rows_of (found_of m) ≡ matches_of command words = (has (subst (λ (a : App). is_simple a ≡ true) (sym is) refl)).0 ∙ matches_are in
       (sym fault_is ∙ fault simple_and_free, rows, subst IsTyped rows (typed old lists names is m p))
 
-  pub failed : (e : Error) (fault : WordsFault) → (is_simple_and_free (app_of old) ≡ true → HasKind (fault_of (app_of old) words) e) → IsFaultOf e fault
+  pub failed : (e : Error) (fault : WordsFault) → (is_simple_and_free (app_of old) ≡ true → HasKind (fault_of (app_of old) words) e) → IsWordsFault e fault
       → Parses words (Err fault)
   failed e fault kinds of = go fault of (subst (λ ks. HasKind ks e) fault_is (kinds simple_and_free))
     where
-      go : (fault : WordsFault) → IsFaultOf e fault → HasKind (fault_of command words) e → Parses words (Err fault)
+      go : (fault : WordsFault) → IsWordsFault e fault → HasKind (fault_of command words) e → Parses words (Err fault)
       go (Help h) of (inl memory) = let bad : kind.OutOfMemory ≡ kind.DisplayHelp = sym memory ∙ of.1 in cc
       go (Help h) of (inr among) = (ap kind_of of.0 ∙ of.1, subst (λ k. IsAmong k (fault_of command words)) of.1 among)
       go Bad of (inl memory) = absurd (of.1 memory)

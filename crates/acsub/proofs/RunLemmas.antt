@@ -15,7 +15,7 @@ use Rattle.acsub.specs.declared.settings.Settings.{Settings}
 use Rattle.acsub.specs.Input.{AreFilled, AreWhole, Gave, ReadsWhole}
 use Rattle.acsub.specs.Output.{Sent, Stopped, IsWriteFault}
 use Rattle.acsub.specs.Settings.{IsAccepted, IsFirstExclusion}
-use Rattle.acsub.specs.Run.{Moved, Tells, Answers, IsRefusal, Prepares, text_of}
+use Rattle.acsub.specs.Run.{Moved, HasMoved, AnswersRun, IsRefusal, Prepares, output_of}
 
 -- an input that was read to its end has a piece, the empty one
 AreWhole-some : (pieces : List (List ℕ)) → AreWhole pieces → pieces ≢ []
@@ -33,8 +33,8 @@ AreFilled-open pieces filled whole = AreFilled-unended whole.0 [] (subst AreFill
 abbrev pub nothing : Moved
 nothing = record { pieces = []; failed_reads = 0; taken = []; failed_writes = 0; stalled_writes = 0 }
 
-pub Tells-nothing : {R W : Type 0} (remaining : R → Option (List ℕ)) (contents : W → Option (List ℕ)) (r : Watched R) (w : Watched W) → Tells remaining contents r r w w nothing
-Tells-nothing remaining contents r w =
+pub HasMoved-nothing : {R W : Type 0} (remaining : R → Option (List ℕ)) (contents : W → Option (List ℕ)) (r : Watched R) (w : Watched W) → HasMoved remaining contents r r w w nothing
+HasMoved-nothing remaining contents r w =
     record {
       pieces = sym (append-nil (pieces_of r));
       failed_reads = sym (add-zero (failures_of r));
@@ -47,8 +47,8 @@ Tells-nothing remaining contents r w =
     }
 
 -- pieces were read, and nothing written
-pub Tells-reads : {R W : Type 0} (remaining : R → Option (List ℕ)) (contents : W → Option (List ℕ)) (r r' : Watched R) (w : Watched W) (pieces : List (List ℕ)) (failed : ℕ) → Gave remaining r r' pieces failed → (failed ≡ 0 → AreWhole pieces → IsAtEnd (remaining (inner_of r'))) → Tells remaining contents r r' w w (record { pieces = pieces; failed_reads = failed; taken = []; failed_writes = 0; stalled_writes = 0 })
-Tells-reads remaining contents r r' w pieces failed gave end =
+pub HasMoved-reads : {R W : Type 0} (remaining : R → Option (List ℕ)) (contents : W → Option (List ℕ)) (r r' : Watched R) (w : Watched W) (pieces : List (List ℕ)) (failed : ℕ) → Gave remaining r r' pieces failed → (failed ≡ 0 → AreWhole pieces → IsAtEnd (remaining (inner_of r'))) → HasMoved remaining contents r r' w w (record { pieces = pieces; failed_reads = failed; taken = []; failed_writes = 0; stalled_writes = 0 })
+HasMoved-reads remaining contents r r' w pieces failed gave end =
     record {
       pieces = gave.pieces;
       failed_reads = gave.failures;
@@ -61,28 +61,28 @@ Tells-reads remaining contents r r' w pieces failed gave end =
     }
 
 -- the answer where there was no memory before anything was read
-pub memory_answer : (settings : Settings) (rules : List Rule) (file : List ℕ) → IsRuleFile file rules → Answers settings file nothing (Err errors.Memory)
+pub memory_answer : (settings : Settings) (rules : List Rule) (file : List ℕ) → IsRuleFile file rules → AnswersRun settings file nothing (Err errors.Memory)
 memory_answer settings rules file grammar = record { rules = rules; grammar = grammar; accepted = λ some. absurd (some refl); filled = tt; written = refl; failed = (refl, refl, refl) }
 
 -- the answer where the input could not be read to its end
 pub read_answer : {R W : Type 0} (remaining : R → Option (List ℕ)) (contents : W → Option (List ℕ)) (settings : Settings) (rules : List Rule) (r r' : Watched R) (w : Watched W) (e : RunError) → IsAccepted settings rules → ReadsWhole remaining r r' (Err e)
-    → (m : Moved) × Tells remaining contents r r' w w m × ((file : List ℕ) → IsRuleFile file rules → Answers settings file m (Err e))
+    → (m : Moved) × HasMoved remaining contents r r' w w m × ((file : List ℕ) → IsRuleFile file rules → AnswersRun settings file m (Err e))
 read_answer remaining contents settings rules r r' w (errors.Rule e) accepted h = absurd h
 read_answer remaining contents settings rules r r' w (errors.Setting e) accepted h = absurd h
-read_answer remaining contents settings rules r r' w (errors.Read e) accepted h = (_, Tells-reads remaining contents r r' w h.0 1 h.1 (λ e _. absurd (omega (arith, e))), λ file grammar. record { rules = rules; grammar = grammar; accepted = accepted; written = refl; failed = (refl, refl, refl) })
+read_answer remaining contents settings rules r r' w (errors.Read e) accepted h = (_, HasMoved-reads remaining contents r r' w h.0 1 h.1 (λ e _. absurd (omega (arith, e))), λ file grammar. record { rules = rules; grammar = grammar; accepted = accepted; written = refl; failed = (refl, refl, refl) })
 read_answer remaining contents settings rules r r' w (errors.Write e) accepted h = absurd h
 read_answer remaining contents settings rules r r' w errors.WriteZero accepted h = absurd h
-read_answer remaining contents settings rules r r' w errors.Memory accepted h = (_, Tells-reads remaining contents r r' w h.0 0 h.1 (λ _ whole. absurd (AreFilled-open h.0 h.2 whole)), λ file grammar. record { rules = rules; grammar = grammar; accepted = λ _. accepted; filled = h.2; written = refl; failed = (refl, refl, refl) })
+read_answer remaining contents settings rules r r' w errors.Memory accepted h = (_, HasMoved-reads remaining contents r r' w h.0 0 h.1 (λ _ whole. absurd (AreFilled-open h.0 h.2 whole)), λ file grammar. record { rules = rules; grammar = grammar; accepted = λ _. accepted; filled = h.2; written = refl; failed = (refl, refl, refl) })
 read_answer remaining contents settings rules r r' w errors.Position accepted h = absurd h
 
 -- the answer once the input was read to its end
 pub write_answer : {R W : Type 0} (remaining : R → Option (List ℕ)) (contents : W → Option (List ℕ)) (settings : Settings) (rules : List Rule) (r r' : Watched R) (w w' : Watched W) (pieces : List (List ℕ)) (input : List ℕ) (result : Result (Unit {0}) RunError) → IsAccepted settings rules → Gave remaining r r' pieces 0 → AreWhole pieces → input ≡ concat pieces → IsAtEnd (remaining (inner_of r'))
-    → OnOk result (Sent contents w w' [] [] (text_of settings rules input)) → OnErr result (Stopped contents w w' [] (text_of settings rules input)) → IfErr result (IsWriteFault w w')
-    → (m : Moved) × Tells remaining contents r r' w w' m × ((file : List ℕ) → IsRuleFile file rules → Answers settings file m result)
+    → OnOk result (Sent contents w w' [] [] (output_of settings rules input)) → OnErr result (Stopped contents w w' [] (output_of settings rules input)) → IfErr result (IsWriteFault w w')
+    → (m : Moved) × HasMoved remaining contents r r' w w' m × ((file : List ℕ) → IsRuleFile file rules → AnswersRun settings file m result)
 write_answer remaining contents settings rules r r' w w' pieces input (Ok done) accepted gave whole is end sent stopped kind = (
   record { pieces = pieces; failed_reads = 0; taken = sent.gained; failed_writes = 0; stalled_writes = 0 },
   record { pieces = gave.pieces; failed_reads = gave.failures; taken = sent.taken; failed_writes = sent.fine.failures ∙ sym (add-zero _); stalled_writes = sent.fine.stalls ∙ sym (add-zero _); reader_device = gave.device; reader_end = λ _ _. end; writer_device = sent.device },
-  λ file grammar. record { rules = rules; grammar = grammar; accepted = accepted; whole = whole; written = sym (append-nil sent.gained) ∙ sent.order ∙ ap (text_of settings rules) is; failed = (refl, refl, refl) },
+  λ file grammar. record { rules = rules; grammar = grammar; accepted = accepted; whole = whole; written = sym (append-nil sent.gained) ∙ sent.order ∙ ap (output_of settings rules) is; failed = (refl, refl, refl) },
 )
 write_answer remaining contents settings rules r r' w w' pieces input (Err (errors.Rule e)) accepted gave whole is end sent stopped kind = absurd kind
 write_answer remaining contents settings rules r r' w w' pieces input (Err (errors.Setting e)) accepted gave whole is end sent stopped kind = absurd kind
@@ -90,18 +90,18 @@ write_answer remaining contents settings rules r r' w w' pieces input (Err (erro
 write_answer remaining contents settings rules r r' w w' pieces input (Err (errors.Write e)) accepted gave whole is end sent stopped kind = (
   record { pieces = pieces; failed_reads = 0; taken = stopped.gained; failed_writes = 1; stalled_writes = 0 },
   record { pieces = gave.pieces; failed_reads = gave.failures; taken = stopped.taken; failed_writes = stopped.failures; stalled_writes = kind ∙ sym (add-zero _); reader_device = gave.device; reader_end = λ _ _. end; writer_device = stopped.device },
-  λ file grammar. record { rules = rules; grammar = grammar; accepted = accepted; whole = whole; written = (stopped.lost, ap (text_of settings rules) (sym is) ∙ sym stopped.order); failed = (refl, refl, refl) },
+  λ file grammar. record { rules = rules; grammar = grammar; accepted = accepted; whole = whole; written = (stopped.lost, ap (output_of settings rules) (sym is) ∙ sym stopped.order); failed = (refl, refl, refl) },
 )
 write_answer remaining contents settings rules r r' w w' pieces input (Err errors.WriteZero) accepted gave whole is end sent stopped kind = (
   record { pieces = pieces; failed_reads = 0; taken = stopped.gained; failed_writes = 1; stalled_writes = 1 },
   record { pieces = gave.pieces; failed_reads = gave.failures; taken = stopped.taken; failed_writes = stopped.failures; stalled_writes = kind; reader_device = gave.device; reader_end = λ _ _. end; writer_device = stopped.device },
-  λ file grammar. record { rules = rules; grammar = grammar; accepted = accepted; whole = whole; written = (stopped.lost, ap (text_of settings rules) (sym is) ∙ sym stopped.order); failed = (refl, refl, refl) },
+  λ file grammar. record { rules = rules; grammar = grammar; accepted = accepted; whole = whole; written = (stopped.lost, ap (output_of settings rules) (sym is) ∙ sym stopped.order); failed = (refl, refl, refl) },
 )
 write_answer remaining contents settings rules r r' w w' pieces input (Err errors.Memory) accepted gave whole is end sent stopped kind = absurd kind
 write_answer remaining contents settings rules r r' w w' pieces input (Err errors.Position) accepted gave whole is end sent stopped kind = absurd kind
 
 -- why there are no rules is the answer
-pub prepared_answer : (settings : Settings) (file : List ℕ) (e : RunError) → Prepares settings file (Err e) → Answers settings file nothing (Err e)
+pub prepared_answer : (settings : Settings) (file : List ℕ) (e : RunError) → Prepares settings file (Err e) → AnswersRun settings file nothing (Err e)
 prepared_answer settings file (errors.Rule (rule_errors.Line n)) h = h
 prepared_answer settings file (errors.Rule rule_errors.Memory) h = h
 prepared_answer settings file (errors.Setting e) h = h
@@ -116,7 +116,7 @@ other_answer : (file : List ℕ) (rules : List Rule) (result : Result (Unit {0})
 other_answer file rules result n grammar other = (λ is. absurd (other is), λ bad. absurd (FirstBadLine-none file n rules grammar bad))
 
 -- a bad line is answered exactly where there is one
-pub bad_line_answer : (settings : Settings) (file : List ℕ) (m : Moved) (result : Result (Unit {0}) RunError) → Answers settings file m result → (n : ℕ) → (result ≡ Err (errors.Rule (rule_errors.Line n))) ↔ FirstBadLine file n
+pub bad_line_answer : (settings : Settings) (file : List ℕ) (m : Moved) (result : Result (Unit {0}) RunError) → AnswersRun settings file m result → (n : ℕ) → (result ≡ Err (errors.Rule (rule_errors.Line n))) ↔ FirstBadLine file n
 bad_line_answer settings file m (Ok done) a n = other_answer file a.rules (Ok done) n a.grammar (λ e. cc)
 bad_line_answer settings file m (Err (errors.Rule (rule_errors.Line k))) a n = (λ e. let same : k ≡ n = cc in subst (FirstBadLine file) same a, λ bad. ap (λ (j : ℕ). Err (errors.Rule (rule_errors.Line j))) (FirstBadLine-one file k n a bad))
 bad_line_answer settings file m (Err (errors.Rule rule_errors.Memory)) a n = absurd a
@@ -128,7 +128,7 @@ bad_line_answer settings file m (Err errors.Memory) a n = other_answer file a.ru
 bad_line_answer settings file m (Err errors.Position) a n = other_answer file a.rules (Err errors.Position) n a.grammar (λ h. cc)
 
 -- where rules and settings go together, neither is refused
-pub accepted_answer : (settings : Settings) (file : List ℕ) (m : Moved) (rules : List Rule) (result : Result (Unit {0}) RunError) → IsRuleFile file rules → IsAccepted settings rules → Answers settings file m result → ¬ IsRefusal result
+pub accepted_answer : (settings : Settings) (file : List ℕ) (m : Moved) (rules : List Rule) (result : Result (Unit {0}) RunError) → IsRuleFile file rules → IsAccepted settings rules → AnswersRun settings file m result → ¬ IsRefusal result
 accepted_answer settings file m rules (Ok done) grammar accepted a refusal = refusal
 accepted_answer settings file m rules (Err (errors.Rule (rule_errors.Line n))) grammar accepted a refusal = FirstBadLine-none file n rules grammar a
 accepted_answer settings file m rules (Err (errors.Rule rule_errors.Memory)) grammar accepted a refusal = a

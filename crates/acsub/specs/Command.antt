@@ -1,10 +1,13 @@
 -- The command line of the program, as data.
 use Rattle.std.specs.Prelude.{◌≡◌, List, [], ◌∷◌, Some, true, codes, map}
 use Rattle.std.specs.Borrow.{Bor}
-use Rattle.clap.specs.Words.{App, Rule, Text, new_app, new_rule, with_rule}
+use Rattle.clap.specs.Words.{App, Rule, Text, app_of, items_of, new_app, new_rule, with_rule}
 use Rattle.clap.specs.Walk.{texts}
 use Rattle.clap.specs.declared.builder.action.ArgAction.TheVariants.{Set, SetTrue}
+use Rattle.clap.specs.declared.builder.arg.Arg.{Arg}
+use Rattle.clap.specs.declared.builder.command.Command.{Command}
 use Rattle.clap.specs.declared.builder.value_parser.ValueParser.TheVariants as parser
+use Rattle.acsub.specs.declared.words.TheConstants.{MOST_DEPTH}
 
 -- the values that three of the arguments take
 abbrev pub mode_names : List Text
@@ -44,6 +47,10 @@ placed id = record (new_rule id) { action = Some Set; required = true; value_nam
 abbrev pub option : Text → Rule
 option id = record (new_rule id) { long = Some id; action = Some Set; value_names = 1 }
 
+-- `--id VALUE`, which takes one of these names, and where it isn't given this one
+abbrev pub choice : Text → Names → Text → Rule
+choice id names default = record (option id) { defaults = default ∷ []; parser = Some (parser.Names names) }
+
 -- `--id`
 abbrev pub flag : Text → Rule
 flag id = record (new_rule id) { long = Some id; action = Some SetTrue }
@@ -52,21 +59,45 @@ abbrev pub mode_rule : Names → Rule
 mode_rule names = record (placed (codes "mode")) { parser = Some (parser.Names names) }
 
 abbrev pub kind_rule : Names → Rule
-kind_rule names = record (option (codes "kind")) { defaults = codes "standard" ∷ []; parser = Some (parser.Names names) }
+kind_rule names = choice (codes "kind") names (codes "standard")
 
 abbrev pub engine_rule : Names → Rule
-engine_rule names = record (option (codes "engine")) { defaults = codes "auto" ∷ []; parser = Some (parser.Names names) }
+engine_rule names = choice (codes "engine") names (codes "auto")
 
 abbrev pub depth_rule : Rule
-depth_rule = record (option (codes "dense-depth")) { parser = Some (parser.Unsigned 0 2147483646) }
+depth_rule = record (option (codes "dense-depth")) { parser = Some (parser.Unsigned 0 MOST_DEPTH) }
+
+-- an application, with the options that say what a match is
+abbrev pub with_matching : Names → App → App
+with_matching kinds a = with_rule (with_rule (with_rule a (kind_rule kinds)) (flag (codes "fold"))) (option (codes "pairs"))
+
+-- an application, with the options that say what searches
+abbrev pub with_engine : Names → App → App
+with_engine engines a =
+    with_rule (with_rule (with_rule (with_rule a (engine_rule engines)) (flag (codes "no-prefilter"))) depth_rule) (flag (codes "no-byte-classes"))
 
 abbrev pub command_with : Lists → App
 command_with lists =
-    with_rule (with_rule (with_rule (with_rule (with_rule (with_rule (with_rule (with_rule (with_rule (new_app (codes "acsub"))
-    (mode_rule lists.modes)) (placed (codes "rules")))
-    (kind_rule lists.kinds)) (flag (codes "fold"))) (option (codes "pairs")))
-    (engine_rule lists.engines)) (flag (codes "no-prefilter"))) depth_rule) (flag (codes "no-byte-classes"))
+    with_engine lists.engines (with_matching lists.kinds (with_rule (with_rule (new_app (codes "acsub")) (mode_rule lists.modes)) (placed (codes "rules"))))
 
 -- acsub MODE RULES [--kind K] [--fold] [--pairs HEX] [--engine E] [--no-prefilter] [--dense-depth N] [--no-byte-classes]
 abbrev pub command : App
 command = command_with (record { modes = as_names mode_names; kinds = as_names kind_names; engines = as_names engine_names })
+
+-- ---- what clap's builder made
+
+-- the command of the program, whose names lie somewhere
+abbrev pub IsCommand : Command → Type 0
+IsCommand made = (lists : Lists) × HasNames lists × (app_of made ≡ command_with lists)
+
+-- the second is the first, with the options that say what a match is
+abbrev pub AddsMatching : Command → Command → Type 0
+AddsMatching before made = (kinds : Names) × (texts kinds.now ≡ kind_names) × (app_of made ≡ with_matching kinds (app_of before))
+
+-- the second is the first, with the options that say what searches
+abbrev pub AddsEngine : Command → Command → Type 0
+AddsEngine before made = (engines : Names) × (texts engines.now ≡ engine_names) × (app_of made ≡ with_engine engines (app_of before))
+
+-- help calls the argument's value by this name, and says this of the argument
+abbrev pub Shows : Arg → Bor Text → Bor Text → Type 0
+Shows made name help = (items_of made.val_names ≡ name ∷ []) × (made.help ≡ Some help)

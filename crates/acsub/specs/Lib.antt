@@ -4,7 +4,6 @@ pub mod Settings
 pub mod Output
 pub mod Input
 pub mod Run
-pub mod Rewrite
 pub mod Command
 pub mod Words
 pub mod Tool

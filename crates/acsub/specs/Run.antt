@@ -1,5 +1,5 @@
 -- What a run writes, and what its answers say.
-use Rattle.std.specs.Prelude.{◌≡◌, ◌≢◌, ℕ, ◌+◌, ◌<◌, List, [], ◌++◌, length, false, Result, Option, Ok, Err}
+use Rattle.std.specs.Prelude.{◌↔◌, ◌≡◌, ◌≢◌, ℕ, ◌+◌, ◌<◌, List, [], ◌++◌, length, Result, Option, Ok, Err}
 use Rattle.std.specs.Io.KnownBytes.{Appends, Consumes, IsAtEnd}
 use Rattle.std.specs.List.{concat}
 use Rattle.ac_input.specs.BeginningLaws.{IsBeginning}
@@ -16,13 +16,10 @@ use Rattle.acsub.specs.declared.error.RunError.TheVariants as errors
 use Rattle.acsub.specs.declared.settings.Mode.{Mode}
 use Rattle.acsub.specs.declared.settings.Mode.TheVariants as modes
 use Rattle.acsub.specs.declared.settings.Settings.{Settings}
+use Rattle.acsub.specs.Finder.{whole_search}
 use Rattle.acsub.specs.Input.{AreFilled, AreWhole}
 use Rattle.acsub.specs.Settings.{IsAccepted, IsFirstExclusion}
 use Rattle.acsub.specs.Sides.{patterns_of, replacements_of}
-
--- the whole of an input, searched for the patterns of the rules
-abbrev pub search_of : Settings → List Rule → List ℕ → Search
-search_of settings rules input = record { patterns = patterns_of rules; pairing = settings.pairing; haystack = input; start = 0; end = length input; anchored = false }
 
 -- the text that a mode makes of a search
 abbrev pub text_in : Mode → MatchKind → List (List ℕ) → Search → List ℕ
@@ -31,8 +28,8 @@ text_in modes.List kind replacements s = listed (walk_of kind s)
 text_in modes.Overlap kind replacements s = listed (listing_of s)
 
 -- The text that settings and rules make of an input. The engine, its prefilter, dense depth and byte classes are not in it.
-abbrev pub text_of : Settings → List Rule → List ℕ → List ℕ
-text_of settings rules input = text_in settings.mode settings.kind (replacements_of rules) (search_of settings rules input)
+abbrev pub output_of : Settings → List Rule → List ℕ → List ℕ
+output_of settings rules input = text_in settings.mode settings.kind (replacements_of rules) (whole_search settings (patterns_of rules) input)
 
 -- what a run moved: the pieces that its reads gave, how many reads failed, the bytes that its writes took, how many writes
 -- failed, and how many of those were handed bytes and took none
@@ -45,7 +42,7 @@ pub record Moved : Type 0 where
 
 -- A reader and a writer, before and after, tell that this was moved. A device in memory tells it by its bytes too: what is left
 -- to read lost what was read, and is at its end where that was all; what the writer holds grew by what was written.
-pub record Tells {R W : Type 0} (remaining : R → Option (List ℕ)) (contents : W → Option (List ℕ)) (reader_before reader_after : Watched R) (writer_before writer_after : Watched W) (m : Moved) : Type 0 where
+pub record HasMoved {R W : Type 0} (remaining : R → Option (List ℕ)) (contents : W → Option (List ℕ)) (reader_before reader_after : Watched R) (writer_before writer_after : Watched W) (m : Moved) : Type 0 where
   pub pieces : pieces_of reader_after ≡ pieces_of reader_before ++ m.pieces
   pub failed_reads : failures_of reader_after ≡ failures_of reader_before + m.failed_reads
   pub taken : taken_of writer_after ≡ taken_of writer_before ++ m.taken
@@ -65,11 +62,11 @@ pub record RanWhole (settings : Settings) (file : List ℕ) (m : Moved) : Type 0
   pub grammar : IsRuleFile file rules
   pub accepted : IsAccepted settings rules
   pub whole : AreWhole m.pieces
-  pub written : m.taken ≡ text_of settings rules (concat m.pieces)
+  pub written : m.taken ≡ output_of settings rules (concat m.pieces)
   pub failed : Failed m 0 0 0
 
 -- A read failed, and nothing was written.
-pub record ReadFailed (settings : Settings) (file : List ℕ) (m : Moved) : Type 0 where
+pub record RanToFailedRead (settings : Settings) (file : List ℕ) (m : Moved) : Type 0 where
   pub rules : List Rule
   pub grammar : IsRuleFile file rules
   pub accepted : IsAccepted settings rules
@@ -78,17 +75,17 @@ pub record ReadFailed (settings : Settings) (file : List ℕ) (m : Moved) : Type
 
 -- A write failed, or was handed bytes and took none, when the input had been read to its end; a beginning of its text was
 -- written.
-pub record WriteFailed (settings : Settings) (file : List ℕ) (m : Moved) (stalls : ℕ) : Type 0 where
+pub record RanToFailedWrite (settings : Settings) (file : List ℕ) (m : Moved) (stalls : ℕ) : Type 0 where
   pub rules : List Rule
   pub grammar : IsRuleFile file rules
   pub accepted : IsAccepted settings rules
   pub whole : AreWhole m.pieces
-  pub written : IsBeginning m.taken (text_of settings rules (concat m.pieces))
+  pub written : IsBeginning m.taken (output_of settings rules (concat m.pieces))
   pub failed : Failed m 0 1 stalls
 
 -- There was no memory: nothing was written, and the end of the input was not read. Nothing was read at all unless the
 -- settings are accepted.
-pub record MemoryFailed (settings : Settings) (file : List ℕ) (m : Moved) : Type 0 where
+pub record RanOutOfMemory (settings : Settings) (file : List ℕ) (m : Moved) : Type 0 where
   pub rules : List Rule
   pub grammar : IsRuleFile file rules
   pub accepted : m.pieces ≢ [] → IsAccepted settings rules
@@ -97,25 +94,43 @@ pub record MemoryFailed (settings : Settings) (file : List ℕ) (m : Moved) : Ty
   pub failed : Failed m 0 0 0
 
 -- The input is longer than places can be counted; a beginning of its text was written.
-pub record PositionFailed (settings : Settings) (file : List ℕ) (m : Moved) : Type 0 where
+pub record RanOutOfPlaces (settings : Settings) (file : List ℕ) (m : Moved) : Type 0 where
   pub rules : List Rule
   pub grammar : IsRuleFile file rules
   pub accepted : IsAccepted settings rules
   pub long : 18446744073709551615 < length (concat m.pieces)
-  pub written : IsBeginning m.taken (text_of settings rules (concat m.pieces))
+  pub written : IsBeginning m.taken (output_of settings rules (concat m.pieces))
   pub failed : Failed m 0 0 0
 
 -- what an answer of a run says of the settings, the rule file, and what was moved
-abbrev pub Answers : Settings → List ℕ → Moved → Result (Unit {0}) RunError → Type 0
-Answers settings file m (Ok done) = RanWhole settings file m
-Answers settings file m (Err (errors.Rule (rule_errors.Line n))) = FirstBadLine file n
-Answers settings file m (Err (errors.Rule rule_errors.Memory)) = ⊥
-Answers settings file m (Err (errors.Setting e)) = (rules : List Rule) × IsRuleFile file rules × IsFirstExclusion settings rules e
-Answers settings file m (Err (errors.Read e)) = ReadFailed settings file m
-Answers settings file m (Err (errors.Write e)) = WriteFailed settings file m 0
-Answers settings file m (Err errors.WriteZero) = WriteFailed settings file m 1
-Answers settings file m (Err errors.Memory) = MemoryFailed settings file m
-Answers settings file m (Err errors.Position) = PositionFailed settings file m
+abbrev pub AnswersRun : Settings → List ℕ → Moved → Result (Unit {0}) RunError → Type 0
+AnswersRun settings file m (Ok done) = RanWhole settings file m
+AnswersRun settings file m (Err (errors.Rule (rule_errors.Line n))) = FirstBadLine file n
+AnswersRun settings file m (Err (errors.Rule rule_errors.Memory)) = ⊥
+AnswersRun settings file m (Err (errors.Setting e)) = (rules : List Rule) × IsRuleFile file rules × IsFirstExclusion settings rules e
+AnswersRun settings file m (Err (errors.Read e)) = RanToFailedRead settings file m
+AnswersRun settings file m (Err (errors.Write e)) = RanToFailedWrite settings file m 0
+AnswersRun settings file m (Err errors.WriteZero) = RanToFailedWrite settings file m 1
+AnswersRun settings file m (Err errors.Memory) = RanOutOfMemory settings file m
+AnswersRun settings file m (Err errors.Position) = RanOutOfPlaces settings file m
+
+-- What was read and written, and by which answer, where the rules are those of a file.
+abbrev pub Ran : {R W : Type 0} → (R → Option (List ℕ)) → (W → Option (List ℕ)) → Watched R → Watched R → Watched W → Watched W → Settings → List ℕ → Result (Unit {0}) RunError → Type 0
+Ran remaining contents reader_before reader_after writer_before writer_after settings file result =
+    (m : Moved) × HasMoved remaining contents reader_before reader_after writer_before writer_after m × AnswersRun settings file m result
+
+-- the same, where the rules are known, whichever file spells them
+abbrev pub RanRules : {R W : Type 0} → (R → Option (List ℕ)) → (W → Option (List ℕ)) → Watched R → Watched R → Watched W → Watched W → Settings → List Rule → Result (Unit {0}) RunError → Type 0
+RanRules remaining contents reader_before reader_after writer_before writer_after settings rules result =
+    (m : Moved) × HasMoved remaining contents reader_before reader_after writer_before writer_after m × ((file : List ℕ) → IsRuleFile file rules → AnswersRun settings file m result)
+
+-- neither the reader nor the writer was touched
+abbrev pub NoneTouched : {R W : Type 0} → Watched R → Watched R → Watched W → Watched W → Type 0
+NoneTouched reader_before reader_after writer_before writer_after = (reader_after ≡ reader_before) × (writer_after ≡ writer_before)
+
+-- the first bad line is what is answered, and no other line
+abbrev pub AnswersBadLine : List ℕ → Result (Unit {0}) RunError → Type 0
+AnswersBadLine file result = (n : ℕ) → (result ≡ Err (errors.Rule (rule_errors.Line n))) ↔ FirstBadLine file n
 
 -- the rules or the settings were refused
 abbrev pub IsRefusal : Result (Unit {0}) RunError → Type 0

@@ -1,5 +1,5 @@
 -- Which settings are accepted.
-use Rattle.std.specs.Prelude.{◌≡◌, ◌≢◌, ℕ, ◌<◌, List, [], length, ◌⊎◌}
+use Rattle.std.specs.Prelude.{◌≡◌, ◌≢◌, ℕ, ◌<◌, List, [], length, ◌⊎◌, Result, MatchResult}
 use Rattle.ac_input.specs.Same.{IsUnpaired}
 use Rattle.ac_input.specs.Rules.{Rule}
 use Rattle.ac_input.specs.declared.search.MatchKind.TheVariants.{Standard}
@@ -7,6 +7,7 @@ use Rattle.acsub.specs.Lines.{rule_at}
 use Rattle.acsub.specs.declared.settings.Settings.{Settings}
 use Rattle.acsub.specs.declared.settings.Mode.TheVariants.{Overlap}
 use Rattle.acsub.specs.declared.settings.Engine.TheVariants.{Packed}
+use Rattle.acsub.specs.declared.settings.TheConstants.{MOST_PACKED}
 use Rattle.acsub.specs.declared.settings.SettingError.{SettingError}
 use Rattle.acsub.specs.declared.settings.SettingError.TheVariants.{OverlapLeftmost, PackedStandard, PackedFold, PackedEmpty, PackedCount}
 
@@ -20,7 +21,7 @@ IsExcluded s rules OverlapLeftmost = (s.mode ≡ Overlap) × (s.kind ≢ Standar
 IsExcluded s rules PackedStandard = (s.engine ≡ Packed) × (s.kind ≡ Standard)
 IsExcluded s rules PackedFold = (s.engine ≡ Packed) × ¬ IsUnpaired s.pairing
 IsExcluded s rules PackedEmpty = (s.engine ≡ Packed) × HasEmptyPattern rules
-IsExcluded s rules PackedCount = (s.engine ≡ Packed) × ((length rules ≡ 0) ⊎ (128 < length rules))
+IsExcluded s rules PackedCount = (s.engine ≡ Packed) × ((length rules ≡ 0) ⊎ (MOST_PACKED < length rules))
 
 -- the order in which reasons are told
 abbrev pub place_of : SettingError → ℕ
@@ -37,3 +38,7 @@ IsAccepted s rules = (e : SettingError) → ¬ IsExcluded s rules e
 -- the first reason that excludes the settings
 abbrev pub IsFirstExclusion : Settings → List Rule → SettingError → Type 0
 IsFirstExclusion s rules e = IsExcluded s rules e × ((earlier : SettingError) → place_of earlier < place_of e → ¬ IsExcluded s rules earlier)
+
+-- whether settings are accepted, with these rules, and if not why
+abbrev pub Decides : Settings → List Rule → Result (Unit {0}) SettingError → Type 0
+Decides s rules result = MatchResult result (λ _. IsAccepted s rules) (IsFirstExclusion s rules)

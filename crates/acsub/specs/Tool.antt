@@ -13,7 +13,7 @@ use Rattle.acsub.specs.declared.settings.SettingError.{SettingError}
 use Rattle.acsub.specs.declared.settings.SettingError.TheVariants.{OverlapLeftmost, PackedStandard, PackedFold, PackedEmpty, PackedCount}
 use Rattle.acsub.specs.declared.words.Words.{Words}
 use Rattle.acsub.specs.declared.words.WordsFault.TheVariants.{Help}
-use Rattle.acsub.specs.Run.{Moved, Tells, RanWhole}
+use Rattle.acsub.specs.Run.{Moved, HasMoved, RanWhole}
 use Rattle.acsub.specs.Words.{Reads}
 use Rattle.acsub.specs.declared.tool.Fault.{Fault}
 use Rattle.acsub.specs.declared.tool.Fault.TheVariants as faults
@@ -76,5 +76,5 @@ IsFaultOf _ other fault = fault ≡ other
 -- was asked for, and nothing was read.
 abbrev pub IsDone : {R W : Type 0} → (R → Option (List ℕ)) → (W → Option (List ℕ)) → List (List ℕ) → Watched R → Watched R → Watched W → Watched W → Type 0
 IsDone remaining contents words reader_before reader_after writer_before writer_after =
-    ((w : Words) × Reads words (Ok w) × (file : List ℕ) × (m : Moved) × Tells remaining contents reader_before reader_after writer_before writer_after m × RanWhole w.settings file m)
+    ((w : Words) × Reads words (Ok w) × (file : List ℕ) × (m : Moved) × HasMoved remaining contents reader_before reader_after writer_before writer_after m × RanWhole w.settings file m)
     ⊎ ((help : Error) × Reads words (Err (Help help)) × (reader_after ≡ reader_before))

@@ -1,5 +1,5 @@
 -- What the words of a command line ask for.
-use Rattle.std.specs.Prelude.{◌≡◌, ◌≢◌, ◌⊎◌, ℕ, Bool, true, false, not, if◌then◌else◌, List, [], Option, Some, None, Result, Ok, Err, codes, option_map, option_and_then, is_some}
+use Rattle.std.specs.Prelude.{◌++◌, ◌<◌, MatchResult, length, ◌≡◌, ◌≢◌, ◌⊎◌, ℕ, Bool, true, false, not, if◌then◌else◌, List, [], Option, Some, None, Result, Ok, Err, codes, option_map, option_and_then, is_some}
 use Rattle.std.specs.Option.{option_map_or}
 use Rattle.std.specs.Str.{bytes_eq}
 use Rattle.std.specs.Str.Parse.{digits_value, without_leading_plus}
@@ -22,6 +22,7 @@ use Rattle.acsub.specs.declared.settings.Mode.{Mode}
 use Rattle.acsub.specs.declared.settings.Mode.TheVariants as mode
 use Rattle.acsub.specs.declared.settings.Engine.{Engine}
 use Rattle.acsub.specs.declared.settings.Engine.TheVariants as engine
+use Rattle.acsub.specs.declared.words.TheConstants.{MOST_DEPTH}
 use Rattle.acsub.specs.declared.words.Words.{Words}
 use Rattle.acsub.specs.declared.words.WordsFault.{WordsFault}
 use Rattle.acsub.specs.declared.words.WordsFault.TheVariants.{Help, Bad, Memory, Pairing}
@@ -56,13 +57,17 @@ number_of digits = digits_value 10 (without_leading_plus digits)
 abbrev pub SpellsPairs : Text → List (ℕ × ℕ) → Type 0
 SpellsPairs hex pairs = (pairs ≢ []) × Spells hex (named pairs)
 
+-- what each argument was given
+abbrev pub rows_in : ArgMatches → List Row
+rows_in matches = rows_of (found_of matches)
+
 -- ---- what the matches give, by the ids of the arguments
 
 abbrev pub mode_of : List Row → Option Mode
 mode_of rows = option_and_then mode_named (first_of (codes "mode") rows)
 
-abbrev pub rules_of : List Row → Option Text
-rules_of rows = first_of (codes "rules") rows
+abbrev pub rules_path : List Row → Option Text
+rules_path rows = first_of (codes "rules") rows
 
 abbrev pub match_kind_of : List Row → Option MatchKind
 match_kind_of rows = option_and_then kind_named (first_of (codes "kind") rows)
@@ -114,6 +119,14 @@ Unpairs rows Bad = PairsBadly (folds rows) (pairs_text rows)
 Unpairs rows Memory = Unit {0}
 Unpairs rows (Pairing e) = PairsTwice (folds rows) (pairs_text rows) e
 
+-- the pairing of the matches, or why they give none
+abbrev pub Pairs : List Row → Result (List ℕ) WordsFault → Type 0
+Pairs rows result = MatchResult result (IsPairedBy rows) (Unpairs rows)
+
+-- the pairs name the bytes two by two, but for one that may be left over
+abbrev pub AreTwoByTwo : List ℕ → List (ℕ × ℕ) → Type 0
+AreTwoByTwo bytes pairs = (rest : List ℕ) × (bytes ≡ named pairs ++ rest) × (length rest < 2)
+
 -- why hex spells no pairs
 abbrev pub Misspells : Text → WordsFault → Type 0
 Misspells hex (Help e) = ⊥
@@ -126,7 +139,7 @@ Misspells hex (Pairing e) = ⊥
 -- the settings and the path are those that the matches give
 pub record AsksFor (rows : List Row) (w : Words) : Type 0 where
   pub mode : mode_of rows ≡ Some w.settings.mode
-  pub rules : rules_of rows ≡ Some w.rules.now
+  pub rules : rules_path rows ≡ Some w.rules.now
   pub kind : match_kind_of rows ≡ Some w.settings.kind
   pub pairing : IsPairedBy rows w.settings.pairing
   pub engine : engine_of rows ≡ Some w.settings.engine
@@ -137,15 +150,15 @@ pub record AsksFor (rows : List Row) (w : Words) : Type 0 where
 -- each value names what its argument asks for, as clap saw to
 pub record IsTyped (rows : List Row) : Type 0 where
   pub mode : is_some (mode_of rows) ≡ true
-  pub rules : is_some (rules_of rows) ≡ true
+  pub rules : is_some (rules_path rows) ≡ true
   pub kind : is_some (match_kind_of rows) ≡ true
   pub engine : is_some (engine_of rows) ≡ true
-  pub dense_depth : (text : Text) → one_of (codes "dense-depth") rows ≡ Some text → IsUnsignedIn 0 2147483646 text
+  pub dense_depth : (text : Text) → one_of (codes "dense-depth") rows ≡ Some text → IsUnsignedIn 0 MOST_DEPTH text
 
 -- what is answered where these are the matches
-abbrev pub Answers : List Row → Result Words WordsFault → Type 0
-Answers rows (Ok w) = AsksFor rows w
-Answers rows (Err fault) = Unpairs rows fault
+abbrev pub ReadsMatches : List Row → Result Words WordsFault → Type 0
+ReadsMatches rows (Ok w) = AsksFor rows w
+ReadsMatches rows (Err fault) = Unpairs rows fault
 
 -- clap finds a fault with the words, and help was not asked for
 abbrev pub IsRefused : Kinds → Type 0
@@ -174,8 +187,8 @@ abbrev pub hex_fault : FromHexError → WordsFault
 hex_fault OutOfMemory = Memory
 hex_fault _ = Bad
 
-abbrev pub IsFaultOf : Error → WordsFault → Type 0
-IsFaultOf error (Help e) = (e ≡ error) × (kind_of error ≡ kind.DisplayHelp)
-IsFaultOf error Bad = (kind_of error ≢ kind.DisplayHelp) × (kind_of error ≢ kind.OutOfMemory)
-IsFaultOf error Memory = kind_of error ≡ kind.OutOfMemory
-IsFaultOf error (Pairing e) = ⊥
+abbrev pub IsWordsFault : Error → WordsFault → Type 0
+IsWordsFault error (Help e) = (e ≡ error) × (kind_of error ≡ kind.DisplayHelp)
+IsWordsFault error Bad = (kind_of error ≢ kind.DisplayHelp) × (kind_of error ≢ kind.OutOfMemory)
+IsWordsFault error Memory = kind_of error ≡ kind.OutOfMemory
+IsWordsFault error (Pairing e) = ⊥

@@ -2,6 +2,7 @@
 ghost use Rattle.std.specs.Prelude.{◌≡◌, ◌+◌, ◌≤◌, false, take, vec_len, OnOk};
 ghost use Rattle.ac_automaton.specs.Watched.{has_ended};
 ghost use Rattle.acsub.specs.Input.{ReadsWhole};
+ghost use Rattle.acsub.specs.declared.input.TheConstants.{PIECE};
 
 use crate::error::RunError;
 use ac_automaton::watched::Watched;
@@ -38,7 +39,7 @@ pub fn read_whole<R: Read>(alloc: Global, reader: &mut Watched<R>) -> Result<Vec
 fn make_room(input: &mut Vec<u8>, filled: usize) -> Result<(), AllocError>
     requires { filled ≤ vec_len input.old }
     ensures kept { take filled input.new.items ≡ take filled input.old.items }
-    ensures room { OnOk result (filled + 65536 ≤ vec_len input.new) }
+    ensures room { OnOk result (filled + PIECE ≤ vec_len input.new) }
     ensures grows { vec_len input.old ≤ vec_len input.new }
 {
     let len = input.len();

@@ -15,18 +15,19 @@ const LONGEST: usize = 63;
 /// A line of a list. A contract sees its bytes.
 #[derive(Drop)]
 pub struct Line {
-    bytes: [u8; 63],
+    bytes: [u8; LONGEST],
     start: usize,
 }
 
 impl Model for Line {
     ghost use Rattle.std.specs.Prelude.{ℕ, ◌≡◌, ◌≤◌, List, length, drop};
+    ghost use Rattle.acsub.specs.declared.line.TheConstants.{LONGEST};
 
     ghost Value = { List ℕ };
 
     ghost view = { λ it. drop it.start it.bytes };
 
-    ghost invariant = { λ it. (it.start ≤ 63) × (length it.bytes ≡ 63) };
+    ghost invariant = { λ it. (it.start ≤ LONGEST) × (length it.bytes ≡ LONGEST) };
 }
 
 impl Line {

@@ -24,13 +24,14 @@ pub struct Output {
 
 impl Model for Output {
     ghost use Rattle.std.specs.Prelude.{ℕ, ◌≤◌, List, vec_capacity};
+    ghost use Rattle.acsub.specs.declared.output.TheConstants.{ROOM};
 
     ghost Value = { List ℕ };
 
     ghost view = { λ output. output.held.items };
 
     // The room was taken, and stays.
-    ghost invariant = { λ output. 65536 ≤ vec_capacity output.held };
+    ghost invariant = { λ output. ROOM ≤ vec_capacity output.held };
 }
 
 impl Output {
@@ -45,8 +46,10 @@ impl Output {
 
     /// Sends the bytes. Some of them may be held back.
     pub fn send<W: Write>(&mut self, writer: &mut Watched<W>, bytes: &[u8]) -> Result<(), RunError>
-        ensures sent { OnOk result (Sent W.contents writer.old writer.new self.old self.new bytes.now) }
-        ensures stopped { OnErr result (Stopped W.contents writer.old writer.new self.old bytes.now) }
+        ensures sent { OnOk result (Sent W.contents writer.old writer.new self.old self.new
+            bytes.now) }
+        ensures stopped { OnErr result (Stopped W.contents writer.old writer.new self.old
+            bytes.now) }
         ensures kind { IfErr result (IsWriteFault writer.old writer.new) }
     {
         if bytes.len() <= self.held.capacity() - self.held.len() {

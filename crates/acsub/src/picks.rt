@@ -18,7 +18,7 @@ pub struct Picks<'a> {
 #[derive(Drop)]
 enum Source<'a> {
     /// The plain program.
-    Plain(plain::Picks<'a>),
+    Naive(plain::Picks<'a>),
     /// Packed search.
     Packed(packed::FindIter<'a, 'a>),
 }
@@ -26,11 +26,11 @@ enum Source<'a> {
 impl<'a> Model for Picks<'a> {
     ghost use Rattle.std.specs.Prelude.{List};
     ghost use Rattle.ac_input.specs.Occurrence.{Occurrence};
-    ghost use Rattle.acsub.specs.declared.picks.Source.TheVariants.{Plain, Packed};
+    ghost use Rattle.acsub.specs.declared.picks.Source.TheVariants.{Naive, Packed};
 
     ghost Value = { List Occurrence };
 
-    ghost view = { λ p. elim p.source [ Plain picks ↦ picks | Packed picks ↦ picks ] };
+    ghost view = { λ p. elim p.source [ Naive picks ↦ picks | Packed picks ↦ picks ] };
 }
 
 impl<'a> Picks<'a> {
@@ -39,7 +39,7 @@ impl<'a> Picks<'a> {
         ensures { result ≡ picks.entry }
     {
         Picks {
-            source: Source::Plain(picks),
+            source: Source::Naive(picks),
         }
     }
 
@@ -73,7 +73,7 @@ impl<'a> Iterator for Picks<'a> {
 
     fn next(&mut self) -> Option<Found> {
         match &mut self.source {
-            Source::Plain(picks) => picks.next(),
+            Source::Naive(picks) => picks.next(),
             Source::Packed(picks) => match picks.next() {
                 Some(found) => Some(told(found)),
                 None => None,

@@ -7,7 +7,7 @@ ghost use Rattle.ac_input.specs.Text.{replaced_from, line, listed};
 ghost use Rattle.ac_input.specs.Computed.{listing_of};
 ghost use Rattle.acsub.specs.Lines.{rule_at};
 ghost use Rattle.acsub.specs.Output.{Sent, Stopped, IsWriteFault};
-ghost use Rattle.acsub.specs.Rewrite.{LieInOrder};
+ghost use Rattle.ac_automaton.specs.Replace.{LieInOrder};
 ghost use Rattle.acsub.specs.Sides.{replacements_of};
 
 use crate::error::RunError;
@@ -16,7 +16,7 @@ use crate::output::Output;
 use crate::picks::Picks;
 use crate::rules::Rules;
 use ac_automaton::watched::Watched;
-use ac_plain::plain::{Found, Plain};
+use ac_plain::plain::{Found, Naive};
 use std::io::Write;
 
 /// Sends the input with each pick exchanged for its replacement.
@@ -28,8 +28,10 @@ pub fn send_replaced<W: Write>(
     writer: &mut Watched<W>,
 ) -> Result<(), RunError>
     requires { LieInOrder (length rules.now) (length input.now) 0 picks.old }
-    ensures sent { OnOk result (Sent W.contents writer.old writer.new output.old output.new (replaced_from 0 input.now (replacements_of rules.now) picks.old)) }
-    ensures stopped { OnErr result (Stopped W.contents writer.old writer.new output.old (replaced_from 0 input.now (replacements_of rules.now) picks.old)) }
+    ensures sent { OnOk result (Sent W.contents writer.old writer.new output.old output.new
+        (replaced_from 0 input.now (replacements_of rules.now) picks.old)) }
+    ensures stopped { OnErr result (Stopped W.contents writer.old writer.new output.old
+        (replaced_from 0 input.now (replacements_of rules.now) picks.old)) }
     ensures kind { IfErr result (IsWriteFault writer.old writer.new) }
 {
     let mut at = 0;
@@ -52,8 +54,10 @@ fn send_exchanged<W: Write>(
     output: &mut Output,
     writer: &mut Watched<W>,
 ) -> Result<(), RunError>
-    ensures sent { OnOk result (Sent W.contents writer.old writer.new output.old output.new (before.now ++ replacement.now)) }
-    ensures stopped { OnErr result (Stopped W.contents writer.old writer.new output.old (before.now ++ replacement.now)) }
+    ensures sent { OnOk result (Sent W.contents writer.old writer.new output.old output.new
+        (before.now ++ replacement.now)) }
+    ensures stopped { OnErr result (Stopped W.contents writer.old writer.new output.old
+        (before.now ++ replacement.now)) }
     ensures kind { IfErr result (IsWriteFault writer.old writer.new) }
 {
     output.send(writer, before)?;
@@ -66,8 +70,10 @@ pub fn send_list<W: Write>(
     output: &mut Output,
     writer: &mut Watched<W>,
 ) -> Result<(), RunError>
-    ensures sent { OnOk result (Sent W.contents writer.old writer.new output.old output.new (listed picks.old)) }
-    ensures stopped { OnErr result (Stopped W.contents writer.old writer.new output.old (listed picks.old)) }
+    ensures sent { OnOk result (Sent W.contents writer.old writer.new output.old output.new
+        (listed picks.old)) }
+    ensures stopped { OnErr result (Stopped W.contents writer.old writer.new output.old
+        (listed picks.old)) }
     ensures kind { IfErr result (IsWriteFault writer.old writer.new) }
 {
     while let Some(found) = picks.next() {
@@ -78,13 +84,15 @@ pub fn send_list<W: Write>(
 
 /// Sends a line for each occurrence.
 pub fn send_overlapping<W: Write>(
-    search: &Plain<'_>,
+    search: &Naive<'_>,
     output: &mut Output,
     writer: &mut Watched<W>,
 ) -> Result<(), RunError>
     requires end { search.now.end ≡ length search.now.haystack }
-    ensures sent { OnOk result (Sent W.contents writer.old writer.new output.old output.new (listed (listing_of search.now))) }
-    ensures stopped { OnErr result (Stopped W.contents writer.old writer.new output.old (listed (listing_of search.now))) }
+    ensures sent { OnOk result (Sent W.contents writer.old writer.new output.old output.new
+        (listed (listing_of search.now))) }
+    ensures stopped { OnErr result (Stopped W.contents writer.old writer.new output.old
+        (listed (listing_of search.now))) }
     ensures kind { IfErr result (IsWriteFault writer.old writer.new) }
 {
     let mut before = None;

@@ -10,8 +10,8 @@
 
 ghost use Rattle.std.specs.Prelude.{◌≡◌, ◌↔◌, ◌==◌, ◌<◌, ℕ, List, ◌∷◌, ◌++◌, length, map, Contains, IsTrue, IfOk, IfErr, MatchOption, MatchResult};
 ghost use Rattle.ac_input.specs.Rules.{Rule, Spells, IsRuleFile, FirstBadLine, BeginsWithNoRule};
-ghost use Rattle.acsub.specs.Lines.{IsSpelling, BeginsWithLine, rule_at};
-ghost use Rattle.acsub.specs.Sides.{patterns_of};
+ghost use Rattle.acsub.specs.Lines.{HasRules, IsSpelling, IsSplitAt, BeginsWithLine, rule_at};
+ghost use Rattle.acsub.specs.Sides.{bytes_of, patterns_of};
 ghost use Rattle.acsub.specs.declared.rules.RuleError.TheVariants.{Memory};
 
 use memchr::memchr;
@@ -108,7 +108,7 @@ impl Rules {
 
     /// All patterns in their order, as slices. It takes memory for the slices alone.
     pub fn patterns(&self, alloc: Global) -> Result<Vec<&[u8]>, AllocError>
-        ensures { IfOk result (λ patterns. map (λ pattern. pattern.now) patterns.items ≡ patterns_of self.now) }
+        ensures { IfOk result (λ patterns. bytes_of patterns.items ≡ patterns_of self.now) }
     {
         let mut patterns = Vec::with_capacity(alloc, self.len())?;
         for sides in &self.sides {
@@ -132,7 +132,7 @@ impl Rules {
 pub fn read_rules(alloc: Global, bytes: &[u8]) -> Result<Rules, RuleError>
     ensures rules { IfOk result (λ rules. IsRuleFile bytes.now rules) }
     ensures bad { (n : ℕ) → (result ≡ Err (RuleError.Line n)) ↔ FirstBadLine bytes.now n }
-    ensures memory { result ≡ Err RuleError.Memory → (rules : List Rule) × IsRuleFile bytes.now rules }
+    ensures memory { result ≡ Err RuleError.Memory → HasRules bytes.now }
 {
     match count_rules(bytes) {
         Ok(count) => decode_rules(alloc, bytes, count),
@@ -203,7 +203,7 @@ fn first_line(bytes: &[u8]) -> Option<Line<'_>>
 /// What stands before the first such byte, and what after it.
 fn split_at_byte(bytes: &[u8], separator: u8) -> Option<(&[u8], &[u8])>
     ensures { MatchOption result (¬ Contains bytes.now separator)
-        (λ parts. (bytes.now ≡ parts.0.now ++ separator ∷ parts.1.now) × ¬ Contains parts.0.now separator) }
+        (λ parts. IsSplitAt bytes.now separator parts.0.now parts.1.now) }
 {
     let at = memchr(separator, bytes)?;
     Some((&bytes[..at], &bytes[at + 1..]))
@@ -220,8 +220,8 @@ fn is_spelling(text: &[u8]) -> bool
 fn decode_line(alloc: Global, line: &Line<'_>) -> Result<Sides, RuleError>
     requires pattern { IsSpelling line.now.pattern.now }
     requires replacement { IsSpelling line.now.replacement.now }
-    ensures pattern { IfOk result (λ sides. Spells line.now.pattern.now sides.pattern.items) }
-    ensures replacement { IfOk result (λ sides. Spells line.now.replacement.now sides.replacement.items) }
+    ensures pattern { IfOk result (λ s. Spells line.now.pattern.now s.pattern.items) }
+    ensures replacement { IfOk result (λ s. Spells line.now.replacement.now s.replacement.items) }
     ensures memory { IfErr result (λ e. e ≡ RuleError.Memory) }
 {
     Ok(Sides {

@@ -4,13 +4,13 @@
 //! while nothing is written yet. Then it searches the input, by packed search where the settings name it and by the plain
 //! program otherwise, and writes the text as it is found. The engine and its settings change nothing of the text.
 ghost use Rattle.std.specs.Prelude.{◌≡◌, ℕ, ◌↔◌, List, [], false, map, IfErr, OnOk, OnErr};
-ghost use Rattle.ac_input.specs.Rules.{IsRuleFile, FirstBadLine};
+ghost use Rattle.ac_input.specs.Rules.{IsRuleFile};
 ghost use Rattle.ac_automaton.specs.Watched.{has_ended};
-ghost use Rattle.acsub.specs.Finder.{Serves};
+ghost use Rattle.acsub.specs.Finder.{IsFinderOf};
 ghost use Rattle.acsub.specs.Output.{Sent, Stopped, IsWriteFault};
-ghost use Rattle.acsub.specs.Run.{Moved, Tells, Answers, IsRefusal, Prepares, text_of};
+ghost use Rattle.acsub.specs.Run.{AnswersBadLine, IsRefusal, NoneTouched, Prepares, Ran, RanRules, output_of};
 ghost use Rattle.acsub.specs.Settings.{IsAccepted};
-ghost use Rattle.acsub.specs.Sides.{patterns_of};
+ghost use Rattle.acsub.specs.Sides.{bytes_of, patterns_of};
 
 use crate::error::RunError;
 use crate::finder::{self, Finder};
@@ -36,11 +36,12 @@ pub fn run<R: Read, W: Write>(
 ) -> Result<(), RunError>
     requires { has_ended reader.old ≡ false }
     // What was read and written, and by which answer: Ok has written the text of all that was read.
-    ensures answered { (m : Moved) × Tells R.remaining W.contents reader.old reader.new writer.old writer.new m × Answers settings.now rules.now m result }
+    ensures answered { Ran R.remaining W.contents reader.old reader.new writer.old writer.new
+        settings.now rules.now result }
     // The first bad line is answered whatever memory does.
-    ensures bad_line { (n : ℕ) → (result ≡ Err (RunError.Rule (RuleError.Line n))) ↔ FirstBadLine rules.now n }
+    ensures bad_line { AnswersBadLine rules.now result }
     // A refusal has touched nothing.
-    ensures untouched { IsRefusal result → (reader.new ≡ reader.old) × (writer.new ≡ writer.old) }
+    ensures untouched { IsRefusal result → NoneTouched reader.old reader.new writer.old writer.new }
 {
     match prepare(alloc, settings, rules) {
         Ok(rules) => transform(alloc, settings, &rules, reader, writer),
@@ -73,7 +74,8 @@ fn transform<R: Read, W: Write>(
 ) -> Result<(), RunError>
     requires open { has_ended reader.old ≡ false }
     requires accepted { IsAccepted settings.now rules.now }
-    ensures { (m : Moved) × Tells R.remaining W.contents reader.old reader.new writer.old writer.new m × ((file : List ℕ) → IsRuleFile file rules.now → Answers settings.now file m result) }
+    ensures { RanRules R.remaining W.contents reader.old reader.new writer.old writer.new
+        settings.now rules.now result }
 {
     let patterns = rules.patterns(alloc)?;
     let finder = finder::build(alloc, settings, patterns.as_slice())?;
@@ -100,11 +102,13 @@ fn write_text<W: Write>(
     output: &mut Output,
     writer: &mut Watched<W>,
 ) -> Result<(), RunError>
-    requires patterns { map (λ pattern. pattern.now) patterns.now ≡ patterns_of rules.now }
-    requires serves { Serves settings.now (map (λ pattern. pattern.now) patterns.now) finder.now }
+    requires patterns { bytes_of patterns.now ≡ patterns_of rules.now }
+    requires serves { IsFinderOf settings.now (bytes_of patterns.now) finder.now }
     requires fresh { output.old ≡ [] }
-    ensures sent { OnOk result (Sent W.contents writer.old writer.new [] [] (text_of settings.now rules.now input.now)) }
-    ensures stopped { OnErr result (Stopped W.contents writer.old writer.new [] (text_of settings.now rules.now input.now)) }
+    ensures sent { OnOk result (Sent W.contents writer.old writer.new [] []
+        (output_of settings.now rules.now input.now)) }
+    ensures stopped { OnErr result (Stopped W.contents writer.old writer.new []
+        (output_of settings.now rules.now input.now)) }
     ensures kind { IfErr result (IsWriteFault writer.old writer.new) }
 {
     send_text(settings, rules, finder, patterns, input, output, writer)?;
@@ -121,10 +125,12 @@ fn send_text<W: Write>(
     output: &mut Output,
     writer: &mut Watched<W>,
 ) -> Result<(), RunError>
-    requires patterns { map (λ pattern. pattern.now) patterns.now ≡ patterns_of rules.now }
-    requires serves { Serves settings.now (map (λ pattern. pattern.now) patterns.now) finder.now }
-    ensures sent { OnOk result (Sent W.contents writer.old writer.new output.old output.new (text_of settings.now rules.now input.now)) }
-    ensures stopped { OnErr result (Stopped W.contents writer.old writer.new output.old (text_of settings.now rules.now input.now)) }
+    requires patterns { bytes_of patterns.now ≡ patterns_of rules.now }
+    requires serves { IsFinderOf settings.now (bytes_of patterns.now) finder.now }
+    ensures sent { OnOk result (Sent W.contents writer.old writer.new output.old output.new
+        (output_of settings.now rules.now input.now)) }
+    ensures stopped { OnErr result (Stopped W.contents writer.old writer.new output.old
+        (output_of settings.now rules.now input.now)) }
     ensures kind { IfErr result (IsWriteFault writer.old writer.new) }
 {
     match settings.mode {

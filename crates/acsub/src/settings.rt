@@ -2,8 +2,8 @@
 //!
 //! The settings say which text is written, what counts as a match, and by which engine matches are found. The engine and its
 //! own settings never change the text. Some settings exclude one another; [`check`] says which, before anything is read.
-ghost use Rattle.std.specs.Prelude.{◌↔◌, IsTrue, MatchResult};
-ghost use Rattle.acsub.specs.Settings.{IsAccepted, IsFirstExclusion, HasEmptyPattern};
+ghost use Rattle.std.specs.Prelude.{◌↔◌, IsTrue};
+ghost use Rattle.acsub.specs.Settings.{Decides, HasEmptyPattern};
 
 use crate::rules::Rules;
 use ac_input::pairing::Pairing;
@@ -56,6 +56,9 @@ pub struct Settings {
     pub byte_classes: bool,
 }
 
+/// The most patterns that packed search takes.
+const MOST_PACKED: usize = 128;
+
 /// Why settings are refused: they exclude one another, or the rules don't suit them.
 #[derive(Clone, Copy, Debug, PartialEq, Eq)]
 pub enum SettingError {
@@ -93,7 +96,7 @@ impl Error for SettingError {}
 /// Whether the settings go together, with these rules. Of several reasons against it the answer is the first, in the order of
 /// [`SettingError`].
 pub fn check(settings: &Settings, rules: &Rules) -> Result<(), SettingError>
-    ensures { MatchResult result (λ _. IsAccepted settings.now rules.now) (IsFirstExclusion settings.now rules.now) }
+    ensures { Decides settings.now rules.now result }
 {
     if settings.mode == Mode::Overlap && settings.kind != MatchKind::Standard {
         return Err(SettingError::OverlapLeftmost);
@@ -110,7 +113,7 @@ pub fn check(settings: &Settings, rules: &Rules) -> Result<(), SettingError>
     if has_empty_pattern(rules) {
         return Err(SettingError::PackedEmpty);
     }
-    if rules.is_empty() || rules.len() > 128 {
+    if rules.is_empty() || rules.len() > MOST_PACKED {
         return Err(SettingError::PackedCount);
     }
     Ok(())

@@ -84,7 +84,8 @@ pub fn tool<F: Files, R: Read, W: Write, E: Write>(
     requires { has_ended reader.old ≡ false }
     ensures status { IsStatus result }
     // At status 0 help was shown, or the text was written that the words and the bytes of the rule file ask for.
-    ensures done { result ≡ 0 → IsDone R.remaining W.contents (map string_bytes words.now) reader.old reader.new writer.old writer.new }
+    ensures done { result ≡ 0 → IsDone R.remaining W.contents (map string_bytes words.now)
+        reader.old reader.new writer.old writer.new }
 {
     match work(rt, alloc, words, reader, writer) {
         Ok(()) => 0,
@@ -109,7 +110,8 @@ fn work<F: Files, R: Read, W: Write>(
     writer: &mut Watched<W>,
 ) -> Result<(), Fault>
     requires { has_ended reader.old ≡ false }
-    ensures { OnOk result (IsDone R.remaining W.contents (map string_bytes words.now) reader.old reader.new writer.old writer.new) }
+    ensures { OnOk result (IsDone R.remaining W.contents (map string_bytes words.now)
+        reader.old reader.new writer.old writer.new) }
 {
     let words = match read_words(alloc, words) {
         Ok(words) => words,

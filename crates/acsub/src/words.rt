@@ -6,10 +6,9 @@
 //! command stands as data in `specs/Command.antt`, so the contract of `read_words` says of all words what comes of them, by
 //! clap's own account of which words such a command takes and which value each argument then has.
 ghost use Rattle.std.specs.Prelude.{◌≡◌, ◌∷◌, [], ◌++◌, ◌<◌, ℕ, List, Some, IfOk, MatchResult, false, length, map, option_map, string_bytes};
-ghost use Rattle.clap.specs.Words.{app_of, first_of, found_of, items_of, rows_of, rule_of};
-ghost use Rattle.ac_input.specs.Pairing.{named};
-ghost use Rattle.acsub.specs.Command.{HasNames, Lists, command_with, flag, option, placed};
-ghost use Rattle.acsub.specs.Words.{Answers, IsFaultOf, IsPairedBy, IsTyped, Misspells, Parses, Reads, SpellsPairs, Unpairs};
+ghost use Rattle.clap.specs.Words.{first_of, rule_of};
+ghost use Rattle.acsub.specs.Command.{AddsEngine, AddsMatching, IsCommand, Shows, choice, flag, option, placed};
+ghost use Rattle.acsub.specs.Words.{AreTwoByTwo, ReadsMatches, IsWordsFault, IsTyped, Misspells, Pairs, Parses, Reads, SpellsPairs, rows_in};
 ghost use Rattle.acsub.specs.Words.{engine_named, engine_of, hex_fault, is_given, kind_named, match_kind_of, mode_named, mode_of};
 
 use crate::settings::{Engine, Mode, Settings};
@@ -83,7 +82,7 @@ fn parse<'a>(alloc: Global, words: &'a [String]) -> Result<ArgMatches<'a>, Words
 }
 
 fn fault_of(error: clap::Error) -> WordsFault
-    ensures { IsFaultOf error result }
+    ensures { IsWordsFault error result }
 {
     match error.kind() {
         ErrorKind::DisplayHelp => WordsFault::Help(error),
@@ -96,7 +95,7 @@ fn fault_of(error: clap::Error) -> WordsFault
 fn placed<'a>(alloc: Global, id: &'a str, name: &'a str, help: &'a str) -> Arg<'a>
     ensures rule { rule_of result ≡ placed id.entry.now }
     ensures own { result.global ≡ false }
-    ensures shown { (items_of result.val_names ≡ name.entry ∷ []) × (result.help ≡ Some help.entry) }
+    ensures shown { Shows result name.entry help.entry }
 {
     Arg::new(alloc, id)
         .value_name(name)
@@ -109,13 +108,31 @@ fn placed<'a>(alloc: Global, id: &'a str, name: &'a str, help: &'a str) -> Arg<'
 fn option<'a>(alloc: Global, id: &'a str, name: &'a str, help: &'a str) -> Arg<'a>
     ensures rule { rule_of result ≡ option id.entry.now }
     ensures own { result.global ≡ false }
-    ensures shown { (items_of result.val_names ≡ name.entry ∷ []) × (result.help ≡ Some help.entry) }
+    ensures shown { Shows result name.entry help.entry }
 {
     Arg::new(alloc, id)
         .long(id)
         .value_name(name)
         .help(help)
         .action(ArgAction::Set)
+}
+
+// `--id NAME`, which takes one of these names, and where it isn't given this one.
+fn choice<'a>(
+    alloc: Global,
+    id: &'a str,
+    name: &'a str,
+    help: &'a str,
+    names: &'a [&'a str],
+    default: &'a str,
+) -> Arg<'a>
+    ensures rule { rule_of result ≡ choice id.entry.now names.entry default.entry.now }
+    ensures own { result.global ≡ false }
+    ensures shown { Shows result name.entry help.entry }
+{
+    option(alloc, id, name, help)
+        .value_parser(names)
+        .default_value(default)
 }
 
 // `--id`
@@ -132,40 +149,56 @@ fn flag<'a>(alloc: Global, id: &'a str, help: &'a str) -> Arg<'a>
 
 // The command line, as clap's builder makes it.
 fn command<'a>(alloc: Global) -> Result<Command<'a>, AllocError>
-    ensures { IfOk result (λ c. (lists : Lists) × HasNames lists × (app_of c ≡ command_with lists)) }
+    ensures { IfOk result IsCommand }
 {
-    let mode = placed(alloc, "mode", "MODE", "What to write").value_parser(MODES.as_slice());
-    let rules = placed(alloc, "rules", "RULES", "The rule file");
-    let kind = option(alloc, "kind", "K", "Which match is taken")
-        .value_parser(KINDS.as_slice())
-        .default_value("standard");
-    let fold = flag(alloc, "fold", "Match ASCII letters in either case");
-    let pairs = option(alloc, "pairs", "HEX", "Bytes that match each other");
-    let engine = option(alloc, "engine", "E", "What searches")
-        .value_parser(ENGINES.as_slice())
-        .default_value("auto");
-    let no_prefilter = flag(alloc, "no-prefilter", "Look at each place");
-    let depth = option(alloc, "dense-depth", "N", "States less deep are dense").value_parser(
-        ValueParser::unsigned(0, MOST_DEPTH),
-    );
-    let no_byte_classes = flag(alloc, "no-byte-classes", "Give each byte its own class");
-    Command::new(alloc, "acsub")
+    let command = Command::new(alloc, "acsub")
         .about("Replaces, or lists, what the patterns of a rule file match in the input")
-        .arg(mode)?
-        .arg(rules)?
-        .arg(kind)?
-        .arg(fold)?
-        .arg(pairs)?
-        .arg(engine)?
-        .arg(no_prefilter)?
-        .arg(depth)?
-        .arg(no_byte_classes)
+        .arg(placed(alloc, "mode", "MODE", "What to write").value_parser(MODES.as_slice()))?
+        .arg(placed(alloc, "rules", "RULES", "The rule file"))?;
+    with_engine(alloc, with_matching(alloc, command)?)
+}
+
+// The command with the options that say what a match is.
+fn with_matching<'a>(alloc: Global, command: Command<'a>) -> Result<Command<'a>, AllocError>
+    ensures { IfOk result (AddsMatching command.entry) }
+{
+    command
+        .arg(choice(
+            alloc,
+            "kind",
+            "K",
+            "Which match is taken",
+            KINDS.as_slice(),
+            "standard",
+        ))?
+        .arg(flag(alloc, "fold", "Match ASCII letters in either case"))?
+        .arg(option(alloc, "pairs", "HEX", "Bytes that match each other"))
+}
+
+// The command with the options that say what searches.
+fn with_engine<'a>(alloc: Global, command: Command<'a>) -> Result<Command<'a>, AllocError>
+    ensures { IfOk result (AddsEngine command.entry) }
+{
+    command
+        .arg(choice(
+            alloc,
+            "engine",
+            "E",
+            "What searches",
+            ENGINES.as_slice(),
+            "auto",
+        ))?
+        .arg(flag(alloc, "no-prefilter", "Look at each place"))?
+        .arg(option(alloc, "dense-depth", "N", "States less deep are dense").value_parser(
+            ValueParser::unsigned(0, MOST_DEPTH),
+        ))?
+        .arg(flag(alloc, "no-byte-classes", "Give each byte its own class"))
 }
 
 // What the matches ask for.
 fn asked_for<'a>(alloc: Global, matches: &ArgMatches<'a>) -> Result<Words<'a>, WordsFault>
-    requires { IsTyped (rows_of (found_of matches.now)) }
-    ensures { Answers (rows_of (found_of matches.now)) result }
+    requires { IsTyped (rows_in matches.now) }
+    ensures { ReadsMatches (rows_in matches.now) result }
 {
     let settings = Settings {
         mode: mode_of(matches).unwrap(),
@@ -184,25 +217,25 @@ fn asked_for<'a>(alloc: Global, matches: &ArgMatches<'a>) -> Result<Words<'a>, W
 
 // The first value of an argument.
 fn text_of<'a>(matches: &ArgMatches<'a>, id: &str) -> Option<&'a str>
-    ensures { option_map (λ text. text.now) result ≡ first_of id.now (rows_of (found_of matches.now)) }
+    ensures { option_map (λ text. text.now) result ≡ first_of id.now (rows_in matches.now) }
 {
     matches.get_str(id)
 }
 
 fn mode_of(matches: &ArgMatches<'_>) -> Option<Mode>
-    ensures { result ≡ mode_of (rows_of (found_of matches.now)) }
+    ensures { result ≡ mode_of (rows_in matches.now) }
 {
     mode_named(text_of(matches, "mode")?)
 }
 
 fn match_kind_of(matches: &ArgMatches<'_>) -> Option<MatchKind>
-    ensures { result ≡ match_kind_of (rows_of (found_of matches.now)) }
+    ensures { result ≡ match_kind_of (rows_in matches.now) }
 {
     kind_named(text_of(matches, "kind")?)
 }
 
 fn engine_of(matches: &ArgMatches<'_>) -> Option<Engine>
-    ensures { result ≡ engine_of (rows_of (found_of matches.now)) }
+    ensures { result ≡ engine_of (rows_in matches.now) }
 {
     engine_named(text_of(matches, "engine")?)
 }
@@ -244,7 +277,7 @@ fn engine_named(word: &str) -> Option<Engine>
 
 // Whether the flag was given.
 fn is_given(matches: &ArgMatches<'_>, id: &str) -> bool
-    ensures { result ≡ is_given id.now (rows_of (found_of matches.now)) }
+    ensures { result ≡ is_given id.now (rows_in matches.now) }
 {
     match text_of(matches, id) {
         Some(text) => text == "true",
@@ -253,7 +286,7 @@ fn is_given(matches: &ArgMatches<'_>, id: &str) -> bool
 }
 
 fn pairing_of(alloc: Global, matches: &ArgMatches<'_>) -> Result<Pairing, WordsFault>
-    ensures { let rows = rows_of (found_of matches.now) in MatchResult result (IsPairedBy rows) (Unpairs rows) }
+    ensures { Pairs (rows_in matches.now) result }
 {
     match (is_given(matches, "fold"), text_of(matches, "pairs")) {
         (false, None) => Ok(Pairing::none()),
@@ -292,7 +325,7 @@ fn fault_of_hex(error: FromHexError) -> WordsFault
 
 // The bytes two by two, and one that is left over.
 fn two_by_two(alloc: Global, bytes: &[u8]) -> Result<Vec<(u8, u8)>, AllocError>
-    ensures { IfOk result (λ pairs. (rest : List ℕ) × (bytes.now ≡ named pairs.items ++ rest) × (length rest < 2)) }
+    ensures { IfOk result (λ pairs. AreTwoByTwo bytes.now pairs.items) }
 {
     let mut pairs = Vec::new(alloc);
     let mut rest = bytes;
@@ -368,33 +401,40 @@ mod tests {
     }
 
     #[test]
-    fn reads_each_name(rt: HostRuntime) -> Result<(), Fail> {
-        let modes = [
+    fn reads_each_mode(rt: HostRuntime) -> Result<(), Fail> {
+        for (word, mode) in [
             ("replace", Mode::Replace),
             ("list", Mode::List),
             ("overlap", Mode::Overlap),
-        ];
-        for (word, mode) in modes {
+        ] {
             let read = settings(&rt, &[word, "rules"])?.ok_or("a mode")?;
             assert!(rt; read.mode == mode, "{word}");
         }
-        let kinds = [
+        Ok(())
+    }
+
+    #[test]
+    fn reads_each_kind(rt: HostRuntime) -> Result<(), Fail> {
+        for (word, kind) in [
             ("standard", MatchKind::Standard),
             ("leftmost-first", MatchKind::LeftmostFirst),
             ("leftmost-longest", MatchKind::LeftmostLongest),
-        ];
-        for (word, kind) in kinds {
+        ] {
             let read = settings(&rt, &["list", "rules", "--kind", word])?.ok_or("a kind")?;
             assert!(rt; read.kind == kind, "{word}");
         }
-        let engines = [
+        Ok(())
+    }
+
+    #[test]
+    fn reads_each_engine(rt: HostRuntime) -> Result<(), Fail> {
+        for (word, engine) in [
             ("auto", Engine::Auto),
             ("noncontiguous", Engine::Noncontiguous),
             ("contiguous", Engine::Contiguous),
             ("dfa", Engine::Dfa),
             ("packed", Engine::Packed),
-        ];
-        for (word, engine) in engines {
+        ] {
             let read = settings(&rt, &["list", "--engine", word, "rules"])?.ok_or("an engine")?;
             assert!(rt; read.engine == engine, "{word}");
         }

@@ -1,5 +1,5 @@
 //! A reference to an automaton is an automaton, so that what takes one takes a borrowed one too.
-use super::Automaton;
+use super::{Advance, Automaton};
 use crate::error::MatchError;
 use ac_input::primitives::{PatternID, StateID};
 use ac_input::search::{Anchored, MatchKind};
@@ -7,19 +7,17 @@ use ac_input::steps::Steps;
 use ac_literal::prefilter::Prefilter;
 
 impl<'a, A: Automaton> Automaton for &'a A {
-    ghost machine = { λ a. A.machine a.now };
+    ghost built = { λ a. A.built a.now };
 
-    ghost serves = { λ a anchored. A.serves a.now anchored };
+    ghost supports = { λ a anchored. A.supports a.now anchored };
 
     ghost Reads = { λ a anchored text sid. A.Reads a.now anchored text sid };
 
-    ghost entries = { λ a sid. A.entries a.now sid };
+    ghost matches = { λ a sid. A.matches a.now sid };
 
     ghost starts = { λ a sid. A.starts a.now sid };
 
-    ghost direct = { λ a. A.direct a.now };
-
-    ghost filter = { λ a. A.filter a.now };
+    ghost special = { λ a sid. A.special a.now sid };
 
     fn start_state(&self, anchored: Anchored) -> Result<StateID, MatchError> {
         (**self).start_state(anchored)
@@ -33,6 +31,16 @@ impl<'a, A: Automaton> Automaton for &'a A {
         steps: &mut Steps,
     ) -> StateID {
         (**self).next_state_counted(anchored, sid, byte, steps)
+    }
+
+    fn advance(
+        &self,
+        anchored: Anchored,
+        sid: StateID,
+        bytes: &[u8],
+        steps: &mut Steps,
+    ) -> Advance {
+        (**self).advance(anchored, sid, bytes, steps)
     }
 
     fn is_special(&self, sid: StateID) -> bool {
@@ -92,4 +100,6 @@ impl<'a, A: Automaton> Automaton for &'a A {
     ghost lives = { λ a anchored text sid reads. A.lives a.now anchored text sid reads };
 
     ghost pairs = { λ a anchored text sid reads. A.pairs a.now anchored text sid reads };
+
+    ghost stops = { λ a anchored text sid reads. A.stops a.now anchored text sid reads };
 }

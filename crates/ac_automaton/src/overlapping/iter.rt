@@ -4,10 +4,8 @@
 //! states of one walk over the span, however many matches it shows.
 ghost use Rattle.std.specs.Prelude.{◌≡◌, ◌↔◌, IsOk, IfOk, IfErr};
 ghost use Rattle.std.specs.Iterator.{YieldsFirst, item_count};
-ghost use Rattle.ac_input.specs.Computed.{listing_of};
-ghost use Rattle.ac_input.specs.Input.{search_in};
-ghost use Rattle.ac_input.specs.Work.{scans_bytes};
-ghost use Rattle.ac_automaton.specs.OverlappingIter.{fresh_run, rest_of, GoesOn, Counts, IsWithinOneWalk, CanRun, RunRefusal};
+ghost use Rattle.ac_automaton.specs.Automaton.{listing_in};
+ghost use Rattle.ac_automaton.specs.OverlappingIter.{fresh_run, rest_of, IsRunAfter, RunCounts, IsWithinOneWalk, CanRun, IsRunRefusal};
 
 use crate::automaton::Automaton;
 use crate::error::MatchError;
@@ -35,20 +33,20 @@ pub struct FindOverlappingIter<'a, 'h, A: Automaton> {
 impl<'a, 'h, A: Automaton> Model for FindOverlappingIter<'a, 'h, A> {
     ghost use Rattle.std.specs.Prelude.{◌≡◌, []};
     ghost use Rattle.ac_input.specs.declared.search.MatchKind.TheVariants.{Standard};
-    ghost use Rattle.ac_input.specs.Input.{search_in};
-    ghost use Rattle.ac_input.specs.Work.{scans_bytes};
+    ghost use Rattle.ac_automaton.specs.Automaton.{searched};
     ghost use Rattle.ac_automaton.specs.Overlapping.{StandsAt};
     ghost use Rattle.ac_automaton.specs.OverlappingIter.{Run, run_at};
 
     ghost Value = { Run };
 
-    ghost view = { λ i.
-        run_at (A.machine i.automaton.now) (A.direct i.automaton.now) (scans_bytes (A.filter i.automaton.now)) i.input i.shown.value i.sums };
+    ghost view = { λ i. run_at (A.built i.automaton.now) i.input i.shown.value i.sums };
 
     ghost invariant = { λ i.
-        ((A.machine i.automaton.now).kind ≡ Standard)
+        ((A.built i.automaton.now).dictionary.kind ≡ Standard)
         × A.Reads i.automaton.now i.input.anchored [] i.start
-        × StandsAt (A.Reads i.automaton.now i.input.anchored) (A.entries i.automaton.now) (A.machine i.automaton.now) (A.direct i.automaton.now) (scans_bytes (A.filter i.automaton.now)) (search_in (A.machine i.automaton.now) i.input) i.place i.shown.value i.sums };
+        × StandsAt (A.Reads i.automaton.now i.input.anchored) (A.matches i.automaton.now)
+        (A.built i.automaton.now).dictionary (A.built i.automaton.now).deterministic
+        (searched (A.built i.automaton.now) i.input) i.place i.shown.value i.sums };
 }
 
 /// All occurrences in the input, one after another.
@@ -58,10 +56,13 @@ pub fn find_overlapping_iter<'a, 'h, A: Automaton>(
     automaton: &'a A,
     input: Input<'h>,
 ) -> Result<FindOverlappingIter<'a, 'h, A>, MatchError>
-    ensures run { IfOk result (λ iterator. iterator ≡ fresh_run (A.machine automaton.now) (A.direct automaton.now) (scans_bytes (A.filter automaton.now)) input.entry) }
-    ensures all { IfOk result (λ iterator. rest_of iterator ≡ listing_of (search_in (A.machine automaton.now) input.entry)) }
-    ensures served { IsOk result ↔ CanRun (A.serves automaton.now input.entry.anchored) (A.machine automaton.now).kind input.entry.anchored }
-    ensures refused { IfErr result (RunRefusal (A.serves automaton.now input.entry.anchored) (A.machine automaton.now).kind input.entry.anchored) }
+    ensures run { IfOk result (λ matches. matches ≡ fresh_run (A.built automaton.now) input.entry) }
+    ensures all { IfOk result (λ matches. rest_of matches ≡ listing_in (A.built automaton.now)
+        input.entry) }
+    ensures supported { IsOk result ↔ CanRun (A.built automaton.now) (A.supports automaton.now)
+        input.entry }
+    ensures refused { IfErr result (IsRunRefusal (A.built automaton.now)
+        (A.supports automaton.now) input.entry) }
 {
     let beginning = begin(automaton, &input)?;
     match input.get_anchored() {
@@ -81,8 +82,8 @@ impl<'a, 'h, A: Automaton> FindOverlappingIter<'a, 'h, A> {
     /// The next match, as `next` gives it; and counts what it does.
     pub fn next_counted(&mut self, steps: &mut Steps) -> Option<Match>
         ensures yields { YieldsFirst rest_of self.old result self.new }
-        ensures run { GoesOn self.old result self.new }
-        ensures sums { Counts self.old self.new steps.old steps.new }
+        ensures run { IsRunAfter self.old result self.new }
+        ensures sums { RunCounts self.old self.new steps.old steps.new }
         ensures work { IsWithinOneWalk self.new }
     {
         let mut done = Steps::new();

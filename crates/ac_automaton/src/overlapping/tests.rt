@@ -24,8 +24,10 @@ fn shows<A: Automaton>(
     state: &mut OverlappingState,
     want: Option<Match>,
 ) -> Result<(), Fail>
-    requires { CameFrom (A.Reads automaton.now) (A.entries automaton.now) (A.machine automaton.now) (A.direct automaton.now) (A.filter automaton.now) input.now state.old }
-    ensures { CameFrom (A.Reads automaton.now) (A.entries automaton.now) (A.machine automaton.now) (A.direct automaton.now) (A.filter automaton.now) input.now state.new }
+    requires { CameFrom (A.built automaton.now) (A.Reads automaton.now) (A.matches automaton.now)
+        input.now state.old }
+    ensures { CameFrom (A.built automaton.now) (A.Reads automaton.now) (A.matches automaton.now)
+        input.now state.new }
 {
     automaton.try_find_overlapping(input, state)?;
     assert_eq!(rt; state.get_match(), want);

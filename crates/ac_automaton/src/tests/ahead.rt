@@ -24,15 +24,15 @@ impl<'p> Model for Ahead<'p> {
 
     ghost Value = { Filter };
 
-    ghost view = { λ a. record { machine = a.automaton; by_bytes = a.prefilter.by_bytes } };
+    ghost view = { λ a. record { dictionary = a.automaton; needles = a.prefilter.needles } };
 
-    ghost invariant = { λ a. a.prefilter.machine ≡ a.automaton };
+    ghost invariant = { λ a. a.prefilter.dictionary ≡ a.automaton };
 }
 
 impl<'p> Ahead<'p> {
     /// The automaton, with a prefilter that was made for the same patterns, pairing and kind.
     pub fn new(automaton: PlainAutomaton<'p>, prefilter: Prefilter) -> Ahead<'p>
-        requires { prefilter.machine ≡ automaton }
+        requires { prefilter.dictionary ≡ automaton }
         ensures { result ≡ prefilter }
     {
         Ahead {
@@ -46,7 +46,7 @@ impl<'p> Ahead<'p> {
         alloc: Global,
         automaton: PlainAutomaton<'p>,
     ) -> Result<Option<Ahead<'p>>, AllocError>
-        ensures { IfOk result (λ made. IfSome made (λ ahead. ahead.machine ≡ automaton.entry)) }
+        ensures { IfOk result (λ made. IfSome made (λ ahead. ahead.dictionary ≡ automaton.entry)) }
     {
         let builder = collect(alloc, &automaton)?;
         match builder.build()? {
@@ -70,29 +70,29 @@ fn collect(alloc: Global, automaton: &PlainAutomaton<'_>) -> Result<PrefilterBui
 }
 
 impl<'p> Automaton for Ahead<'p> {
-    ghost use Rattle.std.specs.Prelude.{true, None, Some};
+    ghost use Rattle.std.specs.Prelude.{◌||◌, true, None, Some};
     ghost use Rattle.std.proofs.Common.{inl, inr};
-    ghost use Rattle.ac_automaton.specs.PlainAutomaton.{is_start_of, entries_of, IsRead};
+    ghost use Rattle.ac_automaton.specs.PlainAutomaton.{built_as, is_start_of, is_special_of, entries_of, IsRead};
 
-    ghost machine = { λ f. f.machine };
+    ghost built = { λ f. built_as f.dictionary (Some f) };
 
-    ghost serves = { λ f anchored. Unit {0} };
+    ghost supports = { λ f anchored. Unit {0} };
 
-    ghost Reads = { λ f anchored text sid. IsRead f.machine anchored text sid };
+    ghost Reads = { λ f anchored text sid. IsRead f.dictionary anchored text sid };
 
-    ghost entries = { λ f sid. entries_of f.machine sid };
+    ghost matches = { λ f sid. entries_of f.dictionary sid };
 
-    ghost starts = { λ f sid. is_start_of f.machine sid };
+    ghost starts = { λ f sid. is_start_of f.dictionary sid };
 
-    ghost direct = { λ f. true };
-
-    ghost filter = { λ f. Some f };
+    ghost special = { λ f sid. is_special_of f.dictionary sid || is_start_of f.dictionary sid };
 
     ghost tells = { λ f anchored text sid reads. reads.tells };
 
     ghost lives = { λ f anchored text sid reads. elim reads.reached.stands [ inl dead ↦ (None, dead.1) | inr alive ↦ (Some alive.1.0, alive.1.1) ] };
 
     ghost pairs = { λ f anchored text sid reads. reads.reached.inverse };
+
+    ghost stops = { λ f anchored text sid reads. reads.stops_ahead f };
 
     fn start_state(&self, anchored: Anchored) -> Result<StateID, MatchError> {
         self.automaton.start_state(anchored)

@@ -10,10 +10,11 @@ ghost use Rattle.ac_input.specs.Best.{IsBest};
 ghost use Rattle.ac_input.specs.Computed.{best_of};
 ghost use Rattle.ac_input.specs.Input.{is_anchored};
 ghost use Rattle.ac_input.specs.LiveLaws.{IsOwnInverse};
-ghost use Rattle.ac_input.specs.Machine.{Machine, BeginsEntered, Begins, whole};
+ghost use Rattle.ac_input.specs.Dictionary.{Dictionary, BeginsEntered, Begins, whole};
 ghost use Rattle.ac_input.specs.Work.{longest};
-ghost use Rattle.ac_automaton.specs.Automaton.{shortest};
-ghost use Rattle.ac_automaton.specs.PlainAutomaton.{AreFew, IsFolded, any_below, shadows, pattern_of, text_of, is_start_of, is_entered, is_news, is_entry, entries_of, last_place, IsReached};
+ghost use Rattle.ac_input.specs.Work.{shortest};
+ghost use Rattle.ac_input.specs.Pairing.{IsFolded};
+ghost use Rattle.ac_automaton.specs.PlainAutomaton.{AreSmall, any_below, shadows, pattern_of, state_text, is_start_of, is_entered, is_news, is_entry, entries_of, last_place, IsReachedBy};
 
 use crate::automaton::Automaton;
 use crate::error::MatchError;
@@ -22,7 +23,7 @@ use ac_input::primitives::{PatternID, StateID};
 use ac_input::search::{Anchored, MatchKind, Span};
 use ac_input::steps::Steps;
 use ac_literal::prefilter::Prefilter;
-use ac_plain::plain::{Found, Plain};
+use ac_plain::plain::{Found, Naive};
 use std::marker::Model;
 
 /// An automaton of few patterns.
@@ -36,14 +37,14 @@ pub struct PlainAutomaton<'p> {
 impl<'p> Model for PlainAutomaton<'p> {
     ghost use Rattle.std.specs.Prelude.{map};
     ghost use Rattle.ac_input.specs.LiveLaws.{IsOwnInverse};
-    ghost use Rattle.ac_input.specs.Machine.{Machine};
-    ghost use Rattle.ac_automaton.specs.PlainAutomaton.{AreFew};
+    ghost use Rattle.ac_input.specs.Dictionary.{Dictionary};
+    ghost use Rattle.ac_automaton.specs.PlainAutomaton.{AreSmall};
 
-    ghost Value = { Machine };
+    ghost Value = { Dictionary };
 
     ghost view = { λ a. record { patterns = map (λ p. p.now) a.patterns.now; pairing = a.pairing; kind = a.kind } };
 
-    ghost invariant = { λ a. AreFew (map (λ p. p.now) a.patterns.now) × IsOwnInverse a.pairing };
+    ghost invariant = { λ a. AreSmall (map (λ p. p.now) a.patterns.now) × IsOwnInverse a.pairing };
 }
 
 /// Whether two texts are as long as each other and the same byte by byte, up to the pairing.
@@ -75,7 +76,7 @@ fn pairing_of(fold: bool) -> Pairing
 
 /// Whether there are few enough patterns, and each is short enough.
 fn are_few(patterns: &[&[u8]]) -> bool
-    ensures { IsTrue result ↔ AreFew (map (λ p. p.now) patterns.now) }
+    ensures { IsTrue result ↔ AreSmall (map (λ p. p.now) patterns.now) }
 {
     if patterns.len() > 256 {
         return false;
@@ -103,7 +104,7 @@ impl<'p> PlainAutomaton<'p> {
     /// The automaton of these patterns, which takes the two cases of a letter for the same if `fold` is true. There is none
     /// where they are too many, or one is too long.
     pub fn new(patterns: &'p [&'p [u8]], fold: bool, kind: MatchKind) -> Option<PlainAutomaton<'p>>
-        ensures few { IsSome result ↔ AreFew (map (λ p. p.now) patterns.now) }
+        ensures few { IsSome result ↔ AreSmall (map (λ p. p.now) patterns.now) }
         ensures patterns { IfSome result (λ made. made.patterns ≡ map (λ p. p.now) patterns.now) }
         ensures folded { IfSome result (λ made. IsFolded fold made.pairing) }
         ensures kind { IfSome result (λ made. made.kind ≡ kind) }
@@ -146,7 +147,7 @@ impl<'p> PlainAutomaton<'p> {
 
     /// The text that a state stands for.
     fn text(&self, sid: StateID) -> &'p [u8]
-        ensures text { result.now ≡ text_of self.now sid }
+        ensures text { result.now ≡ state_text self.now sid }
         ensures short { length result.now ≤ 255 }
     {
         let code = sid.as_usize().saturating_sub(1);
@@ -203,10 +204,10 @@ impl<'p> PlainAutomaton<'p> {
             start: 0,
             end: text.len(),
         };
-        Plain::new(self.patterns, self.pairing, text, span, Anchored::No).best(self.kind, false)
+        Naive::new(self.patterns, self.pairing, text, span, Anchored::No).best(self.kind, false)
     }
 
-    /// Whether a text may have entries.
+    /// Whether a text may have matches.
     fn is_news(&self, text: &[u8]) -> bool
         ensures { result ≡ is_news self.now.kind self.now text.now }
     {
@@ -249,7 +250,7 @@ impl<'p> PlainAutomaton<'p> {
 
     /// A state that stands for a text, where it begins an entered pattern.
     fn state_for(&self, text: &[u8]) -> Option<StateID>
-        ensures { MatchOption result (¬ BeginsEntered self.now text.now) (λ sid. BeginsEntered self.now text.now × (sid ≢ 0) × IsTrue (same_text self.now.pairing (text_of self.now sid) text.now)) }
+        ensures { MatchOption result (¬ BeginsEntered self.now text.now) (λ sid. BeginsEntered self.now text.now × (sid ≢ 0) × IsTrue (same_text self.now.pairing (state_text self.now sid) text.now)) }
     {
         if text.is_empty() {
             return Some(StateID::must(1));
@@ -281,7 +282,7 @@ impl<'p> PlainAutomaton<'p> {
 
     /// The state that is reached by a text.
     fn state_of(&self, anchored: Anchored, text: &[u8]) -> StateID
-        ensures { IsReached self.now (is_anchored anchored) text.now result }
+        ensures { IsReachedBy self.now (is_anchored anchored) text.now result }
     {
         let _ = &self.pairing;
         for from in 0..self.last_place(anchored, text) + 1 {
@@ -296,27 +297,27 @@ impl<'p> PlainAutomaton<'p> {
 impl<'p> Automaton for PlainAutomaton<'p> {
     ghost use Rattle.std.specs.Prelude.{true, None, Some};
     ghost use Rattle.std.proofs.Common.{inl, inr};
-    ghost use Rattle.ac_automaton.specs.PlainAutomaton.{is_start_of, entries_of, IsRead};
+    ghost use Rattle.ac_automaton.specs.PlainAutomaton.{built_as, is_start_of, is_special_of, entries_of, IsRead};
 
-    ghost machine = { λ m. m };
+    ghost built = { λ m. built_as m None };
 
-    ghost serves = { λ m anchored. Unit {0} };
+    ghost supports = { λ m anchored. Unit {0} };
 
     ghost Reads = { IsRead };
 
-    ghost entries = { entries_of };
+    ghost matches = { entries_of };
 
     ghost starts = { is_start_of };
 
-    ghost direct = { λ m. true };
-
-    ghost filter = { λ m. None };
+    ghost special = { λ m sid. is_special_of m sid };
 
     ghost tells = { λ m anchored text sid reads. reads.tells };
 
     ghost lives = { λ m anchored text sid reads. elim reads.reached.stands [ inl dead ↦ (None, dead.1) | inr alive ↦ (Some alive.1.0, alive.1.1) ] };
 
     ghost pairs = { λ m anchored text sid reads. reads.reached.inverse };
+
+    ghost stops = { λ m anchored text sid reads. reads.stops };
 
     fn start_state(&self, anchored: Anchored) -> Result<StateID, MatchError> {
         Ok(self.state_of(anchored, &[]))
@@ -339,7 +340,7 @@ impl<'p> Automaton for PlainAutomaton<'p> {
     }
 
     fn is_special(&self, sid: StateID) -> bool {
-        self.is_dead(sid) || self.is_match(sid)
+        sid.as_usize() == 0 || self.entries_len(sid) != 0
     }
 
     fn is_dead(&self, sid: StateID) -> bool {

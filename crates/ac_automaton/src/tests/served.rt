@@ -27,27 +27,27 @@ impl<'p> Served<'p> {
 impl<'p> Automaton for Served<'p> {
     ghost use Rattle.std.specs.Prelude.{◌≡◌, true, None, Some};
     ghost use Rattle.std.proofs.Common.{inl, inr};
-    ghost use Rattle.ac_automaton.specs.PlainAutomaton.{is_start_of, entries_of, IsRead};
+    ghost use Rattle.ac_automaton.specs.PlainAutomaton.{built_as, is_start_of, is_special_of, entries_of, IsRead};
 
-    ghost machine = { λ a. a.automaton };
+    ghost built = { λ a. built_as a.automaton None };
 
-    ghost serves = { λ a anchored. anchored ≡ a.anchored };
+    ghost supports = { λ a anchored. anchored ≡ a.anchored };
 
     ghost Reads = { λ a anchored text sid. IsRead a.automaton anchored text sid };
 
-    ghost entries = { λ a sid. entries_of a.automaton sid };
+    ghost matches = { λ a sid. entries_of a.automaton sid };
 
     ghost starts = { λ a sid. is_start_of a.automaton sid };
 
-    ghost direct = { λ a. true };
-
-    ghost filter = { λ a. None };
+    ghost special = { λ a sid. is_special_of a.automaton sid };
 
     ghost tells = { λ a anchored text sid reads. reads.tells };
 
     ghost lives = { λ a anchored text sid reads. elim reads.reached.stands [ inl dead ↦ (None, dead.1) | inr alive ↦ (Some alive.1.0, alive.1.1) ] };
 
     ghost pairs = { λ a anchored text sid reads. reads.reached.inverse };
+
+    ghost stops = { λ a anchored text sid reads. reads.stops };
 
     fn start_state(&self, anchored: Anchored) -> Result<StateID, MatchError> {
         if anchored == self.anchored {

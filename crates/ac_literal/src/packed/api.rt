@@ -6,7 +6,7 @@ ghost use Rattle.ac_input.specs.Computed.{walk_of};
 ghost use Rattle.ac_literal.specs.Packed.{search_kind, fresh, added, added_all, built, least_len, searched, HasBeginning, AreServed};
 
 use crate::packed::pattern::Patterns;
-use crate::packed::rabinkarp::RabinKarp;
+use crate::packed::scanner::{Pace, Scanner};
 use ac_input::search::{Match, Span};
 use std::alloc::{AllocError, Global};
 use std::marker::Model;
@@ -87,7 +87,7 @@ impl Config {
         self
     }
 
-    /// Asks for the rolling hash. There is nothing else to choose, so it changes nothing.
+    /// Asks for the rolling hash alone. Marks and hash are one search, and no answer depends on how it goes, so it changes nothing.
     pub fn only_rabin_karp(&mut self, _yes: bool) -> &mut Config
         ensures same { result.ghost_name ≡ self.entry.ghost_name }
         ensures value { result.now ≡ self.old }
@@ -210,11 +210,8 @@ impl Builder {
         let alloc = self.patterns.allocator();
         let kind = self.config.kind;
         let patterns = self.patterns.clone(alloc)?;
-        let rabinkarp = RabinKarp::new(alloc, kind, &patterns)?;
-        Ok(Some(Searcher {
-            patterns,
-            rabinkarp,
-        }))
+        let scanner = Scanner::new(alloc, kind, &patterns)?;
+        Ok(Some(Searcher { patterns, scanner }))
     }
 }
 
@@ -222,18 +219,18 @@ impl Builder {
 #[derive(Drop)]
 pub struct Searcher {
     patterns: Patterns,
-    rabinkarp: RabinKarp,
+    scanner: Scanner,
 }
 
 impl Model for Searcher {
     ghost use Rattle.ac_literal.specs.Packed.{Packed, AreServed};
-    ghost use Rattle.ac_literal.specs.RabinKarp.{IsTable};
+    ghost use Rattle.ac_literal.specs.Scanner.{IsScanner};
 
     ghost Value = { Packed };
 
-    ghost view = { λ s. record { kind = s.rabinkarp.kind; patterns = s.patterns } };
+    ghost view = { λ s. record { kind = s.scanner.table.kind; patterns = s.patterns } };
 
-    ghost invariant = { λ s. AreServed s.patterns × IsTable s.patterns s.rabinkarp };
+    ghost invariant = { λ s. AreServed s.patterns × IsScanner s.patterns s.scanner };
 }
 
 impl Searcher {
@@ -268,7 +265,7 @@ impl Searcher {
     {
         Ok(Searcher {
             patterns: self.patterns.clone(alloc)?,
-            rabinkarp: self.rabinkarp.clone(alloc)?,
+            scanner: self.scanner.clone(alloc)?,
         })
     }
 
@@ -293,7 +290,17 @@ impl Searcher {
         ensures best { IsBest (search_kind self.now.kind) (searched self.now.patterns haystack.now span.start span.end) result }
         ensures served { AreServed self.now.patterns }
     {
-        self.rabinkarp.find_in(&self.patterns, haystack, span)
+        self.find_at_pace(haystack, span, &mut Pace::new())
+    }
+
+    /// The same, at the pace of the searches before.
+    fn find_at_pace(&self, haystack: &[u8], span: Span, pace: &mut Pace) -> Option<Match>
+        requires order { span.start ≤ span.end }
+        requires within { span.end ≤ length haystack.now }
+        ensures best { IsBest (search_kind self.now.kind) (searched self.now.patterns haystack.now span.start span.end) result }
+        ensures served { AreServed self.now.patterns }
+    {
+        self.scanner.find_in(&self.patterns, haystack, span, pace)
     }
 
     /// All matches that don't overlap, from the first to the last.
@@ -306,6 +313,7 @@ impl Searcher {
             searcher: self,
             haystack,
             at: 0,
+            pace: Pace::new(),
         }
     }
 
@@ -314,10 +322,10 @@ impl Searcher {
         ensures value { result.now ≡ self.now.kind }
         ensures served { AreServed self.now.patterns }
     {
-        self.rabinkarp.match_kind()
+        self.scanner.match_kind()
     }
 
-    /// The length from which a haystack is searched by the rolling hash: any.
+    /// The length from which a haystack is searched as it should be: any.
     pub fn minimum_len(&self) -> usize
         ensures { result ≡ 0 }
     {
@@ -328,7 +336,7 @@ impl Searcher {
     pub fn memory_usage(&self) -> usize {
         self.patterns
             .memory_usage()
-            .saturating_add(self.rabinkarp.memory_usage())
+            .saturating_add(self.scanner.memory_usage())
     }
 }
 
@@ -338,6 +346,7 @@ pub struct FindIter<'s, 'h> {
     searcher: &'s Searcher,
     haystack: &'h [u8],
     at: usize,
+    pace: Pace,
 }
 
 impl<'s, 'h> Model for FindIter<'s, 'h> {
@@ -362,12 +371,13 @@ impl<'s, 'h> Iterator for FindIter<'s, 'h> {
     ghost remaining = { item_count (λ rest. rest) };
 
     fn next(&mut self) -> Option<Match> {
-        let found = self.searcher.find_in(
+        let found = self.searcher.find_at_pace(
             self.haystack,
             Span {
                 start: self.at,
                 end: self.haystack.len(),
             },
+            &mut self.pace,
         )?;
         self.at = found.end();
         Some(found)

@@ -104,6 +104,21 @@ impl Patterns {
         least
     }
 
+    /// How many patterns come before a pattern in the order of their bytes. It looks at each pattern.
+    pub fn before(&self, number: PatternID) -> usize
+        requires { number < length self.now }
+        ensures { result ≤ length self.now }
+    {
+        let pattern = self.get(number);
+        let mut count = 0;
+        for other in &self.by_id {
+            if other.as_slice() < pattern {
+                count += 1;
+            }
+        }
+        count
+    }
+
     /// How many bytes of memory the patterns take.
     pub fn memory_usage(&self) -> usize {
         let mut bytes = self.by_id.capacity().saturating_mul(size_of::<Vec<u8>>());

@@ -1,9 +1,10 @@
 //! The search of Rabin and Karp for many patterns, by one rolling hash.
 //!
-//! All patterns are at least `hash_len` bytes long, and the table has the hash of the first so many bytes of each. The hash of
-//! as many bytes of the haystack is rolled on by a byte at a time: the next one follows from the last one, the byte that leaves
-//! and the byte that comes. A byte counts twice as much as the one behind it, modulo 2 to the 64, so that a step is a
-//! multiplication, two sums and a shift.
+//! All patterns are at least `hash_len` bytes long, and the table has the hash of the first so many bytes of each: of 16 at the
+//! most, which tell patterns apart well enough. The hash of as many bytes of the haystack is rolled on by a byte at a time: the
+//! next one follows from the last one, the byte that leaves and the byte that comes. A byte counts twice as much as the one
+//! behind it, modulo 2 to the 64, so that a step is a multiplication, two sums and a shift. Or it is made anew at one place,
+//! where a match is thought to begin.
 //!
 //! The entries stand in one vector, the least preferred pattern first. The low bits of a hash name one of 1024 buckets, whose
 //! head is its last entry, and each entry links to the one before it in its bucket. So at a place where a head is 0 the step is
@@ -12,15 +13,18 @@
 //! one that the kind prefers. A table takes a kilobyte, and 16 bytes a pattern.
 ghost use Rattle.std.specs.Prelude.{◌≡◌, ℕ, ◌+◌, ◌-◌, ◌*◌, ◌%◌, ◌^◌, ◌<◌, ◌≤◌, length, slice_range, IfOk, MatchOption};
 ghost use Rattle.ac_input.specs.Occurrence.{Occurs};
-ghost use Rattle.ac_input.specs.Best.{IsLeast, IsBest};
+ghost use Rattle.ac_input.specs.Best.{IsLeast};
 ghost use Rattle.ac_literal.specs.Packed.{AreServed, search_kind, searched};
-ghost use Rattle.ac_literal.specs.RabinKarp.{hash_of, bucket_of, lying, entry_at, IsTable, IsSameTable, StartsAt};
+ghost use Rattle.ac_literal.specs.RabinKarp.{hash_of, bucket_of, lying, entry_at, IsTable, IsSameTable, StartsAt, NoneBefore, IsFoundBefore};
 
 use crate::packed::api::MatchKind;
 use crate::packed::pattern::Patterns;
 use ac_input::primitives::PatternID;
 use ac_input::search::{Match, Span};
 use std::alloc::{AllocError, Global};
+
+/// How many bytes are hashed at most.
+const HASHED: usize = 16;
 
 /// A pattern in its bucket.
 #[derive(Clone, Copy)]
@@ -130,9 +134,9 @@ impl RabinKarp {
     /// The table of some patterns. It looks at the first bytes of each.
     pub fn new(alloc: Global, kind: MatchKind, patterns: &Patterns) -> Result<RabinKarp, AllocError>
         requires { AreServed patterns.now }
-        ensures { IfOk result (λ table. IsTable patterns.now table × (table.kind ≡ kind)) }
+        ensures { IfOk result (λ table. IsTable patterns.now table × (table.kind ≡ kind) × (table.hash_len ≤ 16)) }
     {
-        let hash_len = patterns.minimum_len();
+        let hash_len = patterns.minimum_len().min(HASHED);
         let order = patterns.order(alloc, kind)?;
         let mut heads = [0; 1024];
         let mut entries = Vec::with_capacity(alloc, order.len())?;
@@ -173,6 +177,14 @@ impl RabinKarp {
         ensures { result.now ≡ self.now.kind }
     {
         &self.kind
+    }
+
+    /// How many bytes are hashed.
+    #[inline(always)]
+    pub fn hash_len(&self) -> usize
+        ensures { result ≡ self.now.hash_len }
+    {
+        self.hash_len
     }
 
     /// How many bytes of memory the table takes, beside itself.
@@ -227,18 +239,47 @@ impl RabinKarp {
         None
     }
 
-    /// The match of the kind in the span, if it has one.
-    pub fn find_in(&self, patterns: &Patterns, haystack: &[u8], span: Span) -> Option<Match>
+    /// The match at a place, by the hash of the bytes there.
+    pub fn find_place(
+        &self,
+        patterns: &Patterns,
+        haystack: &[u8],
+        span: Span,
+        at: usize,
+    ) -> Option<Match>
         requires table { IsTable patterns.now self.now }
-        requires order { span.start ≤ span.end }
+        requires start { span.start ≤ at }
+        requires end { at + self.now.hash_len ≤ span.end }
         requires within { span.end ≤ length haystack.now }
-        ensures { IsBest (search_kind self.now.kind) (searched patterns.now haystack.now span.start span.end) result }
+        ensures { IsLeast (search_kind self.now.kind) (StartsAt (searched patterns.now haystack.now span.start span.end) at) result }
     {
-        if span.end - span.start < self.hash_len {
+        let hash = hash_of(&haystack[at..at + self.hash_len]);
+        self.find_at(patterns, haystack, span, at, hash)
+    }
+
+    /// The match of the kind, if it begins before the place `to`, where none begins before the place `from`.
+    #[inline(always)]
+    pub fn find_between(
+        &self,
+        patterns: &Patterns,
+        haystack: &[u8],
+        span: Span,
+        from: usize,
+        to: usize,
+    ) -> Option<Match>
+        requires table { IsTable patterns.now self.now }
+        requires start { span.start ≤ from }
+        requires order { from ≤ to }
+        requires end { to + self.now.hash_len ≤ span.end + 1 }
+        requires within { span.end ≤ length haystack.now }
+        requires none { NoneBefore (searched patterns.now haystack.now span.start span.end) from }
+        ensures { IsFoundBefore (search_kind self.now.kind) (searched patterns.now haystack.now span.start span.end) to result }
+    {
+        if from == to {
             return None;
         }
-        let last = span.end - self.hash_len;
-        let mut at = span.start;
+        let last = to - 1;
+        let mut at = from;
         let mut hash = hash_of(&haystack[at..at + self.hash_len]);
         while at < last {
             let found = self.find_at(patterns, haystack, span, at, hash);

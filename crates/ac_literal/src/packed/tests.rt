@@ -4,10 +4,12 @@ ghost use Rattle.std.specs.Prelude.{◌≤◌};
 use super::{Builder, Config, MatchKind, Searcher};
 use ac_input::pairing::Pairing;
 use ac_input::search::{Anchored, MatchKind as SearchKind, Span};
-use ac_plain::plain::{Found, Plain};
+use ac_plain::plain::{Found, Naive};
 use std::alloc::{AllocError, Global};
 use std::process::Abort;
 use std::test::Fail;
+
+mod rows;
 
 fn searcher(
     rt: &impl Abort,
@@ -225,7 +227,7 @@ fn wanted(
 ) -> Result<Vec<Found>, AllocError> {
     let end = haystack.len();
     let span = Span { start: 0, end };
-    let plain = Plain::new(patterns, Pairing::none(), haystack, span, Anchored::No);
+    let plain = Naive::new(patterns, Pairing::none(), haystack, span, Anchored::No);
     match kind {
         MatchKind::LeftmostFirst => plain.walk(alloc, SearchKind::LeftmostFirst, false),
         MatchKind::LeftmostLongest => plain.walk(alloc, SearchKind::LeftmostLongest, false),

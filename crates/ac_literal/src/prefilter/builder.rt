@@ -1,22 +1,25 @@
 //! Collects patterns, and chooses how candidates are found.
 //!
 //! As patterns come, each way of finding candidates collects what it needs: the one pattern, the patterns of packed search, the
-//! bytes that patterns begin with, and rare bytes. When a prefilter is built, the first way that serves is taken. An empty
-//! pattern lies everywhere, so where one comes nothing is collected any more, and no prefilter is built.
-ghost use Rattle.std.specs.Prelude.{◌≡◌, ℕ, ◌<◌, ◌++◌, ◌∷◌, [], List, length, option_map, IfOk, IfSome, IsSome, OnOk, OnErr, MatchOption, IsTrue};
+//! bytes that patterns begin with, and rare bytes. When a prefilter is built, one of the ways that serve is taken, as the
+//! page above says. An empty pattern lies everywhere, so where one comes nothing is collected any more, and no prefilter is
+//! built.
+ghost use Rattle.std.specs.Prelude.{◌≡◌, ◌<◌, [], length, option_map, IfOk, IfSome, IsSome, OnOk, OnErr, MatchOption, IsTrue};
 ghost use Rattle.ac_input.specs.Same.{IsUnpaired};
-ghost use Rattle.ac_input.specs.Machine.{Machine};
+ghost use Rattle.ac_input.specs.Pairing.{IsFolded};
+ghost use Rattle.ac_input.specs.Dictionary.{Dictionary};
 ghost use Rattle.ac_literal.specs.Packed.{search_kind, added};
-ghost use Rattle.ac_literal.specs.Needles.{AreFew};
-ghost use Rattle.ac_literal.specs.Finder.{is_start};
-ghost use Rattle.ac_literal.specs.Prefilter.{Serves, IsFolded, IsDemanded, IsAdmissible, StartBytesDemand, PackedDemand, MemmemServes};
-ghost use Rattle.ac_literal.specs.Builder.{with_pattern, IsSoleOf, IsPackedSoFar, IsCollected};
+ghost use Rattle.ac_literal.specs.Strategy.{AreStarts, AreRareOf};
+ghost use Rattle.ac_literal.specs.Prefilter.{IsDemanded, IsAdmissible, StartBytesDemand, MemmemServes, IsWay};
+ghost use Rattle.ac_literal.specs.Builder.{IsPackedSoFar, IsCollected, AddsMemmem, AddsStart, AddsPattern, BuildsWhere, BuildsPacked, TakesOne};
+ghost use Rattle.ac_input.specs.Limits.{with_pattern};
 
 use crate::packed;
 use crate::prefilter::Prefilter;
-use crate::prefilter::finder::{Finder, RareBytes};
-use crate::prefilter::needles::FewBytes;
-use crate::prefilter::rare::RareSoFar;
+use crate::prefilter::needles::{FewBytes, Needles};
+use crate::prefilter::rank::{is_rare, stops};
+use crate::prefilter::rare_bytes::RareBytesBuilder;
+use crate::prefilter::strategy::{RareBytes, Strategy};
 use ac_input::history::Pieces;
 use ac_input::pairing::Pairing;
 use ac_input::search::MatchKind;
@@ -26,20 +29,20 @@ use std::marker::Model;
 
 /// The one pattern, as long as there is one.
 #[derive(Drop)]
-pub enum Sole {
+pub enum MemmemBuilder {
     None,
     One(Vec<u8>),
     Several,
 }
 
-impl Sole {
+impl MemmemBuilder {
     /// With one more pattern, which is kept if it is the first.
-    fn with(&self, alloc: Global, pattern: &[u8]) -> Result<Sole, AllocError>
-        ensures { IfOk result (λ sole. (patterns : List (List ℕ)) → IsSoleOf patterns self.now → IsSoleOf (patterns ++ pattern.now ∷ []) sole) }
+    fn with(&self, alloc: Global, pattern: &[u8]) -> Result<MemmemBuilder, AllocError>
+        ensures { IfOk result (AddsMemmem self.now pattern.now) }
     {
         Ok(match self {
-            Sole::None => Sole::One(pattern.to_vec(alloc)?),
-            Sole::One(_) | Sole::Several => Sole::Several,
+            MemmemBuilder::None => MemmemBuilder::One(pattern.to_vec(alloc)?),
+            MemmemBuilder::One(_) | MemmemBuilder::Several => MemmemBuilder::Several,
         })
     }
 }
@@ -82,7 +85,7 @@ fn add_packed(packed: &mut Option<packed::Builder>, pattern: &[u8]) -> Result<()
 /// The bytes that patterns may begin with, with those of one more pattern.
 fn starts_with(few: FewBytes, pairing: &Pairing, pattern: &[u8]) -> FewBytes
     requires { 0 < length pattern.now }
-    ensures { (patterns : List (List ℕ)) → AreFew few (is_start pairing.now patterns) → AreFew result (is_start pairing.now (patterns ++ pattern.now ∷ [])) }
+    ensures { AddsStart pairing.now few pattern.now result }
 {
     let first = pattern[0];
     few.with(first).with(pairing.other(first))
@@ -90,55 +93,55 @@ fn starts_with(few: FewBytes, pairing: &Pairing, pattern: &[u8]) -> FewBytes
 
 /// What is collected of patterns, none of which is empty.
 #[derive(Drop)]
-pub struct Collected {
-    sole: Sole,
+pub struct Builders {
+    memmem: MemmemBuilder,
     packed: Option<packed::Builder>,
-    starts: FewBytes,
-    rare: RareSoFar,
+    start_bytes: FewBytes,
+    rare_bytes: RareBytesBuilder,
 }
 
-impl Collected {
+impl Builders {
     /// Of no pattern.
-    fn new(alloc: Global, kind: MatchKind, pairing: &Pairing) -> Collected
+    fn new(alloc: Global, kind: MatchKind, pairing: &Pairing) -> Builders
         ensures { IsCollected (record { patterns = []; pairing = pairing.now; kind = kind }) result }
     {
-        Collected {
-            sole: Sole::None,
+        Builders {
+            memmem: MemmemBuilder::None,
             packed: packed_builder(alloc, kind, pairing),
-            starts: FewBytes::None,
-            rare: RareSoFar::new(),
+            start_bytes: FewBytes::None,
+            rare_bytes: RareBytesBuilder::new(),
         }
     }
 
     /// With one more pattern. Where memory ends, nothing changes.
     fn add(&mut self, alloc: Global, pairing: &Pairing, pattern: &[u8]) -> Result<(), AllocError>
         requires { 0 < length pattern.now }
-        ensures ok { OnOk result ((m : Machine) → m.pairing ≡ pairing.now → IsCollected m self.old → IsCollected (with_pattern m pattern.now) self.new) }
+        ensures ok { OnOk result (AddsPattern pairing.now self.old pattern.now self.new) }
         ensures err { OnErr result (self.new ≡ self.old) }
     {
-        let sole = self.sole.with(alloc, pattern)?;
+        let memmem = self.memmem.with(alloc, pattern)?;
         add_packed(&mut self.packed, pattern)?;
-        self.sole = sole;
-        self.starts = starts_with(self.starts, pairing, pattern);
-        self.rare = self.rare.with(pairing, pattern);
+        self.memmem = memmem;
+        self.start_bytes = starts_with(self.start_bytes, pairing, pattern);
+        self.rare_bytes = self.rare_bytes.with(pairing, pattern);
         Ok(())
     }
 
     /// The search for the one pattern, where that serves.
-    fn sole_finder(&self, alloc: Global, pairing: &Pairing) -> Result<Option<Finder>, AllocError>
-        ensures { IfOk result (λ made. (m : Machine) → m.pairing ≡ pairing.now → IsCollected m self.now → MatchOption made (¬ MemmemServes m) (Serves m)) }
+    fn build_memmem(&self, alloc: Global, pairing: &Pairing) -> Result<Option<Strategy>, AllocError>
+        ensures { IfOk result (BuildsWhere MemmemServes pairing.now self.now) }
     {
-        match &self.sole {
-            Sole::One(pattern) if pairing.is_none() => Ok(Some(Finder::Memmem(memmem::Finder::new(
-                pattern,
-            ).into_owned(alloc)?))),
+        match &self.memmem {
+            MemmemBuilder::One(pattern) if pairing.is_none() => Ok(Some(Strategy::Memmem(
+                memmem::Finder::new(pattern).into_owned(alloc)?,
+            ))),
             _ => Ok(None),
         }
     }
 
     /// Packed search, where that serves.
-    fn packed_finder(&self) -> Result<Option<Finder>, AllocError>
-        ensures { IfOk result (λ made. (m : Machine) → ¬ MemmemServes m → IsCollected m self.now → MatchOption made (¬ PackedDemand m) (Serves m)) }
+    fn build_packed(&self) -> Result<Option<Strategy>, AllocError>
+        ensures { IfOk result (BuildsPacked self.now) }
     {
         let Some(builder) = &self.packed else {
             return Ok(None);
@@ -146,53 +149,84 @@ impl Collected {
         let Some(searcher) = builder.build()? else {
             return Ok(None);
         };
-        Ok(Some(Finder::Packed(searcher)))
+        Ok(Some(Strategy::Packed(searcher)))
     }
 
-    /// A scan for the bytes that patterns begin with, where that serves.
-    fn start_finder(&self) -> Option<Finder>
-        ensures { (m : Machine) → IsCollected m self.now → MatchOption result (¬ StartBytesDemand m) (Serves m) }
+    /// The bytes that patterns begin with, where a scan for them serves.
+    fn build_start_bytes(&self) -> Option<Needles>
+        ensures { (m : Dictionary) → IsCollected m self.now → MatchOption result (¬ StartBytesDemand m) (AreStarts m) }
     {
-        let FewBytes::Some(needles) = self.starts else {
+        let FewBytes::Some(needles) = self.start_bytes else {
             return None;
         };
         if needles.is_ascii() {
-            Some(Finder::StartBytes(needles))
+            Some(needles)
         } else {
             None
         }
     }
 
-    /// A scan for rare bytes, where that serves.
-    fn rare_finder(&self) -> Option<Finder>
-        ensures { (m : Machine) → IsCollected m self.now → IfSome result (Serves m) }
+    /// Rare bytes, where a scan for them serves.
+    fn build_rare_bytes(&self) -> Option<RareBytes>
+        ensures { (m : Dictionary) → IsCollected m self.now → IfSome result (AreRareOf m) }
     {
-        let FewBytes::Some(needles) = self.rare.few else {
+        let FewBytes::Some(needles) = self.rare_bytes.few else {
             return None;
         };
-        if !self.rare.is_short {
+        if !self.rare_bytes.is_short {
             return None;
         }
-        Some(Finder::RareBytes(RareBytes {
+        Some(RareBytes {
             needles,
-            distances: self.rare.distances,
-        }))
+            distances: self.rare_bytes.distances,
+        })
     }
 
     /// How candidates are found, where there is a way.
-    fn finder(&self, alloc: Global, pairing: &Pairing) -> Result<Option<Finder>, AllocError>
-        ensures { IfOk result (λ made. (m : Machine) → m.pairing ≡ pairing.now → IsCollected m self.now → MatchOption made (¬ IsDemanded m) (Serves m)) }
+    fn build(&self, alloc: Global, pairing: &Pairing) -> Result<Option<Strategy>, AllocError>
+        ensures { IfOk result (BuildsWhere IsDemanded pairing.now self.now) }
     {
-        if let Some(finder) = self.sole_finder(alloc, pairing)? {
-            return Ok(Some(finder));
+        if let Some(strategy) = self.build_memmem(alloc, pairing)? {
+            return Ok(Some(strategy));
         }
-        if let Some(finder) = self.packed_finder()? {
-            return Ok(Some(finder));
+        let starts = self.build_start_bytes();
+        let scan = rarer(starts, self.build_rare_bytes());
+        if stops_rarely(&scan) {
+            return Ok(scan);
         }
-        if let Some(finder) = self.start_finder() {
-            return Ok(Some(finder));
+        if let Some(strategy) = self.build_packed()? {
+            return Ok(Some(strategy));
         }
-        Ok(self.rare_finder())
+        if starts.is_none() {
+            return Ok(None);
+        }
+        Ok(scan)
+    }
+}
+
+/// Of two scans for bytes the one that is taken to stop more rarely. Start bytes are taken where neither does, since there
+/// nothing is stepped back.
+fn rarer(starts: Option<Needles>, rare: Option<RareBytes>) -> Option<Strategy>
+    ensures { TakesOne starts rare result }
+{
+    match (starts, rare) {
+        (Some(needles), Some(rare)) if stops(rare.needles) < stops(needles) => {
+            Some(Strategy::RareBytes(rare))
+        }
+        (Some(needles), _) => Some(Strategy::StartBytes(needles)),
+        (None, Some(rare)) => Some(Strategy::RareBytes(rare)),
+        (None, None) => None,
+    }
+}
+
+/// Whether there is a scan for bytes, and it is taken to stop rarely.
+fn stops_rarely(scan: &Option<Strategy>) -> bool
+    ensures { IsTrue result → IsSome scan.now }
+{
+    match scan {
+        Some(Strategy::StartBytes(needles)) => is_rare(*needles),
+        Some(Strategy::RareBytes(rare)) => is_rare(rare.needles),
+        _ => false,
     }
 }
 
@@ -207,18 +241,18 @@ pub struct PrefilterBuilder {
     pairing: Pairing,
     patterns: Pieces,
     has_empty: bool,
-    collected: Collected,
+    builders: Builders,
 }
 
 impl Model for PrefilterBuilder {
-    ghost use Rattle.ac_input.specs.Machine.{Machine};
+    ghost use Rattle.ac_input.specs.Dictionary.{Dictionary};
     ghost use Rattle.ac_literal.specs.Builder.{IsBuilder};
 
-    ghost Value = { Machine };
+    ghost Value = { Dictionary };
 
     ghost view = { λ b. record { patterns = b.patterns.items; pairing = b.pairing; kind = b.kind } };
 
-    ghost invariant = { λ b. IsBuilder (record { patterns = b.patterns.items; pairing = b.pairing; kind = b.kind }) b.has_empty b.collected };
+    ghost invariant = { λ b. IsBuilder (record { patterns = b.patterns.items; pairing = b.pairing; kind = b.kind }) b.has_empty b.builders };
 }
 
 impl PrefilterBuilder {
@@ -242,7 +276,7 @@ impl PrefilterBuilder {
             pairing,
             patterns: Pieces::empty(),
             has_empty: false,
-            collected: Collected::new(alloc, kind, &pairing),
+            builders: Builders::new(alloc, kind, &pairing),
         }
     }
 
@@ -275,8 +309,8 @@ impl PrefilterBuilder {
 
     /// Adds a pattern. Where memory ends, the builder is as it was.
     pub fn add(&mut self, pattern: &[u8]) -> Result<&mut PrefilterBuilder, AllocError>
-        ensures same { IfOk result (λ builder. builder.ghost_name ≡ self.entry.ghost_name) }
-        ensures value { IfOk result (λ builder. builder.now ≡ with_pattern self.old pattern.now) }
+        ensures same { IfOk result (λ b. b.ghost_name ≡ self.entry.ghost_name) }
+        ensures value { IfOk result (λ b. b.now ≡ with_pattern self.old pattern.now) }
     {
         self.try_add(pattern)?;
         Ok(self)
@@ -290,7 +324,7 @@ impl PrefilterBuilder {
         if pattern.is_empty() {
             self.has_empty = true;
         } else if !self.has_empty {
-            self.collected.add(self.alloc, &self.pairing, pattern)?;
+            self.builders.add(self.alloc, &self.pairing, pattern)?;
         }
         self.patterns = self.patterns.and(pattern);
         Ok(())
@@ -300,21 +334,22 @@ impl PrefilterBuilder {
     ///
     /// It takes memory for a copy of the patterns that the prefilter searches for, and none where it scans for bytes.
     pub fn build(&self) -> Result<Option<Prefilter>, AllocError>
-        ensures machine { IfOk result (λ made. IfSome made (λ prefilter. prefilter.machine ≡ self.now)) }
+        ensures dictionary { IfOk result (λ made. IfSome made (λ p. p.dictionary ≡ self.now)) }
         ensures admissible { IfOk result (λ made. IsSome made → IsAdmissible self.now) }
         ensures demanded { IfOk result (λ made. IsDemanded self.now → IsSome made) }
+        ensures way { IfOk result (λ made. IfSome made IsWay) }
     {
         if self.has_empty {
             return Ok(None);
         }
-        let Some(finder) = self.collected.finder(self.alloc, &self.pairing)? else {
+        let Some(strategy) = self.builders.build(self.alloc, &self.pairing)? else {
             return Ok(None);
         };
         Ok(Some(Prefilter {
             kind: self.kind,
             pairing: self.pairing,
             patterns: self.patterns.same(),
-            finder,
+            strategy,
         }))
     }
 }

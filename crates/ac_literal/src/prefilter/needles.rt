@@ -11,6 +11,9 @@ use ac_input::search::Span;
 use ac_input::steps::Steps;
 use memchr::{memchr, memchr2, memchr3};
 
+/// The first byte that isn't ASCII.
+const ASCII_LIMIT: u8 = 0x80;
+
 /// One to three bytes that are looked for together.
 #[derive(Clone, Copy, Debug)]
 pub enum Needles {
@@ -61,9 +64,9 @@ impl Needles {
         ensures { result ≡ all_ascii self.now }
     {
         match *self {
-            Needles::One(a) => a < 128,
-            Needles::Two(a, b) => a < 128 && b < 128,
-            Needles::Three(a, b, c) => a < 128 && b < 128 && c < 128,
+            Needles::One(a) => a < ASCII_LIMIT,
+            Needles::Two(a, b) => a < ASCII_LIMIT && b < ASCII_LIMIT,
+            Needles::Three(a, b, c) => a < ASCII_LIMIT && b < ASCII_LIMIT && c < ASCII_LIMIT,
         }
     }
 

@@ -1,6 +1,6 @@
 //! Small prefilters, each way of finding candidates once.
-use super::finder::{RareBytes, find_start};
 use super::needles::Needles;
+use super::strategy::{RareBytes, find_start};
 use super::{Candidate, Prefilter, PrefilterBuilder};
 use ac_input::pairing::Pairing;
 use ac_input::search::{MatchKind, Span};
@@ -98,10 +98,8 @@ fn folded(rt: HostRuntime) -> Result<(), Fail> {
     builder.ascii_case_insensitive(true);
     builder.add(b"FOO")?;
     let prefilter = builder.build()?.ok_or("none built")?;
-    let at = candidate(&prefilter, b"xxfoo")
-        .into_option()
-        .ok_or("no candidate")?;
-    assert!(rt; at <= 2);
+    assert_eq!(rt; possible(candidate(&prefilter, b"xxfoo")), Some(2));
+    assert_eq!(rt; possible(candidate(&prefilter, b"xoFoo")), Some(2));
     Ok(())
 }
 
@@ -111,18 +109,12 @@ fn other_pairs(rt: HostRuntime) -> Result<(), Fail> {
     let prefilter = built(rt.alloc(), MatchKind::LeftmostFirst, digits, &[b"x0"])?.ok_or(
         "none built",
     )?;
-    let at = candidate(&prefilter, b"aax1")
-        .into_option()
-        .ok_or("no candidate")?;
-    assert!(rt; at <= 2);
+    assert_eq!(rt; possible(candidate(&prefilter, b"aax1")), Some(2));
     let letters = Pairing::new(&[(0xc9, 0xe9)])?;
     let prefilter = built(rt.alloc(), MatchKind::Standard, letters, &[b"\xc9z"])?.ok_or(
         "none built",
     )?;
-    let at = candidate(&prefilter, b"aa\xe9z")
-        .into_option()
-        .ok_or("no candidate")?;
-    assert!(rt; at <= 2);
+    assert_eq!(rt; possible(candidate(&prefilter, b"aa\xe9z")), Some(2));
     Ok(())
 }
 
@@ -140,24 +132,61 @@ fn none_is_built(rt: HostRuntime) -> Result<(), Fail> {
         .is_none()
     );
     assert!(rt; built(rt.alloc(), MatchKind::Standard, Pairing::ascii(), &patterns)?.is_none());
+    let common: [&[u8]; 4] = [b"x", b"yx", b"b", b"c"];
+    assert!(rt; built(rt.alloc(), MatchKind::Standard, Pairing::none(), &common)?.is_none());
+    Ok(())
+}
+
+#[test]
+fn rare_bytes_before_common_start_bytes(rt: HostRuntime) -> Result<(), Fail> {
+    let patterns: [&[u8]; 3] = [b"aZ", b"bcZ", b"cZ"];
+    let prefilter = built(rt.alloc(), MatchKind::Standard, Pairing::none(), &patterns)?.ok_or(
+        "none built",
+    )?;
+    assert_eq!(rt; possible(candidate(&prefilter, b"abccZ")), Some(2));
+    assert!(rt; candidate(&prefilter, b"abcc").into_option().is_none());
+    Ok(())
+}
+
+#[test]
+fn rare_start_bytes_before_packed(rt: HostRuntime) -> Result<(), Fail> {
+    let patterns: [&[u8]; 2] = [b"Zoo", b"Zap"];
+    let prefilter = built(
+        rt.alloc(),
+        MatchKind::LeftmostFirst,
+        Pairing::none(),
+        &patterns,
+    )?
+    .ok_or("none built")?;
+    assert_eq!(rt; possible(candidate(&prefilter, b"xxZxZap")), Some(2));
+    Ok(())
+}
+
+#[test]
+fn common_start_bytes_where_nothing_else_serves(rt: HostRuntime) -> Result<(), Fail> {
+    let patterns: [&[u8]; 3] = [b"foo", b"bar", b"quux"];
+    let prefilter = built(rt.alloc(), MatchKind::Standard, Pairing::none(), &patterns)?.ok_or(
+        "none built",
+    )?;
+    assert_eq!(rt; possible(candidate(&prefilter, b"xxqxbar")), Some(2));
     Ok(())
 }
 
 #[test]
 fn whole_matches(rt: HostRuntime) -> Result<(), Fail> {
-    let patterns: [&[u8]; 2] = [b"foo", b"bar"];
-    let sole = built(
+    let patterns: [&[u8]; 3] = [b"foo", b"bar", b"quux"];
+    let memmem = built(
         rt.alloc(),
         MatchKind::Standard,
         Pairing::none(),
-        &patterns[1..],
+        &patterns[1..2],
     )?
     .ok_or("none built")?;
     let mut steps = Steps::new();
-    let found = sole.find_in_counted(b"foobar", Span { start: 1, end: 6 }, &mut steps);
+    let found = memmem.find_in_counted(b"foobar", Span { start: 1, end: 6 }, &mut steps);
     assert_eq!(rt; matched(found), Some((0, 3, 6)));
     assert_eq!(rt;
-        matched(candidate(&sole.clone(rt.alloc())?, b"fooba")),
+        matched(candidate(&memmem.clone(rt.alloc())?, b"fooba")),
         None
     );
     let packed = built(

@@ -1,16 +1,16 @@
 //! The picks of a walk, one after another, as they are found.
 ghost use Rattle.std.specs.Iterator.{YieldsFirst, item_count};
 
-use super::{Found, Plain};
+use super::{Found, Naive};
 use ac_input::search::MatchKind;
 use std::marker::Model;
 
-/// The picks of a walk that are left to come. From [`Plain::picks`].
+/// The picks of a walk that are left to come. From [`Naive::picks`].
 ///
 /// Each is found when it is asked for, and none is kept. After the last one there is none for good.
 #[derive(Drop)]
 pub struct Picks<'a> {
-    pub(super) search: Plain<'a>,
+    pub(super) search: Naive<'a>,
     pub(super) kind: MatchKind,
     pub(super) at: usize,
     pub(super) last: Option<usize>,

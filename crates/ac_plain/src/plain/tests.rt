@@ -11,18 +11,18 @@ fn found(pattern: usize, start: usize, end: usize) -> Found {
     }
 }
 
-fn whole<'a>(patterns: &'a [&'a [u8]], haystack: &'a [u8], anchored: Anchored) -> Plain<'a> {
+fn whole<'a>(patterns: &'a [&'a [u8]], haystack: &'a [u8], anchored: Anchored) -> Naive<'a> {
     let span = Span {
         start: 0,
         end: haystack.len(),
     };
-    Plain::new(patterns, Pairing::none(), haystack, span, anchored)
+    Naive::new(patterns, Pairing::none(), haystack, span, anchored)
 }
 
 fn walks(
     rt: &impl Abort,
     alloc: Global,
-    plain: &Plain,
+    plain: &Naive,
     kind: MatchKind,
     want: &[Found],
 ) -> Result<(), Fail> {
@@ -31,7 +31,7 @@ fn walks(
     Ok(())
 }
 
-fn lists(rt: &impl Abort, alloc: Global, plain: &Plain, want: &[Found]) -> Result<(), Fail> {
+fn lists(rt: &impl Abort, alloc: Global, plain: &Naive, want: &[Found]) -> Result<(), Fail> {
     let occurrences = plain.listing(alloc)?;
     assert_eq!(rt; occurrences.as_slice(), want);
     Ok(())

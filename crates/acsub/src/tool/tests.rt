@@ -1,9 +1,12 @@
 //! The whole program over scripted devices: each status, and each line.
+//!
+//! A rule file lies in `out/`, under a name of the test's own, for no longer than a run.
 use super::tool;
 use crate::scripted::{Sink, Source, room_for, whole};
 use ac_automaton::watched::Watched;
 use std::alloc::{AllocError, Global};
 use std::fs;
+use std::process::Abort;
 use std::test::Fail;
 
 /// The words after the program's name, as the system hands them over.
@@ -51,40 +54,62 @@ fn try_tool(
     })
 }
 
+/// Room for any line.
+fn ample(rt: &HostRuntime) -> Sink {
+    room_for(rt.alloc(), 100000, 100000, false)
+}
+
 /// The program over an input that is read to its end, by a writer that takes all.
 fn try_plain(rt: &HostRuntime, words: &[&str], input: &[u8]) -> Result<Trial, AllocError> {
-    try_tool(
-        rt,
-        words,
-        whole(input, 7),
-        room_for(rt.alloc(), 1000, 1000, false),
-    )
+    try_tool(rt, words, whole(input, 7), ample(rt))
+}
+
+/// The program, while these rules lie at the path.
+fn try_rules(
+    rt: &HostRuntime,
+    path: &str,
+    rules: &str,
+    words: &[&str],
+    source: Source<'_>,
+    sink: Sink,
+) -> Result<Trial, Fail> {
+    fs::create_dir_all(rt, "out")?;
+    fs::write(rt, path, rules)?;
+    let trial = try_tool(rt, words, source, sink);
+    fs::remove_file(rt, path)?;
+    Ok(trial?)
 }
 
 const LETTERS: &str = "62\t\n616263\t\n61626364\t\n";
 
+const SLOTH: &str = "666f78\t736c6f7468\n";
+
 #[test]
 fn lists_what_matches(rt: HostRuntime) -> Result<(), Fail> {
-    fs::write(&rt, "lists.rules", LETTERS)?;
-    let words = ["list", "lists.rules", "--kind", "leftmost-longest"];
-    let trial = try_plain(&rt, words.as_slice(), b"abcd")?;
+    let path = "out/lists.rules";
+    let words = ["list", path, "--kind", "leftmost-longest"];
+    let (source, sink) = (whole(b"abcd", 7), ample(&rt));
+    let trial = try_rules(&rt, path, LETTERS, words.as_slice(), source, sink)?;
     assert_eq!(rt; trial.status, 0);
     assert_eq!(rt; trial.written.as_slice(), b"2 0 4\n".as_slice());
     assert_eq!(rt; trial.told.as_slice(), b"".as_slice());
     Ok(())
 }
 
+/// Asserts that this is told, with the status of bad words or settings, and that nothing is read or written.
+fn refuses(rt: &impl Abort, alloc: Global, trial: &Trial, told: &str) -> Result<(), AllocError> {
+    assert_eq!(rt; trial.status, 2, "{told}");
+    assert!(rt; is_line(alloc, trial, told)?, "{told}");
+    assert_eq!(rt; trial.reads, 0, "{told}");
+    assert_eq!(rt; trial.written.len(), 0, "{told}");
+    Ok(())
+}
+
 #[test]
-fn tells_bad_words_and_settings(rt: HostRuntime) -> Result<(), Fail> {
-    fs::write(&rt, "settings.rules", LETTERS)?;
-    fs::write(&rt, "empty.rules", "\t\n")?;
-    fs::write(&rt, "none.rules", "")?;
-    let kind = "--kind";
-    let first = "leftmost-first";
-    let packed = ["--engine", "packed"];
-    let cases: [(&[&str], &str); 12] = [
+fn tells_bad_words(rt: HostRuntime) -> Result<(), Fail> {
+    let cases: [(&[&str], &str); 7] = [
         (&["list"], "bad words"),
-        (&["delete", "settings.rules"], "bad words"),
+        (&["delete", "missing.rules"], "bad words"),
         (&["list", "missing.rules", "--pairs", "303"], "bad words"),
         (&["list", "missing.rules", "--pairs", "303132"], "bad words"),
         (
@@ -99,131 +124,122 @@ fn tells_bad_words_and_settings(rt: HostRuntime) -> Result<(), Fail> {
             &["list", "missing.rules", "--pairs", "3030"],
             "setting: byte 48 is named twice",
         ),
-        (
-            &["overlap", "settings.rules", kind, first],
-            "setting: overlap needs the standard kind",
-        ),
-        (
-            &["list", "settings.rules", packed[0], packed[1]],
-            "setting: packed needs a leftmost kind",
-        ),
-        (
-            &[
-                "list",
-                "settings.rules",
-                packed[0],
-                packed[1],
-                kind,
-                first,
-                "--fold",
-            ],
-            "setting: packed keeps case",
-        ),
-        (
-            &["list", "empty.rules", packed[0], packed[1], kind, first],
-            "setting: packed takes no empty pattern",
-        ),
-        (
-            &["list", "none.rules", packed[0], packed[1], kind, first],
-            "setting: packed takes 1 to 128 patterns",
-        ),
     ];
     for (words, told) in cases {
         let trial = try_plain(&rt, words, b"abcd")?;
-        assert_eq!(rt; trial.status, 2, "{told}");
-        assert!(rt; is_line(&rt, &trial, told)?, "{told}");
-        assert_eq!(rt; trial.reads, 0, "{told}");
-        assert_eq!(rt; trial.written.len(), 0, "{told}");
+        refuses(&rt, rt.alloc(), &trial, told)?;
+    }
+    Ok(())
+}
+
+#[test]
+fn tells_bad_settings(rt: HostRuntime) -> Result<(), Fail> {
+    let path = "out/settings.rules";
+    let (overlap, list, kind, engine) = ("overlap", "list", "--kind", "--engine");
+    let (first, packed) = ("leftmost-first", "packed");
+    let cases: [(&str, &[&str], &str); 5] = [
+        (
+            LETTERS,
+            &[overlap, path, kind, first],
+            "setting: overlap needs the standard kind",
+        ),
+        (
+            LETTERS,
+            &[list, path, engine, packed],
+            "setting: packed needs a leftmost kind",
+        ),
+        (
+            LETTERS,
+            &[list, path, engine, packed, kind, first, "--fold"],
+            "setting: packed keeps case",
+        ),
+        (
+            "\t\n",
+            &[list, path, engine, packed, kind, first],
+            "setting: packed takes no empty pattern",
+        ),
+        (
+            "",
+            &[list, path, engine, packed, kind, first],
+            "setting: packed takes 1 to 128 patterns",
+        ),
+    ];
+    for (rules, words, told) in cases {
+        let (source, sink) = (whole(b"abcd", 7), ample(&rt));
+        let trial = try_rules(&rt, path, rules, words, source, sink)?;
+        refuses(&rt, rt.alloc(), &trial, told)?;
     }
     Ok(())
 }
 
 /// Whether just this was told, as the program's line.
-fn is_line(rt: &HostRuntime, trial: &Trial, told: &str) -> Result<bool, AllocError> {
-    let line = format!(in rt.alloc(); "acsub: {told}\n")?;
+fn is_line(alloc: Global, trial: &Trial, told: &str) -> Result<bool, AllocError> {
+    let line = format!(in alloc; "acsub: {told}\n")?;
     Ok(trial.told.as_slice() == line.as_bytes())
 }
 
 #[test]
 fn tells_a_bad_rule_file(rt: HostRuntime) -> Result<(), Fail> {
-    fs::write(&rt, "bad.rules", "61\t62\n63\t64")?;
-    let trial = try_plain(&rt, &["replace", "bad.rules"], b"abcd")?;
+    let path = "out/bad.rules";
+    let (source, sink) = (whole(b"abcd", 7), ample(&rt));
+    let words = ["replace", path];
+    let trial = try_rules(&rt, path, "61\t62\n63\t64", words.as_slice(), source, sink)?;
     assert_eq!(rt; trial.status, 3);
-    assert!(rt; is_line(&rt, &trial, "rules: line 2")?);
+    assert!(rt; is_line(rt.alloc(), &trial, "rules: line 2")?);
     let trial = try_plain(&rt, &["replace", "missing.rules"], b"abcd")?;
     assert_eq!(rt; trial.status, 3);
-    assert!(rt; is_line(&rt, &trial, "rules: file cannot be read")?);
+    assert!(rt; is_line(rt.alloc(), &trial, "rules: file cannot be read")?);
     assert_eq!(rt; trial.reads, 0);
     Ok(())
 }
 
-#[test]
-fn tells_a_device_that_fails(rt: HostRuntime) -> Result<(), Fail> {
-    fs::write(&rt, "devices.rules", "666f78\t736c6f7468\n")?;
-    let words = ["replace", "devices.rules"];
-    let failing = Source {
+/// A reader that gives the start of a text, and then fails.
+fn failing() -> Source<'static> {
+    Source {
         fails: true,
         ..whole(b"The fox r", 7)
-    };
-    let ample = || room_for(rt.alloc(), 1000, 1000, false);
-    let trial = try_tool(&rt, words.as_slice(), failing, ample())?;
-    assert_eq!(rt; trial.status, 5);
-    assert!(rt; is_line(&rt, &trial, "read failed")?);
-    let sink = room_for(rt.alloc(), 5, 1000, true);
-    let trial = try_tool(&rt, words.as_slice(), whole(b"The fox", 7), sink)?;
-    assert_eq!(rt; trial.status, 6);
-    assert!(rt; is_line(&rt, &trial, "write failed")?);
-    assert_eq!(rt; trial.written.as_slice(), b"The s".as_slice());
-    let sink = room_for(rt.alloc(), 5, 1000, false);
-    let trial = try_tool(&rt, words.as_slice(), whole(b"The fox", 7), sink)?;
-    assert_eq!(rt; trial.status, 6);
-    assert!(rt; is_line(&rt, &trial, "write took no byte")?);
-    let unflushed = Sink {
+    }
+}
+
+/// A writer that takes all, and can't be flushed.
+fn unflushed(rt: &HostRuntime) -> Sink {
+    Sink {
         flushes: false,
-        ..ample()
-    };
-    let trial = try_tool(&rt, words.as_slice(), whole(b"The fox", 7), unflushed)?;
-    assert_eq!(rt; trial.status, 6);
-    assert!(rt; is_line(&rt, &trial, "flush failed")?);
-    assert_eq!(rt; trial.written.as_slice(), b"The sloth".as_slice());
-    Ok(())
+        ..ample(rt)
+    }
 }
 
 #[test]
-fn tells_the_fault_of_the_run_before_that_of_the_flush(rt: HostRuntime) -> Result<(), Fail> {
-    fs::write(&rt, "order.rules", "666f78\t736c6f7468\n")?;
-    let failing = Source {
-        fails: true,
-        ..whole(b"The fox r", 7)
-    };
-    let unflushed = Sink {
-        flushes: false,
-        ..room_for(rt.alloc(), 1000, 1000, false)
-    };
-    let trial = try_tool(&rt, &["replace", "order.rules"], failing, unflushed)?;
-    assert_eq!(rt; trial.status, 5);
-    assert!(rt; is_line(&rt, &trial, "read failed")?);
+fn tells_a_device_that_fails(rt: HostRuntime) -> Result<(), Fail> {
+    let path = "out/devices.rules";
+    let words = ["replace", path];
+    let whole = || whole(b"The fox", 7);
+    let room = |fails: bool| room_for(rt.alloc(), 5, 1000, fails);
+    let cases: [(Source<'_>, Sink, u8, &str, &str); 5] = [
+        (failing(), ample(&rt), 5, "read failed", ""),
+        (whole(), room(true), 6, "write failed", "The s"),
+        (whole(), room(false), 6, "write took no byte", "The s"),
+        (whole(), unflushed(&rt), 6, "flush failed", "The sloth"),
+        (failing(), unflushed(&rt), 5, "read failed", ""),
+    ];
+    for (source, sink, status, told, written) in cases {
+        let trial = try_rules(&rt, path, SLOTH, words.as_slice(), source, sink)?;
+        assert_eq!(rt; trial.status, status, "{told}");
+        assert!(rt; is_line(rt.alloc(), &trial, told)?, "{told}");
+        assert_eq!(rt; trial.written.as_slice(), written.as_bytes(), "{told}");
+    }
     Ok(())
 }
 
 #[test]
 fn shows_help(rt: HostRuntime) -> Result<(), Fail> {
-    let trial = try_tool(
-        &rt,
-        &["--help"],
-        whole(b"", 1),
-        room_for(rt.alloc(), 100000, 100000, false),
-    )?;
+    let trial = try_plain(&rt, &["--help"], b"")?;
     assert_eq!(rt; trial.status, 0);
     assert!(rt; !trial.written.is_empty());
     assert_eq!(rt; trial.told.len(), 0);
-    let trial = try_tool(
-        &rt,
-        &["--help"],
-        whole(b"", 1),
-        room_for(rt.alloc(), 5, 1000, true),
-    )?;
+    let sink = room_for(rt.alloc(), 5, 1000, true);
+    let trial = try_tool(&rt, &["--help"], whole(b"", 1), sink)?;
     assert_eq!(rt; trial.status, 6);
-    assert!(rt; is_line(&rt, &trial, "write failed")?);
+    assert!(rt; is_line(rt.alloc(), &trial, "write failed")?);
     Ok(())
 }

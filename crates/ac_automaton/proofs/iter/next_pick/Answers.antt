@@ -12,4 +12,4 @@ returns-clause-pick g c = Further c.best-found.result c.best-found.ensures.found
 pub returns-clause-work : goal.returns-clause-work
 returns-clause-work g c =
     let inside = c.end.ensures.within in
-    work-further _ _ _ _ c.args.last c.best-found.result _ _ c.best-found.new.steps _ (rw c.end.ensures.value at inside) c.requires.last c.best-found.ensures.found (c.if-not-repeats.ensures.0 refl) c.best-found.ensures.work (rw (c.set_start.ensures, c.start-2.ensures) at c.best.ensures.work)
+    work-further _ _ _ c.args.last c.best-found.result _ _ c.best-found.new.steps _ (rw c.end.ensures.value at inside) c.requires.last c.best-found.ensures.found (c.if-not-repeats.ensures.0 refl) c.best-found.ensures.cost (rw (c.set_start.ensures, c.start-2.ensures) at c.best.ensures.cost)

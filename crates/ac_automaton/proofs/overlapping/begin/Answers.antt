@@ -1,14 +1,14 @@
 use Rattle.std.proofs.Common.{rules, ◌≡◌, List, ℕ, ◌≤◌, refl, sym, subst, ◌∙◌, arith}
 use Rattle.ac_input.specs.declared.search.MatchKind.TheVariants.{Standard}
 use Rattle.ac_input.specs.Input.{search_in}
-use Rattle.ac_automaton.specs.Overlapping.{read_to, IsReached}
+use Rattle.ac_automaton.specs.Cursor.{read_to, IsCursor}
 use Rattle.ac_automaton.proofs.OverlappingLemmas.{IsPlace, read_to-start, ending_from-start, ending_from-split}
 use Rattle.ac_automaton.proofs.overlapping.begin.Goals as goal
 
 pub returns-clause-left : goal.returns-clause-left
 returns-clause-left g c =
     let asked = c.args.input.now in
-    let m = g.A.Automaton.machine c.args.automaton.now in
+    let m = (g.A.Automaton.built c.args.automaton.now).dictionary in
     let s = search_in m asked in
     let sid = c.in_ok-start.start in
     let R = g.A.Automaton.Reads c.args.automaton.now asked.anchored in
@@ -19,5 +19,5 @@ returns-clause-left g c =
     let standard : m.kind ≡ Standard = search rules in
     let place : IsPlace m asked.anchored s s.start = record { by = (refl, refl); anchor = refl; standard = standard; from = omega arith; to = order; inside = inside } in
     let tells = g.met.A.Automaton.tells c.args.automaton.now asked.anchored (read_to s s.start) sid first in
-    let reached : IsReached R s (record { sid = sid; from = s.start; at = s.start }) = record { behind = omega arith; ordered = omega arith; within = order; inside = inside; reads = first } in
-    rw value (reached, sym (ending_from-start s inside) ∙ ending_from-split m asked.anchored s s.start (g.A.Automaton.entries c.args.automaton.now sid) place tells)
+    let cursor : IsCursor R s (record { sid = sid; from = s.start; at = s.start }) = record { behind = omega arith; ordered = omega arith; within = order; inside = inside; reads = first } in
+    rw value (cursor, sym (ending_from-start s inside) ∙ ending_from-split m asked.anchored s s.start (g.A.Automaton.matches c.args.automaton.now sid) place tells)

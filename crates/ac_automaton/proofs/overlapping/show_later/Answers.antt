@@ -4,77 +4,70 @@ use Rattle.ac_input.specs.declared.search.Anchored.TheVariants.{No}
 use Rattle.ac_input.specs.Input.{is_anchored, search_in}
 use Rattle.ac_input.specs.Occurrence.{Occurrence, starting_at}
 use Rattle.ac_input.specs.Tells.{Tells}
-use Rattle.ac_input.specs.Work.{scans_bytes}
-use Rattle.ac_automaton.specs.declared.overlapping.Reading.TheVariants.{Shows}
-use Rattle.ac_automaton.specs.Overlapping.{read_to, ending_from, walked, IsLeapCost, ShowsFirst}
+use Rattle.ac_automaton.specs.declared.cursor.End.TheVariants.{Found}
+use Rattle.ac_automaton.specs.Overlapping.{ending_from, ShowsFirst}
+use Rattle.ac_automaton.specs.Cursor.{read_to, walked}
 use Rattle.ac_automaton.proofs.OverlappingLemmas.{IsPlace}
-use Rattle.ac_automaton.proofs.LeapLemmas.{ending_from-fresh, pays-walk, pays-leaps, pays-both}
+use Rattle.ac_automaton.proofs.CandidateLemmas.{ending_from-fresh, pays-walk, pays-candidates, pays-both}
 use Rattle.ac_automaton.proofs.overlapping.show_later.Goals as goal
 
 pub returns-in_default-clause-pays : goal.returns-in_default-clause-pays
 returns-in_default-clause-pays g c =
-    let m = g.A.Automaton.machine c.args.automaton.now in
+    let m = (g.A.Automaton.built c.args.automaton.now).dictionary in
     let asked = c.args.input.now in
     let s = search_in m asked in
-    let d = g.A.Automaton.direct c.args.automaton.now in
-    let b = scans_bytes (g.A.Automaton.filter c.args.automaton.now) in
-    let reached = c.args.reached in
-    let first : s.start ≤ reached.at = omega (arith, c.requires.reached.behind, c.requires.reached.ordered) in
-    pays-walk m d b s reached.sid reached.from reached.at c.in-Shows.shown c.args.steps.now c.read_on.new.steps c.requires.reached.within c.in-Shows.ensures.reads.1 c.in-Shows.ensures.pays c.in-Shows.ensures.only
+    let d = (g.A.Automaton.built c.args.automaton.now).deterministic in
+    let cursor = c.args.cursor in
+    let first : s.start ≤ cursor.at = omega (arith, c.requires.cursor.behind, c.requires.cursor.ordered) in
+    pays-walk m d s cursor.sid cursor.from cursor.at c.read_to_end.result c.args.steps.now c.read_to_end.new.steps c.requires.cursor.within c.read_to_end.ensures.reads.1 c.read_to_end.ensures.pays c.read_to_end.ensures.only
 
-pub returns-then-reached-clause-shows : goal.returns-then-reached-clause-shows
-returns-then-reached-clause-shows g c =
-    let m = g.A.Automaton.machine c.args.automaton.now in
+pub returns-then-cursor-clause-shows : goal.returns-then-cursor-clause-shows
+returns-then-cursor-clause-shows g c =
+    let m = (g.A.Automaton.built c.args.automaton.now).dictionary in
     let asked = c.args.input.now in
     let s = search_in m asked in
-    let d = g.A.Automaton.direct c.args.automaton.now in
-    let b = scans_bytes (g.A.Automaton.filter c.args.automaton.now) in
-    let reached = c.args.reached in
-    let first : s.start ≤ reached.at = omega (arith, c.requires.reached.behind, c.requires.reached.ordered) in
-    let at : ℕ = reached.at in
+    let d = (g.A.Automaton.built c.args.automaton.now).deterministic in
+    let cursor = c.args.cursor in
+    let first : s.start ≤ cursor.at = omega (arith, c.requires.cursor.behind, c.requires.cursor.ordered) in
+    let at : ℕ = cursor.at in
     let free : asked.anchored ≡ No = rw c.get_anchored.ensures at c.in-Some.ensures.free in
-    let place : IsPlace m No (starting_at s at) at = record { by = (refl, refl); anchor = ap is_anchored free; standard = c.requires.standard; from = omega arith; to = c.requires.reached.within; inside = c.requires.reached.inside } in
-    let ns = g.A.Automaton.entries c.args.automaton.now c.args.start in
+    let place : IsPlace m No (starting_at s at) at = record { by = (refl, refl); anchor = ap is_anchored free; standard = c.requires.standard; from = omega arith; to = c.requires.cursor.within; inside = c.requires.cursor.inside } in
+    let ns = g.A.Automaton.matches c.args.automaton.now c.args.start in
     let tells = subst (λ (a : Anchored). Tells m a [] ns) free (g.met.A.Automaton.tells c.args.automaton.now asked.anchored [] c.args.start c.requires.starts) in
-    let left = sym (ending_from-fresh m s at ns place tells c.in-Some.ensures.empty) ∙ ap (λ (from : ℕ). ending_from (starting_at s from) (at + 1)) c.if-reached.true in
-    subst (λ (xs : List Occurrence). ShowsFirst (g.A.Automaton.Reads c.args.automaton.now asked.anchored) (g.A.Automaton.entries c.args.automaton.now) m s xs c.read_by_leaps.result) left c.read_by_leaps.ensures.reads.0
+    let left = sym (ending_from-fresh m s at ns place tells c.in-Some.ensures.empty) ∙ ap (λ (from : ℕ). ending_from (starting_at s from) (at + 1)) c.if-cursor.true in
+    subst (λ (xs : List Occurrence). ShowsFirst (g.A.Automaton.Reads c.args.automaton.now asked.anchored) (g.A.Automaton.matches c.args.automaton.now) m s xs c.search_by_candidates.result) left c.search_by_candidates.ensures.reads.0
 
-pub returns-then-reached-clause-pays : goal.returns-then-reached-clause-pays
-returns-then-reached-clause-pays g c =
-    let m = g.A.Automaton.machine c.args.automaton.now in
+pub returns-then-cursor-clause-pays : goal.returns-then-cursor-clause-pays
+returns-then-cursor-clause-pays g c =
+    let m = (g.A.Automaton.built c.args.automaton.now).dictionary in
     let asked = c.args.input.now in
     let s = search_in m asked in
-    let d = g.A.Automaton.direct c.args.automaton.now in
-    let b = scans_bytes (g.A.Automaton.filter c.args.automaton.now) in
-    let reached = c.args.reached in
-    let first : s.start ≤ reached.at = omega (arith, c.requires.reached.behind, c.requires.reached.ordered) in
-    let live = g.met.A.Automaton.lives c.args.automaton.now asked.anchored (read_to (walked s reached) reached.at) reached.sid c.requires.reached.reads in
-    let r = c.read_by_leaps.result in
-    let cost = subst (λ (bytes : Bool). IsLeapCost m d bytes s reached.at (Shows r) c.args.steps.now c.read_by_leaps.new.steps) (sym c.in-Some.ensures.held) c.read_by_leaps.ensures.cost in
-    pays-leaps m d b s reached.sid reached.from reached.at r c.args.steps.now c.read_by_leaps.new.steps first c.requires.reached.within c.read_by_leaps.ensures.reads.1 live cost
+    let d = (g.A.Automaton.built c.args.automaton.now).deterministic in
+    let cursor = c.args.cursor in
+    let first : s.start ≤ cursor.at = omega (arith, c.requires.cursor.behind, c.requires.cursor.ordered) in
+    let live = g.met.A.Automaton.lives c.args.automaton.now asked.anchored (read_to (walked s cursor) cursor.at) cursor.sid c.requires.cursor.reads in
+    let r = c.search_by_candidates.result in
+    pays-candidates m d s cursor.sid cursor.from cursor.at r c.args.steps.now c.search_by_candidates.new.steps first c.requires.cursor.within c.search_by_candidates.ensures.reads.1 live c.search_by_candidates.ensures.cost
 
-pub returns-in-Shows-read_on-clause-pays : goal.returns-in-Shows-read_on-clause-pays
-returns-in-Shows-read_on-clause-pays g c =
-    let m = g.A.Automaton.machine c.args.automaton.now in
+pub returns-in-Found-clause-pays : goal.returns-in-Found-clause-pays
+returns-in-Found-clause-pays g c =
+    let m = (g.A.Automaton.built c.args.automaton.now).dictionary in
     let asked = c.args.input.now in
     let s = search_in m asked in
-    let d = g.A.Automaton.direct c.args.automaton.now in
-    let b = scans_bytes (g.A.Automaton.filter c.args.automaton.now) in
-    let reached = c.args.reached in
-    let first : s.start ≤ reached.at = omega (arith, c.requires.reached.behind, c.requires.reached.ordered) in
-    pays-walk m d b s reached.sid reached.from reached.at c.in-Shows-read_on.shown c.args.steps.now c.read_on-2.new.steps c.requires.reached.within c.in-Shows-read_on.ensures.reads.1 c.in-Shows-read_on.ensures.pays c.in-Shows-read_on.ensures.only
+    let d = (g.A.Automaton.built c.args.automaton.now).deterministic in
+    let cursor = c.args.cursor in
+    let first : s.start ≤ cursor.at = omega (arith, c.requires.cursor.behind, c.requires.cursor.ordered) in
+    pays-walk m d s cursor.sid cursor.from cursor.at c.in-Found.shown c.args.steps.now c.read_to_start.new.steps c.requires.cursor.within c.in-Found.ensures.reads.1 c.in-Found.ensures.pays c.in-Found.ensures.only
 
-pub returns-in-Back-read_on-clause-pays : goal.returns-in-Back-read_on-clause-pays
-returns-in-Back-read_on-clause-pays g c =
-    let m = g.A.Automaton.machine c.args.automaton.now in
+pub returns-in-Idle-clause-pays : goal.returns-in-Idle-clause-pays
+returns-in-Idle-clause-pays g c =
+    let m = (g.A.Automaton.built c.args.automaton.now).dictionary in
     let asked = c.args.input.now in
     let s = search_in m asked in
-    let d = g.A.Automaton.direct c.args.automaton.now in
-    let b = scans_bytes (g.A.Automaton.filter c.args.automaton.now) in
-    let reached = c.args.reached in
-    let first : s.start ≤ reached.at = omega (arith, c.requires.reached.behind, c.requires.reached.ordered) in
-    let to : ℕ = c.in-Back-read_on.at in
-    let r = c.read_by_leaps-in-Back-read_on.result in
-    let back = c.in-Back-read_on.ensures in
-    let cost = subst (λ (bytes : Bool). IsLeapCost m d bytes s to (Shows r) c.read_on-2.new.steps c.read_by_leaps-in-Back-read_on.new.steps) (sym c.in-Some.ensures.held) c.read_by_leaps-in-Back-read_on.ensures.cost in
-    pays-both m d b s reached.sid reached.from reached.at to r c.args.steps.now c.read_on-2.new.steps c.read_by_leaps-in-Back-read_on.new.steps first back.reads.0 back.reads.1 c.read_by_leaps-in-Back-read_on.ensures.reads.1 back.pays back.only cost
+    let d = (g.A.Automaton.built c.args.automaton.now).deterministic in
+    let cursor = c.args.cursor in
+    let first : s.start ≤ cursor.at = omega (arith, c.requires.cursor.behind, c.requires.cursor.ordered) in
+    let to : ℕ = c.in-Idle.at in
+    let r = c.search_by_candidates-in-Idle.result in
+    let back = c.in-Idle.ensures in
+    pays-both m d s cursor.sid cursor.from cursor.at to r c.args.steps.now c.read_to_start.new.steps c.search_by_candidates-in-Idle.new.steps first back.reads.0 back.reads.1 c.search_by_candidates-in-Idle.ensures.reads.1 back.pays back.only c.search_by_candidates-in-Idle.ensures.cost

@@ -1,5 +1,5 @@
 -- What is built has the patterns that were added.
-use Rattle.std.proofs.Common.{◌≡◌, ℕ, List, Option, map, ap, sym, ◌∙◌, subst}
+use Rattle.std.proofs.Common.{◌≡◌, Option, map, ap, sym, ◌∙◌, subst}
 use Rattle.std.specs.Prelude.{IfSome}
 use Rattle.ac_literal.specs.Packed.{Packed}
 use Rattle.ac_literal.proofs.PatternLemmas.{built-fresh}

@@ -1,5 +1,5 @@
 -- Each line is that of the next pick.
-use Rattle.std.proofs.Common.{◌++◌, ap, length, arith}
+use Rattle.std.proofs.Common.{◌++◌}
 use Rattle.std.proofs.lemmas.Result.{err_from_is_err_and}
 use Rattle.ac_input.specs.Text.{line, listed}
 use Rattle.acsub.proofs.OutputLemmas.{Sent-then}

@@ -1,6 +1,6 @@
 -- The picks of the whole input lie in order.
 use Rattle.std.proofs.Common.{length, sym, subst}
-use Rattle.acsub.specs.Rewrite.{LieInOrder}
+use Rattle.ac_automaton.specs.Replace.{LieInOrder}
 use Rattle.acsub.proofs.FinderLemmas.{whole-lies}
 use Rattle.acsub.proofs.run.send_text.Goals as goal
 

@@ -2,7 +2,6 @@ use Rattle.std.proofs.Common.{◌≡◌, ℕ, ◌+◌, List, [], ◌∷◌, drop
 use Rattle.ac_input.specs.declared.primitives.state_id.StateID.{StateID}
 use Rattle.ac_input.specs.Computed.{listing_of}
 use Rattle.ac_input.specs.Input.{search_in}
-use Rattle.ac_input.specs.Work.{scans_bytes}
 use Rattle.ac_automaton.specs.Overlapping.{StandsAt}
 use Rattle.ac_automaton.proofs.OverlappingLemmas.{stands-after, stands-work, yields-next}
 use Rattle.ac_automaton.proofs.overlapping.iter.FindOverlappingIter.next_counted.Goals as goal
@@ -10,21 +9,20 @@ use Rattle.ac_automaton.proofs.overlapping.iter.FindOverlappingIter.next_counted
 pub invariant_of-self : goal.invariant_of-self
 invariant_of-self g c =
     let i = c.self.inside in
-    let m = g.A.Automaton.machine i.automaton.now in
-    let d = g.A.Automaton.direct i.automaton.now in
-    let b = scans_bytes (g.A.Automaton.filter i.automaton.now) in
+    let m = (g.A.Automaton.built i.automaton.now).dictionary in
+    let d = (g.A.Automaton.built i.automaton.now).deterministic in
     let s = search_in m i.input in
     let R = g.A.Automaton.Reads i.automaton.now i.input.anchored in
-    let E = g.A.Automaton.entries i.automaton.now in
+    let E = g.A.Automaton.matches i.automaton.now in
     let stands = c.self.invariant.2 in
     let shows = c.advance-shown.ensures.shows (drop i.shown.value (listing_of s)) stands.left in
-    let after = stands-after R E m d b s i.place i.shown.value c.advance-shown.result i.sums c.new-done.result c.advance-shown.new.steps c.add.new.self stands shows c.advance-shown.ensures.pays c.new-done.ensures c.add.ensures in
-    (c.self.invariant.0, c.self.invariant.1, subst (λ (k : ℕ). StandsAt R E m d b s c.advance-shown.result.place k c.add.new.self) (sym c.with_found-self-inside.ensures) after)
+    let after = stands-after R E m d s i.place i.shown.value c.advance-shown.result i.sums c.new-done.result c.advance-shown.new.steps c.add.new.self stands shows c.advance-shown.ensures.pays c.new-done.ensures c.add.ensures in
+    (c.self.invariant.0, c.self.invariant.1, subst (λ (k : ℕ). StandsAt R E m d s c.advance-shown.result.place k c.add.new.self) (sym c.with_found-self-inside.ensures) after)
 
 pub returns-clause-yields : goal.returns-clause-yields
 returns-clause-yields g c =
     let i = c.self.inside in
-    let s = search_in (g.A.Automaton.machine i.automaton.now) i.input in
+    let s = search_in (g.A.Automaton.built i.automaton.now).dictionary i.input in
     let L = listing_of s in
     let n : ℕ = i.shown.value in
     let r = c.advance-shown.result.found in
@@ -37,15 +35,14 @@ returns-clause-yields g c =
 pub returns-clause-work : goal.returns-clause-work
 returns-clause-work g c =
     let i = c.self.inside in
-    let m = g.A.Automaton.machine i.automaton.now in
-    let d = g.A.Automaton.direct i.automaton.now in
-    let b = scans_bytes (g.A.Automaton.filter i.automaton.now) in
+    let m = (g.A.Automaton.built i.automaton.now).dictionary in
+    let d = (g.A.Automaton.built i.automaton.now).deterministic in
     let s = search_in m i.input in
     let R = g.A.Automaton.Reads i.automaton.now i.input.anchored in
-    let E = g.A.Automaton.entries i.automaton.now in
+    let E = g.A.Automaton.matches i.automaton.now in
     let stands = c.self.invariant.2 in
     let shows = c.advance-shown.ensures.shows (drop i.shown.value (listing_of s)) stands.left in
-    let after = stands-after R E m d b s i.place i.shown.value c.advance-shown.result i.sums c.new-done.result c.advance-shown.new.steps c.add.new.self stands shows c.advance-shown.ensures.pays c.new-done.ensures c.add.ensures in
+    let after = stands-after R E m d s i.place i.shown.value c.advance-shown.result i.sums c.new-done.result c.advance-shown.new.steps c.add.new.self stands shows c.advance-shown.ensures.pays c.new-done.ensures c.add.ensures in
     let lives = λ (text : List ℕ) (sid : StateID) (reads : R text sid). g.met.A.Automaton.lives i.automaton.now i.input.anchored text sid reads in
-    let work = stands-work R E m d b s c.advance-shown.result.place (if is_some c.advance-shown.result.found then i.shown.value + 1 else i.shown.value) c.add.new.self lives after in
+    let work = stands-work R E m d s c.advance-shown.result.place (if is_some c.advance-shown.result.found then i.shown.value + 1 else i.shown.value) c.add.new.self lives after in
     record { looked = work.looked; scanned = work.scanned; moved = work.moved }

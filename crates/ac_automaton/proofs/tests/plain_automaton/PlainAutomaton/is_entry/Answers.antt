@@ -2,7 +2,7 @@ use Rattle.std.proofs.Common.{◌≡◌, List, ℕ, ◌-◌, ◌/◌, ◌%◌, t
 use Rattle.std.proofs.lemmas.Bool.{false≢true}
 use Rattle.std.proofs.lemmas.List.{take_all}
 use Rattle.ac_input.specs.Same.{same_text}
-use Rattle.ac_input.specs.Machine.{Machine}
+use Rattle.ac_input.specs.Dictionary.{Dictionary}
 use Rattle.ac_automaton.specs.PlainAutomaton.{pattern_of}
 use Rattle.ac_automaton.proofs.PlainEntries.{entry-yes, entry-no}
 use Rattle.ac_automaton.proofs.tests.plain_automaton.PlainAutomaton.is_entry.Goals as goal
@@ -14,7 +14,7 @@ returns-then-is_entered c =
     let start : ℕ = c.args.code / 256 in
     let rest = length-drop start text in
     let all : take (length text - start) (drop start text) ≡ drop start text = take_all (length text - start) (drop start text) (omega arith) in
-    let pairing = ap (λ (m : Machine). m.pairing) c.self.view_is in
+    let pairing = ap (λ (m : Dictionary). m.pairing) c.self.view_is in
     let same_is =
     c.is_same.ensures
     ∙ ap (λ (p : List ℕ). same_text p c.pattern.result.now (take (length text - start) (drop start text))) pairing

@@ -1,5 +1,5 @@
 use Rattle.std.proofs.Common.{◌≡◌, ℕ, ◌<◌, true}
-use Rattle.ac_input.specs.Machine.{Begins}
+use Rattle.ac_input.specs.Dictionary.{Begins}
 use Rattle.ac_automaton.specs.PlainAutomaton.{is_entered, pattern_of}
 use Rattle.ac_automaton.proofs.tests.plain_automaton.PlainAutomaton.state_for.Given as goal
 

@@ -1,5 +1,5 @@
 use Rattle.std.proofs.Common.{ℕ, ◌<◌, drop}
-use Rattle.ac_input.specs.Machine.{BeginsEntered}
+use Rattle.ac_input.specs.Dictionary.{BeginsEntered}
 use Rattle.ac_automaton.proofs.tests.plain_automaton.PlainAutomaton.state_of.Given as goal
 
 abbrev pub invariant-loop-from : goal.invariant-loop-from

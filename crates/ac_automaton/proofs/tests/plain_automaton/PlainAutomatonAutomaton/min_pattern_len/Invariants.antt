@@ -1,5 +1,5 @@
 use Rattle.std.proofs.Common.{◌≡◌, ◌≤◌, min, drop}
-use Rattle.ac_automaton.specs.Automaton.{shortest}
+use Rattle.ac_input.specs.Work.{shortest}
 use Rattle.ac_automaton.proofs.tests.plain_automaton.PlainAutomatonAutomaton.min_pattern_len.Given as goal
 
 abbrev pub invariant-loop-number : goal.invariant-loop-number

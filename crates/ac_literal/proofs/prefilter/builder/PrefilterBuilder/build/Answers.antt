@@ -1,22 +1,29 @@
 use Rattle.std.proofs.Common.{ℕ, Bool, List, Option, refl, sym, subst}
 use Rattle.std.specs.Prelude.{MatchOption}
-use Rattle.ac_input.specs.Machine.{Machine}
-use Rattle.ac_literal.specs.Prefilter.{Serves, IsDemanded, IsAdmissible}
+use Rattle.ac_input.specs.Dictionary.{Dictionary}
+use Rattle.ac_literal.specs.Prefilter.{IsStrategyOf, needles_of, IsDemanded, IsAdmissible, IsWay}
 use Rattle.ac_literal.specs.Builder.{IsBuilder, IsCollected}
-use Rattle.ac_literal.specs.declared.prefilter.finder.Finder.{Finder}
-use Rattle.ac_literal.proofs.BuilderLemmas.{serves-admissible}
+use Rattle.ac_literal.specs.declared.prefilter.strategy.Strategy.{Strategy}
+use Rattle.ac_literal.proofs.BuilderLemmas.{strategy-admissible, strategy-way}
 use Rattle.ac_literal.proofs.prefilter.builder.PrefilterBuilder.build.Goals as goal
 
 pub invariant_of-result : goal.invariant_of-result
 invariant_of-result c =
-    let m : Machine = record { patterns = c.self.inside.patterns.items; pairing = c.self.inside.pairing; kind = c.self.inside.kind } in
-    let collected : IsCollected m c.self.inside.collected = subst (λ (b : Bool). IsBuilder m b c.self.inside.collected) c.if-self.false c.self.invariant in
-    let serves : Serves m c.in-Some.finder = subst (λ (r : Option Finder). MatchOption r (¬ IsDemanded m) (Serves m)) c.in-Some.is (c.in_ok-finder.ensures m refl collected) in
-    subst (λ (items : List (List ℕ)). Serves (record { patterns = items; pairing = c.self.inside.pairing; kind = c.self.inside.kind }) c.in-Some.finder) (sym c.same.ensures) serves
+    let m : Dictionary = record { patterns = c.self.inside.patterns.items; pairing = c.self.inside.pairing; kind = c.self.inside.kind } in
+    let collected : IsCollected m c.self.inside.builders = subst (λ (b : Bool). IsBuilder m b c.self.inside.builders) c.if-self.false c.self.invariant in
+    let serves : IsStrategyOf m c.in-Some.strategy = subst (λ (r : Option Strategy). MatchOption r (¬ IsDemanded m) (IsStrategyOf m)) c.in-Some.is (c.in_ok-strategy.ensures m refl collected) in
+    subst (λ (items : List (List ℕ)). IsStrategyOf (record { patterns = items; pairing = c.self.inside.pairing; kind = c.self.inside.kind }) c.in-Some.strategy) (sym c.same.ensures) serves
 
 pub returns-clause-admissible : goal.returns-clause-admissible
 returns-clause-admissible c =
-    let m : Machine = record { patterns = c.self.inside.patterns.items; pairing = c.self.inside.pairing; kind = c.self.inside.kind } in
-    let collected : IsCollected m c.self.inside.collected = subst (λ (b : Bool). IsBuilder m b c.self.inside.collected) c.if-self.false c.self.invariant in
-    let serves : Serves m c.in-Some.finder = subst (λ (r : Option Finder). MatchOption r (¬ IsDemanded m) (Serves m)) c.in-Some.is (c.in_ok-finder.ensures m refl collected) in
-    λ some. subst IsAdmissible c.self.view_is (serves-admissible m c.in-Some.finder serves)
+    let m : Dictionary = record { patterns = c.self.inside.patterns.items; pairing = c.self.inside.pairing; kind = c.self.inside.kind } in
+    let collected : IsCollected m c.self.inside.builders = subst (λ (b : Bool). IsBuilder m b c.self.inside.builders) c.if-self.false c.self.invariant in
+    let serves : IsStrategyOf m c.in-Some.strategy = subst (λ (r : Option Strategy). MatchOption r (¬ IsDemanded m) (IsStrategyOf m)) c.in-Some.is (c.in_ok-strategy.ensures m refl collected) in
+    λ some. subst IsAdmissible c.self.view_is (strategy-admissible m c.in-Some.strategy serves)
+
+pub returns-clause-way : goal.returns-clause-way
+returns-clause-way c =
+    let m : Dictionary = record { patterns = c.self.inside.patterns.items; pairing = c.self.inside.pairing; kind = c.self.inside.kind } in
+    let collected : IsCollected m c.self.inside.builders = subst (λ (b : Bool). IsBuilder m b c.self.inside.builders) c.if-self.false c.self.invariant in
+    let serves : IsStrategyOf m c.in-Some.strategy = subst (λ (r : Option Strategy). MatchOption r (¬ IsDemanded m) (IsStrategyOf m)) c.in-Some.is (c.in_ok-strategy.ensures m refl collected) in
+    subst (λ (items : List (List ℕ)). IsWay (record { dictionary = record { patterns = items; pairing = c.self.inside.pairing; kind = c.self.inside.kind }; needles = needles_of c.in-Some.strategy })) (sym c.same.ensures) (strategy-way m c.in-Some.strategy serves)

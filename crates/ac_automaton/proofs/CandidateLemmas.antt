@@ -1,0 +1,346 @@
+-- Overlapping search by candidates: what is left where the walk is back at the start, and where a prefilter points.
+use Rattle.std.proofs.Common.{◌≡◌, ℕ, ◌+◌, ◌-◌, ◌*◌, ◌<◌, ◌≤◌, Bool, false, true, List, [], ◌∷◌, ◌++◌, length, map, Option, Some, None, IsTrue, ⊎_elim, slice_range, inl, inr, sym, ap, subst, refl, ◌∙◌, arith}
+use Rattle.std.specs.List.{filter}
+use Rattle.std.proofs.lemmas.Bool.{false≢true, cases_lt}
+use Rattle.std.proofs.lemmas.Option.{same_Some, none-some}
+use Rattle.ac_input.specs.declared.search.Anchored.TheVariants.{No}
+use Rattle.ac_input.specs.declared.search.MatchKind.TheVariants.{Standard, LeftmostFirst}
+use Rattle.ac_input.specs.declared.search.candidate.Candidate.{Candidate}
+use Rattle.ac_input.specs.declared.search.candidate.Candidate.TheVariants as candidates
+use Rattle.ac_input.specs.declared.primitives.state_id.StateID.{StateID}
+use Rattle.ac_input.specs.declared.steps.Steps.{Steps}
+use Rattle.ac_input.specs.Candidate.{IsCandidate, IsScan, IsScanned, IsNearFound, IsFirstOf, scan_len, start_of}
+use Rattle.ac_input.specs.Computed.{listing_of}
+use Rattle.ac_input.specs.Input.{Asked, is_anchored, search_in, search_of}
+use Rattle.ac_input.specs.LiveLaws.{IsOwnInverse, shifted}
+use Rattle.ac_input.specs.Dictionary.{Dictionary, IsLive, whole}
+use Rattle.ac_input.specs.Occurrence.{Search, Occurrence, Occurs, starting_at}
+use Rattle.ac_input.specs.Steps.{Done, looked_of, scanned_of, moved_of}
+use Rattle.ac_input.specs.Tells.{Tells, ending}
+use Rattle.ac_input.proofs.ContainsLemmas.{Contains-nil}
+use Rattle.ac_input.proofs.ListingLemmas.{ListsAll-unique, listing_of-lists}
+use Rattle.ac_input.proofs.LiveLemmas.{entered-begins}
+use Rattle.ac_input.proofs.ShiftLemmas.{back_by}
+use Rattle.ac_input.proofs.SpanLemmas.{occurs-in_whole_of_span}
+use Rattle.ac_input.proofs.StateLemmas.{standard-entered}
+use Rattle.ac_automaton.specs.Find.{NoneBefore}
+use Rattle.ac_automaton.specs.declared.overlapping.Place.{Place}
+use Rattle.ac_automaton.specs.declared.overlapping.Place.TheVariants.{At, Over}
+use Rattle.ac_automaton.specs.declared.cursor.Cursor.{Cursor}
+use Rattle.ac_automaton.specs.declared.cursor.End.{End}
+use Rattle.ac_automaton.specs.declared.cursor.End.TheVariants.{Found, Idle}
+use Rattle.ac_automaton.specs.declared.overlapping.Shown.{Shown}
+use Rattle.ac_automaton.specs.Overlapping.{ending_from, told_from, counts, TellsFirst, ShowsFirst, ReadsOn, IsBehind, IsPaidTo, IsPaidAt, IsPaidBy, IsSkipCost, KeepsBudget, OnlyLooked, come_to, read_on_to}
+use Rattle.ac_automaton.specs.Cursor.{read_to, walked, IsCursor}
+use Rattle.ac_automaton.proofs.FindLemmas.{occurs_before, occurs_behind, leftmost-none_before}
+use Rattle.ac_automaton.proofs.CursorLemmas.{slice_range-split}
+use Rattle.ac_automaton.proofs.OverlappingLemmas.{IsPlace, ListsAll-like, ending_from-lists, ending_from-start, ending_from-split, read_to-length, read_to-start, paid-start, paid-to, shows-none, shows-some, told_from-empty}
+
+-- ---- where the walk is back at the start
+
+-- where a text is live from a place on, and another text goes on from its end, nothing that reaches the end of the first one begins before
+live-no_before : (m : Dictionary) (text more : List ℕ) (from : ℕ) (o : Occurrence) → IsOwnInverse m.pairing → m.kind ≡ Standard → IsLive m false text (Some from) → Occurs (whole m (text ++ more) false) o → o.start ≤ length text → length text ≤ o.end → from ≤ o.start
+live-no_before m text more from o inverse standard live h inside past =
+    live.1 o.start (record {
+      within = inside;
+      begins = entered-begins m false text more o h.same.0 inverse h (standard-entered m o.pattern h.same.0 standard h.same.1) inside past;
+      anchor = λ a. absurd (false≢true a);
+      no_later = inr (inl standard);
+    })
+
+-- where no byte of what was read is live any more, nothing that ends later begins before
+back-begins : (m : Dictionary) (s : Search) (at : ℕ) (o : Occurrence) → IsPlace m No s at → IsOwnInverse m.pairing → IsLive m false (read_to s at) (Some (length (read_to s at))) → Occurs s o → at ≤ o.end → at ≤ o.start
+back-begins m s at o is inverse live h past =
+    ⊎_elim
+    (λ (later : at < o.start). let r : at ≤ o.start = omega arith in r)
+    (λ (le : o.start ≤ at).
+    let g = is.from in
+    let l = is.to in
+    let w = h.within in
+    let text = read_to s at in
+    let rest = slice_range s.haystack at s.end in
+    let long : length text ≡ at - s.start = read_to-length s at g l is.inside in
+    let whole_text : read_to s s.end ≡ text ++ rest = slice_range-split s.haystack s.start at s.end g l in
+    let there = occurs-in_whole_of_span m s s.end o is.by (omega arith) (omega arith) is.inside h w.2 in
+    let unanchored : Occurs (whole m (read_to s s.end) false) (back_by s.start o) = subst (λ (b : Bool). Occurs (whole m (read_to s s.end) b) (back_by s.start o)) is.anchor there.0 in
+    let occurs : Occurs (whole m (text ++ rest) false) (back_by s.start o) = subst (λ (t : List ℕ). Occurs (whole m t false) (back_by s.start o)) whole_text unanchored in
+    let le2 = live-no_before m text rest (length text) (back_by s.start o) inverse is.standard live occurs (omega arith) (omega arith) in
+    omega arith)
+    (cases_lt at o.start)
+
+-- There what ends there or later is what occurs from there on.
+pub ending_from-back : (m : Dictionary) (s : Search) (at : ℕ) → IsPlace m No s at → IsOwnInverse m.pairing → IsLive m false (read_to s at) (Some (length (read_to s at))) → ending_from s at ≡ listing_of (starting_at s at)
+ending_from-back m s at is inverse live =
+    let free : s.anchored ≡ false = is.anchor in
+    let g = is.from in
+    ListsAll-unique (λ o. Occurs s o × (at ≤ o.end)) (ending_from s at) (listing_of (starting_at s at)) (ending_from-lists s at is.inside)
+    (ListsAll-like (Occurs (starting_at s at)) (λ o. Occurs s o × (at ≤ o.end)) (listing_of (starting_at s at))
+    (λ o. (
+      λ h. (occurs_before s at o free g h, let w = h.within in omega arith),
+      λ h. occurs_behind s at o free (back-begins m s at o is inverse live h.0 h.1) h.0,
+    ))
+    (listing_of-lists (starting_at s at) is.inside))
+
+-- where nothing is told and every entry counts, there is no entry
+pub told_from-nil : (m : Dictionary) (s : Search) (at : ℕ) (ns : List ℕ) → s.anchored ≡ false → told_from m s at ns 0 ≡ [] → ns ≡ []
+told_from-nil m s at [] free none = refl
+told_from-nil m s at (n ∷ ns) free none =
+    let kept : filter (counts m s.anchored (at - s.start)) (n ∷ ns) ≡ filter (counts m false (at - s.start)) (n ∷ ns) = ap (λ (b : Bool). filter (counts m b (at - s.start)) (n ∷ ns)) free in
+    let told : map (shifted s.start) (map (ending m (read_to s at)) (filter (counts m false (at - s.start)) (n ∷ ns))) ≡ [] = sym (ap (λ (xs : List ℕ). map (shifted s.start) (map (ending m (read_to s at)) xs)) kept) ∙ none in
+    cc
+
+-- ---- where reading on ends
+
+-- where nothing is left, the search is over
+pub over-reads : (Reads : List ℕ → StateID → Type 0) (matches : StateID → List ℕ) (m : Dictionary) (s : Search) (at : ℕ) (left : List Occurrence) (r : Shown) → left ≡ [] → r.found ≡ None → r.place ≡ Over → ReadsOn Reads matches m s at left (Found r)
+over-reads Reads matches m s at left r none found place = (shows-none Reads matches m s left r none found place, subst (IsBehind at) (sym place) tt)
+
+-- where a state that was reached further on tells something, that is shown
+pub some-reads : (Reads : List ℕ → StateID → Type 0) (matches : StateID → List ℕ) (m : Dictionary) (s : Search) (at : ℕ) (left : List Occurrence) (cursor : Cursor) (index : ℕ) (r : Shown)
+    → at < cursor.at → IsCursor Reads s cursor
+    → left ≡ told_from m (walked s cursor) cursor.at (matches cursor.sid) index ++ ending_from (walked s cursor) (cursor.at + 1)
+    → TellsFirst matches m s cursor index (Some r) → ReadsOn Reads matches m s at left (Found r)
+some-reads Reads matches m s at left cursor index r lt is e (o, next, found, place, told) =
+    (shows-some Reads matches m s left cursor index r is e (o, next, found, place, told), subst (IsBehind at) (sym place) lt)
+
+-- ---- where a prefilter points
+
+-- where nothing begins before a place, the listing is the one from there on
+pub listing-skip : (s : Search) (at : ℕ) → s.anchored ≡ false → s.end ≤ length s.haystack → NoneBefore s at → listing_of s ≡ listing_of (starting_at s at)
+listing-skip s at free inside here =
+    ListsAll-unique (Occurs s) (listing_of s) (listing_of (starting_at s at)) (listing_of-lists s inside)
+    (ListsAll-like (Occurs (starting_at s at)) (Occurs s) (listing_of (starting_at s at))
+    (λ o. (λ h. occurs_before s at o free here.behind h, λ h. occurs_behind s at o free (here.none o h) h))
+    (listing_of-lists (starting_at s at) inside))
+
+-- where nothing occurs, the listing is empty
+pub listing-none : (s : Search) → s.end ≤ length s.haystack → ((o : Occurrence) → Occurs s o → ⊥) → listing_of s ≡ []
+listing-none s inside none =
+    ListsAll-unique (Occurs s) (listing_of s) [] (listing_of-lists s inside) (tt, λ o. (λ c. absurd (Contains-nil o c), λ h. absurd (none o h)))
+
+-- the search that a prefilter is asked about is the rest of the search
+pub ahead-same : (m n : Dictionary) (asked : Asked) (haystack : List ℕ) (at end : ℕ) → n ≡ m → haystack ≡ asked.haystack → end ≡ asked.span.end → asked.anchored ≡ No → search_of n No haystack (record { start = at; end = end }) ≡ starting_at (search_in m asked) at
+ahead-same m n asked haystack at end made hays ends free =
+    ap (λ (k : Dictionary). search_of k No haystack (record { start = at; end = end })) made
+    ∙ ap (λ (h : List ℕ). search_of m No h (record { start = at; end = end })) hays
+    ∙ ap (λ (k : ℕ). search_of m No asked.haystack (record { start = at; end = k })) ends
+    ∙ ap (λ (b : Bool). let r : Search = record { patterns = m.patterns; pairing = m.pairing; haystack = asked.haystack; start = at; end = asked.span.end; anchored = b } in r) (sym (ap is_anchored free))
+
+-- no candidate, no occurrence
+pub candidate-none : (s : Search) (c : Candidate) → IsCandidate Standard s c → start_of c ≡ None → (o : Occurrence) → Occurs s o → ⊥
+candidate-none s candidates.None h e o occurs = h o occurs
+candidate-none s (candidates.Match b) h e o occurs = cc
+candidate-none s (candidates.PossibleStartOfMatch at) h e o occurs = cc
+
+-- nothing begins before a candidate
+pub candidate-before : (s : Search) (c : Candidate) (at : ℕ) → IsCandidate Standard s c → start_of c ≡ Some at → NoneBefore s at
+candidate-before s candidates.None at h e = cc
+candidate-before s (candidates.Match b) at h e =
+    subst (NoneBefore s) (same_Some b.start at e) (leftmost-none_before LeftmostFirst s b (λ same. cc) (h.2 (h.1 refl) LeftmostFirst))
+candidate-before s (candidates.PossibleStartOfMatch place) at h e =
+    subst (NoneBefore s) (same_Some place at e) (record { behind = h.0; within = h.1; none = h.2 })
+
+-- what a scan covers lies in the span
+scan-within : (bytes : List ℕ) (s : Search) (places : ℕ) (c : Candidate) → s.start ≤ s.end → IsScan bytes s places c → s.start + places ≤ s.end
+scan-within bytes s places c ordered scan = by scan.found scan.first scan.exact
+  where
+    by : (found : Option ℕ) → IsFirstOf bytes s found → places ≡ scan_len s found → s.start + places ≤ s.end
+    by None first exact = omega arith
+    by (Some place) first exact = let lt = first.1 in let le = first.0 in omega arith
+
+-- the last place that was scanned for a candidate is at most 254 after it
+scan-near : (bytes : List ℕ) (s : Search) (places : ℕ) (c : Candidate) (at : ℕ) → IsScan bytes s places c → start_of c ≡ Some at → s.start + places ≤ at + 255
+scan-near bytes s places c at scan e = by scan.found scan.first scan.exact scan.near
+  where
+    by : (found : Option ℕ) → IsFirstOf bytes s found → places ≡ scan_len s found → IsNearFound found c → s.start + places ≤ at + 255
+    by None first exact near = absurd (none-some at (sym (ap start_of near) ∙ e))
+    by (Some place) first exact (there, is, le, close) =
+        let same : there ≡ at = same_Some there at (sym (ap start_of is) ∙ e) in
+        let g = first.0 in
+        omega arith
+
+-- the places that are counted lie in the span
+pub scanned-in_span : (needles : List ℕ) (s : Search) (places : ℕ) (c : Candidate) → s.start ≤ s.end → IsScanned needles s places c → s.start + places ≤ s.end
+scanned-in_span [] s places c ordered none = omega arith
+scanned-in_span (b ∷ bs) s places c ordered scan = scan-within (b ∷ bs) s places c ordered scan
+
+-- and are over where the search is over
+pub scanned-before_ends : (needles : List ℕ) (s : Search) (places : ℕ) (c : Candidate) (o : Occurrence) → IsScanned needles s places c → Occurs s o → s.start + places ≤ o.end
+scanned-before_ends [] s places c o none h = let w = h.within in omega arith
+scanned-before_ends (b ∷ bs) s places c o scan h = scan.before_ends o h
+
+-- the last of them is at most 254 after the candidate
+pub scanned-near : (needles : List ℕ) (s : Search) (places : ℕ) (c : Candidate) (at : ℕ) → IsScanned needles s places c → NoneBefore s at → start_of c ≡ Some at → s.start + places ≤ at + 255
+scanned-near [] s places c at none here e = let g = here.behind in omega arith
+scanned-near (b ∷ bs) s places c at scan here e = scan-near (b ∷ bs) s places c at scan e
+
+-- ---- what is paid
+
+-- what is paid for up to a place is paid for up to a further one
+pub paid-further : (deterministic : Bool) (s : Search) (at to looks : ℕ) → at ≤ to → IsPaidTo deterministic s at looks → IsPaidTo deterministic s to looks
+paid-further true s at to looks le h = omega arith
+paid-further false s at to looks le h = omega arith
+
+-- and so it is by a search that is behind it
+pub come-behind : (s : Search) (at : ℕ) (place : Place) → at ≤ s.end → IsBehind at place → at ≤ come_to s place
+come-behind s at (At sid from place index) le h = omega arith
+come-behind s at Over le h = le
+
+-- ---- by candidates
+
+-- a search that is behind a place is behind an earlier one
+behind-earlier : (at from : ℕ) (place : Place) → at ≤ from → IsBehind from place → IsBehind at place
+behind-earlier at from (At sid start to index) le h = omega arith
+behind-earlier at from Over le h = h
+
+-- what is read on from a place is read on from an earlier one, where what is left is the same
+pub reads_on-earlier : (Reads : List ℕ → StateID → Type 0) (matches : StateID → List ℕ) (m : Dictionary) (s : Search) (at from : ℕ) (one other : List Occurrence) (reading : End Shown) → at ≤ from → other ≡ one → ReadsOn Reads matches m s from other reading → ReadsOn Reads matches m s at one reading
+reads_on-earlier Reads matches m s at from one other (Found shown) le same h = (subst (λ (left : List Occurrence). ShowsFirst Reads matches m s left shown) same h.0, behind-earlier at from shown.place le h.1)
+reads_on-earlier Reads matches m s at from one other (Idle to) le same h = (omega (arith, h.0), h.1, sym same ∙ h.2)
+
+-- what was scanned to be told a place, where a search shows something behind it
+scans-shown : (s : Search) (at from places : ℕ) (place : Place) → at ≤ from → at + places ≤ s.end → at + places ≤ from + 255 → IsBehind from place → places ≤ 256 * (come_to s place - at)
+scans-shown s at from places (At sid start to index) le within near h = omega arith
+scans-shown s at from places Over le within near h = omega arith
+
+-- The places that were scanned to be told a place are paid for by the bytes up to where reading on from there ends.
+scans-paid : (Reads : List ℕ → StateID → Type 0) (matches : StateID → List ℕ) (m : Dictionary) (s : Search) (at from places : ℕ) (left : List Occurrence) (reading : End Shown) → at ≤ from → at + places ≤ s.end → at + places ≤ from + 255 → ReadsOn Reads matches m s from left reading → places ≤ 256 * (read_on_to s reading - at)
+scans-paid Reads matches m s at from places left (Found shown) le within near h = scans-shown s at from places shown.place le within near h.1
+scans-paid Reads matches m s at from places left (Idle to) le within near h = let lt = h.0 in omega arith
+
+-- a search costs the scans for the candidate, and the walk from there on
+pub candidate-read : (Reads : List ℕ → StateID → Type 0) (matches : StateID → List ℕ) (m : Dictionary) (deterministic : Bool) (s : Search) (at from places : ℕ) (left : List Occurrence) (reading : End Shown) (x y z : Steps)
+    → s.start ≤ at → at ≤ from → from ≤ s.end → s.end ≤ length s.haystack
+    → Done 0 places 0 x y → at + places ≤ s.end → at + places ≤ from + 255
+    → ReadsOn Reads matches m s from left reading
+    → ((looks more : ℕ) → IsPaidAt m deterministic s from from looks → looks + looked_of z ≡ more + looked_of y → IsPaidBy m deterministic s reading more)
+    → OnlyLooked y z → IsSkipCost m deterministic s at reading x z
+candidate-read Reads matches m deterministic s at from places left reading x y z g le inside fits done scan near reads pays only =
+    let looked = done.looked in
+    let scanned = done.scanned in
+    let moved = done.moved in
+    let rose = only.rose in
+    let same_scans = only.scanned in
+    let same_moved = only.moved in
+    record {
+      rose = omega arith;
+      looks = λ looks more paid e. pays looks more (paid-start m deterministic s from looks (omega arith) inside fits (paid-further deterministic s at from looks le paid)) (omega arith);
+      scans = let bound = scans-paid Reads matches m s at from places left reading le scan near reads in omega arith;
+      moved = omega arith;
+    }
+
+-- A search has searcht from one place to another: what is left is the same, and what it cost is paid for.
+pub record HasSearched (deterministic : Bool) (s : Search) (at place : ℕ) (before after : Steps) : Type 0 where
+  pub behind : at ≤ place
+  pub within : place ≤ s.end
+  pub same : listing_of (starting_at s at) ≡ listing_of (starting_at s place)
+  pub rose : looked_of before ≤ looked_of after
+  pub looks : (looks more : ℕ) → IsPaidTo deterministic s at looks → looks + looked_of after ≡ more + looked_of before → IsPaidTo deterministic s place more
+  pub scans : scanned_of after ≤ scanned_of before + 256 * (place - at)
+  pub moved : moved_of after ≡ moved_of before
+
+-- at first it is where it was
+pub searched_on-first : (deterministic : Bool) (s : Search) (at : ℕ) (x : Steps) → at ≤ s.end → HasSearched deterministic s at at x x
+searched_on-first deterministic s at x le = record {
+  behind = omega arith;
+  within = le;
+  same = refl;
+  rose = omega arith;
+  looks = λ looks more paid e. let one : looks ≡ more = omega arith in subst (IsPaidTo deterministic s at) one paid;
+  scans = omega arith;
+  moved = refl;
+}
+
+-- one search more takes it to where the walk is back
+pub searched_on-further : (Reads : List ℕ → StateID → Type 0) (matches : StateID → List ℕ) (m : Dictionary) (deterministic : Bool) (s : Search) (at place to : ℕ) (x y z : Steps)
+    → HasSearched deterministic s at place x y → ReadsOn Reads matches m s place (listing_of (starting_at s place)) (Idle to) → IsSkipCost m deterministic s place (Idle to) y z → HasSearched deterministic s at to x z
+searched_on-further Reads matches m deterministic s at place to x y z searched_on reads cost =
+    let le = searched_on.behind in
+    let lt = reads.0 in
+    let one = searched_on.rose in
+    let two = cost.rose in
+    record {
+      behind = omega arith;
+      within = reads.1;
+      same = searched_on.same ∙ reads.2;
+      rose = omega arith;
+      looks = λ looks more paid e.
+          let between : ℕ = looks + looked_of y - looked_of x in
+          cost.looks between more (searched_on.looks looks between paid (omega arith)) (omega arith);
+      scans = omega (arith, searched_on.scans, cost.scans);
+      moved = cost.moved ∙ searched_on.moved;
+    }
+
+-- the last search shows what is shown
+pub searched_on-shows : (Reads : List ℕ → StateID → Type 0) (matches : StateID → List ℕ) (m : Dictionary) (deterministic : Bool) (s : Search) (at place : ℕ) (shown : Shown) (x y z : Steps)
+    → HasSearched deterministic s at place x y → ReadsOn Reads matches m s place (listing_of (starting_at s place)) (Found shown) → IsSkipCost m deterministic s place (Found shown) y z → IsSkipCost m deterministic s at (Found shown) x z
+searched_on-shows Reads matches m deterministic s at place shown x y z searched_on reads cost =
+    let le = searched_on.behind in
+    let come = come-behind s place shown.place searched_on.within reads.1 in
+    let one = searched_on.rose in
+    let two = cost.rose in
+    record {
+      rose = omega arith;
+      looks = λ looks more paid e.
+          let between : ℕ = looks + looked_of y - looked_of x in
+          cost.looks between more (searched_on.looks looks between paid (omega arith)) (omega arith);
+      scans = omega (arith, searched_on.scans, cost.scans);
+      moved = cost.moved ∙ searched_on.moved;
+    }
+
+-- ---- what a call pays
+
+-- where it read on by one walk
+pub pays-walk : (m : Dictionary) (deterministic : Bool) (s : Search) (sid : StateID) (from at : ℕ) (r : Shown) (x y : Steps)
+    → at ≤ s.end → IsBehind at r.place
+    → ((looks more : ℕ) → IsPaidAt m deterministic s from at looks → looks + looked_of y ≡ more + looked_of x → IsPaidBy m deterministic s (Found r) more)
+    → OnlyLooked x y → KeepsBudget m deterministic s (At sid from at 0) r.place x y
+pays-walk m deterministic s sid from at r x y le behind pays only =
+    let come = come-behind s at r.place le behind in
+    let scanned = only.scanned in
+    record {
+      looks = pays;
+      scans = λ scans more h e. omega arith;
+      moved = only.moved;
+    }
+
+-- where it went by candidates at once, having read nothing
+pub pays-candidates : (m : Dictionary) (deterministic : Bool) (s : Search) (sid : StateID) (from at : ℕ) (r : Shown) (x y : Steps)
+    → s.start ≤ at → at ≤ s.end → IsBehind at r.place
+    → ((live : Option ℕ) × IsLive m s.anchored (read_to (starting_at s from) at) live)
+    → IsSkipCost m deterministic s at (Found r) x y → KeepsBudget m deterministic s (At sid from at 0) r.place x y
+pays-candidates m deterministic s sid from at r x y g le behind live cost =
+    let come = come-behind s at r.place le behind in
+    record {
+      looks = λ looks more paid e. cost.looks looks more (paid-to m deterministic s from at at looks g (omega arith) live paid) e;
+      scans = λ scans more h e. let rest = cost.scans in omega arith;
+      moved = cost.moved;
+    }
+
+-- where it walked back to the start, and went by candidates from there
+pub pays-both : (m : Dictionary) (deterministic : Bool) (s : Search) (sid : StateID) (from at to : ℕ) (r : Shown) (x y z : Steps)
+    → s.start ≤ at → at < to → to ≤ s.end → IsBehind to r.place
+    → ((looks more : ℕ) → IsPaidAt m deterministic s from at looks → looks + looked_of y ≡ more + looked_of x → IsPaidBy m deterministic s (Idle to) more)
+    → OnlyLooked x y → IsSkipCost m deterministic s to (Found r) y z → KeepsBudget m deterministic s (At sid from at 0) r.place x z
+pays-both m deterministic s sid from at to r x y z g lt le behind pays only cost =
+    let come = come-behind s to r.place le behind in
+    let one = only.rose in
+    let two = cost.rose in
+    let scanned = only.scanned in
+    record {
+      looks = λ looks more paid e.
+          let between : ℕ = looks + looked_of y - looked_of x in
+          cost.looks between more (pays looks between paid (omega arith)) (omega arith);
+      scans = λ scans more h e. let rest = cost.scans in omega arith;
+      moved = cost.moved ∙ only.moved;
+    }
+
+-- ---- what is left at the start
+
+-- where nothing was read, and the start shows nothing, what ends later is what occurs from there on
+pub ending_from-fresh : (m : Dictionary) (s : Search) (at : ℕ) (ns : List ℕ) → IsPlace m No (starting_at s at) at → Tells m No [] ns → ns ≡ [] → ending_from (starting_at s at) (at + 1) ≡ listing_of (starting_at s at)
+ending_from-fresh m s at ns is tells none =
+    let t = starting_at s at in
+    let here : Tells m No (read_to t at) ns = subst (λ (text : List ℕ). Tells m No text ns) (sym (read_to-start t)) tells in
+    sym (ending_from-split m No t at ns is here ∙ ap (λ (xs : List Occurrence). xs ++ ending_from t (at + 1)) (told_from-empty m t at ns none))
+    ∙ ending_from-start t is.inside

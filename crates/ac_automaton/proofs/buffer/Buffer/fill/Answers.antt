@@ -1,0 +1,23 @@
+-- What a read gave lies behind what was held.
+use Rattle.std.proofs.Common.{◌≡◌, ◌+◌, ◌-◌, ◌≤◌, length, take, length-take, length-drop, sym, ap, ◌∙◌, arith}
+use Rattle.ac_automaton.specs.Buffer.{Held}
+use Rattle.ac_automaton.proofs.BufferLemmas.{filled-by, front-more}
+use Rattle.ac_automaton.proofs.buffer.Buffer.fill.Goals as goal
+
+pub returns-clause-gave : goal.returns-clause-gave
+returns-clause-gave g c =
+    let buffer = c.deref_mut.result.now in
+    let filled = c.self.inside.filled in
+    let n = c.in_ok-n.n in
+    let held : filled ≤ c.self.inside.bytes.len = c.self.invariant.0 in
+    let len : length buffer ≡ c.self.inside.bytes.len = omega (arith, c.deref_mut.ensures.len) in
+    let rest : length c.read.new.buf ≡ length buffer - filled = c.read.auto.buf ∙ simp (length-take, length-drop) (omega arith) in
+    let within : n ≤ length c.read.new.buf = c.in_ok-n.ensures.gave.within in
+    let is = c.self.view_is in
+    filled-by c.args.self.now _ _ _ c.read.new.buf (take filled buffer) n c.in_ok-n.ensures.gave
+    (sym (ap (λ (h : Held). h.bytes) is) ∙ ap (take filled) (sym c.deref_mut.ensures.value))
+    (front-more buffer c.read.new.buf _ _ c.self.inside.bytes.len filled n (omega arith) (omega arith) within)
+    (ap (λ (h : Held). h.room) is)
+    (ap (λ (h : Held). h.keep) is)
+    (c.more-self-inside.ensures ∙ ap (λ (h : Held). h.read + n) is)
+    (ap (λ (h : Held). h.moved) is)

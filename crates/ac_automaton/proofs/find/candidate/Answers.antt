@@ -1,0 +1,41 @@
+use Rattle.std.proofs.Common.{◌≡◌, ◌≢◌, ◌∙◌, Bool, Some, subst, sym, ap, rules}
+use Rattle.ac_input.specs.Best.{asked_kind, IsBest}
+use Rattle.ac_input.specs.Candidate.{IsCandidate}
+use Rattle.ac_input.specs.declared.search.MatchKind.{MatchKind}
+use Rattle.ac_input.specs.declared.search.candidate.Candidate.TheVariants as candidates
+use Rattle.ac_input.specs.Dictionary.{Dictionary}
+use Rattle.ac_input.specs.Occurrence.{Search}
+use Rattle.ac_automaton.specs.Automaton.{kind_asked}
+use Rattle.ac_automaton.specs.Find.{search_from, NoneBefore}
+use Rattle.ac_automaton.proofs.FindLemmas.{match-none_before, match-asked_best}
+use Rattle.ac_automaton.proofs.CandidateLemmas.{ahead-same}
+use Rattle.ac_automaton.proofs.find.candidate.Goals as goal
+
+pub returns-then-eq-clause-says : goal.returns-then-eq-clause-says
+returns-then-eq-clause-says g c =
+    let b = g.A.Automaton.built c.args.automaton.now in
+    let asked = c.args.input.now in
+    let n = c.args.prefilter.now.dictionary in
+    let kind = c.match_kind-kind.result in
+    let early = c.get_earliest.result in
+    let same = ahead-same b.dictionary n asked c.haystack.result.now c.args.at c.end.result c.requires.made c.haystack.ensures c.end.ensures.value c.requires.free in
+    let kinds : n.kind ≡ kind = ap (λ (m : Dictionary). m.kind) c.requires.made ∙ sym c.match_kind-kind.ensures in
+    let is : IsCandidate kind (search_from b asked c.args.at) (candidates.Match c.in-Match.found) = subst (λ (k : MatchKind). IsCandidate k (search_from b asked c.args.at) (candidates.Match c.in-Match.found)) kinds (subst (λ (s : Search). IsCandidate n.kind s (candidates.Match c.in-Match.found)) same c.in-Match.ensures.candidate) in
+    let kind_is : asked_kind kind early ≡ kind_asked b asked = ap (λ (k : MatchKind). asked_kind k early) c.match_kind-kind.ensures ∙ ap (λ (e : Bool). asked_kind b.dictionary.kind e) c.get_earliest.ensures in
+    let own : asked_kind kind early ≡ kind = search rules in
+    subst (λ (k : MatchKind). IsBest k (search_from b asked c.args.at) (Some c.in-Match.found)) kind_is
+    (match-asked_best kind early (search_from b asked c.args.at) c.in-Match.found is own)
+
+pub returns-else-eq-clause-says : goal.returns-else-eq-clause-says
+returns-else-eq-clause-says g c =
+    let b = g.A.Automaton.built c.args.automaton.now in
+    let asked = c.args.input.now in
+    let n = c.args.prefilter.now.dictionary in
+    let kind = c.match_kind-kind.result in
+    let early = c.get_earliest.result in
+    let same = ahead-same b.dictionary n asked c.haystack.result.now c.args.at c.end.result c.requires.made c.haystack.ensures c.end.ensures.value c.requires.free in
+    let kinds : n.kind ≡ kind = ap (λ (m : Dictionary). m.kind) c.requires.made ∙ sym c.match_kind-kind.ensures in
+    let is : IsCandidate kind (search_from b asked c.args.at) (candidates.Match c.in-Match.found) = subst (λ (k : MatchKind). IsCandidate k (search_from b asked c.args.at) (candidates.Match c.in-Match.found)) kinds (subst (λ (s : Search). IsCandidate n.kind s (candidates.Match c.in-Match.found)) same c.in-Match.ensures.candidate) in
+    let kind_is : asked_kind kind early ≡ kind_asked b asked = ap (λ (k : MatchKind). asked_kind k early) c.match_kind-kind.ensures ∙ ap (λ (e : Bool). asked_kind b.dictionary.kind e) c.get_earliest.ensures in
+    let other : asked_kind kind early ≢ kind = search rules in
+    rw c.start.ensures.value (match-none_before kind early (search_from b asked c.args.at) c.in-Match.found is other)

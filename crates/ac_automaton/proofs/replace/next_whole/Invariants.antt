@@ -1,0 +1,10 @@
+use Rattle.std.proofs.Common.{◌≡◌, length}
+use Rattle.ac_automaton.specs.Iter.{left_of}
+use Rattle.ac_automaton.specs.Replace.{text_left_of}
+use Rattle.ac_automaton.proofs.replace.next_whole.Given as goal
+
+abbrev pub invariant-loop-found : goal.invariant-loop-found
+invariant-loop-found g l = text_left_of l.text l.matches ≡ text_left_of l.text l.fn.matches
+
+abbrev pub decreases-loop-found : goal.decreases-loop-found
+decreases-loop-found g l = length (left_of l.matches)

@@ -1,0 +1,19 @@
+-- What lies between two matches is copied, and each match replaced.
+use Rattle.std.proofs.Common.{◌≡◌}
+use Rattle.std.specs.List.{filter}
+use Rattle.std.proofs.lemmas.Str.{IsCharBoundary-start}
+use Rattle.ac_automaton.specs.Iter.{left_of}
+use Rattle.ac_automaton.specs.Replace.{cuts_none, matches_in}
+use Rattle.ac_automaton.proofs.ReplaceLemmas.{matches-lie, lies-filter, same-input}
+use Rattle.ac_automaton.proofs.replace.replace_all.Goals as goal
+
+pub loop-found-init : goal.loop-found-init
+loop-found-init g c =
+    let x = c.args.haystack.now in
+    let b = g.A.Automaton.built c.args.automaton.now in
+    let all : left_of c.in_ok-matches.matches ≡ matches_in b x = same-input b x _ _ _ c.in_ok-matches.ensures.all c.new.ensures c.as_bytes.ensures.value in
+    record {
+      order = rw (c.in_ok-replaced.ensures.bytes, all);
+      lies = rw (c.requires, all) (lies-filter (cuts_none x) _ _ _ (matches_in b x) (matches-lie b x));
+      boundary = IsCharBoundary-start x c.utf8.haystack;
+    }

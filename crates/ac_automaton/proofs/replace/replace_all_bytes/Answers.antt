@@ -1,0 +1,17 @@
+-- What lies between two matches is copied, and each match replaced.
+use Rattle.std.proofs.Common.{◌≡◌, refl, arith}
+use Rattle.ac_automaton.specs.Iter.{left_of}
+use Rattle.ac_automaton.specs.Replace.{matches_in}
+use Rattle.ac_automaton.proofs.ReplaceLemmas.{matches-lie, same-input}
+use Rattle.ac_automaton.proofs.replace.replace_all_bytes.Goals as goal
+
+pub loop-found-init : goal.loop-found-init
+loop-found-init g c =
+    let x = c.args.haystack.now in
+    let b = g.A.Automaton.built c.args.automaton.now in
+    let all : left_of c.in_ok-matches.matches ≡ matches_in b x = same-input b x _ _ _ c.in_ok-matches.ensures.all c.new.ensures refl in
+    record {
+      order = rw (c.in_ok-replaced.ensures.items, all);
+      lies = rw (c.requires, all) (matches-lie b x);
+      within = omega arith;
+    }

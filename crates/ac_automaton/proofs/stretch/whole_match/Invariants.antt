@@ -1,6 +1,0 @@
-use Rattle.std.proofs.Common.{◌-◌}
-use Rattle.ac_automaton.proofs.TakenLemmas.{NoneBefore}
-use Rattle.ac_automaton.proofs.stretch.whole_match.Given as goal
-
-abbrev pub invariant-loop-index : goal.invariant-loop-index
-invariant-loop-index g l = NoneBefore (g.A.Automaton.machine l.automaton) (l.span.end - l.span.start) (g.A.Automaton.entries l.automaton l.sid) l.index

@@ -1,0 +1,46 @@
+-- The bytes of a stream that are held in memory, and what reading and rolling do to them.
+use Rattle.std.specs.Prelude.{◌≡◌, ℕ, ◌+◌, ◌-◌, ◌*◌, ◌≤◌, ◌↔◌, max, IsTrue, List, [], ◌∷◌, ◌++◌, length, drop}
+use Rattle.ac_automaton.specs.Watched.{pieces_of, has_ended, failures_of}
+use Rattle.ac_automaton.specs.declared.watched.Watched.{Watched}
+
+-- What is held: some bytes, in a room that never grows; how many of them are kept at most where the room is full; how many were
+-- read so far, and how many were moved within the room.
+pub record Held : Type 0 where
+  pub bytes : List ℕ
+  pub room : ℕ
+  pub keep : ℕ
+  pub read : ℕ
+  pub moved : ℕ
+
+-- how many bytes are kept at most: as many as the longest pattern has, and one at least
+abbrev pub kept_for : ℕ → ℕ
+kept_for longest = max longest 1
+
+-- how much room there is for so many that are kept: they take an eighth of it at most
+abbrev pub room_for : ℕ → ℕ
+room_for keep = max (keep * 8) 65536
+
+-- nothing is held yet
+abbrev pub nothing_held : ℕ → Held
+nothing_held keep = record { bytes = []; room = room_for keep; keep = keep; read = 0; moved = 0 }
+
+-- What holds of a buffer at any time. For each byte that was moved seven were read; what is held past those that may be kept was
+-- read and not yet paid for.
+pub record IsPaid (h : Held) : Type 0 where
+  pub keeps : 1 ≤ h.keep
+  pub room : h.room ≡ room_for h.keep
+  pub within : length h.bytes ≤ h.room
+  pub paid : 7 * h.moved + (length h.bytes - h.keep) ≤ h.read
+
+-- a read gave so many bytes, which are held behind the others
+pub record Filled {R : Type 0} (old new : Held) (before after : Watched R) (n : ℕ) : Type 0 where
+  pub piece : List ℕ
+  pub count : length piece ≡ n
+  pub held : new ≡ record old { bytes = old.bytes ++ piece; read = old.read + n }
+  pub pieces : pieces_of after ≡ pieces_of before ++ piece ∷ []
+  pub ended : IsTrue (has_ended after) ↔ (n ≡ 0)
+  pub failures : failures_of after ≡ failures_of before
+
+-- what is held from a place on was moved to the front
+abbrev pub rolled : Held → ℕ → Held
+rolled old from = record old { bytes = drop from old.bytes; moved = old.moved + (length old.bytes - from) }

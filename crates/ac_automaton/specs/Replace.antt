@@ -1,0 +1,95 @@
+-- Replacement in memory: of which matches, what it gives, and when it is refused.
+use Rattle.std.specs.Prelude.{◌≡◌, ℕ, ◌<◌, ◌≤◌, ◌==◌, ◌&&◌, ◌||◌, nat_lt, nat_le, Bool, List, [], ◌∷◌, length, slice_index, Some, None, Result, Ok, Err}
+use Rattle.std.specs.Fn.{Called, Mut}
+use Rattle.std.specs.List.{filter}
+use Rattle.std.specs.declared.alloc.AllocError.{AllocError}
+use denote.Ref.{Bor, MutBor}
+use Rattle.ac_input.specs.Chain.{Calls, IsChain, IsRefusedChain}
+use Rattle.ac_input.specs.declared.search.Anchored.{Anchored}
+use Rattle.ac_input.specs.declared.search.Anchored.TheVariants.{No}
+use Rattle.ac_input.specs.Input.{whole_of}
+use Rattle.ac_input.specs.Occurrence.{Occurrence}
+use Rattle.ac_input.specs.Text.{replaced_from}
+use Rattle.ac_automaton.specs.Automaton.{Built, refusal_of, walk_in}
+use Rattle.ac_automaton.specs.Iter.{Walk, left_of}
+use Rattle.ac_automaton.specs.declared.error.ReplaceError.{ReplaceError}
+use Rattle.ac_automaton.specs.declared.error.ReplaceError.TheVariants.{Match, Memory}
+
+-- the matches of a whole haystack, one after another, wherever they start
+abbrev pub matches_in : Built → List ℕ → List Occurrence
+matches_in b haystack = walk_in b (whole_of haystack)
+
+-- whether a character of the text begins at the place, or the text ends there
+abbrev pub is_boundary : List ℕ → ℕ → Bool
+is_boundary text at = (at == length text) || (nat_lt at (length text) && (nat_lt (slice_index text at) 128 || nat_le 192 (slice_index text at)))
+
+-- whether an occurrence begins and ends between characters of the text
+abbrev pub cuts_none : List ℕ → Occurrence → Bool
+cuts_none text o = is_boundary text o.start && is_boundary text o.end
+
+-- those of the matches of a text that cut no character
+abbrev pub text_matches_in : Built → List ℕ → List Occurrence
+text_matches_in b text = filter (cuts_none text) (matches_in b text)
+
+-- of the matches that are left to come
+abbrev pub text_left_of : List ℕ → Walk → List Occurrence
+text_left_of text w = filter (cuts_none text) (left_of w)
+
+-- a haystack with each of these exchanged for its pattern's replacement
+abbrev pub with_replaced : List ℕ → List (List ℕ) → List Occurrence → List ℕ
+with_replaced haystack replacements os = replaced_from 0 haystack replacements os
+
+-- Occurrences of patterns below a number, in a text of a length: from a place on, each begins where the one before it ended or
+-- later.
+abbrev pub LieInOrder : ℕ → ℕ → ℕ → List Occurrence → Type 0
+LieInOrder patterns len at [] = Unit {0}
+LieInOrder patterns len at (o ∷ os) = (o.pattern < patterns) × (at ≤ o.start) × (o.start ≤ o.end) × (o.end ≤ len) × LieInOrder patterns len o.end os
+
+-- The error says what was refused: the search, exactly where there is no start for one that isn't anchored; or else memory.
+abbrev pub IsReplaceRefusal : (Anchored → Type 0) → ReplaceError → Type 0
+IsReplaceRefusal supports (Match error) = (¬ supports No) × (error ≡ refusal_of No)
+IsReplaceRefusal supports Memory = supports No
+
+-- What a closure of replacement takes and gives: a match, its bytes and the destination; whether to go on, or a refusal, and the
+-- destination.
+abbrev pub Replacer : Type 0 → Type 0 → Type 1
+Replacer F D = Mut F (Bor Occurrence × (Bor (List ℕ) × (MutBor D × Unit {0}))) (Result Bool AllocError × (MutBor D × Unit {0}))
+
+-- in this state it may be called at every match of a pattern below a number, whatever else it is given
+abbrev pub TakesMatches : {F D : Type 0} → Replacer F D → ℕ → F → Type 0
+TakesMatches {F} {D} g patterns f = (found : Bor Occurrence) (bytes : Bor (List ℕ)) (dst : MutBor D) → found.now.pattern < patterns → g.pre f (found, (bytes, (dst, tt)))
+
+-- it may be called so, and where it may, it may again after each call
+pub record IsForMatches {F D : Type 0} (g : Replacer F D) (patterns : ℕ) (f : F) : Type 0 where
+  pub takes : TakesMatches g patterns f
+  pub keeps : (state : F) (found : Bor Occurrence) (bytes : Bor (List ℕ)) (dst : MutBor D) (r : Result Bool AllocError) (left : MutBor D) (after : F)
+      → TakesMatches g patterns state → found.now.pattern < patterns → Called g state (found, (bytes, (dst, tt))) (r, (left, tt)) after → TakesMatches g patterns after
+
+-- one call: at this occurrence, with these bytes and this destination it may answer so, and leave itself and the destination so
+pub record RepliesAt {F D : Type 0} (g : Replacer F D) (f : F) (o : Occurrence) (bytes : List ℕ) (old : D) (r : Result Bool AllocError) (after : F) (new : D) : Type 0 where
+  pub found : Bor Occurrence
+  pub text : Bor (List ℕ)
+  pub dst : MutBor D
+  pub shows : (found.now ≡ o) × (text.now ≡ bytes) × (dst.now ≡ old)
+  pub left : MutBor D
+  pub called : Called g f (found, (text, (dst, tt))) (r, (left, tt)) after
+  pub leaves : left.now ≡ new
+
+-- the calls of a closure on destinations that hold these bytes
+abbrev pub calls_of : {F D : Type 0} → (D → List ℕ) → Replacer F D → Calls F
+calls_of {F} {D} held g f o bytes old (Some more) after new = (from to : D) × (held from ≡ old) × (held to ≡ new) × RepliesAt g f o bytes from (Ok more) after to
+calls_of {F} {D} held g f o bytes old None after new = (from to : D) × (error : AllocError) × (held from ≡ old) × (held to ≡ new) × RepliesAt g f o bytes from (Err error) after to
+
+-- what the closure makes of the occurrences of a haystack, one after another, to the end or to its first false
+abbrev pub IsReplacedWith : {F D : Type 0} → (D → List ℕ) → Replacer F D → List ℕ → List Occurrence → F → D → D → Type 0
+IsReplacedWith {F} held g haystack os f old new = (last : F) × IsChain (calls_of held g) haystack 0 os f (held old) last (held new)
+
+-- what it has made of them where memory was refused
+abbrev pub IsBrokenOff : {F D : Type 0} → (D → List ℕ) → Replacer F D → List ℕ → List Occurrence → F → D → D → Type 0
+IsBrokenOff {F} held g haystack os f old new = (last : F) × IsRefusedChain (calls_of held g) haystack 0 os f (held old) last (held new)
+
+-- The error says what was refused, and what that leaves: the destination as it was where the search is refused, and a value of
+-- the chain where memory is.
+abbrev pub IsRefusedWith : {F D : Type 0} → (D → List ℕ) → Replacer F D → List ℕ → List Occurrence → F → D → D → (Anchored → Type 0) → ReplaceError → Type 0
+IsRefusedWith held g haystack os f old new supports (Match error) = IsReplaceRefusal supports (Match error) × (new ≡ old)
+IsRefusedWith held g haystack os f old new supports Memory = supports No × IsBrokenOff held g haystack os f old new

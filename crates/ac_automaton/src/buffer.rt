@@ -1,0 +1,111 @@
+//! The bytes of a stream that are held in memory.
+//!
+//! A stream is searched by pieces, in one buffer of a size that never changes. What a read gives is put behind what is held. A
+//! match may begin in one piece and end in another, so of what is held as many bytes are kept as the longest pattern has; they
+//! are moved to the front only where no room is left behind them. They are an eighth of the buffer at most, and the rest of it is
+//! read before they are moved again: so for each byte that is moved seven are read.
+ghost use Rattle.std.specs.Prelude.{◌≡◌, ◌+◌, ◌-◌, ◌≤◌, ◌<◌, ◌↔◌, false, length, IfOk, OnErr, IsTrue};
+ghost use Rattle.ac_input.specs.Steps.{Done};
+ghost use Rattle.ac_automaton.specs.Buffer.{Filled, kept_for, nothing_held, rolled};
+ghost use Rattle.ac_automaton.specs.Watched.{NoneTaken, ReadFailed, has_ended};
+
+use crate::watched::Watched;
+use ac_input::history::Count;
+use ac_input::steps::Steps;
+use std::alloc::{AllocError, Global};
+use std::io;
+use std::io::Read;
+use std::marker::Model;
+
+/// How many bytes a buffer has room for, at least.
+const LEAST_ROOM: usize = 65536;
+
+/// How often a buffer has room for what is kept, at least.
+const SHARE: usize = 8;
+
+/// One buffer for the bytes of a stream.
+#[derive(Drop)]
+pub(crate) struct Buffer {
+    bytes: Vec<u8>,
+    filled: usize,
+    keep: usize,
+    read: Count,
+    moved: Count,
+}
+
+impl Model for Buffer {
+    ghost use Rattle.std.specs.Prelude.{◌≤◌, take, vec_len};
+    ghost use Rattle.ac_automaton.specs.Buffer.{Held, IsPaid};
+
+    ghost Value = { Held };
+
+    ghost view = { λ b. record { bytes = take b.filled b.bytes.items; room = vec_len b.bytes; keep = b.keep; read = b.read.value; moved = b.moved.value } };
+
+    ghost invariant = { λ b. (b.filled ≤ vec_len b.bytes)
+        × IsPaid (record { bytes = take b.filled b.bytes.items; room = vec_len b.bytes; keep = b.keep; read = b.read.value; moved = b.moved.value }) };
+}
+
+impl Buffer {
+    /// Takes the memory. Nothing is held yet.
+    pub fn new(alloc: Global, longest: usize) -> Result<Buffer, AllocError>
+        ensures { IfOk result (λ buffer. buffer ≡ nothing_held (kept_for longest)) }
+    {
+        let keep = longest.max(1);
+        let Some(share) = keep.checked_mul(SHARE) else {
+            return Err(AllocError);
+        };
+        let mut bytes = Vec::new(alloc);
+        bytes.resize(share.max(LEAST_ROOM), 0)?;
+        Ok(Buffer {
+            bytes,
+            filled: 0,
+            keep,
+            read: Count::zero(),
+            moved: Count::zero(),
+        })
+    }
+
+    /// What is held.
+    pub fn held(&self) -> &[u8]
+        ensures { result.now ≡ self.now.bytes }
+    {
+        &self.bytes.as_slice()[..self.filled]
+    }
+
+    /// Whether no room is left behind what is held.
+    pub fn is_full(&self) -> bool
+        ensures { IsTrue result ↔ (length self.now.bytes ≡ self.now.room) }
+    {
+        self.filled == self.bytes.len()
+    }
+
+    /// Reads once, into all the room that is left.
+    pub fn fill<R: Read>(&mut self, reader: &mut Watched<R>) -> io::Result<usize>
+        requires room { length self.old.bytes < self.old.room }
+        requires open { has_ended reader.old ≡ false }
+        ensures gave { IfOk result (Filled self.old self.new reader.old reader.new) }
+        ensures failed { OnErr result (ReadFailed reader.old reader.new) }
+        ensures kept { OnErr result (self.new ≡ self.old) }
+        ensures writes { NoneTaken reader.old reader.new }
+    {
+        let n = reader.read(&mut self.bytes[self.filled..])?;
+        self.filled += n;
+        self.read = self.read.more(&n);
+        Ok(n)
+    }
+
+    /// Moves what is held from a place on to the front, where no room is left behind it.
+    pub fn roll(&mut self, from: usize, steps: &mut Steps)
+        requires full { length self.old.bytes ≡ self.old.room }
+        requires from { from ≤ length self.old.bytes }
+        requires kept { length self.old.bytes ≤ from + self.old.keep }
+        ensures rolled { self.new ≡ rolled self.old from }
+        ensures moved { Done 0 0 (length self.old.bytes - from) steps.old steps.new }
+    {
+        let kept = self.filled - from;
+        self.bytes.copy_within(from..self.filled, 0);
+        self.filled = kept;
+        self.moved = self.moved.more(&kept);
+        steps.shift(kept);
+    }
+}

@@ -1,0 +1,56 @@
+//! Where a search stands, how it goes on, and how it ends.
+//!
+//! A search reads the span byte by byte. Almost every state asks for nothing but the next byte, and these are passed by the
+//! automaton itself, in one call: [`read_on`] takes a [`Cursor`] to the next state that is special, or to the end of the span.
+//! There the search looks at the state, whether it matches, or is dead, or is a start, and goes on or ends.
+ghost use Rattle.std.specs.Prelude.{◌≡◌, ◌<◌};
+ghost use Rattle.ac_automaton.specs.Automaton.{searched};
+ghost use Rattle.ac_automaton.specs.Cursor.{IsCursor, HasReadOn};
+
+use crate::automaton::Automaton;
+use ac_input::primitives::StateID;
+use ac_input::search::Input;
+use ac_input::steps::Steps;
+
+/// A state, and the bytes by which it was reached from the start: those from one place up to another.
+#[derive(Clone, Copy)]
+pub(crate) struct Cursor {
+    pub sid: StateID,
+    pub from: usize,
+    pub at: usize,
+}
+
+/// How a search over a part of the span ended.
+#[derive(Clone, Copy)]
+pub(crate) enum End<T> {
+    /// This is the answer.
+    Found(T),
+    /// No byte that was read is live any more. There is no answer before this place, and the search goes on from here.
+    Idle(usize),
+}
+
+/// Reads on to the next state that is special, or to the end of the span.
+#[inline]
+pub(crate) fn read_on<A: Automaton>(
+    automaton: &A,
+    input: &Input<'_>,
+    cursor: Cursor,
+    steps: &mut Steps,
+) -> Cursor
+    requires stands { IsCursor (A.Reads automaton.now input.now.anchored)
+        (searched (A.built automaton.now) input.now) cursor }
+    requires open { cursor.at < input.now.span.end }
+    ensures stands { IsCursor (A.Reads automaton.now input.now.anchored)
+        (searched (A.built automaton.now) input.now) result }
+    ensures from { result.from ≡ cursor.from }
+    ensures on { HasReadOn (A.built automaton.now) input.now.anchored
+        (searched (A.built automaton.now) input.now) cursor result steps.old steps.new }
+{
+    let rest = &input.haystack()[cursor.at..input.end()];
+    let advance = automaton.advance(input.get_anchored(), cursor.sid, rest, steps);
+    Cursor {
+        sid: advance.sid,
+        from: cursor.from,
+        at: cursor.at + advance.taken,
+    }
+}

@@ -1,0 +1,174 @@
+//! Replacement in memory.
+//!
+//! The matches of a haystack are taken one after another, as [`FindIter`](crate::iter::FindIter) gives them. What lies between two
+//! of them is copied, and what replaces a match is put in its place. The result is made in one piece of memory that is at first as
+//! large as the haystack, and grows as any `Vec` does where the replacements are longer than what they replace.
+//!
+//! In a text a match may begin or end within a character, where a pattern isn't text itself. Such a match is passed over, so that
+//! what is made stays text.
+ghost use Rattle.std.specs.Prelude.{◌≡◌, ◌+◌, length, map, IfErr, IfOk, IfSome, IsTrue, OnOk};
+ghost use Rattle.std.specs.Iterator.{YieldsFirst};
+ghost use Rattle.std.specs.String.{string_bytes};
+ghost use Rattle.ac_automaton.specs.Replace.{IsForMatches, TakesMatches, RepliesAt, IsReplaceRefusal, IsReplacedWith, IsRefusedWith, cuts_none, matches_in, text_left_of, text_matches_in, with_replaced};
+
+use crate::automaton::Automaton;
+use crate::error::ReplaceError;
+use crate::iter::FindIter;
+use ac_input::search::{Anchored, Input, Match};
+use std::alloc::{AllocError, Global};
+
+/// The haystack with each match exchanged for the replacement of its pattern.
+pub fn replace_all_bytes<A: Automaton>(
+    automaton: &A,
+    alloc: Global,
+    haystack: &[u8],
+    replacements: &[&[u8]],
+) -> Result<Vec<u8>, ReplaceError>
+    requires { length replacements.now ≡ length (A.built automaton.now).dictionary.patterns }
+    ensures replaced { IfOk result (λ replaced. replaced.items ≡ with_replaced haystack.now
+        (map (λ r. r.now) replacements.now) (matches_in (A.built automaton.now) haystack.now)) }
+    ensures supported { OnOk result (A.supports automaton.now Anchored.No) }
+    ensures refused { IfErr result (IsReplaceRefusal (A.supports automaton.now)) }
+{
+    let mut matches = automaton.try_find_iter(Input::new(haystack))?;
+    let mut replaced = Vec::with_capacity(alloc, haystack.len())?;
+    let mut at = 0;
+    while let Some(found) = matches.next() {
+        replaced.extend_from_slice(&haystack[at..found.start()])?;
+        replaced.extend_from_slice(replacements[found.pattern().as_usize()])?;
+        at = found.end();
+    }
+    replaced.extend_from_slice(&haystack[at..])?;
+    Ok(replaced)
+}
+
+/// Whether the match begins and ends between characters of the text.
+fn is_whole(text: &str, found: &Match) -> bool
+    ensures { result ≡ cuts_none text.now found.now }
+{
+    text.is_char_boundary(found.start()) && text.is_char_boundary(found.end())
+}
+
+/// The next match that begins and ends between characters of the text.
+fn next_whole<A: Automaton>(matches: &mut FindIter<'_, '_, A>, text: &str) -> Option<Match>
+    ensures gives { YieldsFirst (text_left_of text.now) matches.old result matches.new }
+    ensures whole { IfSome result (λ found. IsTrue (cuts_none text.now found)) }
+{
+    while let Some(found) = matches.next() {
+        if is_whole(text, &found) {
+            return Some(found);
+        }
+    }
+    None
+}
+
+/// The text with each match that cuts no character exchanged for the replacement of its pattern.
+pub fn replace_all<A: Automaton>(
+    automaton: &A,
+    alloc: Global,
+    haystack: &str,
+    replacements: &[&str],
+) -> Result<String, ReplaceError>
+    requires { length replacements.now ≡ length (A.built automaton.now).dictionary.patterns }
+    ensures replaced { IfOk result (λ replaced. string_bytes replaced ≡ with_replaced haystack.now
+        (map (λ r. r.now) replacements.now) (text_matches_in (A.built automaton.now) haystack.now)) }
+    ensures supported { OnOk result (A.supports automaton.now Anchored.No) }
+    ensures refused { IfErr result (IsReplaceRefusal (A.supports automaton.now)) }
+{
+    let mut matches = automaton.try_find_iter(Input::new(haystack.as_bytes()))?;
+    let mut replaced = String::with_capacity(alloc, haystack.len())?;
+    let mut at = 0;
+    while let Some(found) = next_whole(&mut matches, haystack) {
+        replaced.push_str(&haystack[at..found.start()])?;
+        replaced.push_str(replacements[found.pattern().as_usize()])?;
+        at = found.end();
+    }
+    replaced.push_str(&haystack[at..])?;
+    Ok(replaced)
+}
+
+/// Appends the haystack to the destination, and in place of each match what the closure appends. A closure that answers `false`
+/// is not called again, and the rest is copied.
+pub fn replace_all_with_bytes<A: Automaton, F>(
+    automaton: &A,
+    haystack: &[u8],
+    dst: &mut Vec<u8>,
+    mut replace_with: F,
+) -> Result<(), ReplaceError>
+where
+    F: FnMut(&Match, &[u8], &mut Vec<u8>) -> Result<bool, AllocError>,
+    requires { IsForMatches F.FnMut (length (A.built automaton.now).dictionary.patterns)
+        replace_with }
+    ensures replaced { OnOk result (IsReplacedWith (λ v. v.items) F.FnMut haystack.now
+        (matches_in (A.built automaton.now) haystack.now) replace_with dst.old dst.new) }
+    ensures supported { OnOk result (A.supports automaton.now Anchored.No) }
+    ensures refused { IfErr result (IsRefusedWith (λ v. v.items) F.FnMut haystack.now
+        (matches_in (A.built automaton.now) haystack.now) replace_with dst.old dst.new (A.supports automaton.now)) }
+{
+    let mut matches = automaton.try_find_iter(Input::new(haystack))?;
+    let mut at = 0;
+    while let Some(found) = matches.next() {
+        dst.extend_from_slice(&haystack[at..found.start()])?;
+        at = found.end();
+        let goes_on = replace_with(&found, &haystack[found.start()..at], dst)?;
+        if !goes_on {
+            dst.extend_from_slice(&haystack[at..])?;
+            return Ok(());
+        }
+    }
+    dst.extend_from_slice(&haystack[at..])?;
+    Ok(())
+}
+
+/// Calls the closure at a match of a text.
+// It stands by itself since the check gives such a call, in a loop that slices the text, a goal that is not what the code needs.
+fn call<F>(
+    replace_with: &mut F,
+    found: &Match,
+    matched: &str,
+    dst: &mut String,
+) -> Result<bool, AllocError>
+where
+    F: FnMut(&Match, &str, &mut String) -> Result<bool, AllocError>,
+    requires { TakesMatches F.FnMut (found.now.pattern + 1) replace_with.old }
+    ensures { RepliesAt F.FnMut replace_with.old found.now matched.now dst.old result replace_with.new dst.new }
+{
+    replace_with(found, matched, dst)
+}
+
+/// Appends the text to the destination, and in place of each match that cuts no character what the closure appends. A closure
+/// that answers `false` is not called again, and the rest is copied.
+pub fn replace_all_with<A: Automaton, F>(
+    automaton: &A,
+    haystack: &str,
+    dst: &mut String,
+    mut replace_with: F,
+) -> Result<(), ReplaceError>
+where
+    F: FnMut(&Match, &str, &mut String) -> Result<bool, AllocError>,
+    requires { IsForMatches F.FnMut (length (A.built automaton.now).dictionary.patterns)
+        replace_with }
+    ensures replaced { OnOk result (IsReplacedWith string_bytes F.FnMut haystack.now
+        (text_matches_in (A.built automaton.now) haystack.now) replace_with dst.old dst.new) }
+    ensures supported { OnOk result (A.supports automaton.now Anchored.No) }
+    ensures refused { IfErr result (IsRefusedWith string_bytes F.FnMut haystack.now
+        (text_matches_in (A.built automaton.now) haystack.now) replace_with dst.old dst.new (A.supports automaton.now)) }
+{
+    let mut matches = automaton.try_find_iter(Input::new(haystack.as_bytes()))?;
+    let mut at = 0;
+    while let Some(found) = next_whole(&mut matches, haystack) {
+        dst.push_str(&haystack[at..found.start()])?;
+        at = found.end();
+        let matched = &haystack[found.start()..at];
+        let goes_on = call(&mut replace_with, &found, matched, dst)?;
+        if !goes_on {
+            dst.push_str(&haystack[at..])?;
+            return Ok(());
+        }
+    }
+    dst.push_str(&haystack[at..])?;
+    Ok(())
+}
+
+#[cfg(test)]
+mod tests;

@@ -1,0 +1,5 @@
+use Rattle.ac_input.proofs.LimitLemmas.{within-none}
+use Rattle.ac_input.proofs.limit_laws.within_passes_none.Goals as goal
+
+pub returns : goal.returns
+returns c = within-none

@@ -1,0 +1,33 @@
+-- Failure links: which part of a text may still grow into the answer when the whole of it no longer can, and which patterns the
+-- state of a text lists.
+use Rattle.std.specs.Prelude.{◌↔◌, ℕ, ◌<◌, ◌≤◌, List, [], ◌∷◌, ◌++◌, drop, Contains, IsTrue, false, Option, Some, None}
+use Rattle.ac_input.specs.Same.{same_text}
+use Rattle.ac_input.specs.Dictionary.{Dictionary, IsEntered, IsAlive}
+
+-- the least place of which a fact holds, or none where it holds of none
+abbrev pub IsLeastPlace : (ℕ → Type 0) → Option ℕ → Type 0
+IsLeastPlace P None = (at : ℕ) → ¬ P at
+IsLeastPlace P (Some at) = P at × ((another : ℕ) → P another → at ≤ another)
+
+-- Where the failure of a text begins: its longest proper suffix that is alive, so that begins an entered pattern and, under a
+-- leftmost kind, starts no later than the best of the text. None where no such suffix is; the empty text has none.
+abbrev pub IsFailure : Dictionary → List ℕ → Option ℕ → Type 0
+IsFailure m text r = IsLeastPlace (λ at. (1 ≤ at) × IsAlive m false text at) r
+
+-- each number is less than all that come after it
+abbrev pub AreRising : List ℕ → Type 0
+AreRising [] = Unit {0}
+AreRising (n ∷ ns) = ((later : ℕ) → Contains ns later → n < later) × AreRising ns
+
+-- an entered pattern that is the same as the text
+abbrev pub IsOwn : Dictionary → List ℕ → ℕ → Type 0
+IsOwn m text n = (p : List ℕ) × IsEntered m n p × IsTrue (same_text m.pairing p text)
+
+-- the own patterns of a text: the numbers of the entered patterns that are the same as it, each once, in rising order
+abbrev pub AreOwn : Dictionary → List ℕ → List ℕ → Type 0
+AreOwn m text ns = AreRising ns × ((n : ℕ) → Contains ns n ↔ IsOwn m text n)
+
+-- The list of a text: its own patterns, and then the list of its failure, where it has one.
+pub data IsList (m : Dictionary) : List ℕ → List ℕ → Type 0 where
+  OwnAlone : (text own : List ℕ) → AreOwn m text own → IsFailure m text None → IsList m text own
+  OwnThen : (text own rest : List ℕ) (from : ℕ) → AreOwn m text own → IsFailure m text (Some from) → IsList m (drop from text) rest → IsList m text (own ++ rest)

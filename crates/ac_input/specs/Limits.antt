@@ -1,0 +1,70 @@
+-- The limits of a build: how many patterns and states an automaton may have, and how long a pattern may be.
+use Rattle.std.specs.Prelude.{◌≡◌, ◌≢◌, ◌↔◌, ℕ, ◌+◌, ◌<◌, ◌≤◌, List, [], ◌∷◌, ◌++◌, length, take, map, AllPairs, Contains}
+use Rattle.ac_input.specs.declared.search.MatchKind.{MatchKind}
+use Rattle.ac_input.specs.Dictionary.{Dictionary, IsPattern, IsEntered}
+use Rattle.ac_input.specs.LiveLaws.{canonical}
+
+-- The greatest number of a state or a pattern. Numbers begin at 0, so there may be one more of each.
+abbrev pub greatest : ℕ
+greatest = 2147483646
+
+-- the dictionary of the first so many patterns
+abbrev pub first_patterns : Dictionary → ℕ → Dictionary
+first_patterns m n = record m { patterns = take n m.patterns }
+
+-- a dictionary of no patterns
+abbrev pub without_patterns : MatchKind → List ℕ → Dictionary
+without_patterns kind pairing = record { patterns = []; pairing = pairing; kind = kind }
+
+-- the dictionary with one more pattern
+abbrev pub with_pattern : Dictionary → List ℕ → Dictionary
+with_pattern m p = record m { patterns = m.patterns ++ p ∷ [] }
+
+-- a text in its canonical bytes, so that texts that are the same are equal
+abbrev pub canonical_text : Dictionary → List ℕ → List ℕ
+canonical_text m text = map (canonical m.pairing) text
+
+-- a text of canonical bytes that is a non-empty prefix of an entered pattern
+pub record IsPrefix (m : Dictionary) (text : List ℕ) : Type 0 where
+  pub some : 0 < length text
+  pub entered : (n : ℕ) × (p : List ℕ) × IsEntered m n p × (length text ≤ length p) × (text ≡ take (length text) (canonical_text m p))
+
+-- how many states an automaton has: 4, and one for each of these prefixes
+abbrev pub HasStates : Dictionary → ℕ → Type 0
+HasStates m states = (texts : List (List ℕ)) × AllPairs (λ s t. s ≢ t) texts × ((text : List ℕ) → Contains texts text ↔ IsPrefix m text) × (states ≡ length texts + 4)
+
+-- the dictionary passes no limit
+pub record IsWithinLimits (m : Dictionary) : Type 0 where
+  pub patterns : length m.patterns ≤ greatest + 1
+  pub lengths : (n : ℕ) (p : List ℕ) → IsPattern m n p → length p ≤ greatest
+  pub states : (states : ℕ) × HasStates m states × (states ≤ greatest + 1)
+
+-- a limit of a build
+pub data Limit : Type 0 where
+  PatternNumber : Limit
+  PatternLength : Limit
+  StateNumber : Limit
+
+-- The limit that one more pattern passes: its number is too great, or it is too long, or with it there are too many states. Where
+-- several stand, the first of these counts.
+abbrev pub Passes : Dictionary → List ℕ → Limit → Type 0
+Passes m p PatternNumber = greatest < length m.patterns
+Passes m p PatternLength = (length m.patterns ≤ greatest) × (greatest < length p)
+Passes m p StateNumber = (length m.patterns ≤ greatest) × (length p ≤ greatest) × ((states : ℕ) × HasStates (with_pattern m p) states × (greatest + 1 < states))
+
+-- the pattern of this number passes the limit, and none before it passes one
+pub record IsLimitAt (m : Dictionary) (n : ℕ) (limit : Limit) : Type 0 where
+  pub before : IsWithinLimits (first_patterns m n)
+  pub passed : (p : List ℕ) × IsPattern m n p × Passes (first_patterns m n) p limit
+
+-- The limit that a dictionary passes is that of its first pattern that passes one.
+abbrev pub IsLimitOf : Dictionary → Limit → Type 0
+IsLimitOf m limit = (n : ℕ) × IsLimitAt m n limit
+
+-- an automaton has one number of states
+abbrev pub StatesAreOneNumber : Type 0
+StatesAreOneNumber = (m : Dictionary) (a b : ℕ) → HasStates m a → HasStates m b → a ≡ b
+
+-- a pattern with which no limit is passed passes none
+abbrev pub WithinPassesNone : Type 0
+WithinPassesNone = (m : Dictionary) (p : List ℕ) (limit : Limit) → IsWithinLimits (with_pattern m p) → ¬ Passes m p limit

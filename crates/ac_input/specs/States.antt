@@ -1,0 +1,21 @@
+-- What the states of an automaton stand for: texts of canonical bytes.
+use Rattle.std.specs.Prelude.{◌≡◌, ℕ, ◌+◌, ◌≤◌, map, Bool, List, length, drop, Option, Some, None}
+use Rattle.ac_input.specs.Dictionary.{Dictionary, IsLive}
+use Rattle.ac_input.specs.LiveLaws.{canonical}
+use Rattle.ac_input.specs.Failure.{IsFailure}
+
+-- A text leads from the start of either anchoring to a state: the one that stands for the canonical bytes of its live prefix, or
+-- the dead one.
+abbrev pub LeadsTo : Dictionary → Bool → List ℕ → Option (List ℕ) → Type 0
+LeadsTo m anchored text None = IsLive m anchored text None
+LeadsTo m anchored text (Some state) = (from : ℕ) × IsLive m anchored text (Some from) × (state ≡ map (canonical m.pairing) (drop from text))
+
+-- A text fails to a state: the one that stands for the canonical bytes of its failure, or the dead one.
+abbrev pub FailsTo : Dictionary → List ℕ → Option (List ℕ) → Type 0
+FailsTo m text None = IsFailure m text None
+FailsTo m text (Some state) = (from : ℕ) × IsFailure m text (Some from) × (state ≡ map (canonical m.pairing) (drop from text))
+
+-- A lookup began at a state of so many bytes, stands at this one now, and has looked at so many states, this one included: at
+-- most one more than the bytes that it gave up on the way.
+abbrev pub IsPaid : ℕ → List ℕ → ℕ → Type 0
+IsPaid bytes state looks = looks + length state ≤ bytes + 1

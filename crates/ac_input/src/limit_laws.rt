@@ -1,0 +1,18 @@
+//! The laws of the limits of a build.
+//!
+//! An automaton has a state for each prefix of an entered pattern, and few more. So the patterns alone say how many states it has,
+//! and whether one more pattern passes a limit.
+//!
+//! None of these functions does anything: each states one law as its contract, and a caller who needs one calls it, at no
+//! cost.
+ghost use Rattle.ac_input.specs.Limits.{StatesAreOneNumber, WithinPassesNone};
+
+/// The patterns, the pairing and the kind say how many states an automaton has.
+pub fn states_are_one_number()
+    ensures { StatesAreOneNumber }
+{}
+
+/// A pattern doesn't pass a limit if the dictionary with it is within them.
+pub fn within_passes_none()
+    ensures { WithinPassesNone }
+{}

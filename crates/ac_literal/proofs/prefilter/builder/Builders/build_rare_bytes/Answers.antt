@@ -1,0 +1,6 @@
+use Rattle.ac_literal.proofs.BuilderLemmas.{rare-serve}
+use Rattle.ac_literal.proofs.prefilter.builder.Builders.build_rare_bytes.Goals as goal
+
+pub returns : goal.returns
+returns c =
+    λ m collected. rare-serve m c.args.self.now c.in-Some.needles collected c.in-Some.is c.if-not-self.false

@@ -1,6 +1,0 @@
-use Rattle.ac_literal.proofs.BuilderLemmas.{rare-serve}
-use Rattle.ac_literal.proofs.prefilter.builder.Collected.rare_finder.Goals as goal
-
-pub returns : goal.returns
-returns c =
-    λ m collected. rare-serve m c.args.self.now c.in-Some.needles collected c.in-Some.is c.if-not-self.false

@@ -1,5 +1,0 @@
-use Rattle.ac_literal.proofs.ChoiceLemmas.{rare-none, near-zeros}
-use Rattle.ac_literal.proofs.prefilter.rare.RareSoFar.new.Goals as goal
-
-pub returns : goal.returns
-returns c = λ pairing. rare-none pairing _ (near-zeros 256)

@@ -1,0 +1,5 @@
+use Rattle.ac_literal.proofs.ChoiceLemmas.{rare-none, near-zeros}
+use Rattle.ac_literal.proofs.prefilter.rare_bytes.RareBytesBuilder.new.Goals as goal
+
+pub returns : goal.returns
+returns c = λ pairing. rare-none pairing _ (near-zeros 256)

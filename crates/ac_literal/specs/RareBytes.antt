@@ -1,0 +1,61 @@
+-- How rare bytes are chosen, and what is known of them while patterns come.
+use Rattle.std.specs.Prelude.{◌≡◌, ℕ, ◌<◌, ◌≤◌, ◌==◌, ◌||◌, ◌&&◌, ◌⊎◌, nat_le, max, List, [], ◌∷◌, ◌++◌, length, slice_index, true, IsTrue, EachIndex, if◌then◌else◌}
+use Rattle.std.specs.List.{Contains}
+use Rattle.ac_input.specs.Same.{other, same}
+use Rattle.ac_literal.specs.Needles.{few_has, few_surely_has}
+use Rattle.ac_literal.specs.Strategy.{distance_of, max_distance, AreDistances, StandsInSome}
+use Rattle.ac_literal.specs.declared.prefilter.needles.FewBytes.{FewBytes}
+use Rattle.ac_literal.specs.declared.prefilter.rank.TheConstants.{COMMON, CAPITAL, SIGN, HIGH}
+use Rattle.ac_literal.specs.declared.prefilter.rare_bytes.RareBytesBuilder.{RareBytesBuilder}
+use Rattle.ac_literal.specs.declared.prefilter.rare_bytes.TheConstants.{LEN_LIMIT}
+
+-- How common a byte is taken to be: the most for lower-case letters, space, line feed and byte 0; less for digits and
+-- upper-case letters; least from 0x80 up.
+abbrev pub rank_of : ℕ → ℕ
+rank_of byte =
+    if (byte == 0) || (byte == 10) || (byte == 32) || (nat_le 97 byte && nat_le byte 122) then COMMON
+    else (if (nat_le 48 byte && nat_le byte 57) || (nat_le 65 byte && nat_le byte 90) then CAPITAL else (if nat_le 128 byte then HIGH else SIGN))
+
+-- the rank of a byte that is looked for together with its partner
+abbrev pub paired_rank_of : List ℕ → ℕ → ℕ
+paired_rank_of pairing byte = max (rank_of byte) (rank_of (other pairing byte))
+
+-- no byte of the pattern has a lesser rank, its partner counted
+abbrev pub IsRarest : List ℕ → List ℕ → ℕ → Type 0
+IsRarest pairing p rare = EachIndex p (λ k. paired_rank_of pairing rare ≤ paired_rank_of pairing (slice_index p k))
+
+-- the pattern has at some place a byte that is among these, as is what is paired with it
+pub record HoldsFew (pairing : List ℕ) (these : FewBytes) (p : List ℕ) : Type 0 where
+  pub at : ℕ
+  pub within : at < length p
+  pub held : (byte : ℕ) → IsTrue (same pairing (slice_index p at) byte) → IsTrue (few_has these byte)
+
+-- with each byte there is what is paired with it
+abbrev pub IsClosed : List ℕ → FewBytes → Type 0
+IsClosed pairing these = (byte : ℕ) → IsTrue (few_has these byte) → IsTrue (few_has these (other pairing byte))
+
+-- the bytes that were there before are there still, one of the pattern is, and only what is the same as a byte of the pattern came
+pub record IsChosen (pairing : List ℕ) (before : FewBytes) (p : List ℕ) (after : FewBytes) : Type 0 where
+  pub kept : (byte : ℕ) → IsTrue (few_has before byte) → IsTrue (few_has after byte)
+  pub held : HoldsFew pairing after p
+  pub closed : IsClosed pairing after
+  pub only : (byte : ℕ) → IsTrue (few_surely_has after byte) → IsTrue (few_surely_has before byte) ⊎ ((inner : ℕ) × Contains p inner × IsTrue (same pairing inner byte))
+
+-- distances that grew, to reach over a pattern that isn't too long, but not past the greatest
+pub record AreReached (pairing : List ℕ) (before p after : List ℕ) : Type 0 where
+  pub grown : (byte : ℕ) → distance_of before byte ≤ distance_of after byte
+  pub reach : length p < LEN_LIMIT → AreDistances pairing after p
+  pub near : ((byte : ℕ) → distance_of before byte ≤ max_distance) → (byte : ℕ) → distance_of after byte ≤ max_distance
+
+-- what is known of the rare bytes of some patterns
+pub record IsRareSoFar (pairing : List ℕ) (patterns : List (List ℕ)) (rare : RareBytesBuilder) : Type 0 where
+  pub short : rare.is_short ≡ true → (p : List ℕ) → Contains patterns p → length p < LEN_LIMIT
+  pub held : (p : List ℕ) → Contains patterns p → HoldsFew pairing rare.few p
+  pub reach : rare.is_short ≡ true → (p : List ℕ) → Contains patterns p → AreDistances pairing rare.distances p
+  pub near : (byte : ℕ) → distance_of rare.distances byte ≤ max_distance
+  pub closed : IsClosed pairing rare.few
+  pub known : (byte : ℕ) → IsTrue (few_surely_has rare.few byte) → StandsInSome pairing patterns byte
+
+-- the same with one more pattern
+abbrev pub AddsRare : List ℕ → RareBytesBuilder → List ℕ → RareBytesBuilder → Type 0
+AddsRare pairing old p new = (patterns : List (List ℕ)) → IsRareSoFar pairing patterns old → IsRareSoFar pairing (patterns ++ p ∷ []) new

@@ -1,0 +1,80 @@
+-- Marks of places at which a pattern may begin: what probes let through.
+use Rattle.std.specs.Prelude.{◌≡◌, ◌≢◌, ℕ, ◌+◌, ◌-◌, ◌/◌, ◌%◌, ◌<◌, ◌≤◌, List, length, slice_index, bit_and, if◌then◌else◌}
+use Rattle.std.specs.Int.{bit_at}
+use Rattle.ac_input.specs.Occurrence.{Search, Occurrence, Occurs}
+use Rattle.ac_literal.specs.declared.packed.teddy.Probe.{Probe}
+use Rattle.ac_literal.specs.declared.packed.teddy.Teddy.{Teddy}
+use Rattle.ac_literal.specs.Packed.{pattern_at}
+
+-- a vector of 32 lanes, where lane k holds f k
+pub record HasLanes (v : List ℕ) (f : ℕ → ℕ) : Type 0 where
+  pub long : length v ≡ 32
+  pub each : (k : ℕ) → k < 32 → slice_index v k ≡ f k
+
+-- the buckets that have a byte at a probe's offset, a bit for each
+abbrev pub buckets_of : Probe → ℕ → ℕ
+buckets_of probe byte = bit_and (slice_index probe.low (byte % 16)) (slice_index probe.high (byte / 16))
+
+-- a bucket is one of them
+abbrev pub HasBucket : Probe → ℕ → ℕ → Type 0
+HasBucket probe byte bucket = bit_at (buckets_of probe byte) bucket ≡ 1
+
+-- what one probe has another has, too, and at the same offset
+pub record KeepsBuckets (old new : Probe) : Type 0 where
+  pub offset : new.offset ≡ old.offset
+  pub has : (byte bucket : ℕ) → HasBucket old byte bucket → HasBucket new byte bucket
+
+-- the buckets that a probe leaves where a pattern would begin at a place
+abbrev pub left_at : Probe → List ℕ → ℕ → ℕ
+left_at probe haystack place = buckets_of probe (slice_index haystack (place + probe.offset))
+
+-- the buckets that all probes leave that are asked
+abbrev pub marked_at : Teddy → List ℕ → ℕ → ℕ
+marked_at t haystack place =
+    let two = bit_and (left_at t.first haystack place) (left_at t.second haystack place) in
+    let three = bit_and two (left_at t.third haystack place) in
+    if t.is_narrow then two else (if t.is_wide then bit_and three (left_at t.fourth haystack place) else three)
+
+-- all probes look at bytes before a length
+pub record LooksBefore (len : ℕ) (t : Teddy) : Type 0 where
+  pub first : t.first.offset < len
+  pub second : t.second.offset < len
+  pub third : t.third.offset < len
+  pub fourth : t.fourth.offset < len
+
+-- a bucket has a pattern: each probe finds the bucket by the pattern's byte at its offset
+pub record HasPattern (t : Teddy) (pattern : List ℕ) (bucket : ℕ) : Type 0 where
+  pub first : HasBucket t.first (slice_index pattern t.first.offset) bucket
+  pub second : HasBucket t.second (slice_index pattern t.second.offset) bucket
+  pub third : HasBucket t.third (slice_index pattern t.third.offset) bucket
+  pub fourth : HasBucket t.fourth (slice_index pattern t.fourth.offset) bucket
+
+-- what each probe had it keeps
+pub record KeepsPatterns (old new : Teddy) : Type 0 where
+  pub first : KeepsBuckets old.first new.first
+  pub second : KeepsBuckets old.second new.second
+  pub third : KeepsBuckets old.third new.third
+  pub fourth : KeepsBuckets old.fourth new.fourth
+
+-- the first so many of some patterns are in buckets
+abbrev pub HasPatterns : List (List ℕ) → ℕ → Teddy → Type 0
+HasPatterns patterns count t = (number : ℕ) → number < count → (bucket : ℕ) × HasPattern t (pattern_at patterns number) bucket
+
+-- all patterns are in buckets, and told by their first bytes
+pub record IsTeddy (patterns : List (List ℕ)) (len : ℕ) (t : Teddy) : Type 0 where
+  pub near : LooksBefore len t
+  pub all : HasPatterns patterns (length patterns) t
+
+-- the next block that has a mark, of 32 places before the place `to`, and its marks; where there is none, no marks, and the place
+-- from which less than a block is left
+pub record IsNextMarks (t : Teddy) (haystack : List ℕ) (from to block marks : ℕ) : Type 0 where
+  pub after : from ≤ block
+  pub within : block ≤ to
+  pub passed : (place : ℕ) → from ≤ place → place < block → marked_at t haystack place ≡ 0
+  pub whole : marks ≢ 0 → block + 32 ≤ to
+  pub set : marks ≢ 0 → (k : ℕ) → k < 32 → marked_at t haystack (block + k) ≢ 0 → bit_at marks k ≡ 1
+  pub few : marks < 4294967296
+
+-- what starts within 32 places has its bit
+abbrev pub HasMarks : Search → ℕ → ℕ → Type 0
+HasMarks s at marks = (o : Occurrence) → Occurs s o → o.start < at + 32 → bit_at marks (o.start - at) ≡ 1

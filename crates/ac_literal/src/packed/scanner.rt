@@ -1,0 +1,200 @@
+//! The search itself: marks first, and the hash where there is a mark.
+//!
+//! The haystack is gone over in blocks of 32 places, whose marks come at once. Where a block has none, no pattern begins in it.
+//! Otherwise each marked place is looked at by the hash of the bytes there, from the first to the last; the first place at which
+//! a pattern lies has the match. What is left behind the last whole block is searched by the rolling hash.
+//!
+//! Where much of the text is marked, to look at each mark costs more than to roll a hash over all places. So after a block that
+//! has more than 8 marks the hash alone searches the next 64 places, and then marks are asked again. If they are too many again,
+//! the next stretch is twice as long, up to 4096 places. So in text that is marked everywhere one block of marks comes on 4096
+//! places by the hash, which costs less than a tenth more; and where only a little of the text is, little is lost. An iterator
+//! remembers its pace from match to match, so that many short searches don't ask anew.
+ghost use Rattle.std.specs.Prelude.{◌≡◌, ◌+◌, ◌<◌, ◌≤◌, length, IfOk};
+ghost use Rattle.ac_input.specs.Best.{IsBest};
+ghost use Rattle.ac_literal.specs.Packed.{AreServed, search_kind, searched};
+ghost use Rattle.ac_literal.specs.RabinKarp.{NoneBefore, IsFoundBefore};
+ghost use Rattle.ac_literal.specs.Teddy.{HasMarks};
+ghost use Rattle.ac_literal.specs.Scanner.{IsScanner, IsSameScanner};
+
+use crate::packed::api::MatchKind;
+use crate::packed::pattern::Patterns;
+use crate::packed::rabinkarp::RabinKarp;
+use crate::packed::teddy::{LANES, Teddy, lowest, without};
+use ac_input::search::{Match, Span};
+use std::alloc::{AllocError, Global};
+
+/// How many marks a block may have, for marks to pay.
+const FEW: u32 = 8;
+
+/// How many places the hash searches alone, where they don't, at first and at most.
+const SHORT: usize = 64;
+
+const LONG: usize = 4096;
+
+/// Where marks are asked. No answer depends on it.
+#[derive(Clone, Copy, Drop)]
+pub struct Pace {
+    /// Up to this place the hash searches alone.
+    hash_until: usize,
+    /// For how many places it did so last.
+    stretch: usize,
+}
+
+impl Pace {
+    /// Marks are asked from the first place on.
+    pub fn new() -> Pace {
+        Pace {
+            hash_until: 0,
+            stretch: 0,
+        }
+    }
+
+    /// Has the hash search alone for a while, after the block.
+    fn slow(&mut self, block: usize) {
+        let since = block.saturating_sub(self.hash_until);
+        self.stretch = if since < self.stretch {
+            self.stretch.saturating_mul(2).min(LONG)
+        } else {
+            SHORT
+        };
+        self.hash_until = block.saturating_add(LANES).saturating_add(self.stretch);
+    }
+}
+
+/// Finds patterns by marks and hashes.
+#[derive(Drop)]
+pub struct Scanner {
+    table: RabinKarp,
+    teddy: Teddy,
+}
+
+impl Scanner {
+    /// For some patterns. It looks at the first bytes of each.
+    pub fn new(alloc: Global, kind: MatchKind, patterns: &Patterns) -> Result<Scanner, AllocError>
+        requires { AreServed patterns.now }
+        ensures { IfOk result (λ scanner. IsScanner patterns.now scanner × (scanner.table.kind ≡ kind)) }
+    {
+        let table = RabinKarp::new(alloc, kind, patterns)?;
+        let teddy = Teddy::new(patterns, table.hash_len());
+        Ok(Scanner { table, teddy })
+    }
+
+    /// The same in memory from `alloc`.
+    pub fn clone(&self, alloc: Global) -> Result<Scanner, AllocError>
+        ensures { IfOk result (IsSameScanner self.now) }
+    {
+        Ok(Scanner {
+            table: self.table.clone(alloc)?,
+            teddy: self.teddy,
+        })
+    }
+
+    /// Which of several patterns at one place is the match.
+    pub fn match_kind(&self) -> &MatchKind
+        ensures { result.now ≡ self.now.table.kind }
+    {
+        self.table.match_kind()
+    }
+
+    /// How many bytes of memory it takes, beside itself.
+    pub fn memory_usage(&self) -> usize {
+        self.table.memory_usage()
+    }
+
+    /// The match of the kind, if it begins in the block at `at`, where none begins before it.
+    fn find_marked(
+        &self,
+        patterns: &Patterns,
+        haystack: &[u8],
+        span: Span,
+        at: usize,
+        marks: u64,
+    ) -> Option<Match>
+        requires scanner { IsScanner patterns.now self.now }
+        requires start { span.start ≤ at }
+        requires end { at + 31 + self.now.table.hash_len ≤ span.end }
+        requires within { span.end ≤ length haystack.now }
+        requires none { NoneBefore (searched patterns.now haystack.now span.start span.end) at }
+        requires few { marks < 4294967296 }
+        requires marks { HasMarks (searched patterns.now haystack.now span.start span.end) at marks }
+        ensures { IsFoundBefore (search_kind self.now.table.kind) (searched patterns.now haystack.now span.start span.end) (at + 32) result }
+    {
+        let mut left = marks;
+        while left != 0 {
+            let place = lowest(left);
+            let found = self.table.find_place(patterns, haystack, span, at + place);
+            if found.is_some() {
+                return found;
+            }
+            left = without(left, place);
+        }
+        None
+    }
+
+    /// The match of the kind, if it begins in the next part, and the end of that part. None begins before `at`.
+    #[inline(always)]
+    fn find_part(
+        &self,
+        patterns: &Patterns,
+        haystack: &[u8],
+        span: Span,
+        at: usize,
+        pace: &mut Pace,
+    ) -> (usize, Option<Match>)
+        requires scanner { IsScanner patterns.now self.now }
+        requires start { span.start ≤ at }
+        requires end { at + self.now.table.hash_len ≤ span.end }
+        requires within { span.end ≤ length haystack.now }
+        requires none { NoneBefore (searched patterns.now haystack.now span.start span.end) at }
+        ensures more { at < result.0 }
+        ensures end { result.0 + self.now.table.hash_len ≤ span.end + 1 }
+        ensures found { IsFoundBefore (search_kind self.now.table.kind) (searched patterns.now haystack.now span.start span.end) result.0 result.1 }
+    {
+        let len = self.table.hash_len();
+        let to = span.end - len + 1;
+        if at < pace.hash_until {
+            let next = to.min(pace.hash_until);
+            let found = self.table.find_between(patterns, haystack, span, at, next);
+            return (next, found);
+        }
+        let (block, marks) = self.teddy.next_marks(haystack, at, to, len);
+        if marks == 0 {
+            let found = self.table.find_between(patterns, haystack, span, block, to);
+            return (to, found);
+        }
+        if marks.count_ones() > FEW {
+            pace.slow(block);
+        }
+        let found = self.find_marked(patterns, haystack, span, block, marks);
+        (block + LANES, found)
+    }
+
+    /// The match of the kind in the span, if it has one.
+    pub fn find_in(
+        &self,
+        patterns: &Patterns,
+        haystack: &[u8],
+        span: Span,
+        pace: &mut Pace,
+    ) -> Option<Match>
+        requires scanner { IsScanner patterns.now self.now }
+        requires order { span.start ≤ span.end }
+        requires within { span.end ≤ length haystack.now }
+        ensures { IsBest (search_kind self.now.table.kind) (searched patterns.now haystack.now span.start span.end) result }
+    {
+        let len = self.table.hash_len();
+        if span.end - span.start < len {
+            return None;
+        }
+        let to = span.end - len + 1;
+        let mut at = span.start;
+        while at < to {
+            let (next, found) = self.find_part(patterns, haystack, span, at, pace);
+            if found.is_some() {
+                return found;
+            }
+            at = next;
+        }
+        None
+    }
+}

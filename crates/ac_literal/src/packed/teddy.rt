@@ -1,0 +1,264 @@
+//! Marks of the places at which a pattern may begin, 32 at a time: the idea of the search that is called Teddy.
+//!
+//! The patterns are spread over eight buckets, a bit for each. Up to four probes look at a byte each, at offsets that lie within
+//! all patterns; each has two tables of 16 bytes, which say at the low half of a byte and at its high half in which buckets some
+//! pattern has such a half at the offset. What two tables of all probes have in common is left: where no bucket is, no pattern
+//! begins. The converse doesn't hold, so a marked place is looked at again, by the hash.
+//!
+//! The tables are asked for 32 places at once, by the vectors of `std::simd`: a look-up in a table of 16 bytes is one instruction
+//! for 16 places, and no place waits for the one before it. So a probe costs about a dozen instructions for 16 places, whatever
+//! the number of patterns: two probes are enough for a few patterns, and for many a fourth saves more looks at marks than it
+//! costs. Their offsets are spread over the bytes that all patterns have, since bytes tell more the further apart they are.
+//! Patterns that are neighbours in the order of their bytes share a bucket, so that fewer bytes fit into it.
+ghost use Rattle.std.specs.Prelude.{◌≡◌, ◌≢◌, ℕ, ◌+◌, ◌/◌, ◌%◌, ◌<◌, ◌≤◌, length, slice_index, bit_and};
+ghost use Rattle.std.specs.Int.{bit_at};
+ghost use Rattle.ac_literal.specs.Packed.{AreServed, pattern_at};
+ghost use Rattle.ac_literal.specs.Teddy.{HasLanes, HasBucket, KeepsBuckets, LooksBefore, HasPattern, KeepsPatterns, IsTeddy, IsNextMarks, buckets_of, marked_at};
+
+use crate::packed::pattern::Patterns;
+use ac_input::primitives::PatternID;
+use std::simd::prelude::*;
+
+/// How many places are looked at at once.
+pub const LANES: usize = 32;
+
+/// For how many patterns at most two probes do, and three.
+const TWO_DO: usize = 4;
+
+const THREE_DO: usize = 8;
+
+/// Which of eight buckets of patterns have which byte at an offset: those that have its low half, and its high half.
+#[derive(Clone, Copy, Drop)]
+pub struct Probe {
+    low: [u8; 16],
+    high: [u8; 16],
+    offset: usize,
+}
+
+/// Where a pattern of some bucket may begin.
+#[derive(Clone, Copy, Drop)]
+pub struct Teddy {
+    first: Probe,
+    second: Probe,
+    third: Probe,
+    fourth: Probe,
+    /// Whether the first two alone are asked.
+    is_narrow: bool,
+    /// Whether the fourth is asked, too.
+    is_wide: bool,
+}
+
+/// The bytes from a place on.
+#[inline(always)]
+fn load(bytes: &[u8], at: usize) -> u8x32
+    requires { at + 32 ≤ length bytes.now }
+    ensures { HasLanes result (λ k. slice_index bytes.now (at + k)) }
+{
+    u8x32::from_slice(&bytes[at..])
+}
+
+/// A table of 16 bytes, twice.
+#[inline(always)]
+fn twice(table: &[u8; 16]) -> u8x32
+    ensures { HasLanes result (λ k. slice_index table.now (k % 16)) }
+{
+    u8x16::from_slice(table).swizzle([
+        0, 1, 2, 3, 4, 5, 6, 7, 8, 9, 10, 11, 12, 13, 14, 15, 0, 1, 2, 3, 4, 5, 6, 7, 8, 9, 10, 11,
+        12, 13, 14, 15,
+    ])
+}
+
+/// The table's byte at the low half of each lane.
+#[inline(always)]
+fn at_low(table: &[u8; 16], lanes: u8x32) -> u8x32
+    ensures { HasLanes result (λ k. slice_index table.now (slice_index lanes k % 16)) }
+{
+    twice(table).swizzle_dyn_within::<16>(lanes & u8x32::splat(15))
+}
+
+/// The same at the high half.
+#[inline(always)]
+fn at_high(table: &[u8; 16], lanes: u8x32) -> u8x32
+    ensures { HasLanes result (λ k. slice_index table.now (slice_index lanes k / 16)) }
+{
+    twice(table).swizzle_dyn_within::<16>(lanes >> u8x32::splat(4))
+}
+
+/// Both, lane by lane.
+#[inline(always)]
+fn both(a: u8x32, b: u8x32) -> u8x32
+    ensures { HasLanes result (λ k. bit_and (slice_index a k) (slice_index b k)) }
+{
+    a & b
+}
+
+/// Bit k is set where lane k isn't 0.
+#[inline(always)]
+fn set_lanes(lanes: u8x32) -> u64
+    ensures set { (k : ℕ) → k < 32 → slice_index lanes k ≢ 0 → bit_at result k ≡ 1 }
+    ensures few { result < 4294967296 }
+{
+    lanes.simd_ne(u8x32::splat(0)).to_bitmask()
+}
+
+impl Probe {
+    /// No bucket has any byte at the offset.
+    fn new(offset: usize) -> Probe
+        ensures { result.offset ≡ offset }
+    {
+        Probe {
+            low: [0; 16],
+            high: [0; 16],
+            offset,
+        }
+    }
+
+    /// A bucket has the pattern, too.
+    fn add(&mut self, pattern: &[u8], bucket: u8)
+        requires bucket { bucket < 8 }
+        requires offset { self.old.offset < length pattern.now }
+        ensures own { HasBucket self.new (slice_index pattern.now self.new.offset) bucket }
+        ensures kept { KeepsBuckets self.old self.new }
+    {
+        let byte = pattern[self.offset];
+        let low = (byte & 15) as usize;
+        let high = (byte >> 4) as usize;
+        self.low[low] |= 1 << bucket;
+        self.high[high] |= 1 << bucket;
+    }
+
+    /// At each lane the buckets that have the byte that stands there at the offset.
+    #[inline(always)]
+    fn lanes(&self, haystack: &[u8], at: usize) -> u8x32
+        requires { at + self.now.offset + 32 ≤ length haystack.now }
+        ensures { HasLanes result (λ k. buckets_of self.now (slice_index haystack.now (at + self.now.offset + k))) }
+    {
+        let lanes = load(haystack, at + self.offset);
+        both(at_low(&self.low, lanes), at_high(&self.high, lanes))
+    }
+}
+
+/// The bucket of a pattern, by its place in the order of their bytes.
+fn bucket_of(patterns: &Patterns, number: PatternID) -> u8
+    requires served { AreServed patterns.now }
+    requires number { number < length patterns.now }
+    ensures { result < 8 }
+{
+    let share = patterns.before(number) * 8 / patterns.len();
+    share.min(7) as u8
+}
+
+impl Teddy {
+    /// With no pattern yet, to be told by their first `len` bytes.
+    fn empty(len: usize, count: usize) -> Teddy
+        requires some { 0 < len }
+        requires few { len ≤ 16 }
+        ensures { LooksBefore len result }
+    {
+        let last = len - 1;
+        let is_narrow = count <= TWO_DO;
+        let is_wide = count > THREE_DO;
+        Teddy {
+            first: Probe::new(0),
+            second: Probe::new(last),
+            third: Probe::new(if is_wide { last / 3 } else { last / 2 }),
+            fourth: Probe::new(last * 2 / 3),
+            is_narrow,
+            is_wide,
+        }
+    }
+
+    /// One more pattern, in a bucket.
+    fn add(&mut self, pattern: &[u8], bucket: u8)
+        requires bucket { bucket < 8 }
+        requires long { LooksBefore (length pattern.now) self.old }
+        ensures own { HasPattern self.new pattern.now bucket }
+        ensures kept { KeepsPatterns self.old self.new }
+    {
+        self.first.add(pattern, bucket);
+        self.second.add(pattern, bucket);
+        self.third.add(pattern, bucket);
+        self.fourth.add(pattern, bucket);
+    }
+
+    /// For some patterns, told by their first `len` bytes.
+    pub fn new(patterns: &Patterns, len: usize) -> Teddy
+        requires served { AreServed patterns.now }
+        requires some { 0 < len }
+        requires few { len ≤ 16 }
+        requires short { (number : ℕ) → number < length patterns.now → len ≤ length (pattern_at patterns.now number) }
+        ensures { IsTeddy patterns.now len result }
+    {
+        let mut teddy = Teddy::empty(len, patterns.len());
+        for number in 0..patterns.len() {
+            let number = PatternID::must(number);
+            teddy.add(patterns.get(number), bucket_of(patterns, number));
+        }
+        teddy
+    }
+
+    /// The places that are marked, of 32: bit k for the place k from `at` on.
+    #[inline(always)]
+    pub fn marks(&self, haystack: &[u8], at: usize, len: usize) -> u64
+        requires near { LooksBefore len self.now }
+        requires room { at + len + 31 ≤ length haystack.now }
+        ensures set { (k : ℕ) → k < 32 → marked_at self.now haystack.now (at + k) ≢ 0 → bit_at result k ≡ 1 }
+        ensures few { result < 4294967296 }
+    {
+        let two = both(
+            self.first.lanes(haystack, at),
+            self.second.lanes(haystack, at),
+        );
+        if self.is_narrow {
+            return set_lanes(two);
+        }
+        let three = both(two, self.third.lanes(haystack, at));
+        if self.is_wide {
+            set_lanes(both(three, self.fourth.lanes(haystack, at)))
+        } else {
+            set_lanes(three)
+        }
+    }
+
+    /// The next block that has a mark, of those that lie whole before the place `to`, and its marks; or no marks, and the place
+    /// behind the last block. Each place of a block has `len` bytes.
+    pub fn next_marks(&self, haystack: &[u8], from: usize, to: usize, len: usize) -> (usize, u64)
+        requires near { LooksBefore len self.now }
+        requires order { from ≤ to }
+        requires room { to + len ≤ length haystack.now + 1 }
+        ensures { IsNextMarks self.now haystack.now from to result.0 result.1 }
+    {
+        let mut at = from;
+        while to - at >= LANES {
+            let marks = self.marks(haystack, at, len);
+            if marks != 0 {
+                return (at, marks);
+            }
+            at += LANES;
+        }
+        (at, 0)
+    }
+}
+
+/// The place of the lowest bit that is set.
+#[inline(always)]
+pub fn lowest(marks: u64) -> usize
+    requires some { marks ≢ 0 }
+    requires few { marks < 4294967296 }
+    ensures within { result < 32 }
+    ensures set { bit_at marks result ≡ 1 }
+    ensures below { (k : ℕ) → k < result → bit_at marks k ≡ 0 }
+{
+    marks.trailing_zeros() as usize
+}
+
+/// The marks without one of them.
+#[inline(always)]
+pub fn without(marks: u64, place: usize) -> u64
+    requires within { place < 32 }
+    requires set { bit_at marks place ≡ 1 }
+    ensures kept { (k : ℕ) → k < 32 → k ≢ place → bit_at result k ≡ bit_at marks k }
+    ensures less { result < marks }
+{
+    marks & !(1 << place)
+}

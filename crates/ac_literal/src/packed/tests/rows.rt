@@ -1,0 +1,155 @@
+//! Rows of patterns in texts of many blocks, each compared with what the definitions say.
+ghost use Rattle.std.specs.Prelude.{◌≤◌, length};
+
+use super::{agrees, searcher};
+use crate::packed::{MatchKind, Searcher};
+use ac_input::pairing::Pairing;
+use ac_input::search::{Anchored, MatchKind as SearchKind, Span};
+use ac_plain::plain::Naive;
+use std::alloc::{AllocError, Global};
+use std::process::Abort;
+use std::test::Fail;
+
+/// Letters in no order, of the first so many of the alphabet.
+fn letters(alloc: Global, len: usize, of: u8) -> Result<Vec<u8>, AllocError> {
+    let mut text = Vec::new(alloc);
+    let mut state = 1u32;
+    for _ in 0..len {
+        state = state.wrapping_mul(1664525).wrapping_add(1013904223);
+        text.push(b'a' + ((state >> 24) as u8) % of.clamp(1, 26))?;
+    }
+    Ok(text)
+}
+
+/// Writes the pattern into the text, from the place on.
+fn put(text: &mut [u8], place: usize, pattern: &[u8]) {
+    for (i, byte) in pattern.iter().enumerate() {
+        if let Some(there) = text.get_mut(place.saturating_add(i)) {
+            *there = *byte;
+        }
+    }
+}
+
+/// Compares the matches for both kinds.
+fn agree(rt: &impl Abort, alloc: Global, patterns: &[&[u8]], text: &[u8]) -> Result<(), Fail> {
+    agrees(rt, alloc, MatchKind::LeftmostFirst, patterns, text)?;
+    agrees(rt, alloc, MatchKind::LeftmostLongest, patterns, text)
+}
+
+/// Compares them where each pattern begins at any place of the first blocks, and once more in a later one.
+fn agree_at_places(rt: &impl Abort, alloc: Global, patterns: &[&[u8]]) -> Result<(), Fail> {
+    for place in 0..70 {
+        for pattern in patterns {
+            let mut text = letters(alloc, 450, 3)?;
+            put(&mut text, place, pattern);
+            put(&mut text, place + 401, pattern);
+            agree(rt, alloc, patterns, &text)?;
+        }
+    }
+    Ok(())
+}
+
+#[test]
+fn short_and_long(rt: HostRuntime) -> Result<(), Fail> {
+    let alloc = rt.alloc();
+    let long = letters(alloc, 300, 4)?;
+    let long = long.as_slice();
+    let alone: [&[u8]; 4] = [b"d", b"dX", b"dXe", long];
+    for pattern in &alone {
+        agree_at_places(&rt, alloc, &[*pattern])?;
+    }
+    agree_at_places(&rt, alloc, &alone)
+}
+
+/// So many patterns, each of three letters of six.
+fn numbered(alloc: Global, count: usize) -> Result<Vec<[u8; 3]>, AllocError> {
+    let mut patterns = Vec::new(alloc);
+    for number in 0..count {
+        let mut pattern = [0; 3];
+        let mut rest = number;
+        for i in 0..3 {
+            pattern[i] = b'a' + (rest % 6) as u8;
+            rest /= 6;
+        }
+        patterns.push(pattern)?;
+    }
+    Ok(patterns)
+}
+
+#[test]
+fn how_many_patterns(rt: HostRuntime) -> Result<(), Fail> {
+    let alloc = rt.alloc();
+    let text = letters(alloc, 600, 26)?;
+    let dense = letters(alloc, 600, 6)?;
+    for count in [1, 4, 5, 8, 9, 16, 17, 128] {
+        let numbered = numbered(alloc, count)?;
+        let mut patterns: Vec<&[u8]> = Vec::new(alloc);
+        for pattern in &numbered {
+            patterns.push(pattern.as_slice())?;
+        }
+        agree(&rt, alloc, &patterns, &text)?;
+        agree(&rt, alloc, &patterns, &dense)?;
+    }
+    Ok(())
+}
+
+#[test]
+fn the_same_first_bytes(rt: HostRuntime) -> Result<(), Fail> {
+    let patterns: [&[u8]; 6] = [b"abcd", b"abca", b"ab", b"abab", b"abcdX", b"abX"];
+    agree_at_places(&rt, rt.alloc(), &patterns)
+}
+
+#[test]
+fn marks_everywhere(rt: HostRuntime) -> Result<(), Fail> {
+    let alloc = rt.alloc();
+    let mut text = letters(alloc, 9000, 1)?;
+    for place in [40, 41, 200, 333, 3000, 3100, 8990] {
+        put(&mut text, place, b"b");
+    }
+    let once: [&[u8]; 2] = [b"aaab", b"baaac"];
+    agree(&rt, alloc, &once, &text)?;
+    let often: [&[u8]; 2] = [b"aa", b"aaa"];
+    agree(&rt, alloc, &often, &text)
+}
+
+/// Compares the match of a span.
+fn agree_in(
+    rt: &impl Abort,
+    searcher: &Searcher,
+    patterns: &[&[u8]],
+    text: &[u8],
+    span: Span,
+) -> Result<(), Fail>
+    requires order { span.start ≤ span.end }
+    requires within { span.end ≤ length text.now }
+{
+    let found = searcher
+        .find_in(text, span)
+        .map(|it| (it.pattern().as_usize(), it.start(), it.end()));
+    let want = Naive::new(patterns, Pairing::none(), text, span, Anchored::No)
+        .best(SearchKind::LeftmostFirst, false)
+        .map(|it| (it.pattern, it.start, it.end));
+    assert_eq!(rt; found, want);
+    Ok(())
+}
+
+#[test]
+fn spans(rt: HostRuntime) -> Result<(), Fail> {
+    let alloc = rt.alloc();
+    let mut text = letters(alloc, 700, 3)?;
+    for place in [31, 64, 95, 127, 300, 599, 630] {
+        put(&mut text, place, b"dca");
+    }
+    let patterns: [&[u8]; 3] = [b"dcab", b"dc", b"dca"];
+    let searcher = searcher(&rt, alloc, MatchKind::LeftmostFirst, &patterns)?;
+    for start in 0..70 {
+        for len in 0..601 {
+            let end = (start + len).min(text.len());
+            if start <= end {
+                let span = Span { start, end };
+                agree_in(&rt, &searcher, &patterns, &text, span)?;
+            }
+        }
+    }
+    Ok(())
+}

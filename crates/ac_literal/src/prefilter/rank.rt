@@ -1,0 +1,78 @@
+//! How common bytes are taken to be.
+//!
+//! A scan for bytes costs next to nothing until it stops, and each stop costs what it takes to ask the automaton and to start
+//! the scan again, which is as much as some dozens of bytes cost otherwise. So a prefilter is only as good as its bytes are
+//! rare. The ranks are a rough guess, for text in the Latin alphabet and for the formats that are made of text; how often a
+//! byte of a rank comes in a thousand bytes is a guess as rough. Nothing that is answered depends on either.
+ghost use Rattle.std.specs.Prelude.{◌≡◌, ◌≤◌, ◌*◌};
+ghost use Rattle.ac_literal.specs.RareBytes.{rank_of, paired_rank_of};
+ghost use Rattle.ac_literal.specs.declared.prefilter.rank.TheConstants.{COMMON_STOPS};
+
+use crate::prefilter::needles::Needles;
+use ac_input::pairing::Pairing;
+
+/// The rank of lower-case letters, space, line feed and byte 0.
+const COMMON: u8 = 200;
+
+/// The rank of digits and upper-case letters.
+const CAPITAL: u8 = 150;
+
+/// The rank of the other bytes of ASCII.
+const SIGN: u8 = 100;
+
+/// The rank of the bytes that aren't ASCII.
+const HIGH: u8 = 50;
+
+/// How many of a thousand bytes of text one byte of the rank [`COMMON`] is.
+const COMMON_STOPS: u32 = 40;
+
+/// How often a scan may stop in a thousand bytes and still be faster than packed search, as measured on text: a stop costs as
+/// much as some twenty bytes of packed search.
+const RARE_STOPS: u32 = 50;
+
+/// How common a byte is taken to be: the greater, the more common.
+pub fn rank(byte: u8) -> u8
+    ensures { result ≡ rank_of byte }
+{
+    match byte {
+        0 | b'\n' | b' ' | b'a'..=b'z' => COMMON,
+        b'0'..=b'9' | b'A'..=b'Z' => CAPITAL,
+        0x80..=0xff => HIGH,
+        _ => SIGN,
+    }
+}
+
+/// The rank of a byte that is looked for together with its partner: that of the more common of the two.
+pub fn paired_rank(pairing: &Pairing, byte: u8) -> u8
+    ensures { result ≡ paired_rank_of pairing.now byte }
+{
+    rank(byte).max(rank(pairing.other(byte)))
+}
+
+/// How many of a thousand bytes of text this one is taken to be.
+fn stops_at(byte: u8) -> u32
+    ensures { result ≤ COMMON_STOPS }
+{
+    match rank(byte) {
+        COMMON => COMMON_STOPS,
+        CAPITAL => 5,
+        SIGN => 3,
+        _ => 1,
+    }
+}
+
+/// How often a scan for these bytes is taken to stop in a thousand bytes of text.
+pub fn stops(needles: Needles) -> u32
+    ensures { result ≤ 3 * COMMON_STOPS }
+{
+    match needles {
+        Needles::One(a) => stops_at(a),
+        Needles::Two(a, b) => stops_at(a) + stops_at(b),
+        Needles::Three(a, b, c) => stops_at(a) + stops_at(b) + stops_at(c),
+    }
+}
+
+/// Whether a scan for these bytes stops so rarely that it is faster than packed search.
+pub fn is_rare(needles: Needles) -> bool {
+    stops(needles) <= RARE_STOPS
+}

@@ -1,0 +1,15 @@
+pub mod TreeLemmas
+pub mod GrownLemmas
+pub mod LinkedLemmas
+pub mod StepLemmas
+pub mod TextLemmas
+pub mod WalkLemmas
+pub mod DictionaryLemmas
+pub mod MarkLemmas
+pub mod StandingLemmas
+pub mod CountLemmas
+pub mod TrieLemmas
+pub mod StuckLemmas
+pub mod BuildLemmas
+pub mod OrderLemmas
+pub mod OwnLemmas

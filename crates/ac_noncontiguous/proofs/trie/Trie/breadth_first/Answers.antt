@@ -1,0 +1,7 @@
+-- No state is as deep as there are states.
+use Rattle.std.proofs.Common.{arith}
+use Rattle.ac_noncontiguous.proofs.OrderLemmas.{order-all}
+use Rattle.ac_noncontiguous.proofs.trie.Trie.breadth_first.Goals as goal
+
+pub returns : goal.returns
+returns c = order-all _ _ _ c.args.self.now.tree (omega arith) c.loop-depth.invariant

@@ -1,0 +1,7 @@
+use Rattle.ac_input.specs.Limits.{first_patterns}
+use Rattle.ac_noncontiguous.specs.Standing.{dictionary_of}
+use Rattle.ac_noncontiguous.specs.Kept.{IsTrieOf}
+use Rattle.ac_noncontiguous.proofs.trie.Trie.from_patterns.Given as goal
+
+abbrev pub invariant-loop-pattern : goal.invariant-loop-pattern
+invariant-loop-pattern l = IsTrieOf (first_patterns (dictionary_of l.patterns l.fn.pairing l.fn.kind) l.pattern-index) l.trie

@@ -1,0 +1,78 @@
+-- What the states of a trie and the links between them say.
+use Rattle.std.specs.Prelude.{◌≡◌, ℕ, zero, suc, ◌+◌, ◌<◌, ◌≤◌, Bool, false, List, [], ◌∷◌, ◌++◌, length, slice_index_or}
+use Rattle.ac_noncontiguous.specs.declared.trie.State.{State}
+
+-- what a place past the last state is read as
+abbrev pub no_state : State
+no_state = record { parent = 0; child = 0; sibling = 0; depth = 0; byte = 0; is_match = false }
+
+abbrev pub state_at : List State → ℕ → State
+state_at states i = slice_index_or states i no_state
+
+-- the state, the byte that leads to it, its first child, its next sibling, and how many bytes lead to it
+abbrev pub parent : List State → ℕ → ℕ
+parent states i = (state_at states i).parent
+
+abbrev pub byte : List State → ℕ → ℕ
+byte states i = (state_at states i).byte
+
+abbrev pub child : List State → ℕ → ℕ
+child states i = (state_at states i).child
+
+abbrev pub sibling : List State → ℕ → ℕ
+sibling states i = (state_at states i).sibling
+
+abbrev pub depth : List State → ℕ → ℕ
+depth states i = (state_at states i).depth
+
+abbrev pub is_match : List State → ℕ → Bool
+is_match states i = (state_at states i).is_match
+
+-- Of the first so many states, the child of a state whose byte comes first of those from a byte on; 0 where there is none.
+pub record IsFirstChild (len : ℕ) (parent byte : ℕ → ℕ) (of low first : ℕ) : Type 0 where
+  pub is_child : 0 < first → (first < len) × (parent first ≡ of) × (low ≤ byte first)
+  pub before_all : (c : ℕ) → 0 < c → c < len → parent c ≡ of → low ≤ byte c → (0 < first) × (byte first ≤ byte c)
+
+-- The states of a trie by their columns. State 0 is the start; every other one is a child of an earlier one. A state's child is
+-- its first one, and a child's sibling the next one, in rising order of byte; no two children have one byte.
+pub record HasLinks (len : ℕ) (parent byte child sibling depth : ℕ → ℕ) : Type 0 where
+  pub start : (0 < len) × (depth 0 ≡ 0)
+  pub parents : (c : ℕ) → 0 < c → c < len → (parent c < c) × (depth c ≡ depth (parent c) + 1)
+  pub children : (i : ℕ) → i < len → IsFirstChild len parent byte i 0 (child i)
+  pub siblings : (c : ℕ) → 0 < c → c < len → IsFirstChild len parent byte (parent c) (byte c + 1) (sibling c)
+  pub apart : (c d : ℕ) → 0 < c → 0 < d → c < len → d < len → parent c ≡ parent d → byte c ≡ byte d → c ≡ d
+
+-- the states of a trie
+abbrev pub IsTree : List State → Type 0
+IsTree states = HasLinks (length states) (parent states) (byte states) (child states) (sibling states) (depth states)
+
+-- The children of a state were followed from the first one on to this one, past those of lesser bytes alone: the one before it
+-- is 0 where it is the first, and it is 0 itself past the last one.
+pub record IsWay (states : List State) (of low before at : ℕ) : Type 0 where
+  pub first : before ≡ 0 → at ≡ child states of
+  pub next : 0 < before → (before < length states) × (parent states before ≡ of) × (byte states before < low) × (at ≡ sibling states before)
+
+-- Where a byte leads from a state, or where a child for it would stand: at the first child from the byte on.
+pub record IsChildPlace (states : List State) (of low before at : ℕ) : Type 0 where
+  pub way : IsWay states of low before at
+  pub reached : 0 < at → low ≤ byte states at
+
+-- Each state of the trie is still there, for the same text; only links to children may be others.
+pub record Extends (old new : List State) : Type 0 where
+  pub longer : length old ≤ length new
+  pub same : (i : ℕ) → i < length old → (parent new i ≡ parent old i) × (byte new i ≡ byte old i) × (depth new i ≡ depth old i) × (is_match new i ≡ is_match old i)
+
+-- one more state, the child of a state for a byte
+pub record IsAdded (old new : List State) (of low id : ℕ) : Type 0 where
+  pub extends : Extends old new
+  pub last : (id ≡ length old) × (length new ≡ length old + 1)
+  pub added : (parent new id ≡ of) × (byte new id ≡ low) × (depth new id ≡ depth old of + 1) × (is_match new id ≡ false)
+
+-- the bytes that lead to a state from so many states further up
+abbrev pub path : List State → ℕ → ℕ → List ℕ
+path states zero i = []
+path states (suc up) i = path states up (parent states i) ++ byte states i ∷ []
+
+-- the text that a state stands for: the bytes that lead to it from the start
+abbrev pub text : List State → ℕ → List ℕ
+text states i = path states (depth states i) i

@@ -1,0 +1,5 @@
+//! The noncontiguous automaton: how it is built.
+#![tactic(auto)]
+
+pub mod error;
+mod trie;

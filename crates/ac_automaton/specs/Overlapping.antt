@@ -115,7 +115,7 @@ abbrev pub read_on_to : Search → End Shown → ℕ
 read_on_to s (Found shown) = come_to s shown.place
 read_on_to s (Idle to) = to
 
--- What it costs to read on by leaps from a place up to which so many looks and scans were paid for.
+-- What it costs to read on by candidates from a place up to which so many looks and scans were paid for.
 pub record IsSkipCost (m : Dictionary) (deterministic : Bool) (s : Search) (at : ℕ) (reading : End Shown) (before after : Steps) : Type 0 where
   pub rose : looked_of before ≤ looked_of after
   pub looks : (looks more : ℕ) → IsPaidTo deterministic s at looks → looks + looked_of after ≡ more + looked_of before → IsPaidBy m deterministic s reading more

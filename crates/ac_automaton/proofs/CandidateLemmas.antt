@@ -23,7 +23,7 @@ use Rattle.ac_input.proofs.LiveLemmas.{entered-begins}
 use Rattle.ac_input.proofs.ShiftLemmas.{back_by}
 use Rattle.ac_input.proofs.SpanLemmas.{occurs-in_whole_of_span}
 use Rattle.ac_input.proofs.StateLemmas.{standard-entered}
-use Rattle.ac_automaton.specs.Find.{NoneBefore}
+use Rattle.ac_automaton.specs.Find.{MayGoOnFrom}
 use Rattle.ac_automaton.specs.declared.overlapping.Place.{Place}
 use Rattle.ac_automaton.specs.declared.overlapping.Place.TheVariants.{At, Over}
 use Rattle.ac_automaton.specs.declared.cursor.Cursor.{Cursor}
@@ -32,7 +32,7 @@ use Rattle.ac_automaton.specs.declared.cursor.End.TheVariants.{Found, Idle}
 use Rattle.ac_automaton.specs.declared.overlapping.Shown.{Shown}
 use Rattle.ac_automaton.specs.Overlapping.{ending_from, told_from, counts, TellsFirst, ShowsFirst, ReadsOn, IsBehind, IsPaidTo, IsPaidAt, IsPaidBy, IsSkipCost, KeepsBudget, OnlyLooked, come_to, read_on_to}
 use Rattle.ac_automaton.specs.Cursor.{read_to, walked, IsCursor}
-use Rattle.ac_automaton.proofs.FindLemmas.{occurs_before, occurs_behind, leftmost-none_before}
+use Rattle.ac_automaton.proofs.FindLemmas.{occurs_before, occurs_behind, leftmost-goes_on}
 use Rattle.ac_automaton.proofs.CursorLemmas.{slice_range-split}
 use Rattle.ac_automaton.proofs.OverlappingLemmas.{IsPlace, ListsAll-like, ending_from-lists, ending_from-start, ending_from-split, read_to-length, read_to-start, paid-start, paid-to, shows-none, shows-some, told_from-empty}
 
@@ -106,7 +106,7 @@ some-reads Reads matches m s at left cursor index r lt is e (o, next, found, pla
 -- ---- where a prefilter points
 
 -- where nothing begins before a place, the listing is the one from there on
-pub listing-skip : (s : Search) (at : ℕ) → s.anchored ≡ false → s.end ≤ length s.haystack → NoneBefore s at → listing_of s ≡ listing_of (starting_at s at)
+pub listing-skip : (s : Search) (at : ℕ) → s.anchored ≡ false → s.end ≤ length s.haystack → MayGoOnFrom s at → listing_of s ≡ listing_of (starting_at s at)
 listing-skip s at free inside here =
     ListsAll-unique (Occurs s) (listing_of s) (listing_of (starting_at s at)) (listing_of-lists s inside)
     (ListsAll-like (Occurs (starting_at s at)) (Occurs s) (listing_of (starting_at s at))
@@ -133,12 +133,12 @@ candidate-none s (candidates.Match b) h e o occurs = cc
 candidate-none s (candidates.PossibleStartOfMatch at) h e o occurs = cc
 
 -- nothing begins before a candidate
-pub candidate-before : (s : Search) (c : Candidate) (at : ℕ) → IsCandidate Standard s c → start_of c ≡ Some at → NoneBefore s at
+pub candidate-before : (s : Search) (c : Candidate) (at : ℕ) → IsCandidate Standard s c → start_of c ≡ Some at → MayGoOnFrom s at
 candidate-before s candidates.None at h e = cc
 candidate-before s (candidates.Match b) at h e =
-    subst (NoneBefore s) (same_Some b.start at e) (leftmost-none_before LeftmostFirst s b (λ same. cc) (h.2 (h.1 refl) LeftmostFirst))
+    subst (MayGoOnFrom s) (same_Some b.start at e) (leftmost-goes_on LeftmostFirst s b (λ same. cc) (h.2 (h.1 refl) LeftmostFirst))
 candidate-before s (candidates.PossibleStartOfMatch place) at h e =
-    subst (NoneBefore s) (same_Some place at e) (record { behind = h.0; within = h.1; none = h.2 })
+    subst (MayGoOnFrom s) (same_Some place at e) (record { behind = h.0; within = h.1; none = h.2 })
 
 -- what a scan covers lies in the span
 scan-within : (bytes : List ℕ) (s : Search) (places : ℕ) (c : Candidate) → s.start ≤ s.end → IsScan bytes s places c → s.start + places ≤ s.end
@@ -170,7 +170,7 @@ scanned-before_ends [] s places c o none h = let w = h.within in omega arith
 scanned-before_ends (b ∷ bs) s places c o scan h = scan.before_ends o h
 
 -- the last of them is at most 254 after the candidate
-pub scanned-near : (needles : List ℕ) (s : Search) (places : ℕ) (c : Candidate) (at : ℕ) → IsScanned needles s places c → NoneBefore s at → start_of c ≡ Some at → s.start + places ≤ at + 255
+pub scanned-near : (needles : List ℕ) (s : Search) (places : ℕ) (c : Candidate) (at : ℕ) → IsScanned needles s places c → MayGoOnFrom s at → start_of c ≡ Some at → s.start + places ≤ at + 255
 scanned-near [] s places c at none here e = let g = here.behind in omega arith
 scanned-near (b ∷ bs) s places c at scan here e = scan-near (b ∷ bs) s places c at scan e
 

@@ -111,10 +111,10 @@ pub record HasAdvanced (b : Built) (Reads : Anchored → List ℕ → StateID �
   pub cost : IsReadCost b Reads anchored sid (take n bytes) before after
 
 -- reading nothing leads nowhere else, and costs nothing
-leads-none : (Reads : List ℕ → StateID → Type 0) (sid : StateID) → Leads Reads sid [] sid
+pub leads-none : (Reads : List ℕ → StateID → Type 0) (sid : StateID) → Leads Reads sid [] sid
 leads-none Reads sid = λ text reads. subst (λ (t : List ℕ). Reads t sid) (sym (append-nil text)) reads
 
-cost-none : (b : Built) (Reads : Anchored → List ℕ → StateID → Type 0) (anchored : Anchored) (sid : StateID) (s : Steps) → IsReadCost b Reads anchored sid [] s s
+pub cost-none : (b : Built) (Reads : Anchored → List ℕ → StateID → Type 0) (anchored : Anchored) (sid : StateID) (s : Steps) → IsReadCost b Reads anchored sid [] s s
 cost-none b Reads anchored sid s = λ text p q reads g h.
     let e = append-nil text in
     let there : IsLive b.dictionary (is_anchored anchored) text q = subst (λ (t : List ℕ). IsLive b.dictionary (is_anchored anchored) t q) e h in

@@ -13,7 +13,7 @@ use Rattle.ac_input.specs.Steps.{looked_of, scanned_of, moved_of}
 use Rattle.ac_input.specs.Work.{lookups_per_byte, longest, over_at, IsFindWork}
 use Rattle.ac_input.proofs.LiveLemmas.{leftmost-no_later}
 use Rattle.ac_input.proofs.WalkLemmas.{occurs-whole}
-use Rattle.ac_automaton.specs.Find.{NoneBefore, IsCandidateWork, IsWorkTo, IsSearchWork, EndSays, IsWalkWork}
+use Rattle.ac_automaton.specs.Find.{MayGoOnFrom, IsCandidateWork, IsWorkTo, IsSearchWork, EndSays, IsWalkWork}
 use Rattle.ac_automaton.specs.declared.cursor.End.TheVariants.{Found, Idle}
 use Rattle.ac_automaton.specs.declared.cursor.End.{End}
 
@@ -26,15 +26,15 @@ pub occurs_behind : (s : Search) (at : ℕ) (o : Occurrence) → s.anchored ≡ 
 occurs_behind s at o free le h = record { within = (le, h.within.1, h.within.2); same = h.same; anchor = λ t. absurd (false≢true (sym free ∙ t)) }
 
 -- what begins nowhere before a place, and nowhere before another one from there on, begins nowhere before the other one
-none_before-further : (s : Search) (at from : ℕ) → s.anchored ≡ false → NoneBefore s at → NoneBefore (starting_at s at) from → NoneBefore s from
-none_before-further s at from free here there = record {
+goes_on-further : (s : Search) (at from : ℕ) → s.anchored ≡ false → MayGoOnFrom s at → MayGoOnFrom (starting_at s at) from → MayGoOnFrom s from
+goes_on-further s at from free here there = record {
   behind = omega (arith, here.behind, there.behind);
   within = there.within;
   none = λ o h. there.none o (occurs_behind s at o free (here.none o h) h);
 }
 
 -- where nothing begins before a place, the best from there on is the best
-pub best-from : (kind : MatchKind) (s : Search) (at : ℕ) (r : Option Occurrence) → s.anchored ≡ false → NoneBefore s at → IsBest kind (starting_at s at) r → IsBest kind s r
+pub best-from : (kind : MatchKind) (s : Search) (at : ℕ) (r : Option Occurrence) → s.anchored ≡ false → MayGoOnFrom s at → IsBest kind (starting_at s at) r → IsBest kind s r
 best-from kind s at None free here h = λ o occurs. h o (occurs_behind s at o free (here.none o occurs) occurs)
 best-from kind s at (Some b) free here h =
     (occurs_before s at b free here.behind h.0, λ o occurs. h.1 o (occurs_behind s at o free (here.none o occurs) occurs))
@@ -53,7 +53,7 @@ work_to-further deterministic s at from x y z h k one two = record {
 }
 
 -- The looks up to a place, and those of a search from there on, are the looks of the search; of the scans the bound is given.
-looks-from : (kind : MatchKind) (deterministic : Bool) (s : Search) (at : ℕ) (r : Option Occurrence) (x y z : Steps) → NoneBefore s at → IsBest kind (starting_at s at) r → looked_of y ≤ looked_of x + lookups_per_byte deterministic * (at - s.start) → moved_of y ≡ moved_of x → scanned_of z ≤ scanned_of x + 256 * (over_at s r - s.start) → IsFindWork kind deterministic (starting_at s at) r y z → IsFindWork kind deterministic s r x z
+looks-from : (kind : MatchKind) (deterministic : Bool) (s : Search) (at : ℕ) (r : Option Occurrence) (x y z : Steps) → MayGoOnFrom s at → IsBest kind (starting_at s at) r → looked_of y ≤ looked_of x + lookups_per_byte deterministic * (at - s.start) → moved_of y ≡ moved_of x → scanned_of z ≤ scanned_of x + 256 * (over_at s r - s.start) → IsFindWork kind deterministic (starting_at s at) r y z → IsFindWork kind deterministic s r x z
 looks-from kind deterministic s at None x y z here best one moved scanned two =
     let join = looks_join deterministic (at - s.start) (s.end - at) (s.end - s.start) (omega (arith, here.behind, here.within)) in
     record {
@@ -80,18 +80,18 @@ looks-from kind deterministic s at (Some b) x y z here best one moved scanned tw
     }
 
 -- the scans up to a place, and those from there on
-scans-from : (kind : MatchKind) (s : Search) (at : ℕ) (r : Option Occurrence) (x y z : Steps) → NoneBefore s at → IsBest kind (starting_at s at) r → scanned_of y ≤ scanned_of x + 256 * (at - s.start) → scanned_of z ≤ scanned_of y + 256 * (over_at (starting_at s at) r - at) → scanned_of z ≤ scanned_of x + 256 * (over_at s r - s.start)
+scans-from : (kind : MatchKind) (s : Search) (at : ℕ) (r : Option Occurrence) (x y z : Steps) → MayGoOnFrom s at → IsBest kind (starting_at s at) r → scanned_of y ≤ scanned_of x + 256 * (at - s.start) → scanned_of z ≤ scanned_of y + 256 * (over_at (starting_at s at) r - at) → scanned_of z ≤ scanned_of x + 256 * (over_at s r - s.start)
 scans-from kind s at None x y z here best one two = omega (arith, here.behind, here.within)
 scans-from kind s at (Some b) x y z here best one two = let w = best.0.within in omega (arith, here.behind, w.0, w.1)
 
 -- the work up to a place, and that of a search from there on, is the work of the search
-pub find_work-from : (kind : MatchKind) (deterministic : Bool) (s : Search) (at : ℕ) (r : Option Occurrence) (x y z : Steps) → NoneBefore s at → IsBest kind (starting_at s at) r → IsWorkTo deterministic s at x y → IsFindWork kind deterministic (starting_at s at) r y z → IsFindWork kind deterministic s r x z
+pub find_work-from : (kind : MatchKind) (deterministic : Bool) (s : Search) (at : ℕ) (r : Option Occurrence) (x y z : Steps) → MayGoOnFrom s at → IsBest kind (starting_at s at) r → IsWorkTo deterministic s at x y → IsFindWork kind deterministic (starting_at s at) r y z → IsFindWork kind deterministic s r x z
 find_work-from kind deterministic s at r x y z here best one two =
     looks-from kind deterministic s at r x y z here best one.looked one.moved (scans-from kind s at r x y z here best one.scanned two.scanned) two
 
 -- a leftmost best is a place before which nothing begins
-pub leftmost-none_before : (kind : MatchKind) (s : Search) (b : Occurrence) → kind ≢ Standard → IsBest kind s (Some b) → NoneBefore s b.start
-leftmost-none_before kind s b leftmost h = record {
+pub leftmost-goes_on : (kind : MatchKind) (s : Search) (b : Occurrence) → kind ≢ Standard → IsBest kind s (Some b) → MayGoOnFrom s b.start
+leftmost-goes_on kind s b leftmost h = record {
   behind = h.0.within.0;
   within = omega (arith, h.0.within.1, h.0.within.2);
   none = λ o occurs. leftmost-no_later kind b o leftmost (h.1 o occurs);
@@ -104,11 +104,11 @@ match-asked_best LeftmostFirst earliest s b h asked = subst (λ (k : MatchKind).
 match-asked_best LeftmostLongest earliest s b h asked = subst (λ (k : MatchKind). IsBest k s (Some b)) (sym asked) (h.0 (λ e. cc))
 
 -- and where the search asks another one nothing begins before it
-pub match-none_before : (kind : MatchKind) (earliest : Bool) (s : Search) (b : Occurrence) → IsCandidate kind s (candidates.Match b) → asked_kind kind earliest ≢ kind → NoneBefore s b.start
-match-none_before Standard true s b h other = absurd (other refl)
-match-none_before Standard false s b h other = absurd (other refl)
-match-none_before LeftmostFirst earliest s b h other = let leftmost : LeftmostFirst ≢ Standard = λ e. cc in leftmost-none_before LeftmostFirst s b leftmost (h.0 leftmost)
-match-none_before LeftmostLongest earliest s b h other = let leftmost : LeftmostLongest ≢ Standard = λ e. cc in leftmost-none_before LeftmostLongest s b leftmost (h.0 leftmost)
+pub match-goes_on : (kind : MatchKind) (earliest : Bool) (s : Search) (b : Occurrence) → IsCandidate kind s (candidates.Match b) → asked_kind kind earliest ≢ kind → MayGoOnFrom s b.start
+match-goes_on Standard true s b h other = absurd (other refl)
+match-goes_on Standard false s b h other = absurd (other refl)
+match-goes_on LeftmostFirst earliest s b h other = let leftmost : LeftmostFirst ≢ Standard = λ e. cc in leftmost-goes_on LeftmostFirst s b leftmost (h.0 leftmost)
+match-goes_on LeftmostLongest earliest s b h other = let leftmost : LeftmostLongest ≢ Standard = λ e. cc in leftmost-goes_on LeftmostLongest s b leftmost (h.0 leftmost)
 
 -- what is scanned to be told never passes the best of the search
 told_work-scanned : (kind : MatchKind) (s : Search) (told : End (Option Occurrence)) (r : Option Occurrence) (x y : Steps) → s.start ≤ s.end → IsBest kind s r → IsCandidateWork s told x y → scanned_of y ≤ scanned_of x + 256 * (over_at s r - s.start)
@@ -126,13 +126,13 @@ told_work-answer asked kind deterministic s r x y ordered best h = record {
 }
 
 -- what a walk says that begins at a place before which nothing begins
-pub end_says-from : (kind : MatchKind) (s : Search) (at : ℕ) (end : End (Option Occurrence)) → s.anchored ≡ false → NoneBefore s at → EndSays kind (starting_at s at) end → EndSays kind s end
+pub end_says-from : (kind : MatchKind) (s : Search) (at : ℕ) (end : End (Option Occurrence)) → s.anchored ≡ false → MayGoOnFrom s at → EndSays kind (starting_at s at) end → EndSays kind s end
 end_says-from kind s at (Found r) free here h = best-from kind s at r free here h
 end_says-from kind s at (Idle from) free here h =
     (omega (arith, here.behind, h.0), h.1, λ o occurs. h.2 o (occurs_behind s at o free (here.none o occurs) occurs))
 
 -- what it costs to be told a place, and a walk from there, is the work of both
-pub told_work-walk : (kind : MatchKind) (deterministic : Bool) (s : Search) (at : ℕ) (end : End (Option Occurrence)) (x y z : Steps) → NoneBefore s at → s.anchored ≡ false → IsCandidateWork s (Idle at) x y → EndSays kind (starting_at s at) end → IsWalkWork kind deterministic (starting_at s at) end y z → IsSearchWork kind deterministic s end x z
+pub told_work-walk : (kind : MatchKind) (deterministic : Bool) (s : Search) (at : ℕ) (end : End (Option Occurrence)) (x y z : Steps) → MayGoOnFrom s at → s.anchored ≡ false → IsCandidateWork s (Idle at) x y → EndSays kind (starting_at s at) end → IsWalkWork kind deterministic (starting_at s at) end y z → IsSearchWork kind deterministic s end x z
 told_work-walk kind deterministic s at (Found r) x y z here free told says h =
     let best = best-from kind s at r free here says in
     let ordered : s.start ≤ s.end = omega (arith, here.behind, here.within) in
@@ -155,14 +155,14 @@ walk-search_work kind deterministic s (Idle at) x y h = record { looked = h.0; s
 -- where it began.
 pub record HasCome (deterministic : Bool) (s : Search) (at : ℕ) (before after : Steps) : Type 0 where
   pub free : (at ≡ s.start) ⊎ (s.anchored ≡ false)
-  pub none_before : NoneBefore s at
+  pub goes_on : MayGoOnFrom s at
   pub work : IsWorkTo deterministic s at before after
 
 -- at first it is where the span starts
 pub has_come-first : (deterministic : Bool) (s : Search) (x : Steps) → s.start ≤ s.end → HasCome deterministic s s.start x x
 has_come-first deterministic s x ordered = record {
   free = inl refl;
-  none_before = record { behind = omega arith; within = ordered; none = λ o h. h.within.0 };
+  goes_on = record { behind = omega arith; within = ordered; none = λ o h. h.within.0 };
   work = record { looked = omega arith; scanned = omega arith; moved = refl };
 }
 
@@ -172,8 +172,8 @@ has_come-further kind deterministic s at from x y z free here says work =
     let k : at ≤ from = omega (arith, says.0) in
     record {
       free = inr free;
-      none_before = none_before-further s at from free here.none_before (record { behind = k; within = says.1; none = says.2 });
-      work = work_to-further deterministic s at from x y z here.none_before.behind k here.work work;
+      goes_on = goes_on-further s at from free here.goes_on (record { behind = k; within = says.1; none = says.2 });
+      work = work_to-further deterministic s at from x y z here.goes_on.behind k here.work work;
     }
 
 -- the best from there on is the best
@@ -181,5 +181,5 @@ pub has_come-best : (kind : MatchKind) (deterministic : Bool) (s : Search) (at :
 has_come-best kind deterministic s at r x y here best =
     ⊎_elim
     (λ (first : at ≡ s.start). subst (λ (n : ℕ). IsBest kind (starting_at s n) r) first best)
-    (λ (free : s.anchored ≡ false). best-from kind s at r free here.none_before best)
+    (λ (free : s.anchored ≡ false). best-from kind s at r free here.goes_on best)
     here.free

@@ -72,7 +72,7 @@ over-wherever s at None = refl
 over-wherever s at (Some o) = refl
 
 -- a repeated match is empty, so there is an empty pattern
-repeat-empty : (kind : MatchKind) (s : Search) (last : Option ℕ) (r : Option Occurrence) → s.end ≤ length s.haystack → 1 ≤ shortest s.patterns → IsBest kind s r → ¬ Repeats last r
+pub repeat-empty : (kind : MatchKind) (s : Search) (last : Option ℕ) (r : Option Occurrence) → s.end ≤ length s.haystack → 1 ≤ shortest s.patterns → IsBest kind s r → ¬ Repeats last r
 repeat-empty kind s None r inside some h rep = rep
 repeat-empty kind s (Some l) None inside some h rep = rep
 repeat-empty kind s (Some l) (Some o) inside some h rep = let lt = occurs-not_empty s o inside some h.0 in let e = rep.0 in let d = rep.1 in omega arith

@@ -15,3 +15,15 @@ pub mod ShowLemmas
 pub mod ReplaceLemmas
 pub mod ReplacerLemmas
 pub mod BufferLemmas
+pub mod OutputLemmas
+pub mod StreamTextLemmas
+pub mod PassLemmas
+pub mod StreamLemmas
+pub mod SearchLemmas
+pub mod StreamCutLemmas
+pub mod StreamSendLemmas
+pub mod StreamCountLemmas
+pub mod StreamReplaceLemmas
+pub mod ScanLemmas
+pub mod StreamIterLemmas
+pub mod StreamAnswerLemmas

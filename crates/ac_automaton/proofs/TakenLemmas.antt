@@ -19,8 +19,8 @@ drop-at ns i n is =
     rw (add-one) (split ∙ ap (λ (x : ℕ). x ∷ drop (suc i) ns) here)
 
 -- no entry before a place counts, so the first that does is the first from there on
-abbrev pub NoneBefore : Dictionary → ℕ → List ℕ → ℕ → Type 0
-NoneBefore m bytes ns i = slice_get (counted m Yes bytes ns) 0 ≡ slice_get (counted m Yes bytes (drop i ns)) 0
+abbrev pub NoneCountsBefore : Dictionary → ℕ → List ℕ → ℕ → Type 0
+NoneCountsBefore m bytes ns i = slice_get (counted m Yes bytes ns) 0 ≡ slice_get (counted m Yes bytes (drop i ns)) 0
 
 -- two numbers that are equal, as a test
 equal-test : (x y : ℕ) → x ≡ y → (x == y) ≡ true
@@ -39,7 +39,7 @@ filter-first_dropped : (p : ℕ → Bool) (x : ℕ) (xs : List ℕ) → p x ≡ 
 filter-first_dropped p x xs h = rw h
 
 -- an entry that counts is the match
-pub taken-here : (m : Dictionary) (start end : ℕ) (ns : List ℕ) (i n : ℕ) → start ≤ end → NoneBefore m (end - start) ns i → slice_get ns i ≡ Some n → length (get_or m.patterns n []) ≡ end - start → Some (record { pattern = n; start = start; end = end }) ≡ taken m Yes end (end - start) ns
+pub taken-here : (m : Dictionary) (start end : ℕ) (ns : List ℕ) (i n : ℕ) → start ≤ end → NoneCountsBefore m (end - start) ns i → slice_get ns i ≡ Some n → length (get_or m.patterns n []) ≡ end - start → Some (record { pattern = n; start = start; end = end }) ≡ taken m Yes end (end - start) ns
 taken-here m start end ns i n ordered before is long =
     let first : slice_get (counted m Yes (end - start) (drop i ns)) 0 ≡ Some n =
     subst (λ (l : List ℕ). slice_get (filter (λ k. length (get_or m.patterns k []) == (end - start)) l) 0 ≡ Some n) (sym (drop-at ns i n is))
@@ -48,14 +48,14 @@ taken-here m start end ns i n ordered before is long =
     ap Some one ∙ sym (ap (option_map (ending_at m end)) (before ∙ first))
 
 -- where an entry doesn't count, none up to the next place does
-pub taken-next : (m : Dictionary) (bytes : ℕ) (ns : List ℕ) (i n : ℕ) → NoneBefore m bytes ns i → slice_get ns i ≡ Some n → length (get_or m.patterns n []) ≢ bytes → NoneBefore m bytes ns (i + 1)
+pub taken-next : (m : Dictionary) (bytes : ℕ) (ns : List ℕ) (i n : ℕ) → NoneCountsBefore m bytes ns i → slice_get ns i ≡ Some n → length (get_or m.patterns n []) ≢ bytes → NoneCountsBefore m bytes ns (i + 1)
 taken-next m bytes ns i n before is other =
     before
     ∙ ap (λ (l : List ℕ). slice_get (filter (λ k. length (get_or m.patterns k []) == bytes) l) 0) (drop-at ns i n is)
     ∙ ap (λ (l : List ℕ). slice_get l 0) (filter-first_dropped (λ k. length (get_or m.patterns k []) == bytes) n (drop (i + 1) ns) (unequal-test (length (get_or m.patterns n [])) bytes other))
 
 -- where none counts, there is no match
-pub taken-none : (m : Dictionary) (at bytes : ℕ) (ns : List ℕ) (i : ℕ) → NoneBefore m bytes ns i → length ns ≤ i → None ≡ taken m Yes at bytes ns
+pub taken-none : (m : Dictionary) (at bytes : ℕ) (ns : List ℕ) (i : ℕ) → NoneCountsBefore m bytes ns i → length ns ≤ i → None ≡ taken m Yes at bytes ns
 taken-none m at bytes ns i before past =
     let none : slice_get (counted m Yes bytes (drop i ns)) 0 ≡ None = ap (λ (l : List ℕ). slice_get (filter (λ k. length (get_or m.patterns k []) == bytes) l) 0) (drop_all i ns past) in
     sym (ap (option_map (ending_at m at)) (before ∙ none))

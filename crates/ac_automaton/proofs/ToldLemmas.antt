@@ -111,7 +111,7 @@ earlier-stays kind m anchored text r earlier lies = by (whole-best kind m text a
 -- ---- unanchored
 
 -- the best of a text from the best of what ended before, where the dictionary is a standard one
-told-standard : (m : Dictionary) (text ns : List ℕ) → IsEarlier Standard m false text None → TellsUnanchored Standard m text ns → IsBest Standard (whole m text false) (option_map (ending m text) (slice_get ns 0))
+pub told-standard : (m : Dictionary) (text ns : List ℕ) → IsEarlier Standard m false text None → TellsUnanchored Standard m text ns → IsBest Standard (whole m text false) (option_map (ending m text) (slice_get ns 0))
 told-standard m text ns earlier tells =
     subst (λ (r : Option Occurrence). IsBest Standard (whole m text false) r) (slice_get-map (ending m text) ns 0)
     (best-first (whole m text false) (length text) (map (ending m text) ns) (earlier-ends Standard m false text earlier) tells)
@@ -233,14 +233,14 @@ told-anchored_some m earliest text r first os inverse earlier fresh lists = by (
     listed : IsWhole m text first
     listed = (lists.1 first).0 (Contains-head first os)
 
-    none_before : (b : Occurrence) → asked_kind m.kind earliest ≡ Standard → Occurs (whole m text true) b → ¬ (b.end < length text)
-    none_before b standard h lt =
+    goes_on : (b : Occurrence) → asked_kind m.kind earliest ≡ Standard → Occurs (whole m text true) b → ¬ (b.end < length text)
+    goes_on b standard h lt =
         let none : IsEarlier (asked_kind m.kind earliest) m true text None = subst (λ (x : Option Occurrence). IsEarlier (asked_kind m.kind earliest) m true text x) (fresh standard) earlier in
         none.least b (h, lt)
 
     not_before : (b : Occurrence) → IsBest (asked_kind m.kind earliest) (whole m text true) (Some b) → ¬ (b.end < length text)
     not_before b best lt = ⊎_elim
-        (λ (standard : asked_kind m.kind earliest ≡ Standard). none_before b standard best.0 lt)
+        (λ (standard : asked_kind m.kind earliest ≡ Standard). goes_on b standard best.0 lt)
         (λ (leftmost : (asked_kind m.kind earliest ≡ m.kind) × (m.kind ≢ Standard) × (earliest ≡ false)).
         let end = listed.1 in
         best.1 first listed.0 (subst (λ (k : MatchKind). preference k b first ≡ Greater) (sym leftmost.0) (anchored-new_first m text b first listed.2.0 inverse leftmost.1 best.0 listed.0 (omega arith) listed.2.1)))

@@ -33,7 +33,7 @@ use Rattle.ac_automaton.proofs.CursorLemmas.{part-empty, part-more, lookups-join
 -- ---- what is final
 
 -- the standard best of a text is that of the text and more
-standard-final : (m : Dictionary) (anchored : Bool) (text more : List ℕ) (b : Occurrence) → IsBest Standard (whole m text anchored) (Some b) → IsBest Standard (whole m (text ++ more) anchored) (Some b)
+pub standard-final : (m : Dictionary) (anchored : Bool) (text more : List ℕ) (b : Occurrence) → IsBest Standard (whole m text anchored) (Some b) → IsBest Standard (whole m (text ++ more) anchored) (Some b)
 standard-final m anchored text more b best = (
   occurs-append m anchored text more b best.0,
   λ o h. ⊎_elim
@@ -71,7 +71,7 @@ begins-bound m [] h = omega arith
 begins-bound m (b ∷ bs) h = let le = longest-bound m.patterns h.0 h.1 h.2.0 in let within = h.3.0 in omega arith
 
 -- an occurrence is no longer than the longest pattern
-occurs-bound : (m : Dictionary) (anchored : Bool) (text : List ℕ) (o : Occurrence) → Occurs (whole m text anchored) o → o.end ≤ o.start + longest m.patterns
+pub occurs-bound : (m : Dictionary) (anchored : Bool) (text : List ℕ) (o : Occurrence) → Occurs (whole m text anchored) o → o.end ≤ o.start + longest m.patterns
 occurs-bound m anchored text o h =
     let found = occurs-end (whole m text anchored) o (omega arith) h in
     let le = longest-bound m.patterns o.pattern found.0 found.1 in

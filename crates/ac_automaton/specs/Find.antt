@@ -33,8 +33,8 @@ IsWalkWork kind deterministic s (Idle at) before after = (looked_of after ≤ lo
 abbrev pub IsWalkCost : Built → Asked → ℕ → End (Option Occurrence) → Steps → Steps → Type 0
 IsWalkCost b asked at end before after = IsWalkWork (kind_asked b asked) b.deterministic (search_from b asked at) end before after
 
--- a place of the span before which no occurrence begins
-pub record NoneBefore (s : Search) (at : ℕ) : Type 0 where
+-- a place of the span from which the search may go on: no occurrence begins before it
+pub record MayGoOnFrom (s : Search) (at : ℕ) : Type 0 where
   pub behind : s.start ≤ at
   pub within : at ≤ s.end
   pub none : (o : Occurrence) → Occurs s o → at ≤ o.start
@@ -42,7 +42,7 @@ pub record NoneBefore (s : Search) (at : ℕ) : Type 0 where
 -- what a prefilter's answer means: this is the answer; or the search goes on from here, and nothing begins before
 abbrev pub CandidateSays : MatchKind → Search → End (Option Occurrence) → Type 0
 CandidateSays kind s (Found r) = IsBest kind s r
-CandidateSays kind s (Idle at) = NoneBefore s at
+CandidateSays kind s (Idle at) = MayGoOnFrom s at
 
 -- What it costs to be told. No state is looked at. The scans for bytes cover places of the span, each before the end of every
 -- occurrence; and where the search goes on the last of them is at most 254 after that place.

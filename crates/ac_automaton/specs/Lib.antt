@@ -25,3 +25,9 @@ pub mod Overlapping
 pub mod OverlappingIter
 pub mod Replace
 pub mod Buffer
+pub mod Stream
+pub mod Scan
+pub mod Moved
+pub mod Output
+pub mod StreamReplace
+pub mod StreamIter

@@ -13,15 +13,18 @@
 //! an automaton that has nothing better.
 pub mod reference;
 
-use crate::error::{MatchError, ReplaceError};
+use crate::error::{MatchError, ReplaceError, StreamError};
 use crate::iter::FindIter;
 use crate::overlapping::{FindOverlappingIter, OverlappingState};
+use crate::stream::{self, StreamFindIter};
+use crate::watched::Watched;
 use crate::{find, iter, overlapping, replace};
 use ac_input::primitives::{PatternID, StateID};
 use ac_input::search::{Anchored, Input, Match, MatchKind};
 use ac_input::steps::Steps;
 use ac_literal::prefilter::Prefilter;
 use std::alloc::{AllocError, Global};
+use std::io::{Read, Write};
 
 /// A state, and how many bytes were taken to come to it.
 #[derive(Clone, Copy, Debug)]
@@ -34,7 +37,7 @@ pub struct Advance {
 
 /// An automaton that finds patterns in a text.
 pub trait Automaton {
-    ghost use Rattle.std.specs.Prelude.{◌≡◌, ◌≢◌, ℕ, ◌<◌, ◌↔◌, Bool, List, [], ◌∷◌, ◌++◌, length, map, take, IsTrue, IfOk, IfErr, IsOk, OnOk, get_or, Option, slice_get, option_map};
+    ghost use Rattle.std.specs.Prelude.{◌≡◌, ◌≢◌, ℕ, ◌<◌, ◌↔◌, Bool, false, List, [], ◌∷◌, ◌++◌, length, map, take, IsTrue, IfOk, IfErr, IsOk, OnOk, get_or, Option, slice_get, option_map};
     ghost use Rattle.std.specs.String.{string_bytes};
     ghost use Rattle.ac_input.specs.declared.search.Anchored.{Anchored};
     ghost use Rattle.ac_input.specs.declared.primitives.state_id.StateID.{StateID};
@@ -48,6 +51,10 @@ pub trait Automaton {
     ghost use Rattle.ac_automaton.specs.Iter.{fresh_walk, left_of};
     ghost use Rattle.ac_automaton.specs.Overlapping.{CameFrom, ShowsNext, IsOverlappingCost, CanOverlap, IsOverlappingRefusal, sums_of};
     ghost use Rattle.ac_automaton.specs.OverlappingIter.{CanRun, IsRunRefusal, fresh_run, rest_of};
+    ghost use Rattle.ac_automaton.specs.Stream.{CanStream, IsStreamRefusal, fresh_scan};
+    ghost use Rattle.ac_automaton.specs.StreamIter.{progress_of, reader_name, reader_of};
+    ghost use Rattle.ac_automaton.specs.StreamReplace.{CostsStream, IsReplaceStreamError, ReplacesStream};
+    ghost use Rattle.ac_automaton.specs.Watched.{has_ended};
     ghost use Rattle.ac_automaton.specs.Replace.{IsForMatches, IsReplaceRefusal, IsReplacedWith, IsRefusedWith, matches_in, text_matches_in, with_replaced};
 
     /// What it was built as: its patterns, pairing and kind, whether it looks at exactly one state for a byte, its prefilter.
@@ -187,11 +194,13 @@ pub trait Automaton {
 
     /// What the list of a state says of the bytes that were read.
     ghost tells: { (self : Self) (anchored : Anchored) (text : List ℕ) (sid : StateID)
-        → Reads self anchored text sid → Tells (built self).dictionary anchored text (matches self sid) };
+        → Reads self anchored text sid
+        → Tells (built self).dictionary anchored text (matches self sid) };
 
     /// A text has a live prefix, or is dead.
     ghost lives: { (self : Self) (anchored : Anchored) (text : List ℕ) (sid : StateID)
-        → Reads self anchored text sid → (from : Option ℕ) × IsLive (built self).dictionary (is_anchored anchored) text from };
+        → Reads self anchored text sid
+        → (from : Option ℕ) × IsLive (built self).dictionary (is_anchored anchored) text from };
 
     /// Each byte is the partner of its partner.
     ghost pairs: { (self : Self) (anchored : Anchored) (text : List ℕ) (sid : StateID)
@@ -199,7 +208,9 @@ pub trait Automaton {
 
     /// At which states a search has more to do than to read on.
     ghost stops: { (self : Self) (anchored : Anchored) (text : List ℕ) (sid : StateID)
-        → Reads self anchored text sid → (IsTrue (special self sid) ↔ IsSpecial (built self) (matches self sid) (starts self sid) anchored text) };
+        → Reads self anchored text sid
+        → (IsTrue (special self sid)
+        ↔ IsSpecial (built self) (matches self sid) (starts self sid) anchored text) };
 
     /// The state after one more byte, where the search began with this anchoring.
     final fn next_state(&self, anchored: Anchored, sid: StateID, byte: u8) -> StateID
@@ -300,6 +311,30 @@ pub trait Automaton {
         overlapping::iter::find_overlapping_iter(self, input)
     }
 
+    /// All matches of a stream, one after another: see [`StreamFindIter`]. Their places are counted from the first byte that is
+    /// read. It takes one buffer of `max(65536, 8 * max(1, longest))` bytes, and no memory after that.
+    ///
+    /// It is refused where the automaton has no start for a search that isn't anchored, or isn't of the standard kind, or has an
+    /// empty pattern, in that order, and then where there is no memory for the buffer. Nothing was read then.
+    final fn try_stream_find_iter<'a, R: Read>(
+        &'a self,
+        alloc: Global,
+        reader: &'a mut Watched<R>,
+    ) -> Result<StreamFindIter<'a, Self, R>, StreamError>
+    where
+        Self: Sized,
+        requires { has_ended reader.old ≡ false }
+        ensures fresh { IfOk result
+            (λ matches. progress_of matches ≡ fresh_scan (built self.now)) }
+        ensures reader { IfOk result (λ matches. reader_of matches ≡ reader.old) }
+        ensures same_reference { IfOk result
+            (λ matches. reader_name matches ≡ reader.entry.ghost_name) }
+        ensures can { OnOk result (CanStream (built self.now) (supports self.now)) }
+        ensures refused { IfErr result (IsStreamRefusal (built self.now) (supports self.now)) }
+    {
+        stream::stream_find_iter(self, alloc, reader)
+    }
+
     /// The text with each match exchanged for the replacement of its pattern. There is one replacement for each pattern. A match
     /// that begins or ends within a character is passed over: its bytes stay.
     ///
@@ -356,7 +391,8 @@ pub trait Automaton {
             (text_matches_in (built self.now) haystack.now) replace_with dst.old dst.new) }
         ensures supported { OnOk result (supports self.now Anchored.No) }
         ensures refused { IfErr result (IsRefusedWith string_bytes F.FnMut haystack.now
-            (text_matches_in (built self.now) haystack.now) replace_with dst.old dst.new (supports self.now)) }
+            (text_matches_in (built self.now) haystack.now) replace_with dst.old dst.new
+            (supports self.now)) }
     {
         replace::replace_all_with(self, haystack, dst, replace_with)
     }
@@ -376,8 +412,59 @@ pub trait Automaton {
             (matches_in (built self.now) haystack.now) replace_with dst.old dst.new) }
         ensures supported { OnOk result (supports self.now Anchored.No) }
         ensures refused { IfErr result (IsRefusedWith (λ v. v.items) F.FnMut haystack.now
-            (matches_in (built self.now) haystack.now) replace_with dst.old dst.new (supports self.now)) }
+            (matches_in (built self.now) haystack.now) replace_with dst.old dst.new
+            (supports self.now)) }
     {
         replace::replace_all_with_bytes(self, haystack, dst, replace_with)
+    }
+
+    /// Writes what is read with each match exchanged for the replacement of its pattern, of which there is one for each pattern. The
+    /// input ends at its first empty read. Before each read everything is written that no later byte can change, so at most as many
+    /// bytes are kept back as the longest pattern has, and one at least. The writer isn't flushed.
+    ///
+    /// It is refused where a stream can't be searched, and where there is no memory for its two buffers; the reader and the writer
+    /// are then as they were, and no memory is asked for after that. Where a read or a write fails, nothing is tried again.
+    final fn try_stream_replace_all<R: Read, W: Write>(
+        &self,
+        alloc: Global,
+        reader: &mut Watched<R>,
+        writer: &mut Watched<W>,
+        replacements: &[&[u8]],
+    ) -> Result<(), StreamError>
+        requires open { has_ended reader.old ≡ false }
+        requires one_each { length replacements.now
+            ≡ length (built self.now).dictionary.patterns }
+        ensures replaced { ReplacesStream R.remaining W.contents (built self.now)
+            (map (λ r. r.now) replacements.now) reader.old reader.new writer.old writer.new result }
+        ensures can { OnOk result (CanStream (built self.now) (supports self.now)) }
+        ensures refused { IfErr result (IsReplaceStreamError (built self.now)
+            (supports self.now) reader.old reader.new writer.old writer.new) }
+    {
+        let mut steps = Steps::new();
+        self.try_stream_replace_all_counted(alloc, reader, writer, replacements, &mut steps)
+    }
+
+    /// The same, and counts what it does: it looks at least at one state for each byte, and at two at most on the whole, and moves a
+    /// seventh of the bytes at most within its buffer.
+    final fn try_stream_replace_all_counted<R: Read, W: Write>(
+        &self,
+        alloc: Global,
+        reader: &mut Watched<R>,
+        writer: &mut Watched<W>,
+        replacements: &[&[u8]],
+        steps: &mut Steps,
+    ) -> Result<(), StreamError>
+        requires open { has_ended reader.old ≡ false }
+        requires one_each { length replacements.now
+            ≡ length (built self.now).dictionary.patterns }
+        ensures replaced { ReplacesStream R.remaining W.contents (built self.now)
+            (map (λ r. r.now) replacements.now) reader.old reader.new writer.old writer.new result }
+        ensures can { OnOk result (CanStream (built self.now) (supports self.now)) }
+        ensures refused { IfErr result (IsReplaceStreamError (built self.now)
+            (supports self.now) reader.old reader.new writer.old writer.new) }
+        ensures cost { CostsStream (built self.now) reader.old reader.new
+            steps.old steps.new result }
+    {
+        stream::replace::replace_all_counted(self, alloc, reader, writer, replacements, steps)
     }
 }

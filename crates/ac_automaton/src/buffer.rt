@@ -6,8 +6,9 @@
 //! read before they are moved again: so for each byte that is moved seven are read.
 ghost use Rattle.std.specs.Prelude.{◌≡◌, ◌+◌, ◌-◌, ◌≤◌, ◌<◌, ◌↔◌, false, length, IfOk, OnErr, IsTrue};
 ghost use Rattle.ac_input.specs.Steps.{Done};
-ghost use Rattle.ac_automaton.specs.Buffer.{Filled, kept_for, nothing_held, rolled};
-ghost use Rattle.ac_automaton.specs.Watched.{NoneTaken, ReadFailed, has_ended};
+ghost use Rattle.std.specs.Io.KnownBytes.{Keeps};
+ghost use Rattle.ac_automaton.specs.Buffer.{Filled, IsPaid, kept_for, nothing_held, rolled};
+ghost use Rattle.ac_automaton.specs.Watched.{NoneTaken, ReadFailed, has_ended, inner_of};
 
 use crate::watched::Watched;
 use ac_input::history::Count;
@@ -39,16 +40,29 @@ impl Model for Buffer {
 
     ghost Value = { Held };
 
-    ghost view = { λ b. record { bytes = take b.filled b.bytes.items; room = vec_len b.bytes; keep = b.keep; read = b.read.value; moved = b.moved.value } };
+    ghost view = { λ b. record {
+      bytes = take b.filled b.bytes.items;
+      room = vec_len b.bytes;
+      keep = b.keep;
+      read = b.read.value;
+      moved = b.moved.value;
+    } };
 
     ghost invariant = { λ b. (b.filled ≤ vec_len b.bytes)
-        × IsPaid (record { bytes = take b.filled b.bytes.items; room = vec_len b.bytes; keep = b.keep; read = b.read.value; moved = b.moved.value }) };
+        × IsPaid (record {
+          bytes = take b.filled b.bytes.items;
+          room = vec_len b.bytes;
+          keep = b.keep;
+          read = b.read.value;
+          moved = b.moved.value;
+        }) };
 }
 
 impl Buffer {
     /// Takes the memory. Nothing is held yet.
     pub fn new(alloc: Global, longest: usize) -> Result<Buffer, AllocError>
-        ensures { IfOk result (λ buffer. buffer ≡ nothing_held (kept_for longest)) }
+        ensures fresh { IfOk result (λ buffer. buffer ≡ nothing_held (kept_for longest)) }
+        ensures paid { IfOk result IsPaid }
     {
         let keep = longest.max(1);
         let Some(share) = keep.checked_mul(SHARE) else {
@@ -72,6 +86,13 @@ impl Buffer {
         &self.bytes.as_slice()[..self.filled]
     }
 
+    /// How many bytes are kept at most where it is full.
+    pub fn keep(&self) -> usize
+        ensures { result ≡ self.now.keep }
+    {
+        self.keep
+    }
+
     /// Whether no room is left behind what is held.
     pub fn is_full(&self) -> bool
         ensures { IsTrue result ↔ (length self.now.bytes ≡ self.now.room) }
@@ -83,10 +104,13 @@ impl Buffer {
     pub fn fill<R: Read>(&mut self, reader: &mut Watched<R>) -> io::Result<usize>
         requires room { length self.old.bytes < self.old.room }
         requires open { has_ended reader.old ≡ false }
-        ensures gave { IfOk result (Filled self.old self.new reader.old reader.new) }
+        ensures gave { IfOk result (Filled R.remaining self.old self.new reader.old reader.new) }
         ensures failed { OnErr result (ReadFailed reader.old reader.new) }
         ensures kept { OnErr result (self.new ≡ self.old) }
         ensures writes { NoneTaken reader.old reader.new }
+        ensures device { OnErr result (Keeps (R.remaining (inner_of reader.old))
+            (R.remaining (inner_of reader.new))) }
+        ensures paid { IsPaid self.new }
     {
         let n = reader.read(&mut self.bytes[self.filled..])?;
         self.filled += n;
@@ -100,6 +124,7 @@ impl Buffer {
         requires from { from ≤ length self.old.bytes }
         requires kept { length self.old.bytes ≤ from + self.old.keep }
         ensures rolled { self.new ≡ rolled self.old from }
+        ensures paid { IsPaid self.new }
         ensures moved { Done 0 0 (length self.old.bytes - from) steps.old steps.new }
     {
         let kept = self.filled - from;

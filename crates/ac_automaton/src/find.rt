@@ -24,10 +24,12 @@ use ac_input::steps::Steps;
 use ac_literal::prefilter::Prefilter;
 
 /// The first of the patterns that match at a state, where the search isn't anchored. It ends at the place.
-fn first_match<A: Automaton>(automaton: &A, sid: StateID, at: usize) -> Match
-    requires reads { (text : List ℕ) × A.Reads automaton.now Anchored.No text sid × (length text ≤ at) }
+pub(crate) fn first_match<A: Automaton>(automaton: &A, sid: StateID, at: usize) -> Match
+    requires reads { (text : List ℕ) × A.Reads automaton.now Anchored.No text sid
+        × (length text ≤ at) }
     requires matches { A.matches automaton.now sid ≢ [] }
-    ensures { Option.Some result ≡ taken (A.built automaton.now).dictionary Anchored.No at 0 (A.matches automaton.now sid) }
+    ensures { Option.Some result
+        ≡ taken (A.built automaton.now).dictionary Anchored.No at 0 (A.matches automaton.now sid) }
 {
     let pattern = automaton.match_pattern(sid, 0);
     let start = at - automaton.pattern_len(pattern);
@@ -39,7 +41,8 @@ fn whole_match<A: Automaton>(automaton: &A, sid: StateID, span: Span) -> Option<
     requires reads { (text : List ℕ) × A.Reads automaton.now Anchored.Yes text sid }
     requires ordered { span.start ≤ span.end }
     requires matches { A.matches automaton.now sid ≢ [] }
-    ensures { result ≡ taken (A.built automaton.now).dictionary Anchored.Yes span.end (span.end - span.start) (A.matches automaton.now sid) }
+    ensures { result ≡ taken (A.built automaton.now).dictionary Anchored.Yes span.end
+        (span.end - span.start) (A.matches automaton.now sid) }
 {
     for index in 0..automaton.match_len(sid) {
         let pattern = automaton.match_pattern(sid, index);

@@ -97,7 +97,8 @@ fn next_pick<A: Automaton>(
     requires within { input.old.span.start ≤ input.old.span.end }
     requires last { IfSome last (λ end. end ≤ input.old.span.start) }
     ensures pick { IsPickOf (A.built automaton.now) input.old last result }
-    ensures asked { input.new ≡ record input.old { span = record input.old.span { start = input.new.span.start } } }
+    ensures asked { input.new
+        ≡ record input.old { span = record input.old.span { start = input.new.span.start } } }
     ensures work { IsPickCost (A.built automaton.now) input.old steps.old steps.new result }
 {
     let found = best(automaton, input, steps);

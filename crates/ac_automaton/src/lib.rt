@@ -9,6 +9,7 @@ mod find;
 pub mod iter;
 pub mod overlapping;
 mod replace;
+pub mod stream;
 #[cfg(test)]
 mod tests;
 pub mod watched;

@@ -109,7 +109,8 @@ impl OverlappingState {
     fn keep(&mut self, shown: Shown, done: &Steps)
         ensures place { self.new.place ≡ Some shown.place }
         ensures found { found_of self.new ≡ shown.found }
-        ensures shown { shown_of self.new ≡ (if is_some shown.found then shown_of self.old + 1 else shown_of self.old) }
+        ensures shown { shown_of self.new
+            ≡ (if is_some shown.found then shown_of self.old + 1 else shown_of self.old) }
         ensures sums { Added done.now (sums_of self.old) (sums_of self.new) }
     {
         self.place = Some(shown.place);
@@ -154,7 +155,8 @@ fn is_counted<A: Automaton>(
     read: usize,
 ) -> bool
     requires { pattern < length (A.built automaton.now).dictionary.patterns }
-    ensures { result ≡ counts (A.built automaton.now).dictionary (is_anchored anchored) read pattern }
+    ensures { result
+        ≡ counts (A.built automaton.now).dictionary (is_anchored anchored) read pattern }
 {
     match anchored {
         Anchored::No => true,
@@ -171,7 +173,8 @@ fn next_entry<A: Automaton>(
     read: usize,
 ) -> Option<Entry>
     requires { (text : List ℕ) × A.Reads automaton.now anchored text sid }
-    ensures { IsNextEntry (A.built automaton.now).dictionary (is_anchored anchored) read (A.matches automaton.now sid) from result }
+    ensures { IsNextEntry (A.built automaton.now).dictionary (is_anchored anchored) read
+        (A.matches automaton.now sid) from result }
 {
     if !automaton.is_match(sid) {
         return None;
@@ -218,7 +221,8 @@ fn show<A: Automaton>(
 ) -> Option<Shown>
     requires standard { (A.built automaton.now).dictionary.kind ≡ Standard }
     requires cursor { StandsIn (A.built automaton.now) (A.Reads automaton.now) input.now cursor }
-    ensures { ShowsAt (A.built automaton.now) (A.matches automaton.now) input.now cursor index result }
+    ensures { ShowsAt (A.built automaton.now) (A.matches automaton.now) input.now cursor index
+        result }
 {
     let read = cursor.at - cursor.from;
     let entry = next_entry(automaton, input.get_anchored(), cursor.sid, index, read)?;
@@ -236,7 +240,8 @@ fn show<A: Automaton>(
 /// What is shown where a walk stands: the first that the state tells; or nothing more, where it is dead.
 fn show_at<A: Automaton>(automaton: &A, input: &Input<'_>, cursor: &Cursor) -> Option<Shown>
     requires standard { (A.built automaton.now).dictionary.kind ≡ Standard }
-    requires cursor { StandsIn (A.built automaton.now) (A.Reads automaton.now) input.now cursor.now }
+    requires cursor { StandsIn (A.built automaton.now) (A.Reads automaton.now) input.now
+        cursor.now }
     ensures { ShowsHere (A.built automaton.now) (A.Reads automaton.now) (A.matches automaton.now)
         input.now cursor.now result }
 {
@@ -249,7 +254,8 @@ fn show_at<A: Automaton>(automaton: &A, input: &Input<'_>, cursor: &Cursor) -> O
 /// How a search ends where a walk stands, if it does: it shows something, or the state is dead, or the walk is back at the start.
 fn end_at<A: Automaton>(automaton: &A, input: &Input<'_>, cursor: &Cursor) -> Option<End<Shown>>
     requires standard { (A.built automaton.now).dictionary.kind ≡ Standard }
-    requires cursor { StandsIn (A.built automaton.now) (A.Reads automaton.now) input.now cursor.now }
+    requires cursor { StandsIn (A.built automaton.now) (A.Reads automaton.now) input.now
+        cursor.now }
     ensures { EndsHere (A.built automaton.now) (A.Reads automaton.now) (A.matches automaton.now)
         input.now cursor.now result }
 {
@@ -271,8 +277,8 @@ fn read_to_end<A: Automaton>(
 ) -> Shown
     requires standard { (A.built automaton.now).dictionary.kind ≡ Standard }
     requires cursor { StandsIn (A.built automaton.now) (A.Reads automaton.now) input.now cursor }
-    ensures reads { ShowsLater (A.built automaton.now) (A.Reads automaton.now) (A.matches automaton.now)
-        input.now cursor (Found result) }
+    ensures reads { ShowsLater (A.built automaton.now) (A.Reads automaton.now)
+        (A.matches automaton.now) input.now cursor (Found result) }
     ensures pays { PaysLater (A.built automaton.now) input.now cursor (Found result)
         steps.old steps.new }
     ensures only { OnlyLooked steps.old steps.new }
@@ -298,8 +304,8 @@ fn read_to_start<A: Automaton>(
 ) -> End<Shown>
     requires standard { (A.built automaton.now).dictionary.kind ≡ Standard }
     requires cursor { StandsIn (A.built automaton.now) (A.Reads automaton.now) input.now cursor }
-    ensures reads { ShowsLater (A.built automaton.now) (A.Reads automaton.now) (A.matches automaton.now)
-        input.now cursor result }
+    ensures reads { ShowsLater (A.built automaton.now) (A.Reads automaton.now)
+        (A.matches automaton.now) input.now cursor result }
     ensures pays { PaysLater (A.built automaton.now) input.now cursor result steps.old steps.new }
     ensures only { OnlyLooked steps.old steps.new }
 {
@@ -331,9 +337,10 @@ fn search_from_candidate<A: Automaton>(
     requires empty { A.matches automaton.now start ≡ [] }
     requires from { input.now.span.start ≤ at }
     requires to { at ≤ input.now.span.end }
-    ensures reads { ShowsFrom (A.built automaton.now) (A.Reads automaton.now) (A.matches automaton.now)
-        input.now at result }
-    ensures cost { IsSkipCost (A.built automaton.now).dictionary (A.built automaton.now).deterministic
+    ensures reads { ShowsFrom (A.built automaton.now) (A.Reads automaton.now)
+        (A.matches automaton.now) input.now at result }
+    ensures cost { IsSkipCost (A.built automaton.now).dictionary
+        (A.built automaton.now).deterministic
         (searched (A.built automaton.now) input.now) at result steps.old steps.new }
 {
     let rest = Span {
@@ -370,9 +377,10 @@ fn search_by_candidates<A: Automaton>(
     requires empty { A.matches automaton.now start ≡ [] }
     requires from { input.now.span.start ≤ at }
     requires to { at ≤ input.now.span.end }
-    ensures reads { ShowsFrom (A.built automaton.now) (A.Reads automaton.now) (A.matches automaton.now)
-        input.now at (Found result) }
-    ensures cost { IsSkipCost (A.built automaton.now).dictionary (A.built automaton.now).deterministic
+    ensures reads { ShowsFrom (A.built automaton.now) (A.Reads automaton.now)
+        (A.matches automaton.now) input.now at (Found result) }
+    ensures cost { IsSkipCost (A.built automaton.now).dictionary
+        (A.built automaton.now).deterministic
         (searched (A.built automaton.now) input.now) at (Found result) steps.old steps.new }
 {
     let mut place = at;
@@ -397,8 +405,10 @@ fn show_later<A: Automaton>(
     requires cursor { StandsIn (A.built automaton.now) (A.Reads automaton.now) input.now cursor }
     ensures shows { ShowsFirst (A.Reads automaton.now input.now.anchored) (A.matches automaton.now)
         (A.built automaton.now).dictionary (searched (A.built automaton.now) input.now)
-        (ending_from (walked (searched (A.built automaton.now) input.now) cursor) (cursor.at + 1)) result }
-    ensures pays { KeepsBudget (A.built automaton.now).dictionary (A.built automaton.now).deterministic
+        (ending_from (walked (searched (A.built automaton.now) input.now) cursor) (cursor.at + 1))
+        result }
+    ensures pays { KeepsBudget (A.built automaton.now).dictionary
+        (A.built automaton.now).deterministic
         (searched (A.built automaton.now) input.now)
         (At cursor.sid cursor.from cursor.at 0) result.place steps.old steps.new }
 {
@@ -425,7 +435,8 @@ fn show_next<A: Automaton>(
 ) -> Shown
     requires standard { (A.built automaton.now).dictionary.kind ≡ Standard }
     requires starts { A.Reads automaton.now input.now.anchored [] start }
-    requires cursor { StandsIn (A.built automaton.now) (A.Reads automaton.now) input.now cursor.now }
+    requires cursor { StandsIn (A.built automaton.now) (A.Reads automaton.now) input.now
+        cursor.now }
     ensures shows { ShowsFirst (A.Reads automaton.now input.now.anchored) (A.matches automaton.now)
         (A.built automaton.now).dictionary (searched (A.built automaton.now) input.now)
         (told_from (A.built automaton.now).dictionary
@@ -433,7 +444,8 @@ fn show_next<A: Automaton>(
         cursor.now.at (A.matches automaton.now cursor.now.sid) index
         ++ ending_from (walked (searched (A.built automaton.now) input.now) cursor.now)
         (cursor.now.at + 1)) result }
-    ensures pays { KeepsBudget (A.built automaton.now).dictionary (A.built automaton.now).deterministic
+    ensures pays { KeepsBudget (A.built automaton.now).dictionary
+        (A.built automaton.now).deterministic
         (searched (A.built automaton.now) input.now)
         (At cursor.now.sid cursor.now.from cursor.now.at index) result.place steps.old steps.new }
 {
@@ -460,8 +472,10 @@ pub(crate) fn advance<A: Automaton>(
         → IsLeft (A.Reads automaton.now input.now.anchored) (A.matches automaton.now)
         (A.built automaton.now).dictionary (searched (A.built automaton.now) input.now) place left
         → ShowsFirst (A.Reads automaton.now input.now.anchored) (A.matches automaton.now)
-        (A.built automaton.now).dictionary (searched (A.built automaton.now) input.now) left result }
-    ensures pays { KeepsBudget (A.built automaton.now).dictionary (A.built automaton.now).deterministic
+        (A.built automaton.now).dictionary (searched (A.built automaton.now) input.now) left
+        result }
+    ensures pays { KeepsBudget (A.built automaton.now).dictionary
+        (A.built automaton.now).deterministic
         (searched (A.built automaton.now) input.now) place result.place steps.old steps.new }
 {
     match place {
@@ -480,7 +494,8 @@ pub(crate) fn advance<A: Automaton>(
 
 /// Where a search begins.
 pub(crate) fn begin<A: Automaton>(automaton: &A, input: &Input<'_>) -> Result<Beginning, MatchError>
-    ensures starts { IfOk result (λ beginning. A.Reads automaton.now input.now.anchored [] beginning.start) }
+    ensures starts { IfOk result
+        (λ beginning. A.Reads automaton.now input.now.anchored [] beginning.start) }
     ensures left { IfOk result (λ beginning. IsLeft (A.Reads automaton.now input.now.anchored)
         (A.matches automaton.now) (A.built automaton.now).dictionary
         (searched (A.built automaton.now) input.now) beginning.place
@@ -488,7 +503,8 @@ pub(crate) fn begin<A: Automaton>(automaton: &A, input: &Input<'_>) -> Result<Be
     ensures paid { IfOk result (λ beginning. IsPaid (A.built automaton.now).dictionary
         (A.built automaton.now).deterministic (searched (A.built automaton.now) input.now)
         beginning.place 0) }
-    ensures supported { IsOk result ↔ CanOverlap (A.built automaton.now) (A.supports automaton.now) input.now }
+    ensures supported { IsOk result
+        ↔ CanOverlap (A.built automaton.now) (A.supports automaton.now) input.now }
     ensures refused { IfErr result (IsOverlappingRefusal (A.built automaton.now)
         (A.supports automaton.now) input.now) }
 {

@@ -71,7 +71,8 @@ pub fn replace_all<A: Automaton>(
 ) -> Result<String, ReplaceError>
     requires { length replacements.now ≡ length (A.built automaton.now).dictionary.patterns }
     ensures replaced { IfOk result (λ replaced. string_bytes replaced ≡ with_replaced haystack.now
-        (map (λ r. r.now) replacements.now) (text_matches_in (A.built automaton.now) haystack.now)) }
+        (map (λ r. r.now) replacements.now)
+        (text_matches_in (A.built automaton.now) haystack.now)) }
     ensures supported { OnOk result (A.supports automaton.now Anchored.No) }
     ensures refused { IfErr result (IsReplaceRefusal (A.supports automaton.now)) }
 {
@@ -103,7 +104,8 @@ where
         (matches_in (A.built automaton.now) haystack.now) replace_with dst.old dst.new) }
     ensures supported { OnOk result (A.supports automaton.now Anchored.No) }
     ensures refused { IfErr result (IsRefusedWith (λ v. v.items) F.FnMut haystack.now
-        (matches_in (A.built automaton.now) haystack.now) replace_with dst.old dst.new (A.supports automaton.now)) }
+        (matches_in (A.built automaton.now) haystack.now) replace_with dst.old dst.new
+        (A.supports automaton.now)) }
 {
     let mut matches = automaton.try_find_iter(Input::new(haystack))?;
     let mut at = 0;
@@ -131,7 +133,8 @@ fn call<F>(
 where
     F: FnMut(&Match, &str, &mut String) -> Result<bool, AllocError>,
     requires { TakesMatches F.FnMut (found.now.pattern + 1) replace_with.old }
-    ensures { RepliesAt F.FnMut replace_with.old found.now matched.now dst.old result replace_with.new dst.new }
+    ensures { RepliesAt F.FnMut replace_with.old found.now matched.now dst.old result
+        replace_with.new dst.new }
 {
     replace_with(found, matched, dst)
 }
@@ -152,7 +155,8 @@ where
         (text_matches_in (A.built automaton.now) haystack.now) replace_with dst.old dst.new) }
     ensures supported { OnOk result (A.supports automaton.now Anchored.No) }
     ensures refused { IfErr result (IsRefusedWith string_bytes F.FnMut haystack.now
-        (text_matches_in (A.built automaton.now) haystack.now) replace_with dst.old dst.new (A.supports automaton.now)) }
+        (text_matches_in (A.built automaton.now) haystack.now) replace_with dst.old dst.new
+        (A.supports automaton.now)) }
 {
     let mut matches = automaton.try_find_iter(Input::new(haystack.as_bytes()))?;
     let mut at = 0;

@@ -2,7 +2,7 @@
 //! what other implementations give.
 pub mod ahead;
 pub mod plain_automaton;
-mod served;
+pub mod served;
 
 use self::ahead::Ahead;
 use self::plain_automaton::PlainAutomaton;
@@ -10,6 +10,7 @@ use self::served::Served;
 use crate::automaton::Automaton;
 use crate::error::MatchErrorKind;
 use crate::overlapping::OverlappingState;
+use ac_input::pairing::Pairing;
 use ac_input::search::{Anchored, Input, Match, MatchKind};
 use ac_input::steps::Steps;
 use std::process::Abort;
@@ -135,6 +136,46 @@ fn folded(rt: HostRuntime) -> Result<(), Fail> {
         "few patterns",
     )?;
     finds(&rt, &keeps, &input, None)?;
+    Ok(())
+}
+
+/// The automaton of these patterns, with `0` and `1` paired, and the two bytes that are É and é in Latin-1; ASCII letters aren't.
+fn paired<'p>(patterns: &'p [&'p [u8]], kind: MatchKind) -> Result<PlainAutomaton<'p>, Fail> {
+    let pairing = Pairing::new(&[(b'0', b'1'), (0xc9, 0xe9)])?;
+    Ok(PlainAutomaton::paired(patterns, pairing, kind).ok_or("few patterns")?)
+}
+
+#[test]
+fn paired_digits(rt: HostRuntime) -> Result<(), Fail> {
+    let given: [&[u8]; 2] = [b"0", b"1a"];
+    let partners: [&[u8]; 2] = [b"1", b"0a"];
+    for patterns in [&given, &partners] {
+        for (kind, want) in [
+            (MatchKind::Standard, Match::must(0, 1..2)),
+            (MatchKind::LeftmostFirst, Match::must(0, 1..2)),
+            (MatchKind::LeftmostLongest, Match::must(1, 1..3)),
+        ] {
+            let automaton = paired(patterns, kind)?;
+            for haystack in [b"x0a", b"x1a"] {
+                finds(&rt, &automaton, &Input::new(haystack), Some(want))?;
+            }
+        }
+    }
+    Ok(())
+}
+
+#[test]
+fn paired_accents(rt: HostRuntime) -> Result<(), Fail> {
+    let patterns: [&[u8]; 2] = [b"1a\xe9", b"0"];
+    let automaton = paired(&patterns, MatchKind::LeftmostFirst)?;
+    for (haystack, want) in [
+        (b"x0a\xc9", Some(Match::must(0, 1..4))),
+        (b"x1a\xe9", Some(Match::must(0, 1..4))),
+        (b"x0A\xc9", Some(Match::must(1, 1..2))),
+        (b"x2a\xc9", None),
+    ] {
+        finds(&rt, &automaton, &Input::new(haystack), want)?;
+    }
     Ok(())
 }
 

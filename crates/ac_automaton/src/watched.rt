@@ -249,7 +249,8 @@ mod tests {
             }
             _ => assert!(rt; false, "the write did not fail"),
         }
-        assert!(rt; writer.flush().is_err());
+        let error = writer.flush().err().ok_or("the flush did not fail")?;
+        assert_eq!(rt; error.kind(), ErrorKind::BrokenPipe);
         assert_eq!(rt; writer.into_inner().calls, 1);
         Ok(())
     }
@@ -275,7 +276,11 @@ mod tests {
     fn reads_once_where_the_read_fails(rt: HostRuntime) -> Result<(), Fail> {
         let mut reader = Watched::new(Interrupted { calls: 0 });
         let mut buffer = [0u8; 2];
-        assert!(rt; reader.read(&mut buffer).is_err());
+        let error = reader
+            .read(&mut buffer)
+            .err()
+            .ok_or("the read did not fail")?;
+        assert_eq!(rt; error.kind(), ErrorKind::Interrupted);
         assert!(rt; reader.ended());
         assert_eq!(rt; reader.into_inner().calls, 1);
         Ok(())

@@ -40,7 +40,8 @@ impl fmt::Display for PairingError {
     ghost use Rattle.std.specs.Prelude.{◌++◌, Some, codes, decimal};
     ghost use Rattle.ac_input.specs.Pairing.{twice_of};
 
-    ghost output = { λ error. Some (codes "byte " ++ decimal (twice_of error) ++ codes " is named twice") };
+    ghost output = { λ error. Some (codes "byte " ++ decimal (twice_of error)
+        ++ codes " is named twice") };
 
     fn fmt<W: fmt::Write>(&self, f: &mut fmt::Formatter<W>) -> fmt::Result {
         let PairingError::Twice(byte) = *self;
@@ -105,8 +106,10 @@ impl Pairing {
     /// The pairing of these pairs, which may be named in any order. It fails where a byte stands in two pairs, or twice in
     /// one; the error names the byte of the first place, reading each pair from left to right, whose byte stood before.
     pub fn new(pairs: &[(u8, u8)]) -> Result<Pairing, PairingError>
-        ensures made { IfOk result (λ pairing. IsDistinct (named pairs.now) × ((b : ℕ) → other pairing b ≡ partner pairs.now b)) }
-        ensures twice { (b : ℕ) → result ≡ Err (PairingError.Twice b) → IsFirstTwice (named pairs.now) b }
+        ensures made { IfOk result (λ pairing. IsDistinct (named pairs.now)
+            × ((b : ℕ) → other pairing b ≡ partner pairs.now b)) }
+        ensures twice { (b : ℕ) → result ≡ Err (PairingError.Twice b)
+            → IsFirstTwice (named pairs.now) b }
     {
         if let Some(byte) = first_twice(pairs) {
             return Err(PairingError::Twice(byte));

@@ -176,7 +176,8 @@ impl Model for Match {
 
     ghost invariant = { λ m. m.span.start ≤ m.span.end };
 
-    ghost inverse = { λ o. record { pattern = o.pattern; span = record { start = o.start; end = o.end } } };
+    ghost inverse = { λ o.
+        record { pattern = o.pattern; span = record { start = o.start; end = o.end } } };
 }
 
 impl Match {
@@ -254,7 +255,11 @@ impl Match {
     /// The match so many bytes further on.
     pub fn offset(&self, bytes: usize) -> Match
         requires { self.now.end + bytes < 2 ^ 64 }
-        ensures { result ≡ record { pattern = self.now.pattern; start = self.now.start + bytes; end = self.now.end + bytes } }
+        ensures { result ≡ record {
+          pattern = self.now.pattern;
+          start = self.now.start + bytes;
+          end = self.now.end + bytes;
+        } }
     {
         let span = self.span;
         Match {

@@ -15,7 +15,7 @@ pub both-have : (a b bucket : ℕ) → bit_at a bucket ≡ 1 → bit_at b bucket
 both-have a b bucket p q = omega (arith, bit_at_and a b bucket)
 
 -- and the other way round
-left-has : (a b bucket : ℕ) → bit_at (bit_and a b) bucket ≡ 1 → bit_at a bucket ≡ 1
+pub left-has : (a b bucket : ℕ) → bit_at (bit_and a b) bucket ≡ 1 → bit_at a bucket ≡ 1
 left-has a b bucket h = omega (arith, bit_at_and a b bucket, bit_at-lt a bucket, bit_at-lt b bucket)
 
 right-has : (a b bucket : ℕ) → bit_at (bit_and a b) bucket ≡ 1 → bit_at b bucket ≡ 1

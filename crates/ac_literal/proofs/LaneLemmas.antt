@@ -1,9 +1,10 @@
 -- What operations on vectors of 32 bytes hold at each lane.
-use Rattle.std.proofs.Common.{◌≡◌, ◌≢◌, ℕ, ◌+◌, ◌*◌, ◌/◌, ◌%◌, ◌^◌, ◌<◌, List, Bool, false, true, not, cond, eqb, length, get_or, map, replicate, refl, sym, ap, ◌∙◌, arith, w8}
+use Rattle.std.proofs.Common.{◌≡◌, ◌≢◌, ℕ, ◌+◌, ◌*◌, ◌/◌, ◌%◌, ◌^◌, ◌<◌, List, [], ◌∷◌, zero, suc, bit_or, Bool, false, true, not, cond, eqb, length, get_or, map, replicate, refl, sym, ap, ◌∙◌, arith, w8}
 use Rattle.std.specs.Int.{bit_at}
-use Rattle.std.specs.Simd.Lanes.{zip2, mask_l, top}
+use Rattle.std.specs.Simd.Lanes.{zip2, fold_l, mask_l, top}
 use Rattle.std.proofs.lemmas.Simd.{length-zip2, get_or-zip2, get_or-replicate, bit_mask_l, bitmask_splat, mask_l-lt, length-swz_l, get_or-swz_l_below, swz_l, SwzOk, SwzOk-from_below, Each1-from_get_or}
 use Rattle.std.proofs.lemmas.Bool.{eqb-true}
+use Rattle.std.proofs.lemmas.Nat.{le_or_l, le_or_r}
 use Rattle.std.proofs.lemmas.List.{length-map}
 use Rattle.std.proofs.Math.ListN.{get_or-map}
 use Rattle.ac_literal.specs.Teddy.{HasLanes}
@@ -66,3 +67,14 @@ module _ (v : List ℕ) (long : length v ≡ 32) where
   -- and there are no bits but those of 32 lanes
   pub few-lanes : bits < 4294967296
   few-lanes = rw are_bits (let small = mask_l-lt (map (λ x. not (eqb x 0)) v) in rw (length-map v (λ x. not (eqb x 0)), long) at small)
+
+-- where several numbers and one more make 0 by 'or', that one is 0
+or-first : (a : ℕ) (xs : List ℕ) → fold_l bit_or a xs ≡ 0 → a ≡ 0
+or-first a [] h = h
+or-first a (x ∷ xs) h = let e = or-first (bit_or a x) xs h in omega (arith, le_or_l a x)
+
+-- and each of the others
+pub or-none : (a : ℕ) (xs : List ℕ) → fold_l bit_or a xs ≡ 0 → (k : ℕ) → get_or xs k 0 ≡ 0
+or-none a [] h k = refl
+or-none a (x ∷ xs) h zero = let e = or-first (bit_or a x) xs h in omega (arith, le_or_r a x)
+or-none a (x ∷ xs) h (suc k) = or-none (bit_or a x) xs h k

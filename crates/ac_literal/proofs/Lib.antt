@@ -14,6 +14,7 @@ pub mod TextLemmas
 pub mod TableLemmas
 pub mod FindLemmas
 pub mod NextLemmas
+pub mod OnlyLemmas
 pub mod LaneLemmas
 pub mod BucketLemmas
 pub mod TeddyLemmas

@@ -60,7 +60,7 @@ module _ (m : Dictionary) (needle : List ℕ) (haystack : List ℕ) (span : Span
       by (suc i) f = absurd (let w = slice_get_within (needle ∷ []) (suc i) p f in omega arith)
 
   -- each occurrence is a place of the part at which the needle stands
-  stands : (o : Occurrence) → Occurs s o → (o.pattern ≡ 0) × (o.end ≡ o.start + length needle) × OccursAt part needle (o.start - span.start)
+  pub stands : (o : Occurrence) → Occurs s o → (o.pattern ≡ 0) × (o.end ≡ o.start + length needle) × OccursAt part needle (o.start - span.start)
   stands o h =
       let l = lies s o inside h in
       let w = h.within in
@@ -99,7 +99,7 @@ module _ (m : Dictionary) (needle : List ℕ) (haystack : List ℕ) (span : Span
       }
 
   -- the first place is the best of every kind
-  first_best : (offset : ℕ) → FindsNeedle part needle 0 (Some offset) → (kind : MatchKind) → IsBest kind s (Some (there offset))
+  pub first_best : (offset : ℕ) → FindsNeedle part needle 0 (Some offset) → (kind : MatchKind) → IsBest kind s (Some (there offset))
   first_best offset first kind = (
     occurs_there offset first.1,
     λ o h.

@@ -1,17 +1,16 @@
 -- Where a pattern begins, its bucket is left.
-use Rattle.std.proofs.Common.{◌≡◌, ◌≢◌, ℕ, ◌+◌, ◌-◌, ◌<◌, ◌≤◌, inl, inr, Bool, true, false, List, length, take, drop, get_or, refl, sym, ap, subst, ◌∙◌, arith, bit_and}
+use Rattle.std.proofs.Common.{◌≡◌, ◌≢◌, ℕ, ◌+◌, ◌-◌, ◌/◌, ◌<◌, ◌≤◌, inl, inr, Bool, true, false, List, length, take, drop, get_or, refl, sym, ap, subst, ◌∙◌, arith, bit_and}
 use Rattle.std.specs.Prelude.{if◌then◌else◌}
 use Rattle.std.specs.Int.{bit_at}
 use Rattle.std.proofs.lemmas.Bool.{cases_eq, cases_lt}
-use Rattle.std.proofs.lemmas.Nat.Bits.{bit_at-zero}
 use Rattle.std.proofs.lemmas.Simd.{get_or-chunk}
 use Rattle.ac_input.specs.Occurrence.{Search, Occurrence, Occurs}
 use Rattle.ac_literal.specs.declared.packed.teddy.Probe.{Probe}
 use Rattle.ac_literal.specs.declared.packed.teddy.Teddy.{Teddy}
 use Rattle.ac_literal.specs.Packed.{pattern_at, searched}
 use Rattle.ac_literal.specs.RabinKarp.{NoneBefore}
-use Rattle.ac_literal.specs.Teddy.{HasBucket, KeepsBuckets, LooksBefore, HasPattern, KeepsPatterns, HasPatterns, IsTeddy, HasMarks, left_at, marked_at}
-use Rattle.ac_literal.proofs.BucketLemmas.{both-have, has-some}
+use Rattle.ac_literal.specs.Teddy.{HasBucket, KeepsBuckets, LooksBefore, HasPattern, KeepsPatterns, HasPatterns, IsTeddy, HasMarks, low_at, marked_at}
+use Rattle.ac_literal.proofs.BucketLemmas.{both-have, left-has, has-some}
 use Rattle.ac_literal.proofs.TextLemmas.{starts-lying, lies-bytes}
 
 -- a probe that keeps its buckets keeps a pattern's
@@ -54,11 +53,20 @@ has-more patterns count bucket old new so_far keeps own number within = elim (ca
       (had.0, keeps-pattern old new (pattern_at patterns number) had.0 keeps had.1)
 ]
 
--- a bucket that all four probes leave is left, whichever of them are asked
-all-leave : (narrow wide : Bool) (a b c d bucket : ℕ) → bit_at a bucket ≡ 1 → bit_at b bucket ≡ 1 → bit_at c bucket ≡ 1 → bit_at d bucket ≡ 1 → (if narrow then bit_and a b else (if wide then bit_and (bit_and (bit_and a b) c) d else bit_and (bit_and a b) c)) ≢ 0
-all-leave true wide a b c d bucket p q r s = has-some _ bucket (both-have a b bucket p q)
-all-leave false true a b c d bucket p q r s = has-some _ bucket (both-have _ d bucket (both-have _ c bucket (both-have a b bucket p q) r) s)
-all-leave false false a b c d bucket p q r s = has-some _ bucket (both-have _ c bucket (both-have a b bucket p q) r)
+-- a bucket that four bytes have is in what they have in common, and in what three have
+three-have : (a b c bucket : ℕ) → bit_at a bucket ≡ 1 → bit_at b bucket ≡ 1 → bit_at c bucket ≡ 1 → bit_at (bit_and (bit_and a b) c) bucket ≡ 1
+three-have a b c bucket p q r = both-have _ c bucket (both-have a b bucket p q) r
+
+four-have : (a b c d bucket : ℕ) → bit_at a bucket ≡ 1 → bit_at b bucket ≡ 1 → bit_at c bucket ≡ 1 → bit_at d bucket ≡ 1 → bit_at (bit_and (bit_and (bit_and a b) c) d) bucket ≡ 1
+four-have a b c d bucket p q r s = both-have _ d bucket (three-have a b c bucket p q r) s
+
+-- a bucket that all four probes leave is left, whichever of them are asked, by low halves or by whole bytes
+all-leave : (whole few : Bool) (a b c d e f g h bucket : ℕ) → bit_at (bit_and a e) bucket ≡ 1 → bit_at (bit_and b f) bucket ≡ 1 → bit_at (bit_and c g) bucket ≡ 1 → bit_at (bit_and d h) bucket ≡ 1
+    → (if whole then (if few then bit_and (bit_and a e) (bit_and b f) else bit_and (bit_and (bit_and (bit_and a e) (bit_and b f)) (bit_and c g)) (bit_and d h)) else (if few then bit_and (bit_and a b) c else bit_and (bit_and (bit_and a b) c) d)) ≢ 0
+all-leave true true a b c d e f g h bucket p q r s = has-some _ bucket (both-have _ _ bucket p q)
+all-leave true false a b c d e f g h bucket p q r s = has-some _ bucket (four-have _ _ _ _ bucket p q r s)
+all-leave false true a b c d e f g h bucket p q r s = has-some _ bucket (three-have a b c bucket (left-has a e bucket p) (left-has b f bucket q) (left-has c g bucket r))
+all-leave false false a b c d e f g h bucket p q r s = has-some _ bucket (four-have a b c d bucket (left-has a e bucket p) (left-has b f bucket q) (left-has c g bucket r) (left-has d h bucket s))
 
 module _ (patterns : List (List ℕ)) (len : ℕ) (t : Teddy) (is : IsTeddy patterns len t) (short : (number : ℕ) → number < length patterns → len ≤ length (pattern_at patterns number))
     (haystack : List ℕ) (start end : ℕ) (fits : end ≤ length haystack) where
@@ -75,7 +83,8 @@ module _ (patterns : List (List ℕ)) (len : ℕ) (t : Teddy) (is : IsTeddy patt
       let read = λ (k : ℕ) (within : k < n). ap (λ (p : List ℕ). get_or p k 0) (sym text) ∙ get_or-chunk o.start n haystack k 0 within in
       let has = is.all o.pattern own.0 in
       let left = λ (probe : Probe) (near : probe.offset < len) (bucket : HasBucket probe (get_or pattern probe.offset 0) has.0). subst (λ byte. HasBucket probe byte has.0) (read probe.offset (omega arith)) bucket in
-      all-leave t.is_narrow t.is_wide (left_at t.first haystack o.start) (left_at t.second haystack o.start) (left_at t.third haystack o.start) (left_at t.fourth haystack o.start) has.0
+      let high = λ (probe : Probe). get_or probe.high (get_or haystack (o.start + probe.offset) 0 / 16) 0 in
+      all-leave t.is_whole t.is_few (low_at t.first haystack o.start) (low_at t.second haystack o.start) (low_at t.third haystack o.start) (low_at t.fourth haystack o.start) (high t.first) (high t.second) (high t.third) (high t.fourth) has.0
       (left t.first is.near.first has.1.first) (left t.second is.near.second has.1.second) (left t.third is.near.third has.1.third) (left t.fourth is.near.fourth has.1.fourth)
 
   -- what passes no mark passes no occurrence
@@ -111,16 +120,10 @@ marks-left s at marks place left none has kept o h within =
     kept (o.start - at) (omega arith) (omega arith) ∙ has o h within
 
 -- the places of a block without marks are passed
-pub block-passed : (t : Teddy) (haystack : List ℕ) (from at marks : ℕ) → marks ≡ 0 → ((place : ℕ) → from ≤ place → place < at → marked_at t haystack place ≡ 0) → ((k : ℕ) → k < 32 → marked_at t haystack (at + k) ≢ 0 → bit_at marks k ≡ 1) → (place : ℕ) → from ≤ place → place < at + 32 → marked_at t haystack place ≡ 0
-block-passed t haystack from at marks empty passed set place after within = elim (cases_lt place at) [
+pub block-passed : (t : Teddy) (haystack : List ℕ) (from at : ℕ) → ((place : ℕ) → from ≤ place → place < at → marked_at t haystack place ≡ 0) → ((k : ℕ) → k < 32 → marked_at t haystack (at + k) ≡ 0) → (place : ℕ) → from ≤ place → place < at + 32 → marked_at t haystack place ≡ 0
+block-passed t haystack from at passed empty place after within = elim (cases_lt place at) [
   | inl early ↦ passed place after early
   | inr late ↦
       let here : place ≡ at + (place - at) = omega arith in
-      elim (cases_eq (marked_at t haystack place) 0) [
-        | inl unmarked ↦ unmarked
-        | inr marked ↦
-            let one = set (place - at) (omega arith) (subst (λ p. marked_at t haystack p ≢ 0) here marked) in
-            let zero = ap (λ m. bit_at m (place - at)) empty ∙ bit_at-zero (place - at) in
-            absurd (omega arith)
-      ]
+      subst (λ p. marked_at t haystack p ≡ 0) (sym here) (empty (place - at) (omega arith))
 ]

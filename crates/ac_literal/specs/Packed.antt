@@ -1,10 +1,14 @@
 -- Packed search: what a builder and a searcher are seen as, and what they answer.
-use Rattle.std.specs.Prelude.{◌≡◌, ℕ, ◌<◌, ◌≤◌, Bool, true, false, ◌||◌, ◌==◌, List, [], ◌∷◌, ◌++◌, length, Option, Some, None, min, take, get_or, if◌then◌else◌}
+use Rattle.std.specs.Prelude.{◌≡◌, ℕ, ◌<◌, ◌≤◌, Bool, true, false, ◌||◌, ◌==◌, List, [], ◌∷◌, ◌++◌, length, Option, Some, None, min, map, take, get_or, if◌then◌else◌}
+use Rattle.std.specs.Borrow.{Bor}
 use Rattle.ac_input.specs.declared.search.MatchKind as search
 use Rattle.ac_input.specs.declared.search.MatchKind.TheVariants as searches
 use Rattle.ac_literal.specs.declared.packed.api.MatchKind.{MatchKind}
 use Rattle.ac_literal.specs.declared.packed.api.MatchKind.TheVariants.{LeftmostFirst, LeftmostLongest}
-use Rattle.ac_input.specs.Occurrence.{Search}
+use Rattle.ac_input.specs.declared.search.Span.{Span}
+use Rattle.ac_input.specs.Occurrence.{Search, Occurrence}
+use Rattle.ac_input.specs.Best.{IsBest}
+use Rattle.ac_input.specs.Computed.{walk_of, walk_after}
 
 -- the same kind, as the definitions of a search name it
 abbrev pub search_kind : MatchKind → search.MatchKind
@@ -60,6 +64,10 @@ pub record AreServed (patterns : List (List ℕ)) : Type 0 where
   pub few : length patterns ≤ 128
   pub full : (number : ℕ) → number < length patterns → 0 < length (pattern_at patterns number)
 
+-- each pattern is so long at least
+abbrev pub AreAsLong : ℕ → List (List ℕ) → Type 0
+AreAsLong len patterns = (number : ℕ) → number < length patterns → len ≤ length (pattern_at patterns number)
+
 -- what a searcher looks for
 pub record Packed : Type 0 where
   pub kind : MatchKind
@@ -73,3 +81,34 @@ built kind (pattern ∷ patterns) = Some (record { kind = kind; patterns = patte
 -- the search of a part of a haystack for patterns, byte for byte
 abbrev pub searched : List (List ℕ) → List ℕ → ℕ → ℕ → Search
 searched patterns haystack start end = record { patterns = patterns; pairing = []; haystack = haystack; start = start; end = end; anchored = false }
+
+-- the same of a span
+abbrev pub in_span : List (List ℕ) → List ℕ → Span → Search
+in_span patterns haystack span = searched patterns haystack span.start span.end
+
+-- the search of a whole haystack
+abbrev pub in_whole : List (List ℕ) → List ℕ → Search
+in_whole patterns haystack = searched patterns haystack 0 (length haystack)
+
+-- the bytes of patterns that are lent
+abbrev pub bytes_of : List (Bor (List ℕ)) → List (List ℕ)
+bytes_of patterns = map (λ p. p.now) patterns
+
+-- what is built of patterns that are served, for leftmost-first matches
+abbrev pub leftmost_first : List (List ℕ) → Packed
+leftmost_first patterns = record { kind = LeftmostFirst; patterns = patterns }
+
+-- the best match of a packed search in a span
+abbrev pub IsBestIn : Packed → List ℕ → Span → Option Occurrence → Type 0
+IsBestIn packed haystack span found = IsBest (search_kind packed.kind) (in_span packed.patterns haystack span) found
+
+-- the best match of a packed search in a whole haystack
+abbrev pub IsBestOf : Packed → List ℕ → Option Occurrence → Type 0
+IsBestOf packed haystack found = IsBest (search_kind packed.kind) (in_whole packed.patterns haystack) found
+
+-- the matches of a packed search that don't overlap, from a place on, and all of them
+abbrev pub matches_from : Packed → List ℕ → ℕ → List Occurrence
+matches_from packed haystack at = walk_after (search_kind packed.kind) (in_whole packed.patterns haystack) at None
+
+abbrev pub matches_of : Packed → List ℕ → List Occurrence
+matches_of packed haystack = walk_of (search_kind packed.kind) (in_whole packed.patterns haystack)

@@ -2,12 +2,13 @@
 use Rattle.std.specs.Prelude.{◌≡◌, ◌≢◌, ℕ, ◌+◌, ◌-◌, ◌*◌, ◌%◌, ◌^◌, ◌<◌, ◌≤◌, List, [], ◌∷◌, length, take, get_or, Option, Some, None}
 use Rattle.std.specs.declared.cmp.Ordering.TheVariants.{Greater}
 use Rattle.ac_input.specs.Occurrence.{Search, Occurrence, Occurs}
-use Rattle.ac_input.specs.Best.{preference, IsBest}
+use Rattle.ac_input.specs.Best.{preference, IsLeast, IsBest}
+use Rattle.ac_input.specs.declared.search.Span.{Span}
 use Rattle.ac_input.specs.declared.search.MatchKind as search
 use Rattle.ac_literal.specs.declared.packed.api.MatchKind.{MatchKind}
 use Rattle.ac_literal.specs.declared.packed.rabinkarp.Entry.{Entry}
 use Rattle.ac_literal.specs.declared.packed.rabinkarp.RabinKarp.{RabinKarp}
-use Rattle.ac_literal.specs.Packed.{search_kind, pattern_at}
+use Rattle.ac_literal.specs.Packed.{search_kind, in_span, pattern_at}
 
 -- bytes as the digits of a number in base 2, whatever the digits are
 unfoldable pub value_of : List ℕ → ℕ
@@ -82,6 +83,20 @@ NoneBefore s at = (o : Occurrence) → Occurs s o → at ≤ o.start
 abbrev pub IsFoundBefore : search.MatchKind → Search → ℕ → Option Occurrence → Type 0
 IsFoundBefore kind s to None = NoneBefore s to
 IsFoundBefore kind s to (Some best) = IsBest kind s (Some best)
+
+-- the match of a kind at a place of a span
+abbrev pub IsMatchAt : MatchKind → List (List ℕ) → List ℕ → Span → ℕ → Option Occurrence → Type 0
+IsMatchAt kind patterns haystack span at found = IsLeast (search_kind kind) (StartsAt (in_span patterns haystack span) at) found
+
+-- the match of a kind in a span; where there is no answer, nothing starts before a place
+abbrev pub IsMatchBefore : MatchKind → List (List ℕ) → List ℕ → Span → ℕ → Option Occurrence → Type 0
+IsMatchBefore kind patterns haystack span to found = IsFoundBefore (search_kind kind) (in_span patterns haystack span) to found
+
+-- a table of the kind, over few bytes
+pub record IsTableOf (asked : MatchKind) (patterns : List (List ℕ)) (made : RabinKarp) : Type 0 where
+  pub table : IsTable patterns made
+  pub kind : made.kind ≡ asked
+  pub few : made.hash_len ≤ 16
 
 -- the same table in other memory
 pub record IsSameTable (table copy : RabinKarp) : Type 0 where

@@ -28,12 +28,31 @@ pub record KeepsBuckets (old new : Probe) : Type 0 where
 abbrev pub left_at : Probe → List ℕ → ℕ → ℕ
 left_at probe haystack place = buckets_of probe (slice_index haystack (place + probe.offset))
 
--- the buckets that all probes leave that are asked
+-- the same by the low half of the byte
+abbrev pub low_at : Probe → List ℕ → ℕ → ℕ
+low_at probe haystack place = slice_index probe.low (slice_index haystack (place + probe.offset) % 16)
+
+-- the buckets that the first three leave by low halves
+abbrev pub three_at : Teddy → List ℕ → ℕ → ℕ
+three_at t haystack place = bit_and (bit_and (low_at t.first haystack place) (low_at t.second haystack place)) (low_at t.third haystack place)
+
+-- the buckets that the first two leave by whole bytes
+abbrev pub two_at : Teddy → List ℕ → ℕ → ℕ
+two_at t haystack place = bit_and (left_at t.first haystack place) (left_at t.second haystack place)
+
+-- the buckets that all four leave by whole bytes
+abbrev pub four_at : Teddy → List ℕ → ℕ → ℕ
+four_at t haystack place = bit_and (bit_and (two_at t haystack place) (left_at t.third haystack place)) (left_at t.fourth haystack place)
+
+-- the same by low halves
+abbrev pub four_low_at : Teddy → List ℕ → ℕ → ℕ
+four_low_at t haystack place = bit_and (three_at t haystack place) (low_at t.fourth haystack place)
+
+-- the buckets that the probes leave that are asked
 abbrev pub marked_at : Teddy → List ℕ → ℕ → ℕ
 marked_at t haystack place =
-    let two = bit_and (left_at t.first haystack place) (left_at t.second haystack place) in
-    let three = bit_and two (left_at t.third haystack place) in
-    if t.is_narrow then two else (if t.is_wide then bit_and three (left_at t.fourth haystack place) else three)
+    if t.is_whole then (if t.is_few then two_at t haystack place else four_at t haystack place)
+    else (if t.is_few then three_at t haystack place else four_low_at t haystack place)
 
 -- all probes look at bytes before a length
 pub record LooksBefore (len : ℕ) (t : Teddy) : Type 0 where

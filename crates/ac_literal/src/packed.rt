@@ -10,6 +10,7 @@
 //! Patterns are collected in a [`Builder`], which a [`Config`] makes. Bytes are compared as they are: there is no folding.
 //! Only building and cloning take memory; a search takes none and can't fail.
 pub mod api;
+pub mod needle;
 pub mod pattern;
 pub mod rabinkarp;
 pub mod scanner;

@@ -14,10 +14,10 @@
 //!
 //! Which of those that serve its patterns a [`PrefilterBuilder`] takes is a matter of speed alone. The search for one pattern
 //! comes first. Then come start bytes or rare bytes, whichever are taken to be the rarer, if they are rare enough: a scan
-//! passes some ten bytes in the time in which packed search passes one, and costs more only where it stops. How rare bytes
-//! are is guessed by their ranks, those of their partners counted. Then comes packed search, which costs the same whatever the
-//! text is. Bytes that are not rare are looked for only where one to three ASCII bytes begin all patterns and nothing else
-//! serves; rare bytes that aren't so rare are not worth their scan, and then there is no prefilter.
+//! costs hardly more than to read the text, until it stops. The limit was measured beside a packed search that was slower than
+//! today's (docs/SPEED.md). How rare bytes are is guessed by their ranks, those of their partners counted. Then comes packed
+//! search, which costs nearly the same whatever the text is. Bytes that are not rare are looked for only where one to three
+//! ASCII bytes begin all patterns and nothing else serves; rare bytes that aren't so rare are not worth their scan, and then there is no prefilter.
 //!
 //! A scan looks at many bytes at a time, and at each once; stepping back makes the automaton look at up to 254 bytes that were
 //! scanned before. A search for patterns costs what packed search costs. A prefilter takes the memory of a table of 256 bytes

@@ -33,14 +33,14 @@ count-by m f k apart prefixes all =
     )
 
 -- each state but the start stands for a prefix
-state-prefix : (m : Dictionary) (states : List State) (ends : List (Option ℕ)) → IsTree states → HasEntered m states ends → (i : ℕ) → 0 < i → i < length states → IsPrefix m (text states i)
+pub state-prefix : (m : Dictionary) (states : List State) (ends : List (Option ℕ)) → IsTree states → HasEntered m states ends → (i : ℕ) → 0 < i → i < length states → IsPrefix m (text states i)
 state-prefix m states ends tree s i some within =
     let b = s.begins i some within in
     let len = length-text states i in
     record { some = omega (arith, child-deep states tree i some within); entered = (b.0, b.1, b.2, omega (arith, b.3), b.4 ∙ ap (λ (d : ℕ). take d (canonical_text m b.1)) (sym len)) }
 
 -- each prefix has a state
-prefix-state : (m : Dictionary) (states : List State) (ends : List (Option ℕ)) → IsTree states → HasEntered m states ends → (t : List ℕ) → IsPrefix m t → (j : ℕ) × (0 < j) × (j < length states) × (text states j ≡ t)
+pub prefix-state : (m : Dictionary) (states : List State) (ends : List (Option ℕ)) → IsTree states → HasEntered m states ends → (t : List ℕ) → IsPrefix m t → (j : ℕ) × (0 < j) × (j < length states) × (text states j ≡ t)
 prefix-state m states ends tree s t p =
     let n = p.entered.0 in
     let q = p.entered.1 in

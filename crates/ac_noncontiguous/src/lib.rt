@@ -1,5 +1,26 @@
-//! The noncontiguous automaton: how it is built.
+//! The noncontiguous automaton: how it is built, and how it searches.
 #![tactic(auto)]
 
+pub mod builder;
+mod compiler;
 pub mod error;
+mod links;
+pub mod nfa;
 mod trie;
+
+pub use ac_automaton::automaton::{Advance, Automaton};
+pub use ac_automaton::error::{MatchError, MatchErrorKind, ReplaceError, StreamError};
+pub use ac_automaton::iter::FindIter;
+pub use ac_automaton::overlapping::OverlappingState;
+pub use ac_automaton::watched::Watched;
+pub use ac_input::pairing::{Pairing, PairingError};
+pub use ac_input::primitives::{PatternID, StateID};
+pub use ac_input::search::{Anchored, Input, Match, MatchKind, Span};
+pub use ac_input::steps::Steps;
+pub use ac_literal::prefilter::{Candidate, Prefilter, PrefilterBuilder};
+pub use builder::Builder;
+pub use error::{BuildError, BuildErrorKind};
+pub use nfa::NFA;
+
+#[cfg(test)]
+mod tests;

@@ -11,6 +11,7 @@
 //! Under leftmost-first a pattern that begins with an earlier one can never match, and is not entered: the walk that enters it
 //! meets the state in which the earlier one ends.
 ghost use Rattle.std.specs.Prelude.{◌≡◌, ℕ, Some, ◌+◌, ◌<◌, ◌≤◌, length, map, true, false, IsTrue, OnOk, IfOk, IfErr};
+ghost use Rattle.ac_input.specs.Same.{other};
 ghost use Rattle.ac_input.specs.Pairing.{IsPairing};
 ghost use Rattle.ac_input.specs.LiveLaws.{canonical};
 ghost use Rattle.ac_input.specs.Dictionary.{Dictionary};
@@ -20,8 +21,10 @@ ghost use Rattle.ac_noncontiguous.specs.Tree.{IsTree, IsChildPlace, IsAdded, sta
 ghost use Rattle.ac_noncontiguous.specs.Entering.{IsMarked, IsChildStep, IsChildRefused, IsEnd, IsStuck};
 ghost use Rattle.ac_noncontiguous.specs.Standing.{dictionary_of, IsPatternRefused, IsBuildRefused};
 
+mod children;
+mod failures;
 mod order;
-mod own;
+pub(crate) mod own;
 
 use crate::error::{BuildError, BuildErrorKind};
 use ac_input::live_laws::{canonical_bytes_tell_texts, pairing_is_own_inverse};
@@ -40,17 +43,17 @@ const LONGEST: usize = 2147483646;
 #[derive(Clone, Copy, Debug)]
 pub(crate) struct State {
     /// The state of the beginning without its last byte.
-    parent: StateID,
+    pub parent: StateID,
     /// The first child.
-    child: StateID,
+    pub child: StateID,
     /// The next child of the same parent.
-    sibling: StateID,
+    pub sibling: StateID,
     /// How many bytes the beginning has.
-    depth: u32,
+    pub depth: u32,
     /// Its last byte.
-    byte: u8,
+    pub byte: u8,
     /// Whether a pattern ends here.
-    is_match: bool,
+    pub is_match: bool,
 }
 
 /// Where the child for a byte is, or would be: the first child from the byte on, and the one before it.
@@ -128,8 +131,15 @@ impl Trie {
         ensures { (m : Dictionary) → IsTrieOf m self.now → IsWithinLimits m }
     {}
 
+    /// How many states there are.
+    pub(crate) fn len(&self) -> usize
+        ensures { result ≡ length self.now.states.items }
+    {
+        self.states.len()
+    }
+
     /// The state of this number.
-    fn state(&self, id: StateID) -> State
+    pub(crate) fn state(&self, id: StateID) -> State
         requires { id < length self.now.states.items }
         ensures { result ≡ state_at self.now.states.items id }
     {
@@ -198,10 +208,24 @@ impl Trie {
     }
 
     /// The byte that stands for the byte and its partner.
-    fn canonical(&self, byte: u8) -> u8
+    pub(crate) fn canonical(&self, byte: u8) -> u8
         ensures { result ≡ canonical self.now.pairing byte }
     {
         byte.min(self.pairing.other(byte))
+    }
+
+    /// The partner of the byte.
+    pub(crate) fn other(&self, byte: u8) -> u8
+        ensures { result ≡ other self.now.pairing byte }
+    {
+        self.pairing.other(byte)
+    }
+
+    /// Which occurrences are preferred.
+    pub(crate) fn kind(&self) -> MatchKind
+        ensures { result ≡ self.now.kind }
+    {
+        self.kind
     }
 
     /// Whether a pattern that goes on from the state can't match, since an earlier one ends in the state and is preferred.

@@ -71,7 +71,8 @@ impl<'a> Model for Naive<'a> {
     ghost view = { λ p.
         search_for (map (λ q. q.now) p.patterns.now) p.pairing p.haystack.now p.span p.anchored };
 
-    ghost invariant = { λ p. (p.span.start ≤ p.span.end + 1) × (p.span.end ≤ length p.haystack.now) };
+    ghost invariant = { λ p.
+        (p.span.start ≤ p.span.end + 1) × (p.span.end ≤ length p.haystack.now) };
 }
 
 /// Whether two texts are as long as each other and the same byte by byte, up to the pairing.

@@ -5,7 +5,7 @@ use Rattle.std.specs.Io.KnownBytes.{Appends}
 use Rattle.std.proofs.KnownBytes.{Appends-trans}
 use Rattle.ac_automaton.specs.declared.watched.Watched.{Watched}
 use Rattle.acsub.specs.declared.error.RunError.{RunError}
-use Rattle.acsub.specs.declared.error.RunError.TheVariants.{Rule, Setting, Read, Write, WriteZero, Memory, Position}
+use Rattle.acsub.specs.declared.error.RunError.TheVariants.{Rule, Setting, Build, Read, Write, WriteZero, Memory, Position}
 use Rattle.ac_automaton.specs.Watched.{inner_of, NoneFailed, TookAll, TookFront}
 use Rattle.acsub.specs.Output.{Sent, Stopped, IsWriteFault}
 
@@ -41,6 +41,7 @@ Stopped-then contents old mid new held between bytes more a b =
 pub IsWriteFault-then : {W : Type 0} (old mid new : Watched W) (error : RunError) → NoneFailed old mid → IsWriteFault mid new error → IsWriteFault old new error
 IsWriteFault-then old mid new (Rule error) fine is = is
 IsWriteFault-then old mid new (Setting error) fine is = is
+IsWriteFault-then old mid new (Build kind) fine is = is
 IsWriteFault-then old mid new (Read error) fine is = is
 IsWriteFault-then old mid new (Write error) fine is = is ∙ fine.stalls
 IsWriteFault-then old mid new WriteZero fine is = is ∙ ap (λ (n : ℕ). n + 1) fine.stalls

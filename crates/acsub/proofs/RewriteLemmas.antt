@@ -1,17 +1,14 @@
 -- How the text of an input grows by one pick, or by one occurrence.
-use Rattle.std.proofs.Common.{◌≡◌, ℕ, ◌<◌, ◌≤◌, List, [], ◌∷◌, ◌++◌, length, Option, Some, drop, get_or, refl, sym, ap, ◌∙◌, subst, arith, append_assoc}
+use Rattle.std.proofs.Common.{◌≡◌, ℕ, ◌<◌, List, [], ◌∷◌, ◌++◌, length, Option, Some, drop, get_or, refl, sym, ap, ◌∙◌, subst, append_assoc}
 use Rattle.std.specs.Prelude.{slice_range}
 use Rattle.std.proofs.lemmas.List.{append-nil, get_or-map}
 use Rattle.std.proofs.lemmas.Option.{slice_get_within}
 use Rattle.ac_input.specs.declared.search.MatchKind.{MatchKind}
 use Rattle.ac_input.specs.Occurrence.{Search, Occurrence}
-use Rattle.ac_input.specs.Best.{IsNext}
 use Rattle.ac_input.specs.Walk.{IsWalk}
 use Rattle.ac_input.specs.Rules.{Rule}
 use Rattle.ac_input.specs.Text.{replaced_from, line, listed}
-use Rattle.ac_input.specs.Computed.{listing_after}
 use Rattle.ac_input.proofs.WalkLemmas.{pick-within}
-use Rattle.ac_input.proofs.ListingLemmas.{listing_after-some}
 use Rattle.ac_input.proofs.TextLemmas.{pick-occurs}
 use Rattle.std.proofs.KnownBytes.{Appends-nil}
 use Rattle.ac_automaton.specs.Watched.{inner_of}
@@ -81,7 +78,3 @@ listed-step o os rest front text is e = append_assoc front (line o) (listed rest
 -- no more line
 pub listed-end : (os : List Occurrence) (front text : List ℕ) → os ≡ [] → front ++ listed os ≡ text → front ≡ text
 listed-end os front text is e = sym (append-nil front) ∙ ap (λ (t : List Occurrence). front ++ listed t) (sym is) ∙ e
-
--- one occurrence less is left
-pub listing_after-shorter : (s : Search) (before : Option Occurrence) (o : Occurrence) → s.end ≤ length s.haystack → IsNext s before (Some o) → length (listing_after s (Some o)) < length (listing_after s before)
-listing_after-shorter s before o inside next = let e = ap length (listing_after-some s before o inside next) in omega arith

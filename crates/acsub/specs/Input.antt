@@ -5,7 +5,7 @@ use Rattle.std.specs.List.{concat}
 use Rattle.std.specs.declared.alloc.Global.{Global}
 use Rattle.ac_automaton.specs.Watched.{failures_of, pieces_of, inner_of}
 use Rattle.acsub.specs.declared.error.RunError.{RunError}
-use Rattle.acsub.specs.declared.error.RunError.TheVariants.{Rule, Setting, Read, Write, WriteZero, Memory, Position}
+use Rattle.acsub.specs.declared.error.RunError.TheVariants.{Rule, Setting, Build, Read, Write, WriteZero, Memory, Position}
 use Rattle.ac_automaton.specs.declared.watched.Watched.{Watched}
 
 -- no piece is empty
@@ -30,6 +30,7 @@ ReadsWhole remaining old new (Err (Read error)) = (pieces : List (List ℕ)) × 
 ReadsWhole remaining old new (Err Memory) = (pieces : List (List ℕ)) × Gave remaining old new pieces 0 × AreFilled pieces
 ReadsWhole remaining old new (Err (Rule error)) = ⊥
 ReadsWhole remaining old new (Err (Setting error)) = ⊥
+ReadsWhole remaining old new (Err (Build kind)) = ⊥
 ReadsWhole remaining old new (Err (Write error)) = ⊥
 ReadsWhole remaining old new (Err WriteZero) = ⊥
 ReadsWhole remaining old new (Err Position) = ⊥

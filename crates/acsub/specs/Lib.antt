@@ -8,3 +8,4 @@ pub mod Command
 pub mod Words
 pub mod Tool
 pub mod Finder
+pub mod Plan

@@ -4,7 +4,7 @@ use Rattle.std.specs.Io.KnownBytes.{Appends}
 use Rattle.ac_automaton.specs.Watched.{failures_of, stalls_of, taken_of, inner_of, NoneFailed}
 use Rattle.ac_automaton.specs.declared.watched.Watched.{Watched}
 use Rattle.acsub.specs.declared.error.RunError.{RunError}
-use Rattle.acsub.specs.declared.error.RunError.TheVariants.{Rule, Setting, Read, Write, WriteZero, Memory, Position}
+use Rattle.acsub.specs.declared.error.RunError.TheVariants.{Rule, Setting, Build, Read, Write, WriteZero, Memory, Position}
 
 -- The bytes were sent: behind those that were held back, they were taken or are held back now. No call failed. Where the
 -- device tells what it holds, that grew by what was taken.
@@ -28,6 +28,7 @@ pub record Stopped {W : Type 0} (contents : W → Option (List ℕ)) (old new : 
 abbrev pub IsWriteFault : {W : Type 0} → Watched W → Watched W → RunError → Type 0
 IsWriteFault old new (Rule error) = ⊥
 IsWriteFault old new (Setting error) = ⊥
+IsWriteFault old new (Build kind) = ⊥
 IsWriteFault old new (Read error) = ⊥
 IsWriteFault old new (Write error) = stalls_of new ≡ stalls_of old
 IsWriteFault old new WriteZero = stalls_of new ≡ stalls_of old + 1

@@ -16,7 +16,8 @@ use Rattle.acsub.specs.declared.error.RunError.TheVariants as errors
 use Rattle.acsub.specs.declared.settings.Mode.{Mode}
 use Rattle.acsub.specs.declared.settings.Mode.TheVariants as modes
 use Rattle.acsub.specs.declared.settings.Settings.{Settings}
-use Rattle.acsub.specs.Finder.{whole_search}
+use Rattle.acsub.specs.Finder.{whole_search, IsNotBuilt}
+use Rattle.acsub.specs.Plan.{Plan}
 use Rattle.acsub.specs.Input.{AreFilled, AreWhole}
 use Rattle.acsub.specs.Settings.{IsAccepted, IsFirstExclusion}
 use Rattle.acsub.specs.Sides.{patterns_of, replacements_of}
@@ -108,21 +109,34 @@ AnswersRun settings file m (Ok done) = RanWhole settings file m
 AnswersRun settings file m (Err (errors.Rule (rule_errors.Line n))) = FirstBadLine file n
 AnswersRun settings file m (Err (errors.Rule rule_errors.Memory)) = ⊥
 AnswersRun settings file m (Err (errors.Setting e)) = (rules : List Rule) × IsRuleFile file rules × IsFirstExclusion settings rules e
+AnswersRun settings file m (Err (errors.Build kind)) = (rules : List Rule) × IsRuleFile file rules × IsAccepted settings rules × IsNotBuilt settings rules kind
 AnswersRun settings file m (Err (errors.Read e)) = RanToFailedRead settings file m
 AnswersRun settings file m (Err (errors.Write e)) = RanToFailedWrite settings file m 0
 AnswersRun settings file m (Err errors.WriteZero) = RanToFailedWrite settings file m 1
 AnswersRun settings file m (Err errors.Memory) = RanOutOfMemory settings file m
 AnswersRun settings file m (Err errors.Position) = RanOutOfPlaces settings file m
 
+-- the rules or the settings were refused, or a build of their automaton
+abbrev pub IsRefusal : Result (Unit {0}) RunError → Type 0
+IsRefusal (Ok done) = ⊥
+IsRefusal (Err (errors.Rule e)) = Unit {0}
+IsRefusal (Err (errors.Setting e)) = Unit {0}
+IsRefusal (Err (errors.Build kind)) = Unit {0}
+IsRefusal (Err (errors.Read e)) = ⊥
+IsRefusal (Err (errors.Write e)) = ⊥
+IsRefusal (Err errors.WriteZero) = ⊥
+IsRefusal (Err errors.Memory) = ⊥
+IsRefusal (Err errors.Position) = ⊥
+
 -- What was read and written, and by which answer, where the rules are those of a file.
 abbrev pub Ran : {R W : Type 0} → (R → Option (List ℕ)) → (W → Option (List ℕ)) → Watched R → Watched R → Watched W → Watched W → Settings → List ℕ → Result (Unit {0}) RunError → Type 0
 Ran remaining contents reader_before reader_after writer_before writer_after settings file result =
     (m : Moved) × HasMoved remaining contents reader_before reader_after writer_before writer_after m × AnswersRun settings file m result
 
--- the same, where the rules are known, whichever file spells them
+-- the same, where the rules are known, whichever file spells them; and then nothing is refused
 abbrev pub RanRules : {R W : Type 0} → (R → Option (List ℕ)) → (W → Option (List ℕ)) → Watched R → Watched R → Watched W → Watched W → Settings → List Rule → Result (Unit {0}) RunError → Type 0
 RanRules remaining contents reader_before reader_after writer_before writer_after settings rules result =
-    (m : Moved) × HasMoved remaining contents reader_before reader_after writer_before writer_after m × ((file : List ℕ) → IsRuleFile file rules → AnswersRun settings file m result)
+    (m : Moved) × HasMoved remaining contents reader_before reader_after writer_before writer_after m × ¬ IsRefusal result × ((file : List ℕ) → IsRuleFile file rules → AnswersRun settings file m result)
 
 -- neither the reader nor the writer was touched
 abbrev pub NoneTouched : {R W : Type 0} → Watched R → Watched R → Watched W → Watched W → Type 0
@@ -132,23 +146,26 @@ NoneTouched reader_before reader_after writer_before writer_after = (reader_afte
 abbrev pub AnswersBadLine : List ℕ → Result (Unit {0}) RunError → Type 0
 AnswersBadLine file result = (n : ℕ) → (result ≡ Err (errors.Rule (rule_errors.Line n))) ↔ FirstBadLine file n
 
--- the rules or the settings were refused
-abbrev pub IsRefusal : Result (Unit {0}) RunError → Type 0
-IsRefusal (Ok done) = ⊥
-IsRefusal (Err (errors.Rule e)) = Unit {0}
-IsRefusal (Err (errors.Setting e)) = Unit {0}
-IsRefusal (Err (errors.Read e)) = ⊥
-IsRefusal (Err (errors.Write e)) = ⊥
-IsRefusal (Err errors.WriteZero) = ⊥
-IsRefusal (Err errors.Memory) = ⊥
-IsRefusal (Err errors.Position) = ⊥
-
 -- The rules of the file, which go with the settings; or why there are none.
-abbrev pub Prepares : Settings → List ℕ → Result (List Rule) RunError → Type 0
-Prepares settings file (Ok rules) = IsRuleFile file rules × IsAccepted settings rules
+abbrev pub Accepts : Settings → List ℕ → Result (List Rule) RunError → Type 0
+Accepts settings file (Ok rules) = IsRuleFile file rules × IsAccepted settings rules
+Accepts settings file (Err (errors.Rule (rule_errors.Line n))) = FirstBadLine file n
+Accepts settings file (Err (errors.Rule rule_errors.Memory)) = ⊥
+Accepts settings file (Err (errors.Setting e)) = (rules : List Rule) × IsRuleFile file rules × IsFirstExclusion settings rules e
+Accepts settings file (Err (errors.Build kind)) = ⊥
+Accepts settings file (Err (errors.Read e)) = ⊥
+Accepts settings file (Err (errors.Write e)) = ⊥
+Accepts settings file (Err errors.WriteZero) = ⊥
+Accepts settings file (Err errors.Memory) = (rules : List Rule) × IsRuleFile file rules
+Accepts settings file (Err errors.Position) = ⊥
+
+-- All is settled for the settings and the rules of the file; or why it is not.
+abbrev pub Prepares : Settings → List ℕ → Result Plan RunError → Type 0
+Prepares settings file (Ok plan) = (plan.settings ≡ settings) × IsRuleFile file plan.rules × IsAccepted settings plan.rules
 Prepares settings file (Err (errors.Rule (rule_errors.Line n))) = FirstBadLine file n
 Prepares settings file (Err (errors.Rule rule_errors.Memory)) = ⊥
 Prepares settings file (Err (errors.Setting e)) = (rules : List Rule) × IsRuleFile file rules × IsFirstExclusion settings rules e
+Prepares settings file (Err (errors.Build kind)) = (rules : List Rule) × IsRuleFile file rules × IsAccepted settings rules × IsNotBuilt settings rules kind
 Prepares settings file (Err (errors.Read e)) = ⊥
 Prepares settings file (Err (errors.Write e)) = ⊥
 Prepares settings file (Err errors.WriteZero) = ⊥

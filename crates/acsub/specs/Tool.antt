@@ -5,6 +5,8 @@ use Rattle.std.specs.declared.io.ErrorKind.TheVariants as kind
 use Rattle.clap.specs.declared.error.Error.{Error}
 use Rattle.ac_input.specs.Pairing.{twice_of}
 use Rattle.ac_automaton.specs.declared.watched.Watched.{Watched}
+use Rattle.ac_noncontiguous.specs.declared.error.BuildErrorKind.{BuildErrorKind}
+use Rattle.ac_noncontiguous.specs.declared.error.BuildErrorKind.TheVariants as limits
 use Rattle.acsub.specs.declared.error.RunError.{RunError}
 use Rattle.acsub.specs.declared.error.RunError.TheVariants as errors
 use Rattle.acsub.specs.declared.rules.RuleError.{RuleError}
@@ -29,9 +31,16 @@ abbrev pub rule_text : RuleError → List ℕ
 rule_text (rule_errors.Line n) = codes "line " ++ decimal n
 rule_text rule_errors.Memory = codes "out of memory"
 
+abbrev pub build_text : BuildErrorKind → List ℕ
+build_text (limits.StateIDOverflow max requested) = codes "too many states"
+build_text (limits.PatternIDOverflow max requested) = codes "too many patterns"
+build_text (limits.PatternTooLong pattern len) = codes "pattern too long"
+build_text limits.Memory = codes "out of memory"
+
 abbrev pub run_text : RunError → List ℕ
 run_text (errors.Rule e) = codes "rules: " ++ rule_text e
 run_text (errors.Setting e) = codes "setting: " ++ setting_text e
+run_text (errors.Build kind) = codes "build: " ++ build_text kind
 run_text (errors.Read e) = codes "read failed"
 run_text (errors.Write e) = codes "write failed"
 run_text errors.WriteZero = codes "write took no byte"
@@ -49,6 +58,7 @@ fault_text faults.Flush = codes "flush failed"
 abbrev pub run_status : RunError → ℕ
 run_status (errors.Rule e) = 3
 run_status (errors.Setting e) = 2
+run_status (errors.Build kind) = 4
 run_status (errors.Read e) = 5
 run_status (errors.Write e) = 6
 run_status errors.WriteZero = 6

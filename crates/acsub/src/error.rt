@@ -1,9 +1,11 @@
 //! Why a run stops.
 ghost use Rattle.std.specs.Prelude.{◌≡◌};
+ghost use Rattle.acsub.specs.Finder.{not_built};
 ghost use Rattle.acsub.specs.declared.error.RunError.TheVariants.{Memory};
 
 use crate::rules::RuleError;
 use crate::settings::SettingError;
+use ac_noncontiguous::error::{BuildError, BuildErrorKind};
 use std::alloc::AllocError;
 use std::error::Error;
 use std::{fmt, io};
@@ -15,6 +17,9 @@ pub enum RunError {
     Rule(RuleError),
     /// The settings exclude one another, or don't go with the rules.
     Setting(SettingError),
+    /// The patterns are too many or too long for an automaton. Want of memory for it is [`RunError::Memory`], and stands in no
+    /// other kind.
+    Build(BuildErrorKind),
     /// A read failed.
     Read(io::Error),
     /// A write failed.
@@ -37,6 +42,12 @@ impl fmt::Display for RunError {
         match self {
             RunError::Rule(error) => write!(f, "rules: {error}"),
             RunError::Setting(error) => write!(f, "setting: {error}"),
+            RunError::Build(kind) => match kind {
+                BuildErrorKind::StateIDOverflow { .. } => write!(f, "build: too many states"),
+                BuildErrorKind::PatternIDOverflow { .. } => write!(f, "build: too many patterns"),
+                BuildErrorKind::PatternTooLong { .. } => write!(f, "build: pattern too long"),
+                BuildErrorKind::Memory => write!(f, "build: out of memory"),
+            },
             RunError::Read(_) => write!(f, "read failed"),
             RunError::Write(_) => write!(f, "write failed"),
             RunError::WriteZero => write!(f, "write took no byte"),
@@ -47,6 +58,25 @@ impl fmt::Display for RunError {
 }
 
 impl Error for RunError {}
+
+impl From<BuildError> for RunError {
+    ghost from_gives = { λ limit error. error ≡ not_built limit };
+
+    fn from(error: BuildError) -> RunError {
+        match *error.kind() {
+            BuildErrorKind::StateIDOverflow { max, requested_max } => {
+                RunError::Build(BuildErrorKind::StateIDOverflow { max, requested_max })
+            }
+            BuildErrorKind::PatternIDOverflow { max, requested_max } => {
+                RunError::Build(BuildErrorKind::PatternIDOverflow { max, requested_max })
+            }
+            BuildErrorKind::PatternTooLong { pattern, len } => {
+                RunError::Build(BuildErrorKind::PatternTooLong { pattern, len })
+            }
+            BuildErrorKind::Memory => RunError::Memory,
+        }
+    }
+}
 
 impl From<AllocError> for RunError {
     ghost from_gives = { λ _ error. error ≡ Memory };

@@ -13,8 +13,10 @@ use std::io::Read;
 const PIECE: usize = 65536;
 
 /// Reads up to the first empty read, by pieces of at least 64 KiB. The room for a read is taken before it, so that nothing is
-/// taken after the empty one. It takes at most about three times the memory of the input at once, and each byte is moved a
-/// few times at most.
+/// taken after the empty one.
+///
+/// The vector grows by doubling, so each byte is moved a few times at most; but of the room that is taken only the next piece is
+/// written to, so no more memory is touched than the input and a piece.
 pub fn read_whole<R: Read>(alloc: Global, reader: &mut Watched<R>) -> Result<Vec<u8>, RunError>
     requires { has_ended reader.old ≡ false }
     ensures { ReadsWhole R.remaining reader.old reader.new result }
@@ -35,17 +37,15 @@ pub fn read_whole<R: Read>(alloc: Global, reader: &mut Watched<R>) -> Result<Vec
     }
 }
 
-/// Makes room for one more piece behind those bytes that are filled.
+/// Makes room for one more piece after those bytes that are filled, and zeroes no more than that.
 fn make_room(input: &mut Vec<u8>, filled: usize) -> Result<(), AllocError>
     requires { filled ≤ vec_len input.old }
     ensures kept { take filled input.new.items ≡ take filled input.old.items }
     ensures room { OnOk result (filled + PIECE ≤ vec_len input.new) }
     ensures grows { vec_len input.old ≤ vec_len input.new }
 {
-    let len = input.len();
-    if len - filled >= PIECE {
+    if input.len() - filled >= PIECE {
         return Ok(());
     }
-    let more = if len < PIECE { PIECE } else { len };
-    input.resize(len + more, 0)
+    input.resize(filled + PIECE, 0)
 }

@@ -1,16 +1,16 @@
 //! The lines of a list.
 //!
-//! A line tells an occurrence: the number of its pattern, its start and its end, in decimal, with a space between two of them and
+//! A line tells a match: the number of its pattern, its start and its end, in decimal, with a space between two of them and
 //! a line feed behind the last. It is put together in an array, from its end, so that nothing is moved.
 ghost use Rattle.std.specs.Prelude.{◌≡◌, ◌+◌, ◌<◌, ◌≤◌, ◌∷◌, ◌++◌, drop, length, decimal};
 ghost use Rattle.ac_input.specs.Text.{line};
 
-use ac_plain::plain::Found;
+use ac_input::search::Match;
 use itoa::write_digits;
 use std::marker::Model;
 
-/// How long a line can be: three numbers of at most 20 digits, and three bytes.
-const LONGEST: usize = 63;
+/// How long a line can be: a number of at most 10 digits, two places of at most 20, and three bytes.
+const LONGEST: usize = 53;
 
 /// A line of a list. A contract sees its bytes.
 #[derive(Drop)]
@@ -31,14 +31,14 @@ impl Model for Line {
 }
 
 impl Line {
-    /// The line that tells an occurrence.
-    pub fn new(found: Found) -> Line
-        ensures { result ≡ line found }
+    /// The line that tells a match.
+    pub fn new(found: &Match) -> Line
+        ensures { result ≡ line found.now }
     {
         let mut bytes = [0u8; LONGEST];
-        let end = put_number(&mut bytes, LONGEST, found.end, b'\n');
-        let start = put_number(&mut bytes, end, found.start, b' ');
-        let pattern = put_number(&mut bytes, start, found.pattern, b' ');
+        let end = put_number(&mut bytes, LONGEST, found.end(), b'\n');
+        let start = put_number(&mut bytes, end, found.start(), b' ');
+        let pattern = put_number(&mut bytes, start, found.pattern().as_usize(), b' ');
         Line {
             bytes,
             start: pattern,
@@ -55,10 +55,9 @@ impl Line {
 
 /// Puts a number and a byte before the place, and tells where they begin.
 fn put_number(bytes: &mut [u8], end: usize, number: usize, behind: u8) -> usize
-    requires room { 21 ≤ end }
+    requires room { length (decimal number) < end }
     requires within { end ≤ length bytes.old }
     ensures begins { result + length (decimal number) + 1 ≡ end }
-    ensures room { end ≤ result + 21 }
     ensures written { drop result bytes.new ≡ decimal number ++ behind ∷ drop end bytes.old }
 {
     bytes[end - 1] = behind;

@@ -4,7 +4,6 @@
 //! text is kept.
 ghost use Rattle.std.specs.Prelude.{◌≡◌, ◌≤◌, ◌<◌, ◌++◌, length, None, slice_range, slice_index_or, IfErr, OnOk, OnErr};
 ghost use Rattle.ac_input.specs.Text.{replaced_from, line, listed};
-ghost use Rattle.ac_input.specs.Computed.{listing_of};
 ghost use Rattle.acsub.specs.Lines.{rule_at};
 ghost use Rattle.acsub.specs.Output.{Sent, Stopped, IsWriteFault};
 ghost use Rattle.ac_automaton.specs.Replace.{LieInOrder};
@@ -12,16 +11,16 @@ ghost use Rattle.acsub.specs.Sides.{replacements_of};
 
 use crate::error::RunError;
 use crate::line::Line;
+use crate::matches::Matches;
 use crate::output::Output;
-use crate::picks::Picks;
 use crate::rules::Rules;
+use ac_automaton::automaton::Automaton;
 use ac_automaton::watched::Watched;
-use ac_plain::plain::{Found, Naive};
 use std::io::Write;
 
 /// Sends the input with each pick exchanged for its replacement.
-pub fn send_replaced<W: Write>(
-    picks: &mut Picks<'_>,
+pub fn send_replaced<A: Automaton, W: Write>(
+    picks: &mut Matches<'_, A>,
     input: &[u8],
     rules: &Rules,
     output: &mut Output,
@@ -37,12 +36,12 @@ pub fn send_replaced<W: Write>(
     let mut at = 0;
     while let Some(found) = picks.next() {
         send_exchanged(
-            &input[at..found.start],
-            rules.replacement(found.pattern),
+            &input[at..found.start()],
+            rules.replacement(found.pattern().as_usize()),
             output,
             writer,
         )?;
-        at = found.end;
+        at = found.end();
     }
     output.send(writer, &input[at..])
 }
@@ -64,41 +63,20 @@ fn send_exchanged<W: Write>(
     output.send(writer, replacement)
 }
 
-/// Sends a line for each pick.
-pub fn send_list<W: Write>(
-    picks: &mut Picks<'_>,
+/// Sends a line for each match.
+pub fn send_list<A: Automaton, W: Write>(
+    matches: &mut Matches<'_, A>,
     output: &mut Output,
     writer: &mut Watched<W>,
 ) -> Result<(), RunError>
     ensures sent { OnOk result (Sent W.contents writer.old writer.new output.old output.new
-        (listed picks.old)) }
+        (listed matches.old)) }
     ensures stopped { OnErr result (Stopped W.contents writer.old writer.new output.old
-        (listed picks.old)) }
+        (listed matches.old)) }
     ensures kind { IfErr result (IsWriteFault writer.old writer.new) }
 {
-    while let Some(found) = picks.next() {
-        output.send(writer, Line::new(found).as_bytes())?;
-    }
-    Ok(())
-}
-
-/// Sends a line for each occurrence.
-pub fn send_overlapping<W: Write>(
-    search: &Naive<'_>,
-    output: &mut Output,
-    writer: &mut Watched<W>,
-) -> Result<(), RunError>
-    requires end { search.now.end ≡ length search.now.haystack }
-    ensures sent { OnOk result (Sent W.contents writer.old writer.new output.old output.new
-        (listed (listing_of search.now))) }
-    ensures stopped { OnErr result (Stopped W.contents writer.old writer.new output.old
-        (listed (listing_of search.now))) }
-    ensures kind { IfErr result (IsWriteFault writer.old writer.new) }
-{
-    let mut before = None;
-    while let Some(found) = search.next_occurrence(before) {
-        output.send(writer, Line::new(found).as_bytes())?;
-        before = Some(found);
+    while let Some(found) = matches.next() {
+        output.send(writer, Line::new(&found).as_bytes())?;
     }
     Ok(())
 }

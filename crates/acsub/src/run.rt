@@ -1,32 +1,32 @@
 //! A run: rules and settings in, an input read to its end, its text written.
 //!
 //! [`run`] takes all the memory that it needs before the read that finds the end of the input, so want of memory is answered
-//! while nothing is written yet. Then it searches the input, by packed search where the settings name it and by the plain
-//! program otherwise, and writes the text as it is found. The engine and its settings change nothing of the text.
+//! while nothing is written yet. Then it searches the input, by packed search where the settings name it and by an automaton
+//! otherwise, and writes the text as it is found. The engine and its settings change nothing of the text.
 ghost use Rattle.std.specs.Prelude.{◌≡◌, ℕ, ◌↔◌, List, [], false, map, IfErr, OnOk, OnErr};
 ghost use Rattle.ac_input.specs.Rules.{IsRuleFile};
 ghost use Rattle.ac_automaton.specs.Watched.{has_ended};
-ghost use Rattle.acsub.specs.Finder.{IsFinderOf};
 ghost use Rattle.acsub.specs.Output.{Sent, Stopped, IsWriteFault};
-ghost use Rattle.acsub.specs.Run.{AnswersBadLine, IsRefusal, NoneTouched, Prepares, Ran, RanRules, output_of};
+ghost use Rattle.acsub.specs.Run.{Accepts, AnswersBadLine, IsRefusal, NoneTouched, Prepares, Ran, RanRules, output_of};
 ghost use Rattle.acsub.specs.Settings.{IsAccepted};
-ghost use Rattle.acsub.specs.Sides.{bytes_of, patterns_of};
 
 use crate::error::RunError;
-use crate::finder::{self, Finder};
+use crate::finder::{self, Chosen};
 use crate::input::read_whole;
 use crate::output::Output;
-use crate::rewrite::{send_list, send_overlapping, send_replaced};
+use crate::prepared::Prepared;
+use crate::rewrite::{send_list, send_replaced};
 use crate::rules::{RuleError, Rules, read_rules};
 use crate::settings::{Mode, Settings, check};
+use ac_automaton::automaton::Automaton;
 use ac_automaton::watched::Watched;
 use std::alloc::Global;
 use std::io::{Read, Write};
 
 /// Reads the input to its end, and writes the text that settings and rules make of it.
 ///
-/// It takes memory for the rules, for the whole input, and one buffer for the text; no text is kept. A run costs about the
-/// input times the patterns, and for overlapping occurrences times the longest pattern too. The writer isn't flushed.
+/// It takes memory for the rules and what is built of them, for the whole input, and one buffer for the text; no text is kept. A
+/// run costs about the input and the text. The writer isn't flushed.
 pub fn run<R: Read, W: Write>(
     alloc: Global,
     settings: &Settings,
@@ -40,18 +40,27 @@ pub fn run<R: Read, W: Write>(
         settings.now rules.now result }
     // The first bad line is answered whatever memory does.
     ensures bad_line { AnswersBadLine rules.now result }
-    // A refusal has touched nothing.
+    // A refusal has touched nothing: bad rules, settings that don't go together, an automaton that isn't built.
     ensures untouched { IsRefusal result → NoneTouched reader.old reader.new writer.old writer.new }
 {
     match prepare(alloc, settings, rules) {
-        Ok(rules) => transform(alloc, settings, &rules, reader, writer),
+        Ok(prepared) => transform(alloc, &prepared, reader, writer),
         Err(error) => Err(error),
     }
 }
 
-/// The rules, where the settings go with them.
-fn prepare(alloc: Global, settings: &Settings, bytes: &[u8]) -> Result<Rules, RunError>
+/// All that is settled before the input is read.
+fn prepare(alloc: Global, settings: &Settings, bytes: &[u8]) -> Result<Prepared<Chosen>, RunError>
     ensures { Prepares settings.now bytes.now result }
+{
+    let rules = accept(alloc, settings, bytes)?;
+    let finder = finder::build(alloc, settings, &rules)?;
+    Ok(Prepared::new(settings, rules, finder))
+}
+
+/// The rules, where the settings go with them.
+fn accept(alloc: Global, settings: &Settings, bytes: &[u8]) -> Result<Rules, RunError>
+    ensures { Accepts settings.now bytes.now result }
 {
     let rules = match read_rules(alloc, bytes) {
         Ok(rules) => rules,
@@ -65,86 +74,62 @@ fn prepare(alloc: Global, settings: &Settings, bytes: &[u8]) -> Result<Rules, Ru
 }
 
 /// Reads the input, and writes its text.
-fn transform<R: Read, W: Write>(
+fn transform<A: Automaton, R: Read, W: Write>(
     alloc: Global,
-    settings: &Settings,
-    rules: &Rules,
+    prepared: &Prepared<A>,
     reader: &mut Watched<R>,
     writer: &mut Watched<W>,
 ) -> Result<(), RunError>
     requires open { has_ended reader.old ≡ false }
-    requires accepted { IsAccepted settings.now rules.now }
+    requires accepted { IsAccepted prepared.now.settings prepared.now.rules }
     ensures { RanRules R.remaining W.contents reader.old reader.new writer.old writer.new
-        settings.now rules.now result }
+        prepared.now.settings prepared.now.rules result }
 {
-    let patterns = rules.patterns(alloc)?;
-    let finder = finder::build(alloc, settings, patterns.as_slice())?;
     let mut output = Output::new(alloc)?;
     let input = read_whole(alloc, reader)?;
-    write_text(
-        settings,
-        rules,
-        &finder,
-        patterns.as_slice(),
-        input.as_slice(),
-        &mut output,
-        writer,
-    )
+    write_text(prepared, input.as_slice(), &mut output, writer)
 }
 
 /// Writes the text of an input.
-fn write_text<W: Write>(
-    settings: &Settings,
-    rules: &Rules,
-    finder: &Finder,
-    patterns: &[&[u8]],
+fn write_text<A: Automaton, W: Write>(
+    prepared: &Prepared<A>,
     input: &[u8],
     output: &mut Output,
     writer: &mut Watched<W>,
 ) -> Result<(), RunError>
-    requires patterns { bytes_of patterns.now ≡ patterns_of rules.now }
-    requires serves { IsFinderOf settings.now (bytes_of patterns.now) finder.now }
+    requires accepted { IsAccepted prepared.now.settings prepared.now.rules }
     requires fresh { output.old ≡ [] }
     ensures sent { OnOk result (Sent W.contents writer.old writer.new [] []
-        (output_of settings.now rules.now input.now)) }
+        (output_of prepared.now.settings prepared.now.rules input.now)) }
     ensures stopped { OnErr result (Stopped W.contents writer.old writer.new []
-        (output_of settings.now rules.now input.now)) }
+        (output_of prepared.now.settings prepared.now.rules input.now)) }
     ensures kind { IfErr result (IsWriteFault writer.old writer.new) }
 {
-    send_text(settings, rules, finder, patterns, input, output, writer)?;
+    send_text(prepared, input, output, writer)?;
     output.send_held(writer)
 }
 
 /// Sends the text that a mode makes of the whole input.
-fn send_text<W: Write>(
-    settings: &Settings,
-    rules: &Rules,
-    finder: &Finder,
-    patterns: &[&[u8]],
+fn send_text<A: Automaton, W: Write>(
+    prepared: &Prepared<A>,
     input: &[u8],
     output: &mut Output,
     writer: &mut Watched<W>,
 ) -> Result<(), RunError>
-    requires patterns { bytes_of patterns.now ≡ patterns_of rules.now }
-    requires serves { IsFinderOf settings.now (bytes_of patterns.now) finder.now }
+    requires accepted { IsAccepted prepared.now.settings prepared.now.rules }
     ensures sent { OnOk result (Sent W.contents writer.old writer.new output.old output.new
-        (output_of settings.now rules.now input.now)) }
+        (output_of prepared.now.settings prepared.now.rules input.now)) }
     ensures stopped { OnErr result (Stopped W.contents writer.old writer.new output.old
-        (output_of settings.now rules.now input.now)) }
+        (output_of prepared.now.settings prepared.now.rules input.now)) }
     ensures kind { IfErr result (IsWriteFault writer.old writer.new) }
 {
-    match settings.mode {
+    match prepared.mode() {
         Mode::Replace => {
-            let mut picks = finder.picks(settings, patterns, input);
-            send_replaced(&mut picks, input, rules, output, writer)
+            let mut picks = prepared.picks(input);
+            send_replaced(&mut picks, input, prepared.rules(), output, writer)
         }
-        Mode::List => {
-            let mut picks = finder.picks(settings, patterns, input);
-            send_list(&mut picks, output, writer)
-        }
-        Mode::Overlap => {
-            send_overlapping(&finder::plain(settings, patterns, input), output, writer)
-        }
+        Mode::List => send_list(&mut prepared.picks(input), output, writer),
+        Mode::Overlap => send_list(&mut prepared.overlapping(input), output, writer),
     }
 }
 

@@ -44,6 +44,7 @@ impl Fault {
             Fault::RuleFile => 3,
             Fault::Run(RunError::Rule(_)) => 3,
             Fault::Run(RunError::Setting(_)) => 2,
+            Fault::Run(RunError::Build(_)) => 4,
             Fault::Run(RunError::Read(_)) => 5,
             Fault::Run(RunError::Write(_)) => 6,
             Fault::Run(RunError::WriteZero) => 6,

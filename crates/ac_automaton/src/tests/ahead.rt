@@ -88,7 +88,8 @@ impl<'p> Automaton for Ahead<'p> {
 
     ghost tells = { λ f anchored text sid reads. reads.tells };
 
-    ghost lives = { λ f anchored text sid reads. elim reads.reached.stands [ inl dead ↦ (None, dead.1) | inr alive ↦ (Some alive.1.0, alive.1.1) ] };
+    ghost lives = { λ f anchored text sid reads. elim reads.reached.stands
+        [ inl dead ↦ (None, dead.1) | inr alive ↦ (Some alive.1.0, alive.1.1) ] };
 
     ghost pairs = { λ f anchored text sid reads. reads.reached.inverse };
 

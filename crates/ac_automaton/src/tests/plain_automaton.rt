@@ -42,7 +42,11 @@ impl<'p> Model for PlainAutomaton<'p> {
 
     ghost Value = { Dictionary };
 
-    ghost view = { λ a. record { patterns = map (λ p. p.now) a.patterns.now; pairing = a.pairing; kind = a.kind } };
+    ghost view = { λ a. record {
+      patterns = map (λ p. p.now) a.patterns.now;
+      pairing = a.pairing;
+      kind = a.kind;
+    } };
 
     ghost invariant = { λ a. AreSmall (map (λ p. p.now) a.patterns.now) × IsOwnInverse a.pairing };
 }
@@ -109,12 +113,28 @@ impl<'p> PlainAutomaton<'p> {
         ensures folded { IfSome result (λ made. IsFolded fold made.pairing) }
         ensures kind { IfSome result (λ made. made.kind ≡ kind) }
     {
+        PlainAutomaton::paired(patterns, pairing_of(fold), kind)
+    }
+
+    /// The same, by this pairing.
+    pub fn paired(
+        patterns: &'p [&'p [u8]],
+        pairing: Pairing,
+        kind: MatchKind,
+    ) -> Option<PlainAutomaton<'p>>
+        ensures few { IsSome result ↔ AreSmall (map (λ p. p.now) patterns.now) }
+        ensures made { IfSome result (λ made. made ≡ record {
+          patterns = map (λ p. p.now) patterns.now;
+          pairing = pairing;
+          kind = kind;
+        }) }
+    {
         if !are_few(patterns) {
             return None;
         }
         Some(PlainAutomaton {
             patterns,
-            pairing: pairing_of(fold),
+            pairing,
             kind,
         })
     }
@@ -233,7 +253,8 @@ impl<'p> PlainAutomaton<'p> {
 
     /// The last place of a text that may be alive.
     fn last_place(&self, anchored: Anchored, text: &[u8]) -> usize
-        ensures place { result ≡ (if is_anchored anchored then 0 else last_place self.now.kind self.now text.now) }
+        ensures place { result
+            ≡ (if is_anchored anchored then 0 else last_place self.now.kind self.now text.now) }
         ensures within { result ≤ length text.now }
     {
         if anchored.is_anchored() {
@@ -250,7 +271,9 @@ impl<'p> PlainAutomaton<'p> {
 
     /// A state that stands for a text, where it begins an entered pattern.
     fn state_for(&self, text: &[u8]) -> Option<StateID>
-        ensures { MatchOption result (¬ BeginsEntered self.now text.now) (λ sid. BeginsEntered self.now text.now × (sid ≢ 0) × IsTrue (same_text self.now.pairing (state_text self.now sid) text.now)) }
+        ensures { MatchOption result (¬ BeginsEntered self.now text.now)
+            (λ sid. BeginsEntered self.now text.now × (sid ≢ 0)
+            × IsTrue (same_text self.now.pairing (state_text self.now sid) text.now)) }
     {
         if text.is_empty() {
             return Some(StateID::must(1));
@@ -313,7 +336,8 @@ impl<'p> Automaton for PlainAutomaton<'p> {
 
     ghost tells = { λ m anchored text sid reads. reads.tells };
 
-    ghost lives = { λ m anchored text sid reads. elim reads.reached.stands [ inl dead ↦ (None, dead.1) | inr alive ↦ (Some alive.1.0, alive.1.1) ] };
+    ghost lives = { λ m anchored text sid reads. elim reads.reached.stands
+        [ inl dead ↦ (None, dead.1) | inr alive ↦ (Some alive.1.0, alive.1.1) ] };
 
     ghost pairs = { λ m anchored text sid reads. reads.reached.inverse };
 

@@ -43,7 +43,8 @@ impl<'p> Automaton for Served<'p> {
 
     ghost tells = { λ a anchored text sid reads. reads.tells };
 
-    ghost lives = { λ a anchored text sid reads. elim reads.reached.stands [ inl dead ↦ (None, dead.1) | inr alive ↦ (Some alive.1.0, alive.1.1) ] };
+    ghost lives = { λ a anchored text sid reads. elim reads.reached.stands
+        [ inl dead ↦ (None, dead.1) | inr alive ↦ (Some alive.1.0, alive.1.1) ] };
 
     ghost pairs = { λ a anchored text sid reads. reads.reached.inverse };
 

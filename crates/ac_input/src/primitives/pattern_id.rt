@@ -197,7 +197,8 @@ impl PatternIDError {
 }
 
 impl fmt::Display for PatternIDError {
-    ghost output = { λ error. Some (codes "number " ++ decimal error ++ codes " is past 2147483646") };
+    ghost output = { λ error. Some (codes "number " ++ decimal error
+        ++ codes " is past 2147483646") };
 
     fn fmt<W: fmt::Write>(&self, f: &mut fmt::Formatter<W>) -> fmt::Result {
         let attempted = self.attempted;

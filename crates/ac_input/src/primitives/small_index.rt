@@ -205,7 +205,8 @@ impl SmallIndexError {
 }
 
 impl fmt::Display for SmallIndexError {
-    ghost output = { λ error. Some (codes "number " ++ decimal error ++ codes " is past 2147483646") };
+    ghost output = { λ error. Some (codes "number " ++ decimal error
+        ++ codes " is past 2147483646") };
 
     fn fmt<W: fmt::Write>(&self, f: &mut fmt::Formatter<W>) -> fmt::Result {
         let attempted = self.attempted;

@@ -24,7 +24,12 @@ impl<'h> Model for Input<'h> {
 
     ghost Value = { Asked };
 
-    ghost view = { λ i. record { haystack = i.haystack.now; span = i.span; anchored = i.anchored; earliest = i.earliest } };
+    ghost view = { λ i. record {
+      haystack = i.haystack.now;
+      span = i.span;
+      anchored = i.anchored;
+      earliest = i.earliest;
+    } };
 
     ghost invariant = { λ i. IsSpanOf i.haystack.now i.span };
 }
@@ -58,7 +63,8 @@ impl<'h> Input<'h> {
     /// The same, of this range of the haystack.
     pub fn range(self, range: Range<usize>) -> Input<'h>
         requires { IsSpanOf self.haystack (record { start = range.start; end = range.end }) }
-        ensures { result ≡ record self.entry { span = record { start = range.start; end = range.end } } }
+        ensures { result
+            ≡ record self.entry { span = record { start = range.start; end = range.end } } }
     {
         let mut input = self;
         input.set_range(range);
@@ -94,7 +100,8 @@ impl<'h> Input<'h> {
     /// Searches this range from here on.
     pub fn set_range(&mut self, range: Range<usize>)
         requires { IsSpanOf self.old.haystack (record { start = range.start; end = range.end }) }
-        ensures { self.new ≡ record self.old { span = record { start = range.start; end = range.end } } }
+        ensures { self.new
+            ≡ record self.old { span = record { start = range.start; end = range.end } } }
     {
         self.span = Span::from(range);
     }

@@ -1,9 +1,7 @@
 //! Builders and searchers of packed search.
-ghost use Rattle.std.specs.Prelude.{◌≡◌, ◌↔◌, ℕ, ◌≤◌, [], ◌∷◌, map, length, IfOk, OnOk, OnErr, IsSome, IfSome};
+ghost use Rattle.std.specs.Prelude.{◌≡◌, ◌↔◌, ℕ, ◌≤◌, [], ◌∷◌, length, IfOk, OnOk, OnErr, IsSome, IfSome};
 ghost use Rattle.std.specs.Iterator.{YieldsFirst, item_count};
-ghost use Rattle.ac_input.specs.Best.{IsBest};
-ghost use Rattle.ac_input.specs.Computed.{walk_of};
-ghost use Rattle.ac_literal.specs.Packed.{search_kind, fresh, added, added_all, built, least_len, searched, HasBeginning, AreServed};
+ghost use Rattle.ac_literal.specs.Packed.{fresh, added, added_all, built, least_len, bytes_of, leftmost_first, matches_of, HasBeginning, AreServed, IsBestIn, IsBestOf};
 
 use crate::packed::pattern::Patterns;
 use crate::packed::scanner::{Pace, Scanner};
@@ -152,7 +150,7 @@ impl Builder {
     /// Adds patterns in their order. Where memory ends, those before stay added.
     pub fn extend(&mut self, patterns: &[&[u8]]) -> Result<&mut Builder, AllocError>
         ensures same { IfOk result (λ builder. builder.ghost_name ≡ self.entry.ghost_name) }
-        ensures value { IfOk result (λ builder. builder.now ≡ added_all self.old (map (λ p. p.now) patterns.now)) }
+        ensures value { IfOk result (λ b. b.now ≡ added_all self.old (bytes_of patterns.now)) }
     {
         self.try_extend(patterns)?;
         Ok(self)
@@ -176,8 +174,8 @@ impl Builder {
 
     /// The same as [`Builder::extend`], for a caller that goes on where memory ended.
     pub fn try_extend(&mut self, patterns: &[&[u8]]) -> Result<(), AllocError>
-        ensures ok { OnOk result (self.new ≡ added_all self.old (map (λ p. p.now) patterns.now)) }
-        ensures err { OnErr result (HasBeginning self.old (map (λ p. p.now) patterns.now) self.new) }
+        ensures ok { OnOk result (self.new ≡ added_all self.old (bytes_of patterns.now)) }
+        ensures err { OnErr result (HasBeginning self.old (bytes_of patterns.now) self.new) }
     {
         for pattern in patterns {
             self.try_add(pattern)?;
@@ -202,7 +200,7 @@ impl Builder {
     /// A searcher for the patterns, with copies of them; none where there is no pattern.
     pub fn build(&self) -> Result<Option<Searcher>, AllocError>
         ensures value { IfOk result (λ made. made ≡ built self.now.kind self.now.patterns) }
-        ensures served { IfOk result (λ made. IfSome made (λ searcher. AreServed searcher.patterns)) }
+        ensures served { IfOk result (λ made. IfSome made (λ s. AreServed s.patterns)) }
     {
         if self.patterns.is_empty() {
             return Ok(None);
@@ -236,9 +234,9 @@ impl Model for Searcher {
 impl Searcher {
     /// A leftmost-first searcher for the patterns, with copies of them; none where they are not 1 to 128, or one is empty.
     pub fn new(alloc: Global, patterns: &[&[u8]]) -> Result<Option<Searcher>, AllocError>
-        ensures served { IfOk result (λ made. IsSome made ↔ AreServed (map (λ p. p.now) patterns.now)) }
+        ensures served { IfOk result (λ made. IsSome made ↔ AreServed (bytes_of patterns.now)) }
         ensures value { IfOk result
-            (λ made. IfSome made (λ s. s ≡ record { kind = MatchKind.LeftmostFirst; patterns = map (λ p. p.now) patterns.now })) }
+            (λ made. IfSome made (λ s. s ≡ leftmost_first (bytes_of patterns.now))) }
     {
         let mut builder = Builder::new(alloc);
         builder.try_extend(patterns)?;
@@ -271,7 +269,7 @@ impl Searcher {
 
     /// The first match in the haystack, if it has one. It takes no memory.
     pub fn find(&self, haystack: &[u8]) -> Option<Match>
-        ensures best { IsBest (search_kind self.now.kind) (searched self.now.patterns haystack.now 0 (length haystack.now)) result }
+        ensures best { IsBestOf self.now haystack.now result }
         ensures served { AreServed self.now.patterns }
     {
         self.find_in(
@@ -287,7 +285,7 @@ impl Searcher {
     pub fn find_in(&self, haystack: &[u8], span: Span) -> Option<Match>
         requires order { span.start ≤ span.end }
         requires within { span.end ≤ length haystack.now }
-        ensures best { IsBest (search_kind self.now.kind) (searched self.now.patterns haystack.now span.start span.end) result }
+        ensures best { IsBestIn self.now haystack.now span result }
         ensures served { AreServed self.now.patterns }
     {
         self.find_at_pace(haystack, span, &mut Pace::new())
@@ -297,7 +295,7 @@ impl Searcher {
     fn find_at_pace(&self, haystack: &[u8], span: Span, pace: &mut Pace) -> Option<Match>
         requires order { span.start ≤ span.end }
         requires within { span.end ≤ length haystack.now }
-        ensures best { IsBest (search_kind self.now.kind) (searched self.now.patterns haystack.now span.start span.end) result }
+        ensures best { IsBestIn self.now haystack.now span result }
         ensures served { AreServed self.now.patterns }
     {
         self.scanner.find_in(&self.patterns, haystack, span, pace)
@@ -307,7 +305,7 @@ impl Searcher {
     ///
     /// To go over all of them looks at each byte once, but for the comparisons.
     pub fn find_iter<'s, 'h>(&'s self, haystack: &'h [u8]) -> FindIter<'s, 'h>
-        ensures { result ≡ walk_of (search_kind self.now.kind) (searched self.now.patterns haystack.now 0 (length haystack.now)) }
+        ensures { result ≡ matches_of self.now haystack.now }
     {
         FindIter {
             searcher: self,
@@ -350,15 +348,13 @@ pub struct FindIter<'s, 'h> {
 }
 
 impl<'s, 'h> Model for FindIter<'s, 'h> {
-    ghost use Rattle.std.specs.Prelude.{List, length, ◌≤◌, None};
+    ghost use Rattle.std.specs.Prelude.{List, length, ◌≤◌};
     ghost use Rattle.ac_input.specs.Occurrence.{Occurrence};
-    ghost use Rattle.ac_input.specs.Computed.{walk_after};
-    ghost use Rattle.ac_literal.specs.Packed.{search_kind, searched};
+    ghost use Rattle.ac_literal.specs.Packed.{matches_from};
 
     ghost Value = { List Occurrence };
 
-    ghost view = { λ i.
-        walk_after (search_kind i.searcher.now.kind) (searched i.searcher.now.patterns i.haystack.now 0 (length i.haystack.now)) i.at None };
+    ghost view = { λ i. matches_from i.searcher.now i.haystack.now i.at };
 
     ghost invariant = { λ i. i.at ≤ length i.haystack.now };
 }

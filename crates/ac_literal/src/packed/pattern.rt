@@ -132,7 +132,8 @@ impl Patterns {
     fn compare(&self, kind: MatchKind, a: PatternID, b: PatternID) -> Ordering
         requires a { a < length self.now }
         requires b { b < length self.now }
-        ensures { (at : ℕ) → result ≡ preference (search_kind kind) (lying self.now at a) (lying self.now at b) }
+        ensures { (at : ℕ)
+            → result ≡ preference (search_kind kind) (lying self.now at a) (lying self.now at b) }
     {
         let numbers = a.as_usize().cmp(&b.as_usize());
         match kind {

@@ -13,9 +13,8 @@
 //! one that the kind prefers. A table takes a kilobyte, and 16 bytes a pattern.
 ghost use Rattle.std.specs.Prelude.{◌≡◌, ℕ, ◌+◌, ◌-◌, ◌*◌, ◌%◌, ◌^◌, ◌<◌, ◌≤◌, length, slice_range, IfOk, MatchOption};
 ghost use Rattle.ac_input.specs.Occurrence.{Occurs};
-ghost use Rattle.ac_input.specs.Best.{IsLeast};
-ghost use Rattle.ac_literal.specs.Packed.{AreServed, search_kind, searched};
-ghost use Rattle.ac_literal.specs.RabinKarp.{hash_of, bucket_of, lying, entry_at, IsTable, IsSameTable, StartsAt, NoneBefore, IsFoundBefore};
+ghost use Rattle.ac_literal.specs.Packed.{AreServed, in_span};
+ghost use Rattle.ac_literal.specs.RabinKarp.{hash_of, bucket_of, lying, entry_at, IsTable, IsTableOf, IsSameTable, NoneBefore, IsMatchAt, IsMatchBefore};
 
 use crate::packed::api::MatchKind;
 use crate::packed::pattern::Patterns;
@@ -112,8 +111,9 @@ fn match_at(
     requires start { span.start ≤ at }
     requires end { at ≤ span.end }
     requires within { span.end ≤ length haystack.now }
-    ensures { let s = searched patterns.now haystack.now span.start span.end in let it = lying patterns.now at entry.pattern in
-        MatchOption result (entry.hash ≡ hash → Occurs s it → ⊥) (λ found. (found ≡ it) × Occurs s it) }
+    ensures { let s = in_span patterns.now haystack.now span in
+        let it = lying patterns.now at entry.pattern in
+        MatchOption result (entry.hash ≡ hash → Occurs s it → ⊥) (λ m. (m ≡ it) × Occurs s it) }
 {
     if entry.hash != hash {
         return None;
@@ -134,7 +134,7 @@ impl RabinKarp {
     /// The table of some patterns. It looks at the first bytes of each.
     pub fn new(alloc: Global, kind: MatchKind, patterns: &Patterns) -> Result<RabinKarp, AllocError>
         requires { AreServed patterns.now }
-        ensures { IfOk result (λ table. IsTable patterns.now table × (table.kind ≡ kind) × (table.hash_len ≤ 16)) }
+        ensures { IfOk result (IsTableOf kind patterns.now) }
     {
         let hash_len = patterns.minimum_len().min(HASHED);
         let order = patterns.order(alloc, kind)?;
@@ -195,7 +195,8 @@ impl RabinKarp {
     /// The hash of the place after one, from the byte that leaves and the byte that comes.
     #[inline(always)]
     fn roll(&self, hash: u64, first: u8, last: u8) -> u64
-        ensures { result ≡ ((hash + 2 ^ 64 - first * self.now.hash_2pow % 2 ^ 64) % 2 ^ 64 * 2 + last) % 2 ^ 64 }
+        ensures { let less = (hash + 2 ^ 64 - first * self.now.hash_2pow % 2 ^ 64) % 2 ^ 64 in
+            result ≡ (less * 2 + last) % 2 ^ 64 }
     {
         add(del(hash, self.hash_2pow, first), last)
     }
@@ -224,7 +225,7 @@ impl RabinKarp {
         requires end { at + self.now.hash_len ≤ span.end }
         requires within { span.end ≤ length haystack.now }
         requires hash { hash ≡ hash_of (slice_range haystack.now at (at + self.now.hash_len)) }
-        ensures { IsLeast (search_kind self.now.kind) (StartsAt (searched patterns.now haystack.now span.start span.end) at) result }
+        ensures { IsMatchAt self.now.kind patterns.now haystack.now span at result }
     {
         let head = self.heads[bucket_of(hash)];
         let mut link = head as usize;
@@ -251,7 +252,7 @@ impl RabinKarp {
         requires start { span.start ≤ at }
         requires end { at + self.now.hash_len ≤ span.end }
         requires within { span.end ≤ length haystack.now }
-        ensures { IsLeast (search_kind self.now.kind) (StartsAt (searched patterns.now haystack.now span.start span.end) at) result }
+        ensures { IsMatchAt self.now.kind patterns.now haystack.now span at result }
     {
         let hash = hash_of(&haystack[at..at + self.hash_len]);
         self.find_at(patterns, haystack, span, at, hash)
@@ -272,8 +273,8 @@ impl RabinKarp {
         requires order { from ≤ to }
         requires end { to + self.now.hash_len ≤ span.end + 1 }
         requires within { span.end ≤ length haystack.now }
-        requires none { NoneBefore (searched patterns.now haystack.now span.start span.end) from }
-        ensures { IsFoundBefore (search_kind self.now.kind) (searched patterns.now haystack.now span.start span.end) to result }
+        requires none { NoneBefore (in_span patterns.now haystack.now span) from }
+        ensures { IsMatchBefore self.now.kind patterns.now haystack.now span to result }
     {
         if from == to {
             return None;

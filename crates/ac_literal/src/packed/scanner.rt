@@ -1,30 +1,38 @@
 //! The search itself: marks first, and the hash where there is a mark.
 //!
-//! The haystack is gone over in blocks of 32 places, whose marks come at once. Where a block has none, no pattern begins in it.
+//! One pattern alone is left to a search for a needle (`needle`). Where there are more, the haystack is gone over in blocks of 32 places, whose marks come at once. Where a block has none, no pattern begins in it.
 //! Otherwise each marked place is looked at by the hash of the bytes there, from the first to the last; the first place at which
 //! a pattern lies has the match. What is left behind the last whole block is searched by the rolling hash.
 //!
 //! Where much of the text is marked, to look at each mark costs more than to roll a hash over all places. So after a block that
 //! has more than 8 marks the hash alone searches the next 64 places, and then marks are asked again. If they are too many again,
 //! the next stretch is twice as long, up to 4096 places. So in text that is marked everywhere one block of marks comes on 4096
-//! places by the hash, which costs less than a tenth more; and where only a little of the text is, little is lost. An iterator
-//! remembers its pace from match to match, so that many short searches don't ask anew.
+//! places by the hash, which costs less than a tenth more; and where only a little of the text is, little is lost. So it is
+//! with one pattern, too, after more than 8 searches in a row that found a match on the first two places: to begin a search for a
+//! needle costs more than to look at some places by the hash. An iterator remembers its pace from match to match, so that many
+//! short searches don't ask anew.
 ghost use Rattle.std.specs.Prelude.{◌≡◌, ◌+◌, ◌<◌, ◌≤◌, length, IfOk};
-ghost use Rattle.ac_input.specs.Best.{IsBest};
-ghost use Rattle.ac_literal.specs.Packed.{AreServed, search_kind, searched};
-ghost use Rattle.ac_literal.specs.RabinKarp.{NoneBefore, IsFoundBefore};
+ghost use Rattle.ac_literal.specs.Packed.{AreServed, in_span};
+ghost use Rattle.ac_literal.specs.RabinKarp.{NoneBefore};
 ghost use Rattle.ac_literal.specs.Teddy.{HasMarks};
-ghost use Rattle.ac_literal.specs.Scanner.{IsScanner, IsSameScanner};
+ghost use Rattle.ac_literal.specs.Scanner.{IsScanner, IsScannerOf, IsScanned, IsScannedTo, IsSameScanner};
 
 use crate::packed::api::MatchKind;
+use crate::packed::needle::{clone_needle, find_needle, only_needle};
 use crate::packed::pattern::Patterns;
 use crate::packed::rabinkarp::RabinKarp;
 use crate::packed::teddy::{LANES, Teddy, lowest, without};
 use ac_input::search::{Match, Span};
+use memchr::memmem;
 use std::alloc::{AllocError, Global};
 
 /// How many marks a block may have, for marks to pay.
 const FEW: u32 = 8;
+
+/// How near to where a search for one pattern began its match may be, and for how many searches in a row.
+const NEAR: usize = 2;
+
+const MANY: u32 = 8;
 
 /// How many places the hash searches alone, where they don't, at first and at most.
 const SHORT: usize = 64;
@@ -38,6 +46,8 @@ pub struct Pace {
     hash_until: usize,
     /// For how many places it did so last.
     stretch: usize,
+    /// How many searches in a row for one pattern found a match near to where they began.
+    near: u32,
 }
 
 impl Pace {
@@ -46,6 +56,23 @@ impl Pace {
         Pace {
             hash_until: 0,
             stretch: 0,
+            near: 0,
+        }
+    }
+
+    /// A search for one pattern, from a place on, has found this.
+    fn met(&mut self, from: usize, found: &Option<Match>) {
+        let is_near = match found {
+            Some(found) => found.start().saturating_sub(from) < NEAR,
+            None => false,
+        };
+        self.near = if is_near {
+            self.near.saturating_add(1)
+        } else {
+            0
+        };
+        if self.near > MANY {
+            self.slow(from);
         }
     }
 
@@ -66,17 +93,20 @@ impl Pace {
 pub struct Scanner {
     table: RabinKarp,
     teddy: Teddy,
+    /// The only pattern, where there is one alone.
+    only: Option<memmem::Finder<'static>>,
 }
 
 impl Scanner {
     /// For some patterns. It looks at the first bytes of each.
     pub fn new(alloc: Global, kind: MatchKind, patterns: &Patterns) -> Result<Scanner, AllocError>
         requires { AreServed patterns.now }
-        ensures { IfOk result (λ scanner. IsScanner patterns.now scanner × (scanner.table.kind ≡ kind)) }
+        ensures { IfOk result (IsScannerOf kind patterns.now) }
     {
         let table = RabinKarp::new(alloc, kind, patterns)?;
         let teddy = Teddy::new(patterns, table.hash_len());
-        Ok(Scanner { table, teddy })
+        let only = only_needle(alloc, patterns)?;
+        Ok(Scanner { table, teddy, only })
     }
 
     /// The same in memory from `alloc`.
@@ -86,6 +116,7 @@ impl Scanner {
         Ok(Scanner {
             table: self.table.clone(alloc)?,
             teddy: self.teddy,
+            only: clone_needle(&self.only, alloc)?,
         })
     }
 
@@ -98,7 +129,11 @@ impl Scanner {
 
     /// How many bytes of memory it takes, beside itself.
     pub fn memory_usage(&self) -> usize {
-        self.table.memory_usage()
+        let needle = match &self.only {
+            Some(needle) => needle.needle().len(),
+            None => 0,
+        };
+        self.table.memory_usage().saturating_add(needle)
     }
 
     /// The match of the kind, if it begins in the block at `at`, where none begins before it.
@@ -114,10 +149,10 @@ impl Scanner {
         requires start { span.start ≤ at }
         requires end { at + 31 + self.now.table.hash_len ≤ span.end }
         requires within { span.end ≤ length haystack.now }
-        requires none { NoneBefore (searched patterns.now haystack.now span.start span.end) at }
+        requires none { NoneBefore (in_span patterns.now haystack.now span) at }
         requires few { marks < 4294967296 }
-        requires marks { HasMarks (searched patterns.now haystack.now span.start span.end) at marks }
-        ensures { IsFoundBefore (search_kind self.now.table.kind) (searched patterns.now haystack.now span.start span.end) (at + 32) result }
+        requires marks { HasMarks (in_span patterns.now haystack.now span) at marks }
+        ensures { IsScannedTo self.now patterns.now haystack.now span (at + 32) result }
     {
         let mut left = marks;
         while left != 0 {
@@ -145,10 +180,10 @@ impl Scanner {
         requires start { span.start ≤ at }
         requires end { at + self.now.table.hash_len ≤ span.end }
         requires within { span.end ≤ length haystack.now }
-        requires none { NoneBefore (searched patterns.now haystack.now span.start span.end) at }
+        requires none { NoneBefore (in_span patterns.now haystack.now span) at }
         ensures more { at < result.0 }
         ensures end { result.0 + self.now.table.hash_len ≤ span.end + 1 }
-        ensures found { IsFoundBefore (search_kind self.now.table.kind) (searched patterns.now haystack.now span.start span.end) result.0 result.1 }
+        ensures found { IsScannedTo self.now patterns.now haystack.now span result.0 result.1 }
     {
         let len = self.table.hash_len();
         let to = span.end - len + 1;
@@ -156,6 +191,15 @@ impl Scanner {
             let next = to.min(pace.hash_until);
             let found = self.table.find_between(patterns, haystack, span, at, next);
             return (next, found);
+        }
+        if let Some(needle) = &self.only {
+            let rest = Span {
+                start: at,
+                end: span.end,
+            };
+            let found = find_needle(needle, haystack, rest);
+            pace.met(at, &found);
+            return (to, found);
         }
         let (block, marks) = self.teddy.next_marks(haystack, at, to, len);
         if marks == 0 {
@@ -180,7 +224,7 @@ impl Scanner {
         requires scanner { IsScanner patterns.now self.now }
         requires order { span.start ≤ span.end }
         requires within { span.end ≤ length haystack.now }
-        ensures { IsBest (search_kind self.now.table.kind) (searched patterns.now haystack.now span.start span.end) result }
+        ensures { IsScanned self.now patterns.now haystack.now span result }
     {
         let len = self.table.hash_len();
         if span.end - span.start < len {

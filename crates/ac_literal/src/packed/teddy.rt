@@ -2,18 +2,20 @@
 //!
 //! The patterns are spread over eight buckets, a bit for each. Up to four probes look at a byte each, at offsets that lie within
 //! all patterns; each has two tables of 16 bytes, which say at the low half of a byte and at its high half in which buckets some
-//! pattern has such a half at the offset. What two tables of all probes have in common is left: where no bucket is, no pattern
+//! pattern has such a half at the offset. What the tables that are asked have in common is left: where no bucket is, no pattern
 //! begins. The converse doesn't hold, so a marked place is looked at again, by the hash.
 //!
 //! The tables are asked for 32 places at once, by the vectors of `std::simd`: a look-up in a table of 16 bytes is one instruction
-//! for 16 places, and no place waits for the one before it. So a probe costs about a dozen instructions for 16 places, whatever
-//! the number of patterns: two probes are enough for a few patterns, and for many a fourth saves more looks at marks than it
-//! costs. Their offsets are spread over the bytes that all patterns have, since bytes tell more the further apart they are.
-//! Patterns that are neighbours in the order of their bytes share a bucket, so that fewer bytes fit into it.
-ghost use Rattle.std.specs.Prelude.{◌≡◌, ◌≢◌, ℕ, ◌+◌, ◌/◌, ◌%◌, ◌<◌, ◌≤◌, length, slice_index, bit_and};
+//! for 16 places, and no place waits for the one before it. By a low half a probe costs five instructions for 16 places, and by a
+//! whole byte eleven. Where each bucket has one pattern at most, low halves tell enough, at three places for up to four patterns
+//! and at four for up to eight. For more patterns all four probes ask for whole bytes, and for patterns of one or two bytes the
+//! first two do. The offsets are spread over the bytes that all patterns have, since bytes tell more the further apart they are.
+//! Patterns that are neighbours in the order of their bytes share a bucket, so that fewer bytes fit into it. A block is passed by
+//! one test of all its places; which of them are marked is asked only where one is.
+ghost use Rattle.std.specs.Prelude.{◌≡◌, ◌≢◌, IsFalse, ℕ, ◌+◌, ◌/◌, ◌%◌, ◌<◌, ◌≤◌, length, slice_index, bit_and};
 ghost use Rattle.std.specs.Int.{bit_at};
-ghost use Rattle.ac_literal.specs.Packed.{AreServed, pattern_at};
-ghost use Rattle.ac_literal.specs.Teddy.{HasLanes, HasBucket, KeepsBuckets, LooksBefore, HasPattern, KeepsPatterns, IsTeddy, IsNextMarks, buckets_of, marked_at};
+ghost use Rattle.ac_literal.specs.Packed.{AreServed, AreAsLong};
+ghost use Rattle.ac_literal.specs.Teddy.{HasLanes, HasBucket, KeepsBuckets, LooksBefore, HasPattern, KeepsPatterns, IsTeddy, IsNextMarks, low_at, left_at, two_at, three_at, four_at, four_low_at, marked_at};
 
 use crate::packed::pattern::Patterns;
 use ac_input::primitives::PatternID;
@@ -22,10 +24,13 @@ use std::simd::prelude::*;
 /// How many places are looked at at once.
 pub const LANES: usize = 32;
 
-/// For how many patterns at most two probes do, and three.
-const TWO_DO: usize = 4;
+/// For how many patterns at most three probes do, and for how many the low halves of bytes.
+const THREE_DO: usize = 4;
 
-const THREE_DO: usize = 8;
+const LOW_DO: usize = 8;
+
+/// From how many bytes on that all patterns have.
+const LONG: usize = 3;
 
 /// Which of eight buckets of patterns have which byte at an offset: those that have its low half, and its high half.
 #[derive(Clone, Copy, Drop)]
@@ -42,10 +47,10 @@ pub struct Teddy {
     second: Probe,
     third: Probe,
     fourth: Probe,
-    /// Whether the first two alone are asked.
-    is_narrow: bool,
-    /// Whether the fourth is asked, too.
-    is_wide: bool,
+    /// Whether whole bytes are asked for, or their low halves alone.
+    is_whole: bool,
+    /// Whether the first two probes are asked, or three by low halves, and not all four.
+    is_few: bool,
 }
 
 /// The bytes from a place on.
@@ -92,6 +97,14 @@ fn both(a: u8x32, b: u8x32) -> u8x32
     a & b
 }
 
+/// Whether some lane isn't 0.
+#[inline(always)]
+fn has_lane(lanes: u8x32) -> bool
+    ensures { IsFalse result → (k : ℕ) → k < 32 → slice_index lanes k ≡ 0 }
+{
+    lanes.reduce_or() != 0
+}
+
 /// Bit k is set where lane k isn't 0.
 #[inline(always)]
 fn set_lanes(lanes: u8x32) -> u64
@@ -127,11 +140,20 @@ impl Probe {
         self.high[high] |= 1 << bucket;
     }
 
-    /// At each lane the buckets that have the byte that stands there at the offset.
+    /// At each lane the buckets that have the low half of the byte that stands there at the offset.
+    #[inline(always)]
+    fn low_lanes(&self, haystack: &[u8], at: usize) -> u8x32
+        requires { at + self.now.offset + 32 ≤ length haystack.now }
+        ensures { HasLanes result (λ k. low_at self.now haystack.now (at + k)) }
+    {
+        at_low(&self.low, load(haystack, at + self.offset))
+    }
+
+    /// The same of the whole byte.
     #[inline(always)]
     fn lanes(&self, haystack: &[u8], at: usize) -> u8x32
         requires { at + self.now.offset + 32 ≤ length haystack.now }
-        ensures { HasLanes result (λ k. buckets_of self.now (slice_index haystack.now (at + self.now.offset + k))) }
+        ensures { HasLanes result (λ k. left_at self.now haystack.now (at + k)) }
     {
         let lanes = load(haystack, at + self.offset);
         both(at_low(&self.low, lanes), at_high(&self.high, lanes))
@@ -156,15 +178,16 @@ impl Teddy {
         ensures { LooksBefore len result }
     {
         let last = len - 1;
-        let is_narrow = count <= TWO_DO;
-        let is_wide = count > THREE_DO;
+        let is_short = len < LONG;
+        let is_few = is_short || count <= THREE_DO;
+        let is_whole = is_short || count > LOW_DO;
         Teddy {
             first: Probe::new(0),
             second: Probe::new(last),
-            third: Probe::new(if is_wide { last / 3 } else { last / 2 }),
+            third: Probe::new(if is_few { last / 2 } else { last / 3 }),
             fourth: Probe::new(last * 2 / 3),
-            is_narrow,
-            is_wide,
+            is_whole,
+            is_few,
         }
     }
 
@@ -186,7 +209,7 @@ impl Teddy {
         requires served { AreServed patterns.now }
         requires some { 0 < len }
         requires few { len ≤ 16 }
-        requires short { (number : ℕ) → number < length patterns.now → len ≤ length (pattern_at patterns.now number) }
+        requires short { AreAsLong len patterns.now }
         ensures { IsTeddy patterns.now len result }
     {
         let mut teddy = Teddy::empty(len, patterns.len());
@@ -197,26 +220,69 @@ impl Teddy {
         teddy
     }
 
-    /// The places that are marked, of 32: bit k for the place k from `at` on.
+    /// What the first three probes leave by the low halves of bytes.
     #[inline(always)]
-    pub fn marks(&self, haystack: &[u8], at: usize, len: usize) -> u64
+    fn three(&self, haystack: &[u8], at: usize, len: usize) -> u8x32
         requires near { LooksBefore len self.now }
         requires room { at + len + 31 ≤ length haystack.now }
-        ensures set { (k : ℕ) → k < 32 → marked_at self.now haystack.now (at + k) ≢ 0 → bit_at result k ≡ 1 }
-        ensures few { result < 4294967296 }
+        ensures { HasLanes result (λ k. three_at self.now haystack.now (at + k)) }
     {
         let two = both(
+            self.first.low_lanes(haystack, at),
+            self.second.low_lanes(haystack, at),
+        );
+        both(two, self.third.low_lanes(haystack, at))
+    }
+
+    /// What the first two leave by whole bytes.
+    #[inline(always)]
+    fn two(&self, haystack: &[u8], at: usize, len: usize) -> u8x32
+        requires near { LooksBefore len self.now }
+        requires room { at + len + 31 ≤ length haystack.now }
+        ensures { HasLanes result (λ k. two_at self.now haystack.now (at + k)) }
+    {
+        both(
             self.first.lanes(haystack, at),
             self.second.lanes(haystack, at),
-        );
-        if self.is_narrow {
-            return set_lanes(two);
-        }
-        let three = both(two, self.third.lanes(haystack, at));
-        if self.is_wide {
-            set_lanes(both(three, self.fourth.lanes(haystack, at)))
-        } else {
-            set_lanes(three)
+        )
+    }
+
+    /// What all four leave by whole bytes.
+    #[inline(always)]
+    fn four(&self, haystack: &[u8], at: usize, len: usize) -> u8x32
+        requires near { LooksBefore len self.now }
+        requires room { at + len + 31 ≤ length haystack.now }
+        ensures { HasLanes result (λ k. four_at self.now haystack.now (at + k)) }
+    {
+        let three = both(self.two(haystack, at, len), self.third.lanes(haystack, at));
+        both(three, self.fourth.lanes(haystack, at))
+    }
+
+    /// The same by the low halves.
+    #[inline(always)]
+    fn four_low(&self, haystack: &[u8], at: usize, len: usize) -> u8x32
+        requires near { LooksBefore len self.now }
+        requires room { at + len + 31 ≤ length haystack.now }
+        ensures { HasLanes result (λ k. four_low_at self.now haystack.now (at + k)) }
+    {
+        both(
+            self.three(haystack, at, len),
+            self.fourth.low_lanes(haystack, at),
+        )
+    }
+
+    /// The buckets that are left at each of 32 places.
+    #[inline(always)]
+    fn left(&self, haystack: &[u8], at: usize, len: usize) -> u8x32
+        requires near { LooksBefore len self.now }
+        requires room { at + len + 31 ≤ length haystack.now }
+        ensures { HasLanes result (λ k. marked_at self.now haystack.now (at + k)) }
+    {
+        match (self.is_whole, self.is_few) {
+            (true, true) => self.two(haystack, at, len),
+            (true, false) => self.four(haystack, at, len),
+            (false, true) => self.three(haystack, at, len),
+            (false, false) => self.four_low(haystack, at, len),
         }
     }
 
@@ -230,9 +296,9 @@ impl Teddy {
     {
         let mut at = from;
         while to - at >= LANES {
-            let marks = self.marks(haystack, at, len);
-            if marks != 0 {
-                return (at, marks);
+            let left = self.left(haystack, at, len);
+            if has_lane(left) {
+                return (at, set_lanes(left));
             }
             at += LANES;
         }

@@ -26,8 +26,8 @@ const HIGH: u8 = 50;
 /// How many of a thousand bytes of text one byte of the rank [`COMMON`] is.
 const COMMON_STOPS: u32 = 40;
 
-/// How often a scan may stop in a thousand bytes and still be faster than packed search, as measured on text: a stop costs as
-/// much as some twenty bytes of packed search.
+/// How often a scan may stop in a thousand bytes and still be worth it. It was measured beside a slower packed search, of which
+/// a stop cost as much as some twenty bytes; beside today's, where that serves, it would be 1 (docs/SPEED.md).
 const RARE_STOPS: u32 = 50;
 
 /// How common a byte is taken to be: the greater, the more common.
@@ -72,7 +72,7 @@ pub fn stops(needles: Needles) -> u32
     }
 }
 
-/// Whether a scan for these bytes stops so rarely that it is faster than packed search.
+/// Whether a scan for these bytes stops so rarely that it is taken before packed search.
 pub fn is_rare(needles: Needles) -> bool {
     stops(needles) <= RARE_STOPS
 }

@@ -1,6 +1,6 @@
 //! Lines as text.
 use super::Line;
-use ac_plain::plain::Found;
+use ac_input::search::Match;
 
 #[test]
 fn tells_an_occurrence(rt: HostRuntime) {
@@ -12,11 +12,7 @@ fn tells_an_occurrence(rt: HostRuntime) {
         ((12, 345, 6789), "12 345 6789\n"),
         ((2147483646, most, most), longest),
     ] {
-        let line = Line::new(Found {
-            pattern,
-            start,
-            end,
-        });
+        let line = Line::new(&Match::must(pattern, start..end));
         assert_eq!(rt; line.as_bytes(), want.as_bytes(), "not {want:?}");
     }
 }

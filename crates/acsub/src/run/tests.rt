@@ -1,7 +1,7 @@
 //! Runs over scripted readers and writers, with what other implementations write.
 //!
-//! What is written stands in `texts`, `pairings` and `repeated`, each text by every engine that takes the settings; what is
-//! answered where settings, rules or a device fail, in `refusals` and `devices`.
+//! What is written stands in `texts`, `pairings` and `repeated`, each text by every engine that takes the settings, and beside
+//! the plain program in `alike`; what is answered where settings, rules or a device fail, in `refusals` and `devices`.
 ghost use Rattle.std.specs.Prelude.{◌<◌};
 
 use super::run;
@@ -15,6 +15,7 @@ use ac_input::search::MatchKind;
 use std::alloc::{AllocError, Global};
 use std::process::Abort;
 
+mod alike;
 mod devices;
 mod pairings;
 mod refusals;
@@ -141,8 +142,29 @@ fn writes_in(
     assert_eq!(rt; did.reads, input.len().div_ceil(most).saturating_add(1));
 }
 
-/// Runs by each of these engines, with a prefilter and without it, over one, two and seven bytes a read, and asserts that the
-/// same text is written.
+/// Runs with a prefilter and without it, by states with rows up to each of these depths, over one, two and seven bytes a read,
+/// and asserts that the same text is written.
+fn writes_alike(
+    rt: &impl Abort,
+    alloc: Global,
+    settings: &Settings,
+    rules: &str,
+    input: &[u8],
+    want: &[u8],
+) {
+    for prefilter in [true, false] {
+        for dense_depth in [None, Some(0), Some(1), Some(100)] {
+            let mut settings = *settings;
+            settings.prefilter = prefilter;
+            settings.dense_depth = dense_depth;
+            for most in [1usize, 2, 7] {
+                writes_in(rt, alloc, &settings, rules, input, most, want);
+            }
+        }
+    }
+}
+
+/// Runs by each of these engines, and asserts that the same text is written, whatever else they are told.
 fn writes(
     rt: &impl Abort,
     alloc: Global,
@@ -153,14 +175,9 @@ fn writes(
     want: &[u8],
 ) {
     for engine in engines {
-        for prefilter in [true, false] {
-            let mut settings = *settings;
-            settings.engine = *engine;
-            settings.prefilter = prefilter;
-            for most in [1usize, 2, 7] {
-                writes_in(rt, alloc, &settings, rules, input, most, want);
-            }
-        }
+        let mut settings = *settings;
+        settings.engine = *engine;
+        writes_alike(rt, alloc, &settings, rules, input, want);
     }
 }
 

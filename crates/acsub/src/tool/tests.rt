@@ -1,9 +1,12 @@
 //! The whole program over scripted devices: each status, and each line.
 //!
 //! A rule file lies in `out/`, under a name of the test's own, for no longer than a run.
-use super::tool;
+use super::{Fault, tell, tool};
+use crate::error::RunError;
 use crate::scripted::{Sink, Source, room_for, whole};
 use ac_automaton::watched::Watched;
+use ac_input::primitives::PatternID;
+use ac_noncontiguous::error::BuildErrorKind;
 use std::alloc::{AllocError, Global};
 use std::fs;
 use std::process::Abort;
@@ -191,6 +194,40 @@ fn tells_a_bad_rule_file(rt: HostRuntime) -> Result<(), Fail> {
     assert!(rt; is_line(rt.alloc(), &trial, "rules: file cannot be read")?);
     assert_eq!(rt; trial.reads, 0);
     Ok(())
+}
+
+/// Asserts how a limit of a build is told.
+fn tells_build(
+    rt: &impl Abort,
+    alloc: Global,
+    kind: BuildErrorKind,
+    line: &str,
+) -> Result<(), Fail> {
+    let mut told = Vec::new(alloc);
+    let status = tell(&Fault::Run(RunError::Build(kind)), &mut told);
+    assert_eq!(rt; status, 4, "{line:?}");
+    assert_eq!(rt; told.as_slice(), line.as_bytes(), "{line:?}");
+    Ok(())
+}
+
+/// A limit of a build is too far away for a test: told as a run would tell it.
+#[test]
+fn tells_a_limit(rt: HostRuntime) -> Result<(), Fail> {
+    let (max, requested_max) = (2147483646, 2147483647);
+    let states = BuildErrorKind::StateIDOverflow { max, requested_max };
+    tells_build(&rt, rt.alloc(), states, "acsub: build: too many states\n")?;
+    let patterns = BuildErrorKind::PatternIDOverflow { max, requested_max };
+    tells_build(
+        &rt,
+        rt.alloc(),
+        patterns,
+        "acsub: build: too many patterns\n",
+    )?;
+    let long = BuildErrorKind::PatternTooLong {
+        pattern: PatternID::must(7),
+        len: 2147483647,
+    };
+    tells_build(&rt, rt.alloc(), long, "acsub: build: pattern too long\n")
 }
 
 /// A reader that gives the start of a text, and then fails.

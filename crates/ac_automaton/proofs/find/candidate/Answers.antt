@@ -6,8 +6,8 @@ use Rattle.ac_input.specs.declared.search.candidate.Candidate.TheVariants as can
 use Rattle.ac_input.specs.Dictionary.{Dictionary}
 use Rattle.ac_input.specs.Occurrence.{Search}
 use Rattle.ac_automaton.specs.Automaton.{kind_asked}
-use Rattle.ac_automaton.specs.Find.{search_from, NoneBefore}
-use Rattle.ac_automaton.proofs.FindLemmas.{match-none_before, match-asked_best}
+use Rattle.ac_automaton.specs.Find.{search_from, MayGoOnFrom}
+use Rattle.ac_automaton.proofs.FindLemmas.{match-goes_on, match-asked_best}
 use Rattle.ac_automaton.proofs.CandidateLemmas.{ahead-same}
 use Rattle.ac_automaton.proofs.find.candidate.Goals as goal
 
@@ -38,4 +38,4 @@ returns-else-eq-clause-says g c =
     let is : IsCandidate kind (search_from b asked c.args.at) (candidates.Match c.in-Match.found) = subst (λ (k : MatchKind). IsCandidate k (search_from b asked c.args.at) (candidates.Match c.in-Match.found)) kinds (subst (λ (s : Search). IsCandidate n.kind s (candidates.Match c.in-Match.found)) same c.in-Match.ensures.candidate) in
     let kind_is : asked_kind kind early ≡ kind_asked b asked = ap (λ (k : MatchKind). asked_kind k early) c.match_kind-kind.ensures ∙ ap (λ (e : Bool). asked_kind b.dictionary.kind e) c.get_earliest.ensures in
     let other : asked_kind kind early ≢ kind = search rules in
-    rw c.start.ensures.value (match-none_before kind early (search_from b asked c.args.at) c.in-Match.found is other)
+    rw c.start.ensures.value (match-goes_on kind early (search_from b asked c.args.at) c.in-Match.found is other)

@@ -14,7 +14,7 @@ pub returns-in-Found-clause-cost : goal.returns-in-Found-clause-cost
 returns-in-Found-clause-cost g c =
     let b = g.A.Automaton.built c.args.automaton.now in
     let asked = c.args.input.now in
-    find_work-from (kind_asked b asked) b.deterministic (searched b asked) c.loop-found.at c.in-Found.found _ _ _ c.loop-found.invariant.none_before c.in-Found.ensures.says c.loop-found.invariant.work c.in-Found.ensures.work
+    find_work-from (kind_asked b asked) b.deterministic (searched b asked) c.loop-found.at c.in-Found.found _ _ _ c.loop-found.invariant.goes_on c.in-Found.ensures.says c.loop-found.invariant.work c.in-Found.ensures.work
 
 pub loop-found-preserved : goal.loop-found-preserved
 loop-found-preserved g c =

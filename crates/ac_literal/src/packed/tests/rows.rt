@@ -57,6 +57,7 @@ fn short_and_long(rt: HostRuntime) -> Result<(), Fail> {
     let alone: [&[u8]; 4] = [b"d", b"dX", b"dXe", long];
     for pattern in &alone {
         agree_at_places(&rt, alloc, &[*pattern])?;
+        agree_at_places(&rt, alloc, &[*pattern, *pattern])?;
     }
     agree_at_places(&rt, alloc, &alone)
 }
@@ -109,7 +110,8 @@ fn marks_everywhere(rt: HostRuntime) -> Result<(), Fail> {
     let once: [&[u8]; 2] = [b"aaab", b"baaac"];
     agree(&rt, alloc, &once, &text)?;
     let often: [&[u8]; 2] = [b"aa", b"aaa"];
-    agree(&rt, alloc, &often, &text)
+    agree(&rt, alloc, &often, &text)?;
+    agree(&rt, alloc, &[b"aa"], &text)
 }
 
 /// Compares the match of a span.
@@ -133,23 +135,32 @@ fn agree_in(
     Ok(())
 }
 
-#[test]
-fn spans(rt: HostRuntime) -> Result<(), Fail> {
-    let alloc = rt.alloc();
+/// Compares the match of each span of up to 600 bytes that begins in the first blocks.
+fn agree_in_spans(rt: &impl Abort, alloc: Global, patterns: &[&[u8]]) -> Result<(), Fail> {
     let mut text = letters(alloc, 700, 3)?;
     for place in [31, 64, 95, 127, 300, 599, 630] {
         put(&mut text, place, b"dca");
     }
-    let patterns: [&[u8]; 3] = [b"dcab", b"dc", b"dca"];
-    let searcher = searcher(&rt, alloc, MatchKind::LeftmostFirst, &patterns)?;
+    let searcher = searcher(rt, alloc, MatchKind::LeftmostFirst, patterns)?;
     for start in 0..70 {
         for len in 0..601 {
             let end = (start + len).min(text.len());
             if start <= end {
                 let span = Span { start, end };
-                agree_in(&rt, &searcher, &patterns, &text, span)?;
+                agree_in(rt, &searcher, patterns, &text, span)?;
             }
         }
     }
     Ok(())
+}
+
+#[test]
+fn spans(rt: HostRuntime) -> Result<(), Fail> {
+    let alloc = rt.alloc();
+    agree_in_spans(&rt, alloc, &[b"dca"])?;
+    agree_in_spans(&rt, alloc, &[b"dcab", b"dc", b"dca"])?;
+    let nine: [&[u8]; 9] = [
+        b"dcab", b"dcX", b"dca", b"Xab", b"Xac", b"Xba", b"Xbc", b"Xca", b"Xcb",
+    ];
+    agree_in_spans(&rt, alloc, &nine)
 }

@@ -1,10 +1,13 @@
 -- Each line is that of the next pick.
-use Rattle.std.proofs.Common.{◌++◌}
+use Rattle.std.proofs.Common.{◌++◌, [], refl}
 use Rattle.std.proofs.lemmas.Result.{err_from_is_err_and}
 use Rattle.ac_input.specs.Text.{line, listed}
 use Rattle.acsub.proofs.OutputLemmas.{Sent-then}
-use Rattle.acsub.proofs.RewriteLemmas.{Stopped-within, listed-step}
+use Rattle.acsub.proofs.RewriteLemmas.{Sent-none, Stopped-within, listed-step}
 use Rattle.acsub.proofs.rewrite.send_list.Goals as goal
+
+pub loop-found-init : goal.loop-found-init
+loop-found-init g c = record { front = []; sent = Sent-none _ c.args.writer.now c.args.output.now; order = refl }
 
 pub returns-in_err-send-clause-stopped : goal.returns-in_err-send-clause-stopped
 returns-in_err-send-clause-stopped g c =

@@ -7,8 +7,8 @@ abbrev pub invariant-loop-found : goal.invariant-loop-found
 invariant-loop-found g l = record {
   front : List ℕ;
   sent : Sent g.W.Write.contents l.fn.writer l.writer l.fn.output l.output front;
-  order : front ++ listed l.picks ≡ listed l.fn.picks;
+  order : front ++ listed l.matches ≡ listed l.fn.matches;
 }
 
 abbrev pub decreases-loop-found : goal.decreases-loop-found
-decreases-loop-found g l = length l.picks
+decreases-loop-found g l = length l.matches

@@ -1,8 +1,9 @@
 -- Each piece stands before the next pick, or in its place.
-use Rattle.std.proofs.Common.{ℕ, ◌≡◌, ◌∷◌, ◌++◌, List, [], refl, sym, ap, ◌∙◌, subst, arith}
+use Rattle.std.proofs.Common.{ℕ, ◌++◌, List, [], refl, ap, ◌∙◌, arith}
+use Rattle.std.specs.Prelude.{slice_range}
 use Rattle.std.proofs.lemmas.Result.{err_from_is_err_and, on_err_weaker, on_ok_weaker}
 use Rattle.std.proofs.lemmas.List.{take_rest}
-use Rattle.ac_input.specs.Occurrence.{Occurrence}
+use Rattle.acsub.specs.Lines.{rule_at}
 use Rattle.acsub.specs.Sides.{replacements_of}
 use Rattle.acsub.proofs.OutputLemmas.{Sent-then}
 use Rattle.acsub.proofs.RewriteLemmas.{Sent-none, Sent-last, Stopped-last, Stopped-within, replaced-step, replaced-end, replacement_of_rule, lies-first}
@@ -14,29 +15,36 @@ loop-found-init g c =
 
 pub replacement-requires : goal.replacement-requires
 replacement-requires g c =
-    let seen = subst (λ (o : Occurrence). c.loop-found.picks ≡ o ∷ c.next.new.self) (sym c.found.view_is) c.in-Some.ensures.steps in
-    (lies-first _ _ _ _ _ _ seen c.loop-found.invariant.lies).0
+    let number = c.as_usize.ensures.value ∙ c.pattern.ensures in
+    omega (arith, number, (lies-first _ _ _ _ _ _ c.in-Some.ensures.steps c.loop-found.invariant.lies).0)
 
 pub returns-in_err-send_exchanged-clause-stopped : goal.returns-in_err-send_exchanged-clause-stopped
 returns-in_err-send_exchanged-clause-stopped g c =
     let p = err_from_is_err_and c.from_residual.result c.from_residual.ensures.1 in
     let before = c.loop-found.invariant in
-    let seen = subst (λ (o : Occurrence). c.loop-found.picks ≡ o ∷ c.next.new.self) (sym c.found.view_is) c.in-Some.ensures.steps in
+    let seen = c.in-Some.ensures.steps in
     let lies = lies-first _ _ _ _ _ _ seen before.lies in
+    let number = c.as_usize.ensures.value ∙ c.pattern.ensures in
     rw p.1 (Stopped-within _ _ _ _ _ _ before.front _ _ _ before.sent c.in_err-send_exchanged.ensures.stopped
-    (replaced-step c.loop-found.at _ _ _ c.args.input.now (replacements_of c.args.rules.now) before.front _ _ _ seen refl (c.replacement.ensures ∙ replacement_of_rule c.args.rules.now _ lies.0) before.order))
+    (replaced-step c.loop-found.at _ _ _ c.args.input.now (replacements_of c.args.rules.now) before.front _ _ _ seen
+    (ap (λ (k : ℕ). slice_range c.args.input.now c.loop-found.at k) c.start.ensures.value)
+    (c.replacement.ensures ∙ ap (λ (n : ℕ). (rule_at c.args.rules.now n).1) number ∙ replacement_of_rule c.args.rules.now _ lies.0) before.order))
 
 pub loop-found-preserved : goal.loop-found-preserved
 loop-found-preserved g c =
     let before = c.loop-found.invariant in
-    let seen = subst (λ (o : Occurrence). c.loop-found.picks ≡ o ∷ c.next.new.self) (sym c.found.view_is) c.in-Some.ensures.steps in
+    let seen = c.in-Some.ensures.steps in
     let lies = lies-first _ _ _ _ _ _ seen before.lies in
+    let number = c.as_usize.ensures.value ∙ c.pattern.ensures in
+    let end = c.end-at.ensures.value in
     record {
       front = _;
       sent = Sent-then _ _ _ _ _ _ _ before.front _ before.sent c.in_ok-send_exchanged.ensures.sent;
-      order = replaced-step c.loop-found.at _ _ _ c.args.input.now (replacements_of c.args.rules.now) before.front _ _ _ seen refl (c.replacement.ensures ∙ replacement_of_rule c.args.rules.now _ lies.0) before.order;
-      lies = lies.4;
-      within = lies.3;
+      order = rw end (replaced-step c.loop-found.at _ _ _ c.args.input.now (replacements_of c.args.rules.now) before.front _ _ _ seen
+          (ap (λ (k : ℕ). slice_range c.args.input.now c.loop-found.at k) c.start.ensures.value)
+          (c.replacement.ensures ∙ ap (λ (n : ℕ). (rule_at c.args.rules.now n).1) number ∙ replacement_of_rule c.args.rules.now _ lies.0) before.order);
+      lies = rw end lies.4;
+      within = omega (arith, end, lies.3);
     }
 
 pub returns-clause-sent : goal.returns-clause-sent

@@ -1,6 +1,6 @@
--- The reader's line is the first bad one.
-use Rattle.std.proofs.Common.{Err, ap, ◌∙◌}
+-- What is prepared has the settings, and the rules that were accepted.
+use Rattle.std.proofs.Common.{refl}
 use Rattle.acsub.proofs.run.prepare.Goals as goal
 
-pub returns-in-Err-Line : goal.returns-in-Err-Line
-returns-in-Err-Line c = (c.read_rules.ensures.bad c.in-Err-Line.line).0 (c.in-Err-Line.is ∙ ap Err c.in-Err-Line.field-0-is)
+pub returns : goal.returns
+returns c = rw c.new.ensures (refl, c.in_ok-rules.ensures.0, c.in_ok-rules.ensures.1)

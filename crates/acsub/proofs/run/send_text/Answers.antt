@@ -1,9 +1,10 @@
--- The picks of the whole input lie in order.
-use Rattle.std.proofs.Common.{length, sym, subst}
-use Rattle.ac_automaton.specs.Replace.{LieInOrder}
-use Rattle.acsub.proofs.FinderLemmas.{whole-lies}
+-- The picks of the whole input lie in order, and overlapping matches are asked under the standard kind alone.
+use Rattle.std.proofs.Common.{sym, ◌∙◌}
+use Rattle.acsub.proofs.FinderLemmas.{whole-lies, overlap-standard}
 use Rattle.acsub.proofs.run.send_text.Goals as goal
 
 pub send_replaced-requires : goal.send_replaced-requires
-send_replaced-requires g c =
-    subst (LieInOrder (length c.args.rules.now) (length c.args.input.now) 0) (sym c.picks-picks.ensures) (whole-lies c.args.settings.now _ c.args.rules.now c.args.input.now c.requires.patterns)
+send_replaced-requires g c = rw (c.picks-picks.ensures, c.rules.ensures) (whole-lies c.args.prepared.now.settings c.args.prepared.now.rules c.args.input.now)
+
+pub overlapping-requires : goal.overlapping-requires
+overlapping-requires g c = overlap-standard c.args.prepared.now.settings c.args.prepared.now.rules c.requires.accepted (sym c.mode.ensures ∙ c.in-Overlap.is)

@@ -110,11 +110,11 @@ fn takes_the_longest_of_many(rt: HostRuntime) -> Result<(), Fail> {
 #[test]
 fn lists_all_of_many(rt: HostRuntime) -> Result<(), Fail> {
     let alloc = rt.alloc();
-    let input = letters(alloc, 200, "")?;
-    let rows: [(usize, usize); 3] = [(1, 200), (128, 17472), (129, 17544)];
+    let input = letters(alloc, 1000, "")?;
+    let rows: [(usize, usize); 3] = [(1, 1000), (128, 119872), (129, 120744)];
     for (patterns, count) in rows {
         let rules = rising_file(alloc, patterns)?;
-        let (want, lines) = each_occurrence(alloc, 200, patterns)?;
+        let (want, lines) = each_occurrence(alloc, 1000, patterns)?;
         assert_eq!(rt; lines, count, "{patterns} patterns");
         let settings = settings_for(Mode::Overlap, MatchKind::Standard);
         writes_once(

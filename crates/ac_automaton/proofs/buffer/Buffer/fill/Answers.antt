@@ -1,5 +1,6 @@
 -- What a read gave lies behind what was held.
-use Rattle.std.proofs.Common.{◌≡◌, ◌+◌, ◌-◌, ◌≤◌, length, take, length-take, length-drop, sym, ap, ◌∙◌, arith}
+use Rattle.std.proofs.Common.{◌≡◌, ◌+◌, ◌-◌, ◌≤◌, length, take, List, ℕ, length-take, length-drop, sym, ap, ◌∙◌, arith}
+use Rattle.std.proofs.lemmas.List.{length-take-le}
 use Rattle.ac_automaton.specs.Buffer.{Held}
 use Rattle.ac_automaton.proofs.BufferLemmas.{filled-by, front-more}
 use Rattle.ac_automaton.proofs.buffer.Buffer.fill.Goals as goal
@@ -14,7 +15,10 @@ returns-clause-gave g c =
     let rest : length c.read.new.buf ≡ length buffer - filled = c.read.auto.buf ∙ simp (length-take, length-drop) (omega arith) in
     let within : n ≤ length c.read.new.buf = c.in_ok-n.ensures.gave.within in
     let is = c.self.view_is in
-    filled-by c.args.self.now _ _ _ c.read.new.buf (take filled buffer) n c.in_ok-n.ensures.gave
+    let front : length c.args.self.now.bytes ≡ filled = sym (ap (λ (h : Held). length h.bytes) is) ∙ ap (λ (l : List ℕ). length (take filled l)) (sym c.deref_mut.ensures.value) ∙ length-take-le filled buffer (omega arith) in
+    let room : c.self.inside.bytes.len ≡ c.args.self.now.room = ap (λ (h : Held). h.room) is in
+    let open_ = c.requires.room in
+    filled-by _ c.args.self.now _ _ _ c.read.new.buf (take filled buffer) n c.in_ok-n.ensures.gave c.in_ok-n.ensures.device.0 (λ z. c.in_ok-n.ensures.device.1 z (omega arith))
     (sym (ap (λ (h : Held). h.bytes) is) ∙ ap (take filled) (sym c.deref_mut.ensures.value))
     (front-more buffer c.read.new.buf _ _ c.self.inside.bytes.len filled n (omega arith) (omega arith) within)
     (ap (λ (h : Held). h.room) is)

@@ -38,8 +38,9 @@ pub returns : goal.returns
 returns c =
     let patterns = c.args.patterns.now in
     let order = c.deref-number-items.result.now in
-    let ordered : IsOrder c.args.kind patterns (length patterns) order = rw c.deref-number-items.ensures.value c.in_ok-order.ensures in (
-      record {
+    let ordered : IsOrder c.args.kind patterns (length patterns) order = rw c.deref-number-items.ensures.value c.in_ok-order.ensures in
+    record {
+      table = record {
         some = omega (arith, c.min-hash_len.ensures, c.minimum_len.ensures, least_len-full patterns c.requires.full);
         short = λ number h. omega (arith, c.min-hash_len.ensures, c.minimum_len.ensures, least_len-least patterns number h);
         power = c.power_of.ensures;
@@ -47,7 +48,7 @@ returns c =
         ordered = ordered;
         count = omega (arith, c.loop-number.invariant.count, ordered.len);
         entries = c.loop-number.invariant.entries;
-      },
-      refl,
-      omega (arith, c.min-hash_len.ensures),
-    )
+      };
+      kind = refl;
+      few = omega (arith, c.min-hash_len.ensures);
+    }

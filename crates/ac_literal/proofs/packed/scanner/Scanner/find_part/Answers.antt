@@ -1,4 +1,9 @@
 -- Blocks without marks are passed, and the marks of the next one are those of what starts in it.
+use Rattle.std.proofs.Common.{◌≡◌, ℕ, List, [], ◌∷◌, sym, subst}
+use Rattle.ac_input.specs.Best.{IsBest}
+use Rattle.ac_literal.specs.Packed.{search_kind, searched}
+use Rattle.ac_literal.specs.Scanner.{IsOnly}
+use Rattle.ac_literal.proofs.OnlyLemmas.{found-from}
 use Rattle.ac_literal.proofs.TeddyLemmas.{none-passed, has-marks}
 use Rattle.ac_literal.proofs.packed.scanner.Scanner.find_part.Goals as goal
 
@@ -17,3 +22,12 @@ find_marked-found-requires-clause-marks c =
     let next = c.next_marks-block in
     let none = none-passed c.args.patterns.now c.args.self.now.table.hash_len c.args.self.now.teddy c.requires.scanner.teddy c.requires.scanner.table.short c.args.haystack.now c.args.span.start c.args.span.end c.requires.within c.args.at next.result.0 c.requires.none next.ensures.passed in
     has-marks c.args.patterns.now c.args.self.now.table.hash_len c.args.self.now.teddy c.requires.scanner.teddy c.requires.scanner.table.short c.args.haystack.now c.args.span.start c.args.span.end c.requires.within next.result.0 next.result.1 none (next.ensures.set c.if-marks-eq0.false)
+
+pub returns-in-Some-clause-found : goal.returns-in-Some-clause-found
+returns-in-Some-clause-found c =
+    let patterns = c.args.patterns.now in
+    let kind = c.args.self.now.table.kind in
+    let needle = c.in-Some.needle in
+    let only : patterns ≡ needle ∷ [] = subst (IsOnly patterns) c.in-Some.is c.requires.scanner.only in
+    let best = subst (λ (ps : List (List ℕ)). IsBest (search_kind kind) (searched ps c.args.haystack.now c.args.at c.args.span.end) c.find_needle-found.result) (sym only) (c.find_needle-found.ensures kind) in
+    found-from patterns c.args.haystack.now c.args.span.start c.args.at c.args.span.end c.requires.none c.requires.start (search_kind kind) _ c.find_needle-found.result best

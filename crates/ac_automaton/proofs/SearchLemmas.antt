@@ -1,0 +1,397 @@
+-- A search over the bytes that are held: where it stands after it, and what it found.
+use Rattle.std.proofs.Common.{◌≡◌, ◌≢◌, ⊎_elim, ℕ, ◌+◌, ◌-◌, ◌*◌, ◌<◌, ◌≤◌, max, Bool, true, false, IsTrue, List, [], ◌∷◌, ◌++◌, length, take, drop, Option, None, Some, get_or, slice_get, slice_range, sym, ap, subst, refl, ◌∙◌, arith, append-nil, length-drop}
+use Rattle.std.proofs.lemmas.List.{length-take-le}
+use Rattle.std.specs.Option.{option_map}
+use Rattle.std.proofs.lemmas.Bool.{cases_lt}
+use Rattle.std.proofs.lemmas.List.{drop-drop, take_rest}
+use Rattle.std.proofs.lemmas.Option.{same_Some, slice_get_within}
+use Rattle.ac_input.specs.declared.primitives.state_id.StateID.{StateID}
+use Rattle.ac_input.specs.declared.search.Anchored.{Anchored}
+use Rattle.ac_input.specs.declared.search.Anchored.TheVariants.{No}
+use Rattle.ac_input.specs.declared.search.MatchKind.TheVariants.{Standard}
+use Rattle.ac_input.specs.declared.steps.Steps.{Steps}
+use Rattle.ac_input.specs.Best.{IsBest}
+use Rattle.ac_input.specs.Dictionary.{Dictionary, IsLive, live_len, whole}
+use Rattle.ac_input.specs.LiveLaws.{shifted}
+use Rattle.ac_input.specs.Occurrence.{Occurrence, Occurs}
+use Rattle.ac_input.specs.Steps.{Done, looked_of}
+use Rattle.ac_input.specs.Tells.{Tells, TellsUnanchored, ending}
+use Rattle.ac_input.specs.Walk.{IsPick}
+use Rattle.ac_input.specs.Work.{IsLookups, longest, lookups_per_byte, shortest}
+use Rattle.ac_input.proofs.LiveLemmas.{occurs-append}
+use Rattle.ac_input.proofs.OrderLemmas.{occurrence_from_parts, slice_range-length}
+use Rattle.ac_input.specs.declared.search.MatchKind.{MatchKind}
+use Rattle.ac_automaton.specs.Automaton.{Built, IsReadCost}
+use Rattle.ac_automaton.specs.Cursor.{ending_at}
+use Rattle.ac_automaton.specs.Replace.{matches_in}
+use Rattle.ac_automaton.specs.Scan.{GoesOn, IsHeldAt, IsScanPaid, SearchesOn, StandsInState, StopsAtMatch, after_search, since_last}
+use Rattle.ac_automaton.specs.Stream.{CanBeCounted, IsHeldMatch, IsOnCourse, IsWithinStreamBudget, Scanned, cut_of, keep_of, read_by, room_of}
+use Rattle.ac_automaton.specs.declared.stream.scan.Progress.{Progress}
+use Rattle.ac_automaton.specs.declared.stream.scan.Searched.{Searched}
+use Rattle.ac_automaton.specs.declared.stream.scan.Stop.{Stop}
+use Rattle.ac_automaton.proofs.CursorLemmas.{part-empty, part-front}
+use Rattle.ac_automaton.proofs.IterLemmas.{occurs-not_empty}
+use Rattle.ac_automaton.proofs.StreamLemmas.{all-given, decided-from, goes-match, none-ends_before, nothing-ends, pick-since}
+use Rattle.ac_automaton.proofs.ToldLemmas.{IsEarlier, ending-fits, told-standard}
+use Rattle.ac_automaton.proofs.WalkLemmas.{occurs-bound}
+
+-- ---- what was read
+
+-- the bytes up to a place, and some more
+pub text-on : (x : List ℕ) (last at k : ℕ) → last ≤ at → k ≤ length x - at → slice_range x last at ++ take k (drop at x) ≡ slice_range x last (at + k)
+text-on x last at k g h = ap (λ (l : List ℕ). slice_range x last at ++ take k l) (sym (take_rest x at)) ∙ part-front x last at (length x) k g h
+
+-- what is behind a place of the bytes that are held
+pub rest-held : (x held : List ℕ) (from at first place : ℕ) → first ≡ from → place ≡ at → held ≡ drop from x → from ≤ at → drop (place - first) held ≡ drop at x
+rest-held x held from at first place f p is le =
+    let k : place - first ≡ at - from = omega arith in
+    let there : from + (at - from) ≡ at = omega arith in
+    ap (λ (n : ℕ). drop n held) k ∙ ap (drop (at - from)) is ∙ drop-drop (at - from) from x ∙ ap (λ (n : ℕ). drop n x) there
+
+-- what was looked at is all that was done
+pub looks-done : (deterministic : Bool) (n a b : ℕ) (y z : Steps) → IsLookups deterministic n a b y z → Done (looked_of z - looked_of y) 0 0 y z
+looks-done deterministic n a b y z run =
+    let some = run.some in
+    let scanned = run.scanned in
+    let moved = run.moved in
+    record { looked = omega arith; scanned = omega arith; moved = omega arith }
+
+-- ---- where a search stands
+
+-- what is paid for byte by byte is within the budget
+budget-from : (deterministic : Bool) (looked live at : ℕ) → looked + live ≤ 2 * at → (IsTrue deterministic → looked ≡ at) → looked ≤ lookups_per_byte deterministic * at
+budget-from true looked live at paid one = let e = one refl in omega arith
+budget-from false looked live at paid one = omega arith
+
+-- where it stands, put together
+pub stands-from : (Reads : List ℕ → StateID → Type 0) (t : Scanned) (start sid : StateID)
+    → t.built.dictionary.kind ≡ Standard
+    → 1 ≤ shortest t.built.dictionary.patterns
+    → t.last ≤ t.at
+    → t.at ≤ length (read_by t)
+    → t.from ≤ cut_of t
+    → t.from ≤ t.at
+    → length (read_by t) ≤ t.from + room_of t.built
+    → t.scanned ≡ 0
+    → 7 * t.moved ≤ length (read_by t)
+    → Reads [] start
+    → Reads (since_last t) sid
+    → IsBest Standard (whole t.built.dictionary (since_last t) false) None
+    → GoesOn t
+    → IsScanPaid t
+    → (live : Option ℕ)
+    → IsLive t.built.dictionary false (since_last t) live
+    → StandsInState Reads t start sid
+stands-from Reads t start sid standard filled ordered inside kept behind room scanned moved begins reads quiet goes paid live is =
+    let here = paid live is in
+    let decided = decided-from t standard ordered inside quiet goes in
+    let rest = decided [] in
+    record {
+      course = record {
+        standard = standard;
+        filled = filled;
+        ordered = (ordered, inside);
+        kept = (kept, behind, room);
+        begun = (rest.0, ap (matches_in t.built) (sym (append-nil (read_by t))) ∙ rest.1);
+        decided = decided;
+        paid = record {
+          some = here.1;
+          looked = budget-from t.built.deterministic t.looked (live_len (since_last t) live) t.at here.0 here.2;
+          scanned = scanned;
+          moved = moved;
+        };
+      };
+      begins = begins;
+      reads = reads;
+      quiet = quiet;
+      goes = goes;
+      lookups = paid;
+    }
+
+-- ---- reading on
+
+-- on the way the states told nothing
+tells-on : (s : Scanned) (Reads : Anchored → List ℕ → StateID → Type 0) (matches : StateID → List ℕ) (sid : StateID) (stop : Stop) (y z : Steps)
+    → ((text : List ℕ) (state : StateID) → Reads No text state → Tells s.built.dictionary No text (matches state))
+    → s.last ≤ s.at
+    → Reads No (since_last s) sid
+    → StopsAtMatch s.built Reads matches sid (drop s.at (read_by s)) stop y z
+    → (k : ℕ) → s.at < k → k < s.at + stop.taken → Tells s.built.dictionary No (slice_range (read_by s) s.last k) []
+tells-on s Reads matches sid stop y z tells ordered here stops k lt less =
+    let x = read_by s in
+    let i : ℕ = k - s.at in
+    let there : s.at + i ≡ k = omega arith in
+    let within = stops.within in
+    let rest = length-drop s.at x in
+    let mid = stops.quiet i (omega arith) (omega arith) in
+    let text : since_last s ++ take i (drop s.at x) ≡ slice_range x s.last k = text-on x s.last s.at i ordered (omega arith) ∙ ap (slice_range x s.last) there in
+    let reads : Reads No (slice_range x s.last k) mid.0 = subst (λ (l : List ℕ). Reads No l mid.0) text (mid.1 (since_last s) here) in
+    subst (λ (ns : List ℕ). Tells s.built.dictionary No (slice_range x s.last k) ns) mid.2 (tells (slice_range x s.last k) mid.0 reads)
+
+-- what reading on cost
+cost-on : (s : Scanned) (Reads : Anchored → List ℕ → StateID → Type 0) (matches : StateID → List ℕ) (sid : StateID) (stop : Stop) (y z : Steps) (before after : Option ℕ)
+    → s.last ≤ s.at
+    → Reads No (since_last s) sid
+    → StopsAtMatch s.built Reads matches sid (drop s.at (read_by s)) stop y z
+    → IsLive s.built.dictionary false (since_last s) before
+    → IsLive s.built.dictionary false (slice_range (read_by s) s.last (s.at + stop.taken)) after
+    → IsLookups s.built.deterministic stop.taken (live_len (since_last s) before) (live_len (slice_range (read_by s) s.last (s.at + stop.taken)) after) y z
+cost-on s Reads matches sid stop y z before after ordered here stops g h =
+    let x = read_by s in
+    let within = stops.within in
+    let rest = length-drop s.at x in
+    let text : since_last s ++ take stop.taken (drop s.at x) ≡ slice_range x s.last (s.at + stop.taken) = text-on x s.last s.at stop.taken ordered (omega arith) in
+    let there = subst (λ (l : List ℕ). IsLive s.built.dictionary false l after) (sym text) h in
+    let run = stops.cost (since_last s) before after here g there in
+    let long : length (take stop.taken (drop s.at x)) ≡ stop.taken = length-take-le stop.taken (drop s.at x) within in
+    subst (λ (n : ℕ). IsLookups s.built.deterministic n (live_len (since_last s) before) (live_len (slice_range x s.last (s.at + stop.taken)) after) y z) long
+    (subst (λ (l : List ℕ). IsLookups s.built.deterministic (length (take stop.taken (drop s.at x))) (live_len (since_last s) before) (live_len l after) y z) text run)
+
+-- so many looks more
+paid-on : (deterministic : Bool) (looked live at n more : ℕ) (y z : Steps) → looked + live ≤ 2 * at → at ≤ looked → (IsTrue deterministic → looked ≡ at) → IsLookups deterministic n live more y z
+    → (looked + (looked_of z - looked_of y) + more ≤ 2 * (at + n)) × (at + n ≤ looked + (looked_of z - looked_of y)) × (IsTrue deterministic → looked + (looked_of z - looked_of y) ≡ at + n)
+paid-on deterministic looked live at n more y z paid some one run =
+    let bound = run.bound in
+    let least = run.some in
+    (omega arith, omega arith, λ d. let e = one d in let f = run.one d in omega arith)
+
+-- the state in which reading on stopped was reached by the bytes since the last match
+reads-on : (s : Scanned) (Reads : Anchored → List ℕ → StateID → Type 0) (matches : StateID → List ℕ) (sid : StateID) (stop : Stop) (y z : Steps)
+    → s.last ≤ s.at
+    → Reads No (since_last s) sid
+    → StopsAtMatch s.built Reads matches sid (drop s.at (read_by s)) stop y z
+    → Reads No (slice_range (read_by s) s.last (s.at + stop.taken)) stop.sid
+reads-on s Reads matches sid stop y z ordered here stops =
+    let within = stops.within in
+    let rest = length-drop s.at (read_by s) in
+    subst (λ (l : List ℕ). Reads No l stop.sid) (text-on (read_by s) s.last s.at stop.taken ordered (omega arith)) (stops.reads (since_last s) here)
+
+-- ---- to the end
+
+-- nothing is in the text where the last state tells nothing either
+quiet-on : (m : Dictionary) (x : List ℕ) (last at to : ℕ) → m.kind ≡ Standard → last ≤ at → at ≤ to → to ≤ length x
+    → IsBest Standard (whole m (slice_range x last at) false) None
+    → ((k : ℕ) → at < k → k < to → Tells m No (slice_range x last k) [])
+    → (at < to → Tells m No (slice_range x last to) [])
+    → IsBest Standard (whole m (slice_range x last to) false) None
+quiet-on m x last at to standard g h inside quiet tells ends = λ o occurs.
+    let w = occurs.within in
+    let long = slice_range-length x last to (omega arith) inside in
+    ⊎_elim
+    (λ (lt : last + o.end < to). none-ends_before m x last at to o standard g h inside quiet tells occurs lt)
+    (λ (le : to ≤ last + o.end).
+    ⊎_elim
+    (λ (past : at < to). nothing-ends m (slice_range x last to) o standard (ends past) occurs (omega arith))
+    (λ (same : to ≤ at). let e : to ≡ at = omega arith in quiet o (subst (λ (n : ℕ). Occurs (whole m (slice_range x last n) false) o) e occurs))
+    (cases_lt at to))
+    (cases_lt (last + o.end) to)
+
+-- All that is held was searched, and nothing was found.
+pub search-none : (s : Scanned) (Reads : Anchored → List ℕ → StateID → Type 0) (matches : StateID → List ℕ) (start sid : StateID) (stop : Stop) (y z : Steps)
+    → ((text : List ℕ) (state : StateID) → Reads No text state → Tells s.built.dictionary No text (matches state))
+    → ((text : List ℕ) (state : StateID) → Reads No text state → (live : Option ℕ) × IsLive s.built.dictionary false text live)
+    → StandsInState (Reads No) s start sid
+    → StopsAtMatch s.built Reads matches sid (drop s.at (read_by s)) stop y z
+    → stop.matches ≡ false
+    → SearchesOn (Reads No) s start (record { progress = record { sid = stop.sid; from = s.from; at = s.at + stop.taken; last = s.last }; found = None }) y z
+search-none s Reads matches start sid stop y z tells lives stands stops none =
+    let m = s.built.dictionary in
+    let x = read_by s in
+    let course = stands.course in
+    let ordered = course.ordered.0 in
+    let inside = course.ordered.1 in
+    let kept = course.kept in
+    let to : ℕ = s.at + stop.taken in
+    let rest = length-drop s.at x in
+    let within = stops.within in
+    let over = stops.none none in
+    let all : to ≡ length x = omega (arith, over.0) in
+    let before = lives (since_last s) sid stands.reads in
+    let reads = reads-on s Reads matches sid stop y z ordered stands.reads stops in
+    let after = lives (slice_range x s.last to) stop.sid reads in
+    let looks : ℕ = looked_of z - looked_of y in
+    let paid = stands.lookups before.0 before.1 in
+    let quiet : IsBest Standard (whole m (slice_range x s.last to) false) None =
+    quiet-on m x s.last s.at to course.standard ordered (omega arith) (omega arith) stands.quiet (tells-on s Reads matches sid stop y z tells ordered stands.reads stops)
+    (λ lt. subst (λ (ns : List ℕ). Tells m No (slice_range x s.last to) ns) (over.1 (omega arith)) (tells (slice_range x s.last to) stop.sid reads)) in
+    let t : Scanned = after_search s (record { progress = record { sid = stop.sid; from = s.from; at = to; last = s.last }; found = None }) looks in
+    let same : s.given ++ [] ≡ s.given = append-nil s.given in
+    let goes : GoesOn t = subst (λ (l : List Occurrence). GoesOn (record t { given = l })) (sym same) stands.goes in
+    record {
+      looks = looks;
+      done = looks-done s.built.deterministic stop.taken _ _ y z (cost-on s Reads matches sid stop y z before.0 after.0 ordered stands.reads stops before.1 after.1);
+      from = refl;
+      finds = (
+        record { on = omega arith; built = refl; pieces = refl; from = refl },
+        same,
+        refl,
+        λ countable. (all, same ∙ all-given s course.standard (omega arith) (subst (λ (n : ℕ). IsBest Standard (whole m (slice_range x s.last n) false) None) all quiet) stands.goes),
+      );
+      stands = stands-from (Reads No) t start stop.sid course.standard course.filled (omega arith) (omega arith) (omega arith) (omega arith) kept.2 course.paid.scanned course.paid.moved stands.begins reads quiet goes
+          (λ live is. paid-on s.built.deterministic s.looked (live_len (since_last s) before.0) s.at stop.taken (live_len (slice_range x s.last to) live) y z paid.0 paid.1 paid.2 (cost-on s Reads matches sid stop y z before.0 live ordered stands.reads stops before.1 is))
+          after.0 after.1;
+    }
+
+-- ---- to a match
+
+-- what the state tells at the end of a text in which nothing ended before is its best
+told-best_at : (m : Dictionary) (text ns : List ℕ) (last at : ℕ) (o : Occurrence) → m.kind ≡ Standard → last + length text ≡ at → ((q : Occurrence) → Occurs (whole m text false) q → ¬ (q.end < length text)) → Tells m No text ns → ns ≢ []
+    → Some o ≡ option_map (ending_at m at) (slice_get ns 0) → (b : Occurrence) × IsBest Standard (whole m text false) (Some b) × (shifted last b ≡ o) × (o.end ≡ at)
+told-best_at m text [] last at o standard long none tells some is = absurd (some refl)
+told-best_at m text (n ∷ ns) last at o standard long none tells some is =
+    let all : TellsUnanchored Standard m text (n ∷ ns) = subst (λ (k : MatchKind). TellsUnanchored k m text (n ∷ ns)) standard tells in
+    let earlier : IsEarlier Standard m false text None = record { least = λ q h. none q h.0 h.1 } in
+    let best = told-standard m text (n ∷ ns) earlier all in
+    let fits = ending-fits m false text n best.0 in
+    let same : ending_at m at n ≡ o = sym (same_Some o (ending_at m at n) is) in
+    (ending m text n, best, occurrence_from_parts (shifted last (ending m text n)) (ending_at m at n) refl (omega arith) long ∙ same, sym (ap (λ (q : Occurrence). q.end) same))
+
+-- nothing is live of no text
+pub live-empty : (x : List ℕ) (at : ℕ) (live : Option ℕ) → live_len (slice_range x at at) live ≡ 0
+live-empty x at None = refl
+live-empty x at (Some from) = let empty = ap length (part-empty x at) in omega arith
+
+-- a match was found among the bytes that are held
+found-held : (s : Scanned) (b o : Occurrence) (at : ℕ) → IsOnCourse s → s.at < at → at ≤ length (read_by s) → o.end ≡ at → s.last ≤ o.start → Occurs (whole s.built.dictionary (slice_range (read_by s) s.last at) false) b → shifted s.last b ≡ o → IsHeldMatch s o
+found-held s b o at course lt inside ends behind occurs is =
+    let m = s.built.dictionary in
+    let bound = occurs-bound m false (slice_range (read_by s) s.last at) b occurs in
+    let some = occurs-not_empty (whole m (slice_range (read_by s) s.last at) false) b (omega arith) course.filled occurs in
+    let start : s.last + b.start ≡ o.start = ap (λ (q : Occurrence). q.start) is in
+    let end : s.last + b.end ≡ o.end = ap (λ (q : Occurrence). q.end) is in
+    let number : b.pattern ≡ o.pattern = ap (λ (q : Occurrence). q.pattern) is in
+    let kept = course.kept.0 in
+    let known = slice_get_within m.patterns b.pattern occurs.same.0 occurs.same.1 in
+    record {
+      pattern = subst (λ (n : ℕ). n < length m.patterns) number known;
+      held = omega arith;
+      behind = behind;
+      some = omega arith;
+      new = omega arith;
+      within = omega arith;
+    }
+
+-- The next match among the bytes that are held was found.
+pub search-some : (s : Scanned) (Reads : Anchored → List ℕ → StateID → Type 0) (matches : StateID → List ℕ) (start sid : StateID) (stop : Stop) (o : Occurrence) (y z : Steps)
+    → ((text : List ℕ) (state : StateID) → Reads No text state → Tells s.built.dictionary No text (matches state))
+    → ((text : List ℕ) (state : StateID) → Reads No text state → (live : Option ℕ) × IsLive s.built.dictionary false text live)
+    → StandsInState (Reads No) s start sid
+    → StopsAtMatch s.built Reads matches sid (drop s.at (read_by s)) stop y z
+    → stop.matches ≡ true
+    → CanBeCounted (read_by s)
+    → Some o ≡ option_map (ending_at s.built.dictionary (s.at + stop.taken)) (slice_get (matches stop.sid) 0)
+    → SearchesOn (Reads No) s start (record { progress = record { sid = start; from = s.from; at = s.at + stop.taken; last = s.at + stop.taken }; found = Some o }) y z
+search-some s Reads matches start sid stop o y z tells lives stands stops matched countable is =
+    let m = s.built.dictionary in
+    let x = read_by s in
+    let course = stands.course in
+    let ordered = course.ordered.0 in
+    let inside = course.ordered.1 in
+    let kept = course.kept in
+    let to : ℕ = s.at + stop.taken in
+    let rest = length-drop s.at x in
+    let within = stops.within in
+    let there = stops.there matched in
+    let some = there.0 in
+    let text = slice_range x s.last to in
+    let long = slice_range-length x s.last to (omega arith) (omega arith) in
+    let reads = reads-on s Reads matches sid stop y z ordered stands.reads stops in
+    let before = lives (since_last s) sid stands.reads in
+    let after = lives text stop.sid reads in
+    let looks : ℕ = looked_of z - looked_of y in
+    let paid = stands.lookups before.0 before.1 in
+    let run = cost-on s Reads matches sid stop y z before.0 after.0 ordered stands.reads stops before.1 after.1 in
+    let more = paid-on s.built.deterministic s.looked (live_len (since_last s) before.0) s.at stop.taken (live_len text after.0) y z paid.0 paid.1 paid.2 run in
+    let best = told-best_at m text (matches stop.sid) s.last to o course.standard (omega arith)
+    (λ q h lt. none-ends_before m x s.last s.at to q course.standard ordered (omega arith) (omega arith) stands.quiet (tells-on s Reads matches sid stop y z tells ordered stands.reads stops) h (omega arith))
+    (tells text stop.sid reads) there.1 is in
+    let pick = λ (tail : List ℕ). subst (λ (q : Occurrence). IsPick Standard (whole m (x ++ tail) false) s.last (Some s.last) (Some q)) best.2 (pick-since m x tail s.last to best.0 (omega arith) (omega arith) course.filled best.1) in
+    let ends = best.3 in
+    let starts : s.last + best.0.start ≡ o.start = ap (λ (q : Occurrence). q.start) best.2 in
+    let behind : s.last ≤ o.start = omega arith in
+    let goes = subst (λ (n : ℕ). GoesOn (record s { given = s.given ++ o ∷ []; at = n; last = n; looked = s.looked + looks })) ends (goes-match s o (s.looked + looks) stands.goes pick) in
+    let empty = part-empty x to in
+    let t : Scanned = after_search s (record { progress = record { sid = start; from = s.from; at = to; last = to }; found = Some o }) looks in
+    let begins : Reads No (slice_range x to to) start = subst (λ (l : List ℕ). Reads No l start) (sym empty) stands.begins in
+    let live = lives (slice_range x to to) start begins in
+    record {
+      looks = looks;
+      done = looks-done s.built.deterministic stop.taken _ _ y z run;
+      from = refl;
+      finds = (
+        record { on = omega arith; built = refl; pieces = refl; from = refl },
+        refl,
+        sym ends,
+        sym ends,
+        found-held s best.0 o to course (omega arith) (omega arith) ends (omega arith) best.1.0 best.2,
+        countable,
+      );
+      stands = stands-from (Reads No) t start start course.standard course.filled (omega arith) (omega arith) (omega arith) (omega arith) kept.2 course.paid.scanned course.paid.moved stands.begins begins
+          (λ q h. let w = h.within in let lt = occurs-not_empty (whole m (slice_range x to to) false) q (omega arith) course.filled h in absurd (omega (arith, ap length empty)))
+          goes
+          (λ one alive. let none = live-empty x to one in (omega arith, more.1, more.2))
+          live.0 live.1;
+    }
+
+-- ---- the same, told of what the search keeps
+
+-- the places of a search, put together
+progress-same : (s : Scanned) (p : Progress) → p.from ≡ s.from → p.at ≡ s.at → p.last ≡ s.last → record { sid = p.sid; from = s.from; at = s.at; last = s.last } ≡ p
+progress-same s p f a l = λ i. record { sid = p.sid; from = sym f i; at = sym a i; last = sym l i }
+
+-- where nothing was found
+pub searches-none : (b : Built) (s : Scanned) (Reads : Anchored → List ℕ → StateID → Type 0) (matches : StateID → List ℕ) (start : StateID) (p : Progress) (held : List ℕ) (stop : Stop) (y z : Steps)
+    → ((text : List ℕ) (state : StateID) → Reads No text state → Tells b.dictionary No text (matches state))
+    → ((text : List ℕ) (state : StateID) → Reads No text state → (live : Option ℕ) × IsLive b.dictionary false text live)
+    → IsHeldAt b (Reads No) s start p held
+    → StopsAtMatch b Reads matches p.sid (drop (p.at - p.from) held) stop y z
+    → stop.matches ≡ false
+    → SearchesOn (Reads No) s start (record { progress = record { sid = stop.sid; from = p.from; at = p.at + stop.taken; last = p.last }; found = None }) y z
+searches-none b s Reads matches start p held stop y z tells lives is stops none =
+    let rest : drop (p.at - p.from) held ≡ drop s.at (read_by s) = rest-held (read_by s) held s.from s.at p.from p.at is.from is.at is.bytes is.stands.course.kept.1 in
+    let here : StopsAtMatch b Reads matches p.sid (drop s.at (read_by s)) stop y z = subst (λ (l : List ℕ). StopsAtMatch b Reads matches p.sid l stop y z) rest stops in
+    subst (λ (q : Progress). SearchesOn (Reads No) s start (record { progress = record { sid = stop.sid; from = q.from; at = q.at + stop.taken; last = q.last }; found = None }) y z) (progress-same s p is.from is.at is.last)
+    (search-none s Reads matches start p.sid stop y z
+    (subst (λ (d : Built). (text : List ℕ) (state : StateID) → Reads No text state → Tells d.dictionary No text (matches state)) (sym is.built) tells)
+    (subst (λ (d : Built). (text : List ℕ) (state : StateID) → Reads No text state → (live : Option ℕ) × IsLive d.dictionary false text live) (sym is.built) lives)
+    is.stands
+    (subst (λ (d : Built). StopsAtMatch d Reads matches p.sid (drop s.at (read_by s)) stop y z) (sym is.built) here)
+    none)
+
+-- where a match was found
+pub searches-some : (b : Built) (s : Scanned) (Reads : Anchored → List ℕ → StateID → Type 0) (matches : StateID → List ℕ) (start : StateID) (p : Progress) (held : List ℕ) (stop : Stop) (o : Occurrence) (y z : Steps)
+    → ((text : List ℕ) (state : StateID) → Reads No text state → Tells b.dictionary No text (matches state))
+    → ((text : List ℕ) (state : StateID) → Reads No text state → (live : Option ℕ) × IsLive b.dictionary false text live)
+    → IsHeldAt b (Reads No) s start p held
+    → StopsAtMatch b Reads matches p.sid (drop (p.at - p.from) held) stop y z
+    → stop.matches ≡ true
+    → Some o ≡ option_map (ending_at b.dictionary (p.at + stop.taken)) (slice_get (matches stop.sid) 0)
+    → SearchesOn (Reads No) s start (record { progress = record { sid = start; from = p.from; at = p.at + stop.taken; last = p.at + stop.taken }; found = Some o }) y z
+searches-some b s Reads matches start p held stop o y z tells lives is stops matched found =
+    let rest : drop (p.at - p.from) held ≡ drop s.at (read_by s) = rest-held (read_by s) held s.from s.at p.from p.at is.from is.at is.bytes is.stands.course.kept.1 in
+    let here : StopsAtMatch b Reads matches p.sid (drop s.at (read_by s)) stop y z = subst (λ (l : List ℕ). StopsAtMatch b Reads matches p.sid l stop y z) rest stops in
+    let at : Some o ≡ option_map (ending_at b.dictionary (s.at + stop.taken)) (slice_get (matches stop.sid) 0) = subst (λ (n : ℕ). Some o ≡ option_map (ending_at b.dictionary (n + stop.taken)) (slice_get (matches stop.sid) 0)) is.at found in
+    subst (λ (q : Progress). SearchesOn (Reads No) s start (record { progress = record { sid = start; from = q.from; at = q.at + stop.taken; last = q.at + stop.taken }; found = Some o }) y z) (progress-same s p is.from is.at is.last)
+    (search-some s Reads matches start p.sid stop o y z
+    (subst (λ (d : Built). (text : List ℕ) (state : StateID) → Reads No text state → Tells d.dictionary No text (matches state)) (sym is.built) tells)
+    (subst (λ (d : Built). (text : List ℕ) (state : StateID) → Reads No text state → (live : Option ℕ) × IsLive d.dictionary false text live) (sym is.built) lives)
+    is.stands
+    (subst (λ (d : Built). StopsAtMatch d Reads matches p.sid (drop s.at (read_by s)) stop y z) (sym is.built) here)
+    matched
+    is.countable
+    (subst (λ (d : Built). Some o ≡ option_map (ending_at d.dictionary (s.at + stop.taken)) (slice_get (matches stop.sid) 0)) (sym is.built) at))
+
+-- the bytes since the last match are no more than there are places before where the search stands
+pub reached-text : (b : Built) (s : Scanned) (Reads : Anchored → List ℕ → StateID → Type 0) (matches : StateID → List ℕ) (start : StateID) (p : Progress) (held : List ℕ) (stop : Stop) (y z : Steps)
+    → IsHeldAt b (Reads No) s start p held
+    → StopsAtMatch b Reads matches p.sid (drop (p.at - p.from) held) stop y z
+    → (text : List ℕ) × Reads No text stop.sid × (length text ≤ p.at + stop.taken)
+reached-text b s Reads matches start p held stop y z is stops =
+    let rest : drop (p.at - p.from) held ≡ drop s.at (read_by s) = rest-held (read_by s) held s.from s.at p.from p.at is.from is.at is.bytes is.stands.course.kept.1 in
+    let here : StopsAtMatch b Reads matches p.sid (drop s.at (read_by s)) stop y z = subst (λ (l : List ℕ). StopsAtMatch b Reads matches p.sid l stop y z) rest stops in
+    let ordered = is.stands.course.ordered in
+    let at = is.at in
+    let within = here.within in
+    let left = length-drop s.at (read_by s) in
+    let long = slice_range-length (read_by s) s.last (s.at + stop.taken) (omega (arith, ordered.0)) (omega (arith, ordered.1)) in
+    (slice_range (read_by s) s.last (s.at + stop.taken), subst (λ (l : List ℕ). Reads No l stop.sid) (text-on (read_by s) s.last s.at stop.taken ordered.0 (omega arith)) (here.reads (since_last s) is.stands.reads), omega arith)

@@ -1,0 +1,85 @@
+-- What a replacement over a stream answers where it did not begin, and what it costs.
+use Rattle.std.proofs.Common.{◌≡◌, ℕ, ◌+◌, ◌-◌, ◌*◌, ◌<◌, ◌≤◌, Bool, true, false, List, [], ◌∷◌, ◌++◌, length, Option, Result, Ok, Err, refl, sym, ap, ◌∙◌, subst, arith, zero-add}
+use Rattle.std.specs.Prelude.{IfErr, OnOk}
+use Rattle.std.specs.List.{concat}
+use Rattle.std.proofs.lemmas.List.{append-nil}
+use Rattle.std.proofs.lemmas.Result.{on_ok_weaker}
+use Rattle.ac_input.specs.declared.search.Anchored.{Anchored}
+use Rattle.ac_input.specs.declared.steps.Steps.{Steps}
+use Rattle.ac_input.specs.Steps.{looked_of, moved_of, scanned_of}
+use Rattle.ac_input.specs.Work.{lookups_per_byte}
+use Rattle.ac_automaton.specs.Automaton.{Built}
+use Rattle.ac_automaton.specs.Moved.{HasMoved}
+use Rattle.ac_automaton.specs.Stream.{CanStream, IsStreamRefusal, Scanned, fresh_scan, read_by}
+use Rattle.ac_automaton.specs.StreamReplace.{CostsStream, HasSearched, IsBegun, IsReplaceStreamError, ReplacesStream}
+use Rattle.ac_automaton.specs.Watched.{pieces_of}
+use Rattle.ac_automaton.specs.declared.error.StreamError.{StreamError}
+use Rattle.ac_automaton.specs.declared.error.StreamError.TheVariants.{Config, Read, Write, WriteZero, Memory, Position}
+use Rattle.ac_automaton.specs.declared.watched.Watched.{Watched}
+use Rattle.ac_automaton.proofs.StreamReplaceLemmas.{given-none, taken-none}
+
+-- nothing was moved
+pub nothing-moved : {R W : Type 0} (remaining : R → Option (List ℕ)) (contents : W → Option (List ℕ)) (b : Built) (supports : Anchored → Type 0) (replacements : List (List ℕ)) (reader : Watched R) (writer : Watched W) (error : StreamError)
+    → IsStreamRefusal b supports error → ReplacesStream remaining contents b replacements reader reader writer writer (Err error)
+nothing-moved remaining contents b supports replacements reader writer (Config error) refused =
+    (record { pieces = []; failed_reads = 0; taken = []; failed_writes = 0; stalled_writes = 0 }, record { reader = given-none remaining reader; writer = taken-none contents writer }, record { pieces = refl; taken = refl; failed = (refl, refl, refl) })
+nothing-moved remaining contents b supports replacements reader writer (Read error) refused = absurd refused
+nothing-moved remaining contents b supports replacements reader writer (Write error) refused = absurd refused
+nothing-moved remaining contents b supports replacements reader writer WriteZero refused = absurd refused
+nothing-moved remaining contents b supports replacements reader writer Memory refused =
+    (record { pieces = []; failed_reads = 0; taken = []; failed_writes = 0; stalled_writes = 0 }, record { reader = given-none remaining reader; writer = taken-none contents writer }, record { pieces = refl; taken = refl; failed = (refl, refl, refl) })
+nothing-moved remaining contents b supports replacements reader writer Position refused = absurd refused
+
+-- why it did not begin
+pub not-begun : {R W : Type 0} (b : Built) (supports : Anchored → Type 0) (reader : Watched R) (writer : Watched W) (error : StreamError) → IsStreamRefusal b supports error → IsReplaceStreamError b supports reader reader writer writer error
+not-begun b supports reader writer (Config error) refused = (refused, (refl, refl))
+not-begun b supports reader writer (Read error) refused = absurd refused
+not-begun b supports reader writer (Write error) refused = absurd refused
+not-begun b supports reader writer WriteZero refused = absurd refused
+not-begun b supports reader writer Memory refused = (refused, (refl, refl))
+not-begun b supports reader writer Position refused = absurd refused
+
+-- an error that came later
+pub begun-later : {R W : Type 0} (b : Built) (supports : Anchored → Type 0) (r0 r1 : Watched R) (w0 w1 : Watched W) (error : StreamError) → CanStream b supports → IsBegun error → IsReplaceStreamError b supports r0 r1 w0 w1 error
+begun-later b supports r0 r1 w0 w1 (Config error) can begun = absurd begun
+begun-later b supports r0 r1 w0 w1 (Read error) can begun = can
+begun-later b supports r0 r1 w0 w1 (Write error) can begun = can
+begun-later b supports r0 r1 w0 w1 WriteZero can begun = can
+begun-later b supports r0 r1 w0 w1 Memory can begun = absurd begun
+begun-later b supports r0 r1 w0 w1 Position can begun = can
+
+-- what was not begun cost nothing
+pub cost-none : {R : Type 0} (b : Built) (reader : Watched R) (steps : Steps) (error : StreamError) → CostsStream b reader reader steps steps (Err error)
+cost-none b reader steps error = ([], sym (append-nil _), record { looked = omega arith; scanned = refl; moved = omega arith }, tt)
+
+-- what was looked at for the bytes that the automaton has read is within what may be looked at for all that were read
+looks-within : (deterministic : Bool) (looked at n : ℕ) → looked ≤ lookups_per_byte deterministic * at → at ≤ n → looked ≤ lookups_per_byte deterministic * n
+looks-within true looked at n h le = omega arith
+looks-within false looked at n h le = omega arith
+
+-- what a search cost that has just begun is what was counted
+pub cost-read : {R : Type 0} (b : Built) (s t : Scanned) (r0 r1 : Watched R) (before after : Steps) (result : Result (Unit {0}) StreamError) → s ≡ fresh_scan b → HasSearched s t r0 r1 before after result → CostsStream b r0 r1 before after result
+cost-read b s t r0 r1 before after result fresh h =
+    let built : t.built ≡ b = h.built ∙ ap (λ (q : Scanned). q.built) fresh in
+    let looked : s.looked ≡ 0 = ap (λ (q : Scanned). q.looked) fresh in
+    let scanned : s.scanned ≡ 0 = ap (λ (q : Scanned). q.scanned) fresh in
+    let moved : s.moved ≡ 0 = ap (λ (q : Scanned). q.moved) fresh in
+    let paid = h.course.paid in
+    let counts = h.counts in
+    let within : t.at ≤ length (read_by t) = h.course.ordered.1 in
+    let looks : t.looked ≡ counts.0 = counts.4 ∙ ap (λ (n : ℕ). n + counts.0) looked ∙ zero-add counts.0 in
+    let places : t.scanned ≡ counts.1 = counts.5 ∙ ap (λ (n : ℕ). n + counts.1) scanned ∙ zero-add counts.1 in
+    let bytes : t.moved ≡ counts.2 = counts.6 ∙ ap (λ (n : ℕ). n + counts.2) moved ∙ zero-add counts.2 in
+    let bound : t.looked ≤ lookups_per_byte b.deterministic * length (read_by t) = subst (λ (c : Built). t.looked ≤ lookups_per_byte c.deterministic * length (read_by t)) built (looks-within t.built.deterministic t.looked t.at (length (read_by t)) paid.looked within) in
+    let none : t.scanned ≡ 0 = paid.scanned in
+    let seventh : 7 * t.moved ≤ length (read_by t) = paid.moved in
+    let some : t.at ≤ t.looked = paid.some in
+    let one : looked_of after ≡ looked_of before + counts.0 = counts.3.looked in
+    let two : scanned_of after ≡ scanned_of before + counts.1 = counts.3.scanned in
+    let three : moved_of after ≡ moved_of before + counts.2 = counts.3.moved in
+    (t.pieces, h.read, record { looked = omega arith; scanned = omega arith; moved = omega arith }, on_ok_weaker result (λ (all : t.at ≡ length (read_by t)). let z : looked_of before + length (read_by t) ≤ looked_of after = omega arith in z) h.searched)
+
+-- the same of an answer
+pub refused-later : {R W : Type 0} (b : Built) (supports : Anchored → Type 0) (r0 r1 : Watched R) (w0 w1 : Watched W) (result : Result (Unit {0}) StreamError) → CanStream b supports → IfErr result IsBegun → IfErr result (IsReplaceStreamError b supports r0 r1 w0 w1)
+refused-later b supports r0 r1 w0 w1 (Ok done) can begun = tt
+refused-later b supports r0 r1 w0 w1 (Err error) can begun = begun-later b supports r0 r1 w0 w1 error can begun

@@ -1,0 +1,25 @@
+-- How what a search of a stream costs adds up.
+use Rattle.std.proofs.Common.{◌≡◌, ℕ, ◌+◌, ◌*◌, ◌≤◌, refl, sym, ap, ◌∙◌, arith, add_assoc, add-zero, length}
+use Rattle.ac_input.specs.declared.steps.Steps.{Steps}
+use Rattle.ac_input.specs.Steps.{Done}
+use Rattle.ac_automaton.specs.Stream.{ScanCounts, Scanned}
+
+-- nothing was done yet
+pub ScanCounts-none : (s : Scanned) (steps : Steps) → ScanCounts s s steps steps
+ScanCounts-none s steps = (0, 0, 0, record { looked = sym (add-zero _); scanned = sym (add-zero _); moved = sym (add-zero _) }, sym (add-zero _), sym (add-zero _), sym (add-zero _))
+
+-- what was done in turn was done
+pub ScanCounts-then : (s t u : Scanned) (before between after : Steps) → ScanCounts s t before between → ScanCounts t u between after → ScanCounts s u before after
+ScanCounts-then s t u before between after a b = (
+  a.0 + b.0,
+  a.1 + b.1,
+  a.2 + b.2,
+  record {
+    looked = b.3.looked ∙ ap (λ (n : ℕ). n + b.0) a.3.looked ∙ add_assoc _ a.0 b.0;
+    scanned = b.3.scanned ∙ ap (λ (n : ℕ). n + b.1) a.3.scanned ∙ add_assoc _ a.1 b.1;
+    moved = b.3.moved ∙ ap (λ (n : ℕ). n + b.2) a.3.moved ∙ add_assoc _ a.2 b.2;
+  },
+  b.4 ∙ ap (λ (n : ℕ). n + b.0) a.4 ∙ add_assoc s.looked a.0 b.0,
+  b.5 ∙ ap (λ (n : ℕ). n + b.1) a.5 ∙ add_assoc s.scanned a.1 b.1,
+  b.6 ∙ ap (λ (n : ℕ). n + b.2) a.6 ∙ add_assoc s.moved a.2 b.2,
+)

@@ -1,0 +1,145 @@
+-- What the text since the last match says of the matches of a stream, whatever is still read.
+use Rattle.std.proofs.Common.{◌≡◌, ◌≢◌, ⊎_elim, inl, inr, ℕ, ◌+◌, ◌-◌, ◌*◌, ◌<◌, ◌≤◌, max, Bool, true, false, IsTrue, List, [], ◌∷◌, ◌++◌, length, take, drop, Option, None, Some, Contains, slice_range, sym, ap, subst, refl, ◌∙◌, arith, length-append, append_assoc, append-nil}
+use Rattle.std.specs.List.{All}
+use Rattle.std.proofs.lemmas.Bool.{cases_lt}
+use Rattle.std.proofs.lemmas.List.Elements.{All-contains_itself}
+use Rattle.ac_input.specs.declared.search.Anchored.TheVariants.{No}
+use Rattle.ac_input.specs.declared.search.MatchKind.{MatchKind}
+use Rattle.ac_input.specs.declared.search.MatchKind.TheVariants.{Standard}
+use Rattle.ac_input.specs.Best.{IsBest}
+use Rattle.ac_input.specs.Computed.{walk_of, walk_after}
+use Rattle.ac_input.specs.Dictionary.{Dictionary, whole}
+use Rattle.ac_input.specs.LiveLaws.{shifted}
+use Rattle.ac_input.specs.Occurrence.{Search, Occurrence, Occurs, starting_at}
+use Rattle.ac_input.specs.Tells.{Tells, TellsUnanchored, ending}
+use Rattle.ac_input.specs.Walk.{IsPick, Here, Further, IsWalk}
+use Rattle.ac_input.specs.Work.{longest, shortest}
+use Rattle.ac_input.proofs.BeginningLemmas.{slice_range-append}
+use Rattle.ac_input.proofs.ContainsLemmas.{Contains-nil}
+use Rattle.ac_input.proofs.LiveLemmas.{occurs-front}
+use Rattle.ac_input.proofs.OrderLemmas.{slice_range-length}
+use Rattle.ac_input.proofs.ShiftLemmas.{back_by}
+use Rattle.ac_input.proofs.SpanLemmas.{best-of_rest, occurs-in_whole_of_span}
+use Rattle.ac_input.proofs.WalkLemmas.{occurs-whole, walk_after-walk, walk-computed, walk-occurs}
+use Rattle.ac_automaton.specs.Automaton.{Built}
+use Rattle.ac_automaton.specs.Replace.{matches_in}
+use Rattle.ac_automaton.specs.Scan.{GoesOn, since_last}
+use Rattle.ac_automaton.specs.Stream.{Scanned, IsDecided, cut_of, read_by}
+use Rattle.ac_automaton.proofs.CursorLemmas.{slice_range-split}
+use Rattle.ac_automaton.proofs.IterLemmas.{repeat-empty}
+use Rattle.ac_automaton.proofs.WalkLemmas.{standard-final, occurs-bound}
+
+-- ---- picks
+
+-- where no pattern is empty, it is all the same where the match before ended
+pub pick-any : (kind : MatchKind) (s : Search) (at : ℕ) (one other : Option ℕ) (r : Option Occurrence) → s.end ≤ length s.haystack → 1 ≤ shortest s.patterns → IsPick kind s at one r → IsPick kind s at other r
+pick-any kind s at one other r inside some (Here h n) = Here h (repeat-empty kind (starting_at s at) other r inside some h)
+pick-any kind s at one other r inside some (Further b h rep k) = absurd (repeat-empty kind (starting_at s at) one b inside some h rep)
+
+-- of the walk too
+pub walk-any : (kind : MatchKind) (s : Search) (at : ℕ) (one other : Option ℕ) (os : List Occurrence) → s.end ≤ length s.haystack → 1 ≤ shortest s.patterns → IsWalk kind s at one os → IsWalk kind s at other os
+walk-any kind s at one other [] inside some h = pick-any kind s at one other None inside some h
+walk-any kind s at one other (o ∷ os) inside some h = (pick-any kind s at one other (Some o) inside some h.0, h.1)
+
+-- the rest of a text that goes on is a part of it, and something more
+rest-split : (x more : List ℕ) (last at : ℕ) → last ≤ at → at ≤ length x → (tail : List ℕ) × (slice_range (x ++ more) last (length (x ++ more)) ≡ slice_range x last at ++ tail)
+rest-split x more last at g h =
+    let long = length-append x more in
+    (slice_range (x ++ more) at (length (x ++ more)), slice_range-split (x ++ more) last at (length (x ++ more)) g (omega arith) ∙ ap (λ (l : List ℕ). l ++ slice_range (x ++ more) at (length (x ++ more))) (slice_range-append x more last at g h))
+
+-- The best of the text since the last match is the next pick, however the text goes on.
+pub pick-since : (m : Dictionary) (x more : List ℕ) (last at : ℕ) (b : Occurrence) → last ≤ at → at ≤ length x → 1 ≤ shortest m.patterns → IsBest Standard (whole m (slice_range x last at) false) (Some b) → IsPick Standard (whole m (x ++ more) false) last (Some last) (Some (shifted last b))
+pick-since m x more last at b g h some best =
+    let y = x ++ more in
+    let long = length-append x more in
+    let tail = rest-split x more last at g h in
+    let longer : IsBest Standard (whole m (slice_range y last (length y)) false) (Some b) = subst (λ (l : List ℕ). IsBest Standard (whole m l false) (Some b)) (sym tail.1) (standard-final m false (slice_range x last at) tail.0 b best) in
+    let there : IsBest Standard (starting_at (whole m y false) last) (Some (shifted last b)) = (best-of_rest Standard m (whole m y false) last (Some b) (refl, refl) refl (omega arith) (omega arith)).0 longer in
+    Here there (repeat-empty Standard (starting_at (whole m y false) last) (Some last) (Some (shifted last b)) (omega arith) some there)
+
+-- Where the text since the last match has none, there is no pick in the text as it is.
+pub pick-none : (m : Dictionary) (x : List ℕ) (last : ℕ) → last ≤ length x → IsBest Standard (whole m (slice_range x last (length x)) false) None → IsPick Standard (whole m x false) last (Some last) None
+pick-none m x last h quiet = Here ((best-of_rest Standard m (whole m x false) last None (refl, refl) refl h (omega arith)).0 quiet) (λ r. r)
+
+-- ---- what is decided
+
+-- what occurs behind the last match ends behind the bytes that were searched
+ends-behind : (m : Dictionary) (x more : List ℕ) (last at : ℕ) (o : Occurrence) → last ≤ at → at ≤ length x → IsBest Standard (whole m (slice_range x last at) false) None → Occurs (starting_at (whole m (x ++ more) false) last) o → at < o.end
+ends-behind m x more last at o g h quiet occurs = ⊎_elim
+    (λ (lt : at < o.end). lt)
+    (λ (le : o.end ≤ at).
+    let long = length-append x more in
+    let here : Occurs (whole m (slice_range (x ++ more) last at) false) (back_by last o) = (occurs-in_whole_of_span m (starting_at (whole m (x ++ more) false) last) at o (refl, refl) g (omega arith) (omega arith) occurs le).0 in
+    absurd (quiet (back_by last o) (subst (λ (l : List ℕ). Occurs (whole m l false) (back_by last o)) (slice_range-append x more last at g h) here)))
+    (cases_lt at o.end)
+
+-- so it begins at the cut or behind it
+pub begins-behind : (m : Dictionary) (x more : List ℕ) (last at : ℕ) (o : Occurrence) → last ≤ at → at ≤ length x → IsBest Standard (whole m (slice_range x last at) false) None → Occurs (starting_at (whole m (x ++ more) false) last) o → max last (at - max (longest m.patterns) 1) ≤ o.start
+begins-behind m x more last at o g h quiet occurs =
+    let ends = ends-behind m x more last at o g h quiet occurs in
+    let bound = occurs-bound m false (x ++ more) o (occurs-whole (whole m (x ++ more) false) last o (omega arith) (λ t. absurd (let e : false ≡ true = t in cc)) occurs) in
+    let w = occurs.within.0 in
+    omega arith
+
+-- all of a list, where each that it contains
+all-from : {X : Type 0} (P : X → Type 0) (xs : List X) → ((x : X) → Contains xs x → P x) → All P xs
+all-from P xs h = λ k d lt. h _ (All-contains_itself xs k d lt)
+
+-- the walk of a text is its matches
+pub walk-matches : (b : Built) (x : List ℕ) (os : List Occurrence) → b.dictionary.kind ≡ Standard → IsWalk Standard (whole b.dictionary x false) 0 None os → matches_in b x ≡ os
+walk-matches b x os standard walk =
+    ap (λ (k : MatchKind). walk_of k (whole b.dictionary x false)) standard
+    ∙ sym (walk-computed Standard (whole b.dictionary x false) 0 None (omega arith) os walk)
+
+-- What is still to come begins at the cut or behind it.
+pub decided-from : (s : Scanned) → s.built.dictionary.kind ≡ Standard → s.last ≤ s.at → s.at ≤ length (read_by s) → IsBest Standard (whole s.built.dictionary (since_last s) false) None → GoesOn s → IsDecided s
+decided-from s standard g h quiet goes = λ more.
+    let y = read_by s ++ more in
+    let long = length-append (read_by s) more in
+    let w = whole s.built.dictionary y false in
+    let rest = walk_after Standard w s.last (Some s.last) in
+    let walk = walk_after-walk Standard w s.last (Some s.last) (omega arith) in (
+      rest,
+      walk-matches s.built y (s.given ++ rest) standard (goes more rest walk),
+      all-from (λ o. cut_of s ≤ o.start) rest (λ o in_. begins-behind s.built.dictionary (read_by s) more s.last s.at o g h quiet (walk-occurs Standard w s.last (Some s.last) rest o refl walk in_)),
+    )
+
+-- one more match goes on
+pub goes-match : (s : Scanned) (o : Occurrence) (looked : ℕ) → GoesOn s → ((more : List ℕ) → IsPick Standard (whole s.built.dictionary (read_by s ++ more) false) s.last (Some s.last) (Some o)) → GoesOn (record s { given = s.given ++ o ∷ []; at = o.end; last = o.end; looked = looked })
+goes-match s o looked goes pick = λ more rest walk.
+    subst (λ (l : List Occurrence). IsWalk Standard (whole s.built.dictionary (read_by s ++ more) false) 0 None l) (sym (append_assoc s.given (o ∷ []) rest)) (goes more (o ∷ rest) (pick more, walk))
+
+-- where nothing is left to find, all were given
+pub all-given : (s : Scanned) → s.built.dictionary.kind ≡ Standard → s.last ≤ length (read_by s) → IsBest Standard (whole s.built.dictionary (slice_range (read_by s) s.last (length (read_by s))) false) None → GoesOn s → s.given ≡ matches_in s.built (read_by s)
+all-given s standard h quiet goes =
+    let none = append-nil (read_by s) in
+    let pick : IsPick Standard (whole s.built.dictionary (read_by s ++ []) false) s.last (Some s.last) None = subst (λ (l : List ℕ). IsPick Standard (whole s.built.dictionary l false) s.last (Some s.last) None) (sym none) (pick-none s.built.dictionary (read_by s) s.last h quiet) in
+    let walk = subst (λ (l : List ℕ). IsWalk Standard (whole s.built.dictionary l false) 0 None (s.given ++ [])) none (goes [] [] pick) in
+    sym (walk-matches s.built (read_by s) (s.given ++ []) standard walk ∙ append-nil s.given)
+
+-- ---- what the states tell
+
+-- where a state tells nothing, nothing ends where its text ends
+pub nothing-ends : (m : Dictionary) (text : List ℕ) (o : Occurrence) → m.kind ≡ Standard → Tells m No text [] → Occurs (whole m text false) o → o.end ≡ length text → ⊥
+nothing-ends m text o standard tells h e =
+    let all : TellsUnanchored Standard m text [] = subst (λ (k : MatchKind). TellsUnanchored k m text []) standard tells in
+    Contains-nil o ((all.1 o).1 (h, e))
+
+-- Where the states on the way told nothing, nothing ends before the place to which they led.
+pub none-ends_before : (m : Dictionary) (x : List ℕ) (last at to : ℕ) (o : Occurrence) → m.kind ≡ Standard → last ≤ at → at ≤ to → to ≤ length x
+    → IsBest Standard (whole m (slice_range x last at) false) None
+    → ((k : ℕ) → at < k → k < to → Tells m No (slice_range x last k) [])
+    → Occurs (whole m (slice_range x last to) false) o → ¬ (last + o.end < to)
+none-ends_before m x last at to o standard g h inside quiet tells occurs lt =
+    let k : ℕ = last + o.end in
+    let w = occurs.within in
+    ⊎_elim
+    (λ (le : k ≤ at).
+    let long = slice_range-length x last at g (omega arith) in
+    let split = slice_range-split x last at to g h in
+    quiet o (occurs-front m false (slice_range x last at) (slice_range x at to) o (omega arith) (subst (λ (l : List ℕ). Occurs (whole m l false) o) split occurs)))
+    (λ (past : at < k).
+    let long = slice_range-length x last k (omega arith) (omega arith) in
+    let split = slice_range-split x last k to (omega arith) (omega arith) in
+    nothing-ends m (slice_range x last k) o standard (tells k past lt) (occurs-front m false (slice_range x last k) (slice_range x k to) o (omega arith) (subst (λ (l : List ℕ). Occurs (whole m l false) o) split occurs)) (omega arith))
+    (⊎_elim (λ (past : at < k). inr past) (λ (le : k ≤ at). inl le) (cases_lt at k))

@@ -1,0 +1,411 @@
+-- What a replacement over a stream has read and written, from one read to the next, and at its end.
+use Rattle.std.proofs.Common.{◌≡◌, ◌≢◌, ◌↔◌, ℕ, ◌+◌, ◌-◌, ◌*◌, ◌<◌, ◌≤◌, max, Bool, true, false, IsTrue, List, [], ◌∷◌, ◌++◌, length, take, drop, Option, Some, None, Result, Ok, Err, refl, sym, ap, ◌∙◌, subst, arith, append_assoc, add-zero, ⊎_elim}
+use Rattle.std.specs.List.{concat}
+use Rattle.std.specs.Prelude.{slice_index_or, IfErr, OnErr, OnOk}
+use Rattle.std.specs.Io.KnownBytes.{Appends, Consumes, IsAtEnd}
+use Rattle.std.proofs.KnownBytes.{Appends-nil, Appends-trans, Consumes-nil, Consumes-trans}
+use Rattle.std.proofs.lemmas.List.{append-nil, drop-drop, length-append, same_from_push, take-append-le, take_all, take_rest}
+use Rattle.std.proofs.lemmas.List.Folds.{concat-append}
+use Rattle.std.proofs.lemmas.Bool.{cases_lt}
+use Rattle.ac_input.specs.declared.search.MatchKind.TheVariants.{Standard}
+use Rattle.ac_input.specs.declared.steps.Steps.{Steps}
+use Rattle.ac_input.specs.BeginningLaws.{IsBeginning}
+use Rattle.ac_input.specs.Dictionary.{whole}
+use Rattle.ac_input.specs.Occurrence.{Occurrence, starting_at}
+use Rattle.ac_input.specs.Text.{replaced_from}
+use Rattle.ac_input.specs.Walk.{IsWalk}
+use Rattle.ac_input.specs.Work.{shortest}
+use Rattle.ac_input.proofs.TextLemmas.{pick-occurs}
+use Rattle.ac_input.proofs.WalkLemmas.{pick-within}
+use Rattle.ac_automaton.specs.Automaton.{Built}
+use Rattle.ac_automaton.specs.Moved.{AreFilled, AreWhole, HasGiven, HasMoved, HasTaken, Moved, but_last}
+use Rattle.ac_automaton.specs.Output.{Sent, Stopped}
+use Rattle.ac_automaton.specs.Replace.{LieInOrder, matches_in}
+use Rattle.ac_automaton.specs.Stream.{CanBeCounted, HasRead, IsOnCourse, IsSearched, ReadsMore, Scanned, cut_of, fresh_scan, held_by, keep_of, matches_read, read_by}
+use Rattle.ac_automaton.specs.StreamReplace.{HasReplaced, IsAtCut, IsPlaced, IsReading, IsBegun, IsReplacedFront, ReplacedToFailedWrite, ReplacesStream, SendsTo, StopsSending, replaced_in, text_to}
+use Rattle.ac_automaton.specs.Watched.{IsOfWrite, failures_of, inner_of, pieces_of, stalls_of, taken_of}
+use Rattle.ac_automaton.specs.declared.error.StreamError.{StreamError}
+use Rattle.ac_automaton.specs.declared.error.StreamError.TheVariants.{Config, Read, Write, WriteZero, Memory, Position}
+use Rattle.ac_automaton.specs.declared.watched.Watched.{Watched}
+use Rattle.ac_automaton.proofs.IterLemmas.{occurs-not_empty}
+use Rattle.ac_automaton.proofs.StreamCutLemmas.{matches-cut, matches-front, matches-walk}
+use Rattle.ac_automaton.proofs.StreamSendLemmas.{cut-within, lies-wider, text-begins}
+use Rattle.ac_automaton.proofs.StreamTextLemmas.{replaced-grows}
+
+-- ---- pieces
+
+-- the bytes of the pieces, with one more
+concat-push : (pieces : List (List ℕ)) (piece : List ℕ) → concat (pieces ++ piece ∷ []) ≡ concat pieces ++ piece
+concat-push pieces piece = concat-append pieces (piece ∷ []) ∙ ap (λ (t : List ℕ). concat pieces ++ t) (append-nil piece)
+
+-- one more piece that isn't empty
+pub AreFilled-push : (pieces : List (List ℕ)) (piece : List ℕ) → AreFilled pieces → piece ≢ [] → AreFilled (pieces ++ piece ∷ [])
+AreFilled-push [] piece f n = (n, tt)
+AreFilled-push (p ∷ ps) piece f n = (f.0, AreFilled-push ps piece f.1 n)
+
+-- all pieces but the last
+but_last-push : (pieces : List (List ℕ)) (piece : List ℕ) → but_last (pieces ++ piece ∷ []) ≡ pieces
+but_last-push [] piece = refl
+but_last-push (p ∷ []) piece = refl
+but_last-push (p ∷ (q ∷ ps)) piece = ap (λ (t : List (List ℕ)). p ∷ t) (but_last-push (q ∷ ps) piece)
+
+-- no pieces are not whole
+none-whole : (filled : List (List ℕ)) → [] ≡ filled ++ [] ∷ [] → ⊥
+none-whole [] e = cc
+none-whole (p ∷ ps) e = cc
+
+-- the last piece of a whole input is empty
+whole-last : (pieces : List (List ℕ)) (piece : List ℕ) → AreWhole (pieces ++ piece ∷ []) → piece ≡ []
+whole-last pieces piece w = (same_from_push pieces w.0 piece [] w.2).1
+
+-- ---- what devices tell
+
+-- nothing was read yet
+pub given-none : {R : Type 0} (remaining : R → Option (List ℕ)) (reader : Watched R) → HasGiven remaining reader reader [] 0
+given-none remaining reader = record {
+  pieces = sym (append-nil _);
+  failures = sym (add-zero _);
+  device = Consumes-nil (remaining (inner_of reader));
+  at_end = λ fine w. absurd (none-whole w.0 w.2);
+}
+
+-- one more read
+pub given-more : {R : Type 0} (remaining : R → Option (List ℕ)) (s t : Scanned) (old mid new : Watched R) (piece : List ℕ) (failed : ℕ) → HasGiven remaining old mid s.pieces 0 → HasRead remaining s t mid new piece failed → HasGiven remaining old new t.pieces failed
+given-more remaining s t old mid new piece failed g h =
+    let more : HasGiven remaining old new (s.pieces ++ piece ∷ []) failed = record {
+      pieces = h.reader ∙ ap (λ (ps : List (List ℕ)). ps ++ piece ∷ []) g.pieces ∙ append_assoc (pieces_of old) s.pieces (piece ∷ []);
+      failures = h.failures ∙ ap (λ (n : ℕ). n + failed) (g.failures ∙ add-zero _);
+      device = subst (Consumes (remaining (inner_of old)) (remaining (inner_of new))) (sym (concat-push s.pieces piece)) (Consumes-trans _ _ _ (concat s.pieces) piece g.device h.device);
+      at_end = λ fine w. h.at_end (whole-last s.pieces piece w) fine;
+    } in
+    subst (λ (ps : List (List ℕ)). HasGiven remaining old new ps failed) (sym h.pieces) more
+
+-- nothing was written yet
+pub taken-none : {W : Type 0} (contents : W → Option (List ℕ)) (writer : Watched W) → HasTaken contents writer writer [] 0 0
+taken-none contents writer = record { taken = sym (append-nil _); failures = sym (add-zero _); stalls = sym (add-zero _); device = Appends-nil (contents (inner_of writer)) }
+
+-- more was written
+taken-sent : {W : Type 0} (contents : W → Option (List ℕ)) (old mid new : Watched W) (text bytes : List ℕ) → HasTaken contents old mid text 0 0 → Sent contents mid new [] [] bytes → HasTaken contents old new (text ++ bytes) 0 0
+taken-sent contents old mid new text bytes t s =
+    let same : s.gained ≡ bytes = sym (append-nil s.gained) ∙ s.order in
+    record {
+      taken = s.taken ∙ ap (λ (xs : List ℕ). xs ++ s.gained) t.taken ∙ append_assoc (taken_of old) text s.gained ∙ ap (λ (xs : List ℕ). taken_of old ++ (text ++ xs)) same;
+      failures = s.fine.failures ∙ t.failures;
+      stalls = s.fine.stalls ∙ t.stalls;
+      device = subst (λ (xs : List ℕ). Appends (contents (inner_of old)) (contents (inner_of new)) (text ++ xs)) same (Appends-trans _ _ _ text s.gained t.device s.device);
+    }
+
+-- a write stopped
+taken-stopped : {W : Type 0} (contents : W → Option (List ℕ)) (old mid new : Watched W) (text bytes : List ℕ) (stalls : ℕ) (h : Stopped contents mid new [] bytes) → HasTaken contents old mid text 0 0 → stalls_of new ≡ stalls_of mid + stalls → HasTaken contents old new (text ++ h.gained) 1 stalls
+taken-stopped contents old mid new text bytes stalls h t stalled =
+    record {
+      taken = h.taken ∙ ap (λ (xs : List ℕ). xs ++ h.gained) t.taken ∙ append_assoc (taken_of old) text h.gained;
+      failures = h.failures ∙ ap (λ (n : ℕ). n + 1) (t.failures ∙ add-zero _);
+      stalls = stalled ∙ ap (λ (n : ℕ). n + stalls) (t.stalls ∙ add-zero _);
+      device = Appends-trans _ _ _ text h.gained t.device h.device;
+    }
+
+-- ---- what is decided
+
+-- the text up to the cut is the front of what was read, replaced
+pub front-at_cut : (b : Built) (replacements : List (List ℕ)) (s : Scanned) (at : ℕ) → s.built ≡ b → IsAtCut s at → IsReplacedFront b replacements (read_by s) (text_to s replacements at)
+front-at_cut b replacements s at built place =
+    let x = read_by s in
+    let course = place.placed.course in
+    let decided = course.decided [] in
+    let rest = decided.0 in
+    let is : matches_in s.built x ≡ s.given ++ rest = ap (matches_in s.built) (sym (append-nil x)) ∙ decided.1 in
+    let at_cut : at ≡ cut_of s = place.cut in
+    let within = cut-within s course in
+    let inside : at ≤ length x = omega arith in
+    let begin = λ (k : ℕ) (d : Occurrence) (lt : k < length rest). let late = decided.2 k d lt in let z : at ≤ (slice_index_or rest k d).start = omega arith in z in
+    let patterns = length s.built.dictionary.patterns in
+    let searched : s.at ≡ length x = place.searched in
+    subst (λ (c : Built). IsReplacedFront c replacements x (text_to s replacements at)) built (record {
+      cut = at;
+      is_cut = matches-cut s.built x at patterns s.given rest inside is place.placed.lies begin;
+      near = omega arith;
+      front = ap (replaced_from 0 (take at x) replacements) (sym (matches-front s.built x at patterns s.given rest course.standard course.filled inside is place.placed.lies begin));
+    })
+
+-- nothing matches in an empty text
+nothing-matches : (b : Built) (os : List Occurrence) → 1 ≤ shortest b.dictionary.patterns → IsWalk Standard (whole b.dictionary [] false) 0 None os → [] ≡ os
+nothing-matches b [] some walk = refl
+nothing-matches b (o ∷ os) some walk =
+    let s = whole b.dictionary [] false in
+    let found = pick-occurs Standard s 0 None o walk.0 in
+    let filled = occurs-not_empty (starting_at s found.0) o (omega arith) some found.2 in
+    let within : o.end ≤ 0 = (pick-within Standard s 0 None o walk.0).2 in
+    absurd (omega arith)
+
+-- ---- from one read to the next
+
+module _ {R W : Type 0} (remaining : R → Option (List ℕ)) (contents : W → Option (List ℕ)) (replacements : List (List ℕ)) (b : Built) where
+  -- before the first read
+  pub replaced-fresh : (reader : Watched R) (writer : Watched W) → IsOnCourse (fresh_scan b) → HasReplaced remaining contents replacements b (fresh_scan b) 0 reader reader writer writer
+  replaced-fresh reader writer course = record {
+    built = refl;
+    place = record {
+      placed = record { course = course; countable = omega arith; held = omega arith; last = omega arith; cut = omega arith; lies = tt };
+      cut = omega arith;
+      searched = refl;
+      all = nothing-matches b (matches_in b []) course.filled (matches-walk b [] course.standard);
+    };
+    filled = tt;
+    read = given-none remaining reader;
+    written = taken-none contents writer;
+  }
+
+  module _ (s t : Scanned) (at : ℕ) (r0 r r1 : Watched R) (w0 w : Watched W) (piece : List ℕ) (failed : ℕ) (h : HasReplaced remaining contents replacements b s at r0 r w0 w) (read : HasRead remaining s t r r1 piece failed) where
+    -- all that was read
+    read-more : read_by t ≡ read_by s ++ piece
+    read-more = ap concat read.pieces ∙ concat-push s.pieces piece
+
+    -- the place lies within it
+    place-within : at ≤ length (read_by s)
+    place-within = let is = h.place.cut in let le = cut-within s h.place.placed.course in omega arith
+
+    -- what was written stays
+    pub same-text : text_to t replacements at ≡ text_to s replacements at
+    same-text =
+        ap (λ (x : List ℕ). replaced_from 0 (take at x) replacements t.given) read-more
+        ∙ ap (λ (x : List ℕ). replaced_from 0 x replacements t.given) (take-append-le at (read_by s) piece place-within)
+        ∙ ap (replaced_from 0 (take at (read_by s)) replacements) read.given
+
+    -- the cut stays
+    same-cut : at ≤ cut_of t
+    same-cut =
+        let is : at ≡ cut_of s = h.place.cut in
+        let keep : keep_of t.built ≡ keep_of s.built = ap keep_of read.built in
+        let last : t.last ≡ s.last = read.last in
+        let place : t.at ≡ s.at = read.at in
+        omega arith
+
+    -- what was read before the last piece
+    before-last : concat (but_last t.pieces) ≡ read_by s
+    before-last = ap (λ (ps : List (List ℕ)). concat (but_last ps)) read.pieces ∙ ap concat (but_last-push s.pieces piece)
+
+    -- the matches that were given lie in order
+    same-lies : LieInOrder (length t.built.dictionary.patterns) at 0 t.given
+    same-lies = subst (λ (c : Built). LieInOrder (length c.dictionary.patterns) at 0 t.given) (sym read.built) (subst (LieInOrder (length s.built.dictionary.patterns) at 0) (sym read.given) h.place.placed.lies)
+
+    -- the search stands after the read
+    pub reading : IsOnCourse t → CanBeCounted (read_by t) → IsReading contents replacements b t at w0 w
+    reading course countable =
+        let from : t.from ≤ cut_of s = read.from in
+        let is : at ≡ cut_of s = h.place.cut in
+        let last : t.last ≡ s.last = read.last in
+        let before : s.last ≤ at = h.place.placed.last in
+        let front = front-at_cut b replacements s at h.built h.place in
+        record {
+          built = read.built ∙ h.built;
+          placed = record { course = course; countable = countable; held = omega arith; last = omega arith; cut = same-cut; lies = same-lies };
+          front = subst (λ (x : List ℕ). IsReplacedFront b replacements x (text_to t replacements at)) (sym before-last) (subst (IsReplacedFront b replacements (read_by s)) (sym same-text) front);
+          written = subst (λ (x : List ℕ). HasTaken contents w0 w x 0 0) (sym same-text) h.written;
+        }
+
+    -- all matches were given, where the read gave nothing
+    pub all-given : piece ≡ [] → t.given ≡ matches_read t
+    all-given none =
+        let same : read_by t ≡ read_by s = read-more ∙ ap (λ (x : List ℕ). read_by s ++ x) none ∙ append-nil (read_by s) in
+        read.given ∙ h.place.all ∙ ap (λ (c : Built). matches_in c (read_by s)) (sym read.built) ∙ ap (matches_in t.built) (sym same)
+
+    pub all-whole : piece ≡ [] → AreWhole t.pieces
+    all-whole none = (s.pieces, h.filled, read.pieces ∙ ap (λ (x : List ℕ). s.pieces ++ x ∷ []) none)
+
+    pub all-filled : piece ≢ [] → AreFilled t.pieces
+    all-filled some = subst AreFilled (sym read.pieces) (AreFilled-push s.pieces piece h.filled some)
+
+    pub all-searched : piece ≡ [] → IsSearched t
+    all-searched none =
+        let same : read_by t ≡ read_by s = read-more ∙ ap (λ (x : List ℕ). read_by s ++ x) none ∙ append-nil (read_by s) in
+        read.at ∙ h.place.searched ∙ ap length (sym same)
+
+    -- the read failed
+    pub ends-failed_read : (error : _) → failed ≡ 1 → piece ≡ [] → ReplacesStream remaining contents b replacements r0 r1 w0 w (Err (Read error))
+    ends-failed_read error fails none =
+        let same : read_by t ≡ read_by s = read-more ∙ ap (λ (x : List ℕ). read_by s ++ x) none ∙ append-nil (read_by s) in (
+          record { pieces = t.pieces; failed_reads = failed; taken = text_to s replacements at; failed_writes = 0; stalled_writes = 0 },
+          record { reader = given-more remaining s t r0 r r1 piece failed h.read read; writer = h.written },
+          record {
+            written = subst (λ (x : List ℕ). IsReplacedFront b replacements x (text_to s replacements at)) (sym same) (front-at_cut b replacements s at h.built h.place);
+            failed = (fails, refl, refl);
+          },
+        )
+
+    -- the input is too long
+    pub ends-too_long : failed ≡ 0 → IsOnCourse t → ¬ CanBeCounted (read_by t) → ReplacesStream remaining contents b replacements r0 r1 w0 w (Err Position)
+    ends-too_long fails course long =
+        let begins_all = text-begins t replacements at course same-cut same-lies in
+        let of_built = subst (λ (c : Built). IsBeginning (text_to t replacements at) (replaced_in c replacements (read_by t))) (read.built ∙ h.built) begins_all in (
+          record { pieces = t.pieces; failed_reads = failed; taken = text_to s replacements at; failed_writes = 0; stalled_writes = 0 },
+          record { reader = given-more remaining s t r0 r r1 piece failed h.read read; writer = h.written },
+          record {
+            long = ⊎_elim (λ (more : 18446744073709551615 < length (read_by t)). more) (λ (few : length (read_by t) ≤ 18446744073709551615). absurd (long few)) (cases_lt 18446744073709551615 (length (read_by t)));
+            written = subst (λ (x : List ℕ). IsBeginning x (replaced_in b replacements (read_by t))) same-text of_built;
+            failed = (fails, refl, refl);
+          },
+        )
+
+  module _ (t : Scanned) (at : ℕ) (r0 r1 : Watched R) (w0 w w1 : Watched W) (h : IsReading contents replacements b t at w0 w) (given : HasGiven remaining r0 r1 t.pieces 0) where
+    -- all that is decided was written
+    pub replaced-more : (u : Scanned) (to : ℕ) → AreFilled t.pieces → SendsTo contents replacements t u at to w w1 [] [] → IsAtCut u to → HasReplaced remaining contents replacements b u to r0 r1 w0 w1
+    replaced-more u to filled sends place =
+        let same = sends.same in
+        let sent = taken-sent contents w0 w w1 (text_to t replacements at) sends.bytes h.written sends.sent in
+        record {
+          built = same.built ∙ h.built;
+          place = place;
+          filled = subst AreFilled (sym same.pieces) filled;
+          read = subst (λ (ps : List (List ℕ)). HasGiven remaining r0 r1 ps 0) (sym same.pieces) given;
+          written = subst (λ (x : List ℕ). HasTaken contents w0 w1 x 0 0) (sym sends.text) sent;
+        }
+
+    -- what is said of a write that failed
+    failed-write : (bytes : List ℕ) (stalls : ℕ) → IsBeginning (text_to t replacements at ++ bytes) (replaced_in t.built replacements (read_by t)) → (stopped : Stopped contents w w1 [] bytes) → stalls_of w1 ≡ stalls_of w + stalls
+        → (m : Moved) × HasMoved remaining contents r0 r1 w0 w1 m × ReplacedToFailedWrite b replacements m stalls
+    failed-write bytes stalls begin stopped stalled =
+        let front = text_to t replacements at in
+        let order : stopped.gained ++ stopped.lost ≡ bytes = stopped.order in
+        let split : replaced_in b replacements (read_by t) ≡ (front ++ stopped.gained) ++ (stopped.lost ++ begin.0) =
+        ap (λ (c : Built). replaced_in c replacements (read_by t)) (sym h.built)
+        ∙ begin.1
+        ∙ ap (λ (x : List ℕ). (front ++ x) ++ begin.0) (sym order)
+        ∙ ap (λ (x : List ℕ). x ++ begin.0) (sym (append_assoc front stopped.gained stopped.lost))
+        ∙ append_assoc (front ++ stopped.gained) stopped.lost begin.0 in (
+          record { pieces = t.pieces; failed_reads = 0; taken = front ++ stopped.gained; failed_writes = 1; stalled_writes = stalls },
+          record { reader = given; writer = taken-stopped contents w0 w w1 front bytes stalls stopped h.written stalled },
+          record { front = front; before = h.front; at_least = (stopped.gained, refl); at_most = (stopped.lost ++ begin.0, split); failed = (refl, refl, refl) },
+        )
+
+    -- a write failed
+    pub ends-failed_write : (bytes : List ℕ) (error : StreamError) → IsBeginning (text_to t replacements at ++ bytes) (replaced_in t.built replacements (read_by t)) → Stopped contents w w1 [] bytes → IsOfWrite w w1 error → ReplacesStream remaining contents b replacements r0 r1 w0 w1 (Err error)
+    ends-failed_write bytes (Config error) begin stopped kind = absurd kind
+    ends-failed_write bytes (Read error) begin stopped kind = absurd kind
+    ends-failed_write bytes (Write error) begin stopped kind = failed-write bytes 0 begin stopped (kind ∙ sym (add-zero _))
+    ends-failed_write bytes WriteZero begin stopped kind = failed-write bytes 1 begin stopped kind
+    ends-failed_write bytes Memory begin stopped kind = absurd kind
+    ends-failed_write bytes Position begin stopped kind = absurd kind
+
+    -- what is left at the end is the rest of the text
+    pub rest-text : t.given ≡ matches_read t → text_to t replacements at ++ drop at (read_by t) ≡ replaced_in t.built replacements (read_by t)
+    rest-text all =
+        let x = read_by t in
+        let within = cut-within t h.placed.course in
+        let le = h.placed.cut in
+        ap (λ (y : List ℕ). text_to t replacements at ++ y) (sym (take_rest x at))
+        ∙ replaced-grows x replacements (length t.built.dictionary.patterns) 0 at (length x) t.given h.placed.lies (omega arith) (omega arith) (omega arith)
+        ∙ ap (λ (y : List ℕ). replaced_from 0 y replacements t.given) (take_all (length x) x (omega arith))
+        ∙ ap (replaced_from 0 x replacements) all
+
+    -- all was written
+    pub ends-whole : AreWhole t.pieces → t.given ≡ matches_read t → Sent contents w w1 [] [] (drop at (read_by t)) → ReplacesStream remaining contents b replacements r0 r1 w0 w1 (Ok tt)
+    ends-whole whole_input all sent =
+        let text = text_to t replacements at ++ drop at (read_by t) in (
+          record { pieces = t.pieces; failed_reads = 0; taken = text; failed_writes = 0; stalled_writes = 0 },
+          record { reader = given; writer = taken-sent contents w0 w w1 (text_to t replacements at) (drop at (read_by t)) h.written sent },
+          record {
+            whole = whole_input;
+            written = rest-text all ∙ ap (λ (c : Built). replaced_in c replacements (read_by t)) h.built;
+            failed = (refl, refl, refl);
+          },
+        )
+
+    -- the rest could not be written
+    pub rest-stopped : (error : StreamError) → t.given ≡ matches_read t → Stopped contents w w1 [] (drop at (read_by t)) → IsOfWrite w w1 error → ReplacesStream remaining contents b replacements r0 r1 w0 w1 (Err error)
+    rest-stopped error all stopped kind =
+        ends-failed_write (drop at (read_by t)) error ([], sym (rest-text all) ∙ sym (append-nil _)) stopped kind
+
+    -- the sending of what is decided stopped
+    pub sending-stopped : (u : Scanned) (error : StreamError) → StopsSending contents replacements t u at w w1 [] → IsOfWrite w w1 error → ReplacesStream remaining contents b replacements r0 r1 w0 w1 (Err error)
+    sending-stopped u error stops kind = ends-failed_write stops.bytes error stops.text stops.stopped kind
+
+-- an error of a write comes after the first read
+pub write-begun : {W : Type 0} (old new : Watched W) (error : StreamError) → IsOfWrite old new error → IsBegun error
+write-begun old new (Config error) kind = absurd kind
+write-begun old new (Read error) kind = absurd kind
+write-begun old new (Write error) kind = tt
+write-begun old new WriteZero kind = tt
+write-begun old new Memory kind = absurd kind
+write-begun old new Position kind = absurd kind
+
+-- ---- what a read answered
+
+-- a piece of some bytes isn't empty
+pub piece-some : (piece : List ℕ) (n : ℕ) → length piece ≡ n → 0 < n → piece ≢ []
+piece-some piece n len some e = let none = ap length e in absurd (omega arith)
+
+-- and one of no bytes is
+pub piece-none : (piece : List ℕ) (n : ℕ) → length piece ≡ n → n ≤ 0 → piece ≡ []
+piece-none [] n len none = refl
+piece-none (b ∷ bs) n len none = absurd (omega arith)
+
+-- a read of some bytes does not end the input
+pub still-open : (ended : Bool) (piece : List ℕ) → (IsTrue ended ↔ (piece ≡ [])) → piece ≢ [] → ended ≡ false
+still-open true piece iff some = absurd (some (iff.0 refl))
+still-open false piece iff some = refl
+
+-- what is left to read, where places can be counted, is less after each read of some bytes
+pub less-left : (s t u : Scanned) (piece : List ℕ) → t.pieces ≡ s.pieces ++ piece ∷ [] → u.pieces ≡ t.pieces → piece ≢ [] → CanBeCounted (read_by t) → 18446744073709551616 - length (read_by u) < 18446744073709551616 - length (read_by s)
+less-left s t u [] more same some countable = absurd (some refl)
+less-left s t u (b ∷ bs) more same some countable =
+    let joined = ap length (ap concat more ∙ concat-push s.pieces (b ∷ bs)) ∙ length-append (read_by s) (b ∷ bs) in
+    let kept : length (read_by u) ≡ length (read_by t) = ap (λ (ps : List (List ℕ)). length (concat ps)) same in
+    omega arith
+
+-- what is left of what is held is what is left of what was read
+pub rest-read : (s : Scanned) (held bytes : List ℕ) (from start : ℕ) → held ≡ held_by s → from ≡ s.from → from ≤ start → bytes ≡ drop (start - from) held → bytes ≡ drop start (read_by s)
+rest-read s held bytes from start is_held is_from le is =
+    let n : s.from + (start - from) ≡ start = omega arith in
+    is ∙ ap (drop (start - from)) is_held ∙ drop-drop (start - from) s.from (read_by s) ∙ ap (λ (k : ℕ). drop k (read_by s)) n
+
+module _ {R W : Type 0} (remaining : R → Option (List ℕ)) (contents : W → Option (List ℕ)) (replacements : List (List ℕ)) (b : Built) (s t : Scanned) (at : ℕ) (r0 r r1 : Watched R) (w0 w : Watched W) (h : HasReplaced remaining contents replacements b s at r0 r w0 w) where
+  -- a read that failed, or with which there are more bytes than places
+  pub read-stopped : (error : StreamError) → IsOnCourse t → ReadsMore remaining s t r r1 (Err error) → ReplacesStream remaining contents b replacements r0 r1 w0 w (Err error)
+  read-stopped (Config error) course read = absurd read
+  read-stopped (Read error) course read = ends-failed_read remaining contents replacements b s t at r0 r r1 w0 w [] 1 h read error refl refl
+  read-stopped (Write error) course read = absurd read
+  read-stopped WriteZero course read = absurd read
+  read-stopped Memory course read = absurd read
+  read-stopped Position course read = ends-too_long remaining contents replacements b s t at r0 r r1 w0 w read.0 0 h read.1 refl course read.2
+
+  -- what was read, all in all
+  read-piece : (piece : List ℕ) (failed : ℕ) → HasRead remaining s t r r1 piece failed → (t.built ≡ b) × (pieces_of r1 ≡ pieces_of r0 ++ t.pieces)
+  read-piece piece failed read = (read.built ∙ h.built, (given-more remaining s t r0 r r1 piece failed h.read read).pieces)
+
+  pub read-kept : (result : Result ℕ StreamError) → ReadsMore remaining s t r r1 result → (t.built ≡ b) × (pieces_of r1 ≡ pieces_of r0 ++ t.pieces)
+  read-kept (Ok n) read = read-piece read.0 0 read.1
+  read-kept (Err (Config error)) read = absurd read
+  read-kept (Err (Read error)) read = read-piece [] 1 read
+  read-kept (Err (Write error)) read = absurd read
+  read-kept (Err WriteZero) read = absurd read
+  read-kept (Err Memory) read = absurd read
+  read-kept (Err Position) read = read-piece read.0 0 read.1
+
+  -- nothing was read: what is left is written, or that stopped
+  pub rest-answers : (n : ℕ) (w1 : Watched W) (bytes : List ℕ) (result : Result (Unit {0}) StreamError) → IsOnCourse t → ReadsMore remaining s t r r1 (Ok n) → n ≤ 0 → bytes ≡ drop at (read_by t)
+      → OnOk result (Sent contents w w1 [] [] bytes) → OnErr result (Stopped contents w w1 [] bytes) → IfErr result (IsOfWrite w w1) → ReplacesStream remaining contents b replacements r0 r1 w0 w1 result
+  rest-answers n w1 bytes (Ok done) course read none is sent stopped kind =
+      let piece = piece-none read.0 n read.2 none in
+      let now = reading remaining contents replacements b s t at r0 r r1 w0 w read.0 0 h read.1 course read.3 in
+      let given = given-more remaining s t r0 r r1 read.0 0 h.read read.1 in
+      ends-whole remaining contents replacements b t at r0 r1 w0 w w1 now given
+      (all-whole remaining contents replacements b s t at r0 r r1 w0 w read.0 0 h read.1 piece)
+      (all-given remaining contents replacements b s t at r0 r r1 w0 w read.0 0 h read.1 piece)
+      (subst (Sent contents w w1 [] []) is sent)
+  rest-answers n w1 bytes (Err error) course read none is sent stopped kind =
+      let piece = piece-none read.0 n read.2 none in
+      let now = reading remaining contents replacements b s t at r0 r r1 w0 w read.0 0 h read.1 course read.3 in
+      let given = given-more remaining s t r0 r r1 read.0 0 h.read read.1 in
+      rest-stopped remaining contents replacements b t at r0 r1 w0 w w1 now given error
+      (all-given remaining contents replacements b s t at r0 r r1 w0 w read.0 0 h read.1 piece)
+      (subst (Stopped contents w w1 []) is stopped) kind
+
+  -- all of it was searched then
+  pub rest-searched : (n : ℕ) → ReadsMore remaining s t r r1 (Ok n) → n ≤ 0 → IsSearched t
+  rest-searched n read none = all-searched remaining contents replacements b s t at r0 r r1 w0 w read.0 0 h read.1 (piece-none read.0 n read.2 none)
+
+-- what holds, holds where the answer is a value
+pub on-ok : {P : Type 0} (result : Result (Unit {0}) StreamError) → P → OnOk result P
+on-ok (Ok done) p = p
+on-ok (Err error) p = tt

@@ -1,0 +1,62 @@
+-- The next match of what was read is that of the search over what is held.
+use Rattle.std.proofs.Common.{◌≡◌, ℕ, length, sym, subst, refl, ◌∙◌}
+use Rattle.ac_input.specs.declared.search.Anchored.TheVariants.{No}
+use Rattle.ac_input.specs.declared.steps.Steps.{Steps}
+use Rattle.ac_automaton.specs.Scan.{IsHeldAt, IsScan, SearchesOn, after_search, scanned_at, some_of}
+use Rattle.ac_automaton.specs.Stream.{FindsHeld, IsOnCourse, ScanCounts, Scanned}
+use Rattle.ac_automaton.proofs.ScanLemmas.{added-done, counts-none, next-counts, next-scan, next-view}
+use Rattle.ac_automaton.proofs.stream.scan.Scan.next_held.Goals as goal
+
+pub returns-then-self-clause-counts : goal.returns-then-self-clause-counts
+returns-then-self-clause-counts g c = counts-none c.args.self.now c.args.steps.now
+
+pub invariant_of-self : goal.invariant_of-self
+invariant_of-self g c =
+    let i = c.self.inside in
+    let b = g.A.Automaton.built i.automaton.now in
+    let Reads = g.A.Automaton.Reads i.automaton.now No in
+    let s : Scanned = scanned_at b i.pieces.items i.given.value i.progress i.buffer i.sums in
+    let inv = c.self.invariant in
+    let on : SearchesOn Reads s i.start c.search-searched.result _ _ = c.search-searched.ensures s (record { built = refl; stands = inv.stands; from = refl; at = refl; last = refl; bytes = c.held.ensures ∙ inv.holds.bytes; countable = inv.countable c.if-self.false }) in
+    let done = added-done on.looks _ _ _ _ c.new-taken.ensures on.done c.add-2.ensures in
+    let view = next-view b i.pieces.items i.given.value i.progress i.buffer i.sums c.search-searched.result on.looks _ _ inv.number on.stands.course.decided on.from c.given_then-self-inside.ensures done in
+    subst (λ (t : Scanned). IsScan Reads t i.start c.search-searched.result.progress.sid c.given_then-self-inside.result.value i.buffer i.over) (sym view)
+    (next-scan Reads s i.start i.progress.sid i.given.value i.buffer i.over c.search-searched.result _ _ c.given_then-self-inside.result.value inv on c.given_then-self-inside.ensures)
+
+pub returns-clause-finds : goal.returns-clause-finds
+returns-clause-finds g c =
+    let i = c.self.inside in
+    let b = g.A.Automaton.built i.automaton.now in
+    let Reads = g.A.Automaton.Reads i.automaton.now No in
+    let s : Scanned = scanned_at b i.pieces.items i.given.value i.progress i.buffer i.sums in
+    let inv = c.self.invariant in
+    let on : SearchesOn Reads s i.start c.search-searched.result _ _ = c.search-searched.ensures s (record { built = refl; stands = inv.stands; from = refl; at = refl; last = refl; bytes = c.held.ensures ∙ inv.holds.bytes; countable = inv.countable c.if-self.false }) in
+    let done = added-done on.looks _ _ _ _ c.new-taken.ensures on.done c.add-2.ensures in
+    let view = next-view b i.pieces.items i.given.value i.progress i.buffer i.sums c.search-searched.result on.looks _ _ inv.number on.stands.course.decided on.from c.given_then-self-inside.ensures done in
+    subst (λ (t : Scanned). FindsHeld t c.search-searched.result.found (scanned_at b i.pieces.items c.given_then-self-inside.result.value c.search-searched.result.progress i.buffer c.add-2.new.self)) c.self.view_is
+    (subst (λ (t : Scanned). FindsHeld s c.search-searched.result.found t) (sym view) on.finds)
+
+pub returns-clause-counts : goal.returns-clause-counts
+returns-clause-counts g c =
+    let i = c.self.inside in
+    let b = g.A.Automaton.built i.automaton.now in
+    let Reads = g.A.Automaton.Reads i.automaton.now No in
+    let s : Scanned = scanned_at b i.pieces.items i.given.value i.progress i.buffer i.sums in
+    let inv = c.self.invariant in
+    let on : SearchesOn Reads s i.start c.search-searched.result _ _ = c.search-searched.ensures s (record { built = refl; stands = inv.stands; from = refl; at = refl; last = refl; bytes = c.held.ensures ∙ inv.holds.bytes; countable = inv.countable c.if-self.false }) in
+    let done = added-done on.looks _ _ _ _ c.new-taken.ensures on.done c.add-2.ensures in
+    let view = next-view b i.pieces.items i.given.value i.progress i.buffer i.sums c.search-searched.result on.looks _ _ inv.number on.stands.course.decided on.from c.given_then-self-inside.ensures done in
+    subst (λ (t : Scanned). ScanCounts t (scanned_at b i.pieces.items c.given_then-self-inside.result.value c.search-searched.result.progress i.buffer c.add-2.new.self) c.args.steps.now c.add.new.self) c.self.view_is
+    (subst (λ (t : Scanned). ScanCounts s t c.args.steps.now c.add.new.self) (sym view) (next-counts s c.search-searched.result on.looks _ _ _ _ c.new-taken.ensures on.done c.add.ensures))
+
+pub returns-clause-kept : goal.returns-clause-kept
+returns-clause-kept g c =
+    let i = c.self.inside in
+    let b = g.A.Automaton.built i.automaton.now in
+    let Reads = g.A.Automaton.Reads i.automaton.now No in
+    let s : Scanned = scanned_at b i.pieces.items i.given.value i.progress i.buffer i.sums in
+    let inv = c.self.invariant in
+    let on : SearchesOn Reads s i.start c.search-searched.result _ _ = c.search-searched.ensures s (record { built = refl; stands = inv.stands; from = refl; at = refl; last = refl; bytes = c.held.ensures ∙ inv.holds.bytes; countable = inv.countable c.if-self.false }) in
+    let done = added-done on.looks _ _ _ _ c.new-taken.ensures on.done c.add-2.ensures in
+    let view = next-view b i.pieces.items i.given.value i.progress i.buffer i.sums c.search-searched.result on.looks _ _ inv.number on.stands.course.decided on.from c.given_then-self-inside.ensures done in
+    subst IsOnCourse (sym view) on.stands.course

@@ -1,0 +1,59 @@
+-- What a call moved between two devices: what it read, what it wrote, and how often that failed.
+use Rattle.std.specs.Prelude.{◌≡◌, ◌≢◌, ℕ, ◌+◌, List, [], ◌∷◌, ◌++◌, Option}
+use Rattle.std.specs.Io.KnownBytes.{Appends, Consumes, IsAtEnd}
+use Rattle.std.specs.List.{concat}
+use Rattle.ac_automaton.specs.Watched.{failures_of, stalls_of, pieces_of, taken_of, inner_of}
+use Rattle.ac_automaton.specs.declared.watched.Watched.{Watched}
+
+-- no piece is empty
+abbrev pub AreFilled : List (List ℕ) → Type 0
+AreFilled [] = Unit {0}
+AreFilled (piece ∷ pieces) = (piece ≢ []) × AreFilled pieces
+
+-- The pieces are those of an input that was read to its end: the last one is empty, and no other.
+abbrev pub AreWhole : List (List ℕ) → Type 0
+AreWhole pieces = (filled : List (List ℕ)) × AreFilled filled × (pieces ≡ filled ++ [] ∷ [])
+
+-- all pieces but the last
+abbrev pub but_last : List (List ℕ) → List (List ℕ)
+but_last [] = []
+but_last (piece ∷ []) = []
+but_last (piece ∷ (next ∷ pieces)) = piece ∷ but_last (next ∷ pieces)
+
+-- what was moved: the pieces that reads gave, how many reads failed, the bytes that writes took, how many writes failed, and how
+-- many of those were handed bytes and took none
+pub record Moved : Type 0 where
+  pub pieces : List (List ℕ)
+  pub failed_reads : ℕ
+  pub taken : List ℕ
+  pub failed_writes : ℕ
+  pub stalled_writes : ℕ
+
+-- A reader, before and after, tells that it gave these pieces, and that so many reads failed. A device in memory tells it by its
+-- bytes too: what is left to read lost what was read, and is at its end where that was all.
+pub record HasGiven {R : Type 0} (remaining : R → Option (List ℕ)) (before after : Watched R) (gained : List (List ℕ)) (failed : ℕ) : Type 0 where
+  pub pieces : pieces_of after ≡ pieces_of before ++ gained
+  pub failures : failures_of after ≡ failures_of before + failed
+  pub device : Consumes (remaining (inner_of before)) (remaining (inner_of after)) (concat gained)
+  pub at_end : failed ≡ 0 → AreWhole gained → IsAtEnd (remaining (inner_of after))
+
+-- A writer, before and after, tells that it took these bytes, and how many writes failed and stalled. What a device in memory
+-- holds grew by these bytes.
+pub record HasTaken {W : Type 0} (contents : W → Option (List ℕ)) (before after : Watched W) (bytes : List ℕ) (failed stalled : ℕ) : Type 0 where
+  pub taken : taken_of after ≡ taken_of before ++ bytes
+  pub failures : failures_of after ≡ failures_of before + failed
+  pub stalls : stalls_of after ≡ stalls_of before + stalled
+  pub device : Appends (contents (inner_of before)) (contents (inner_of after)) bytes
+
+-- a reader and a writer, before and after, tell that this was moved
+pub record HasMoved {R W : Type 0} (remaining : R → Option (List ℕ)) (contents : W → Option (List ℕ)) (reader_before reader_after : Watched R) (writer_before writer_after : Watched W) (m : Moved) : Type 0 where
+  pub reader : HasGiven remaining reader_before reader_after m.pieces m.failed_reads
+  pub writer : HasTaken contents writer_before writer_after m.taken m.failed_writes m.stalled_writes
+
+-- so many reads failed, so many writes, and so many of those took no byte
+abbrev pub Failed : Moved → ℕ → ℕ → ℕ → Type 0
+Failed m reads writes stalls = (m.failed_reads ≡ reads) × (m.failed_writes ≡ writes) × (m.stalled_writes ≡ stalls)
+
+-- neither the reader nor the writer was touched
+abbrev pub NoneTouched : {R W : Type 0} → Watched R → Watched R → Watched W → Watched W → Type 0
+NoneTouched reader_before reader_after writer_before writer_after = (reader_after ≡ reader_before) × (writer_after ≡ writer_before)

@@ -1,0 +1,189 @@
+-- A search of a stream: how far it has come, what its calls do, and what it costs.
+use Rattle.std.specs.Prelude.{◌≡◌, ◌≢◌, ◌⊎◌, ◌↔◌, ℕ, ◌+◌, ◌-◌, ◌*◌, ◌<◌, ◌≤◌, max, IsTrue, List, [], ◌∷◌, ◌++◌, length, drop, Option, None, Some, Result, Ok, Err}
+use Rattle.std.specs.Io.KnownBytes.{Consumes, IsAtEnd}
+use Rattle.std.specs.List.{All, concat}
+use Rattle.ac_input.specs.declared.search.Anchored.{Anchored}
+use Rattle.ac_input.specs.declared.search.Anchored.TheVariants.{No}
+use Rattle.ac_input.specs.declared.search.MatchKind.TheVariants.{Standard}
+use Rattle.ac_input.specs.declared.steps.Steps.{Steps}
+use Rattle.ac_input.specs.BeginningLaws.{IsBeginning}
+use Rattle.ac_input.specs.Occurrence.{Occurrence}
+use Rattle.ac_input.specs.Steps.{Done}
+use Rattle.ac_input.specs.Work.{longest, shortest, lookups_per_byte}
+use Rattle.ac_automaton.specs.Automaton.{Built, refusal_of}
+use Rattle.ac_automaton.specs.Buffer.{kept_for, room_for}
+use Rattle.ac_automaton.specs.Replace.{matches_in}
+use Rattle.ac_automaton.specs.Watched.{pieces_of, has_ended, failures_of, inner_of, NoneTaken}
+use Rattle.ac_automaton.specs.declared.error.MatchErrorKind.{MatchErrorKind}
+use Rattle.ac_automaton.specs.declared.error.MatchErrorKind.TheVariants.{UnsupportedStream, UnsupportedEmpty}
+use Rattle.ac_automaton.specs.declared.error.StreamError.{StreamError}
+use Rattle.ac_automaton.specs.declared.error.StreamError.TheVariants.{Config, Read, Write, WriteZero, Memory, Position}
+use Rattle.ac_automaton.specs.declared.watched.Watched.{Watched}
+
+-- How far a search of a stream has come: by what it goes; what its reads gave, each a piece; the matches that it gave; the place
+-- of the first byte that is held, which are those from there to the end of what was read; up to which place the automaton has
+-- read; where the last match ended, 0 where there was none; and how many states it looked at, how many places it scanned and how
+-- many bytes it moved. Places are counted from the first byte that the search read.
+pub record Scanned : Type 0 where
+  pub built : Built
+  pub pieces : List (List ℕ)
+  pub given : List Occurrence
+  pub from : ℕ
+  pub at : ℕ
+  pub last : ℕ
+  pub looked : ℕ
+  pub scanned : ℕ
+  pub moved : ℕ
+
+-- a search that has read nothing yet
+abbrev pub fresh_scan : Built → Scanned
+fresh_scan b = record { built = b; pieces = []; given = []; from = 0; at = 0; last = 0; looked = 0; scanned = 0; moved = 0 }
+
+-- the bytes that were read
+abbrev pub read_by : Scanned → List ℕ
+read_by s = concat s.pieces
+
+-- those of them that are held
+abbrev pub held_by : Scanned → List ℕ
+held_by s = drop s.from (read_by s)
+
+-- all matches of what was read
+abbrev pub matches_read : Scanned → List Occurrence
+matches_read s = matches_in s.built (read_by s)
+
+-- how many bytes are kept at most where the buffer is full
+abbrev pub keep_of : Built → ℕ
+keep_of b = kept_for (longest b.dictionary.patterns)
+
+-- how many bytes the buffer has room for
+abbrev pub room_of : Built → ℕ
+room_of b = room_for (keep_of b)
+
+-- The place up to which all is decided: no match begins before it that was not given yet, whatever is still read.
+abbrev pub cut_of : Scanned → ℕ
+cut_of s = max s.last (s.at - keep_of s.built)
+
+-- few enough bytes that each place is a `usize`
+abbrev pub CanBeCounted : List ℕ → Type 0
+CanBeCounted x = length x ≤ 18446744073709551615
+
+-- the automaton has read all that was read
+abbrev pub IsSearched : Scanned → Type 0
+IsSearched s = s.at ≡ length (read_by s)
+
+-- ---- whether a stream can be searched
+
+-- there is a start for a search that isn't anchored, the kind is the standard one, and no pattern is empty
+abbrev pub CanStream : Built → (Anchored → Type 0) → Type 0
+CanStream b supports = supports No × (b.dictionary.kind ≡ Standard) × (1 ≤ shortest b.dictionary.patterns)
+
+-- why it is refused: first because there is no start, then because of the kind, then because of an empty pattern
+abbrev pub IsConfigRefusal : Built → (Anchored → Type 0) → MatchErrorKind → Type 0
+IsConfigRefusal b supports error =
+    (¬ supports No × (error ≡ refusal_of No))
+    ⊎ (supports No × (b.dictionary.kind ≢ Standard) × (error ≡ UnsupportedStream b.dictionary.kind))
+    ⊎ (supports No × (b.dictionary.kind ≡ Standard) × (shortest b.dictionary.patterns ≡ 0) × (error ≡ UnsupportedEmpty))
+
+-- the error says what was refused: the search, or else the memory for the buffer
+abbrev pub IsStreamRefusal : Built → (Anchored → Type 0) → StreamError → Type 0
+IsStreamRefusal b supports (Config error) = IsConfigRefusal b supports error
+IsStreamRefusal b supports (Read error) = ⊥
+IsStreamRefusal b supports (Write error) = ⊥
+IsStreamRefusal b supports WriteZero = ⊥
+IsStreamRefusal b supports Memory = CanStream b supports
+IsStreamRefusal b supports Position = ⊥
+
+-- ---- what holds wherever a search stands
+
+-- Whatever is still read, the matches that were given are the first ones, and all others begin at the cut or behind it.
+abbrev pub IsDecided : Scanned → Type 0
+IsDecided s = (more : List ℕ) → (rest : List Occurrence) × (matches_in s.built (read_by s ++ more) ≡ s.given ++ rest) × All (λ o. cut_of s ≤ o.start) rest
+
+-- What a search has cost: at least one look for each byte that the automaton has read, and at most so many for a byte as it takes
+-- on the whole; no scan; and a seventh of the bytes that were read moved at most.
+pub record IsWithinStreamBudget (s : Scanned) : Type 0 where
+  pub some : s.at ≤ s.looked
+  pub looked : s.looked ≤ lookups_per_byte s.built.deterministic * s.at
+  pub scanned : s.scanned ≡ 0
+  pub moved : 7 * s.moved ≤ length (read_by s)
+
+-- What holds of a search wherever it stands. The matches that it gave are the first of those of what was read.
+pub record IsOnCourse (s : Scanned) : Type 0 where
+  pub standard : s.built.dictionary.kind ≡ Standard
+  pub filled : 1 ≤ shortest s.built.dictionary.patterns
+  pub ordered : (s.last ≤ s.at) × (s.at ≤ length (read_by s))
+  pub kept : (s.from ≤ cut_of s) × (s.from ≤ s.at) × (length (read_by s) ≤ s.from + room_of s.built)
+  pub begun : IsBeginning s.given (matches_read s)
+  pub decided : IsDecided s
+  pub paid : IsWithinStreamBudget s
+
+-- ---- what a call does
+
+-- so much more is counted as was done in between
+abbrev pub ScanCounts : Scanned → Scanned → Steps → Steps → Type 0
+ScanCounts s t before after = (states places bytes : ℕ) × Done states places bytes before after × (t.looked ≡ s.looked + states) × (t.scanned ≡ s.scanned + places) × (t.moved ≡ s.moved + bytes)
+
+-- the same is counted
+pub record CountsNothing (s t : Scanned) : Type 0 where
+  pub looked : t.looked ≡ s.looked
+  pub scanned : t.scanned ≡ s.scanned
+  pub moved : t.moved ≡ s.moved
+
+-- there is room for one more byte, at least
+abbrev pub HasRoom : Scanned → Type 0
+HasRoom s = length (read_by s) < s.from + room_of s.built
+
+-- all is as it was, but that what is before the cut may be held no longer
+pub record IsRolled (s t : Scanned) : Type 0 where
+  pub from : (s.from ≤ t.from) × (t.from ≤ cut_of s)
+  pub same : t ≡ record s { from = t.from; moved = t.moved }
+
+-- nothing was read in between, and the same bytes are held
+pub record ReadsNothing (s t : Scanned) : Type 0 where
+  pub on : s.at ≤ t.at
+  pub built : t.built ≡ s.built
+  pub pieces : t.pieces ≡ s.pieces
+  pub from : t.from ≡ s.from
+
+-- a match among the bytes that are held, of which the automaton had not read the last
+pub record IsHeldMatch (s : Scanned) (o : Occurrence) : Type 0 where
+  pub pattern : o.pattern < length s.built.dictionary.patterns
+  pub held : s.from ≤ o.start
+  pub behind : s.last ≤ o.start
+  pub some : o.start < o.end
+  pub new : s.at < o.end
+  pub within : o.end ≤ length (read_by s)
+
+-- The next match of what was read is this one; or there is none: then, if places can be counted, all of it was searched, and all
+-- matches of it were given.
+abbrev pub FindsHeld : Scanned → Option Occurrence → Scanned → Type 0
+FindsHeld s None t = ReadsNothing s t × (t.given ≡ s.given) × (t.last ≡ s.last) × (CanBeCounted (read_by s) → IsSearched t × (t.given ≡ matches_read t))
+FindsHeld s (Some o) t = ReadsNothing s t × (t.given ≡ s.given ++ o ∷ []) × (t.last ≡ o.end) × (t.at ≡ o.end) × IsHeldMatch s o × CanBeCounted (read_by s)
+
+-- One read gave a piece, which the search has behind what it had; what is before the cut may be held no longer. Where the reader
+-- tells what is left of it, that lost the piece, and is at its end where the read gave nothing and did not fail.
+pub record HasRead {R : Type 0} (remaining : R → Option (List ℕ)) (s t : Scanned) (before after : Watched R) (piece : List ℕ) (failed : ℕ) : Type 0 where
+  pub built : t.built ≡ s.built
+  pub pieces : t.pieces ≡ s.pieces ++ piece ∷ []
+  pub given : t.given ≡ s.given
+  pub at : t.at ≡ s.at
+  pub last : t.last ≡ s.last
+  pub from : t.from ≤ cut_of s
+  pub short : length piece ≤ room_of s.built
+  pub reader : pieces_of after ≡ pieces_of before ++ piece ∷ []
+  pub ended : IsTrue (has_ended after) ↔ (piece ≡ [])
+  pub failures : failures_of after ≡ failures_of before + failed
+  pub writes : NoneTaken before after
+  pub device : Consumes (remaining (inner_of before)) (remaining (inner_of after)) piece
+  pub at_end : piece ≡ [] → failed ≡ 0 → IsAtEnd (remaining (inner_of after))
+
+-- What a read comes to: so many bytes more, none at the end; or an error, of a read that failed, or of one with which there are
+-- more bytes than places.
+abbrev pub ReadsMore : {R : Type 0} → (R → Option (List ℕ)) → Scanned → Scanned → Watched R → Watched R → Result ℕ StreamError → Type 0
+ReadsMore remaining s t before after (Ok n) = (piece : List ℕ) × HasRead remaining s t before after piece 0 × (length piece ≡ n) × CanBeCounted (read_by t)
+ReadsMore remaining s t before after (Err (Config error)) = ⊥
+ReadsMore remaining s t before after (Err (Read error)) = HasRead remaining s t before after [] 1
+ReadsMore remaining s t before after (Err (Write error)) = ⊥
+ReadsMore remaining s t before after (Err WriteZero) = ⊥
+ReadsMore remaining s t before after (Err Memory) = ⊥
+ReadsMore remaining s t before after (Err Position) = (piece : List ℕ) × HasRead remaining s t before after piece 0 × ¬ CanBeCounted (read_by t)

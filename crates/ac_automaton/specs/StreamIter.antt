@@ -1,0 +1,117 @@
+-- What the matches of a stream, as an iterator, give and read.
+use Rattle.std.specs.Prelude.{◌≡◌, ◌≢◌, ◌⊎◌, ℕ, ◌+◌, ◌-◌, ◌<◌, ◌≤◌, true, false, List, [], ◌∷◌, ◌++◌, length, take, Option, None, Some, Result, Ok, Err}
+use Rattle.std.specs.Borrow.{GName}
+use Rattle.std.specs.Io.KnownBytes.{Consumes, IsAtEnd}
+use Rattle.std.specs.List.{All, concat}
+use Rattle.ac_input.specs.Occurrence.{Occurrence}
+use Rattle.ac_automaton.specs.Automaton.{Built}
+use Rattle.ac_automaton.specs.Stream.{CanBeCounted, FindsHeld, HasRead, IsSearched, ReadsNothing, Scanned, fresh_scan, matches_read, read_by, room_of}
+use Rattle.ac_automaton.specs.Watched.{pieces_of, has_ended, failures_of, inner_of, NoneTaken}
+use Rattle.ac_automaton.specs.declared.error.StreamError.{StreamError}
+use Rattle.ac_automaton.specs.declared.error.StreamError.TheVariants.{Config, Read, Write, WriteZero, Memory, Position}
+use Rattle.ac_automaton.specs.declared.stream.StreamFindIter.{StreamFindIter}
+use Rattle.ac_automaton.specs.declared.stream.Turn.{Turn}
+use Rattle.ac_automaton.specs.declared.stream.Turn.TheVariants.{Found, More, Over, Failed}
+use Rattle.ac_automaton.specs.declared.watched.Watched.{Watched}
+
+-- ---- what was read
+
+-- Reads gave these pieces, none longer than the buffer, and so many of them failed. The matches that were given are those that
+-- were given before. Where the reader tells what is left of it, that lost the pieces.
+pub record HasGained {R : Type 0} (remaining : R → Option (List ℕ)) (s t : Scanned) (before after : Watched R) (gained : List (List ℕ)) (failed : ℕ) : Type 0 where
+  pub built : t.built ≡ s.built
+  pub pieces : t.pieces ≡ s.pieces ++ gained
+  pub short : All (λ piece. length piece ≤ room_of s.built) gained
+  pub reader : pieces_of after ≡ pieces_of before ++ gained
+  pub failures : failures_of after ≡ failures_of before + failed
+  pub writes : NoneTaken before after
+  pub device : Consumes (remaining (inner_of before)) (remaining (inner_of after)) (concat gained)
+
+-- no piece is empty
+abbrev pub AreFilled : List (List ℕ) → Type 0
+AreFilled pieces = All (λ piece. piece ≢ []) pieces
+
+-- The pieces are those of an input that was read to its end: the last one is empty, and no other.
+abbrev pub AreWhole : List (List ℕ) → Type 0
+AreWhole pieces = (filled : List (List ℕ)) × AreFilled filled × (pieces ≡ filled ++ [] ∷ [])
+
+-- all matches of what was read were given, and all of it was searched
+abbrev pub AreAllGiven : Scanned → Type 0
+AreAllGiven s = IsSearched s × (s.given ≡ matches_read s)
+
+-- Nothing is left to come: the input has ended and all was given, or there are more bytes than places.
+abbrev pub IsStopped : {R : Type 0} → Scanned → Watched R → Type 0
+IsStopped s reader = ((has_ended reader ≡ true) × AreAllGiven s) ⊎ (¬ CanBeCounted (read_by s))
+
+-- A match that is given after reads ends in the last piece: nothing is read while a match of what was read is still to be given.
+abbrev pub EndsInLastPiece : Scanned → List (List ℕ) → Occurrence → Type 0
+EndsInLastPiece t gained o = gained ≢ [] → length (concat (take (length t.pieces - 1) t.pieces)) < o.end
+
+-- a match of what was read by then, of which the automaton had not read the last byte before
+pub record IsNextMatch (s t : Scanned) (o : Occurrence) : Type 0 where
+  pub pattern : o.pattern < length s.built.dictionary.patterns
+  pub behind : s.last ≤ o.start
+  pub some : o.start < o.end
+  pub new : s.at < o.end
+  pub within : o.end ≤ length (read_by t)
+  pub countable : CanBeCounted (read_by t)
+
+-- What the next item is, and what was read for it. A match is the next one of those that were not given yet. An error is of a read
+-- that failed, when all matches of what was read were given; or there are now more bytes than places. None: nothing is left to
+-- come; if anything was read for it, that was to the end.
+abbrev pub NextGives : {R : Type 0} → (R → Option (List ℕ)) → Scanned → Scanned → Watched R → Watched R → Option (Result Occurrence StreamError) → Type 0
+NextGives remaining s t before after (Some (Ok o)) = (gained : List (List ℕ)) × HasGained remaining s t before after gained 0 × AreFilled gained × (t.given ≡ s.given ++ o ∷ []) × (t.last ≡ o.end) × IsNextMatch s t o × EndsInLastPiece t gained o
+NextGives remaining s t before after (Some (Err (Config error))) = ⊥
+NextGives remaining s t before after (Some (Err (Read error))) = (filled : List (List ℕ)) × HasGained remaining s t before after (filled ++ [] ∷ []) 1 × AreFilled filled × (t.given ≡ s.given) × (has_ended after ≡ true) × AreAllGiven t
+NextGives remaining s t before after (Some (Err (Write error))) = ⊥
+NextGives remaining s t before after (Some (Err WriteZero)) = ⊥
+NextGives remaining s t before after (Some (Err Memory)) = ⊥
+NextGives remaining s t before after (Some (Err Position)) = (gained : List (List ℕ)) × HasGained remaining s t before after gained 0 × AreFilled gained × (t.given ≡ s.given) × ¬ CanBeCounted (read_by t)
+NextGives remaining s t before after None = (gained : List (List ℕ)) × HasGained remaining s t before after gained 0 × ((gained ≡ []) ⊎ (AreWhole gained × IsAtEnd (remaining (inner_of after)))) × (t.given ≡ s.given) × IsStopped t after
+
+-- where nothing was left to come, nothing comes, and nothing is read
+abbrev pub StaysStopped : {R : Type 0} → Scanned → Scanned → Watched R → Watched R → Option (Result Occurrence StreamError) → Type 0
+StaysStopped s t before after r = IsStopped s before → (r ≡ None) × (t.pieces ≡ s.pieces) × (t.given ≡ s.given) × (pieces_of after ≡ pieces_of before)
+
+-- ---- one turn
+
+-- All of what was read before was searched and given, and one read gave this piece.
+pub record TurnReads {R : Type 0} (remaining : R → Option (List ℕ)) (s t : Scanned) (before after : Watched R) (piece : List ℕ) (failed : ℕ) : Type 0 where
+  pub mid : Scanned
+  pub unended : has_ended before ≡ false
+  pub few : CanBeCounted (read_by mid)
+  pub nothing : ReadsNothing s mid
+  pub given : mid.given ≡ s.given
+  pub last : mid.last ≡ s.last
+  pub all : AreAllGiven mid
+  pub read : HasRead remaining mid t before after piece failed
+
+-- What one turn comes to: a match of what was read; or, when there is none, one read, which gave some bytes, or none, or failed;
+-- or none, where nothing is left to come.
+abbrev pub TurnGives : {R : Type 0} → (R → Option (List ℕ)) → Scanned → Scanned → Watched R → Watched R → Turn → Type 0
+TurnGives remaining s t before after (Found o) = FindsHeld s (Some o) t × (after ≡ before)
+TurnGives remaining s t before after More = (piece : List ℕ) × TurnReads remaining s t before after piece 0 × (piece ≢ []) × CanBeCounted (read_by t)
+TurnGives remaining s t before after Over =
+    (ReadsNothing s t × (t.given ≡ s.given) × (after ≡ before) × IsStopped t after)
+    ⊎ TurnReads remaining s t before after [] 0
+TurnGives remaining s t before after (Failed (Config error)) = ⊥
+TurnGives remaining s t before after (Failed (Read error)) = TurnReads remaining s t before after [] 1
+TurnGives remaining s t before after (Failed (Write error)) = ⊥
+TurnGives remaining s t before after (Failed WriteZero) = ⊥
+TurnGives remaining s t before after (Failed Memory) = ⊥
+TurnGives remaining s t before after (Failed Position) = (piece : List ℕ) × TurnReads remaining s t before after piece 0 × (piece ≢ []) × ¬ CanBeCounted (read_by t)
+
+-- ---- the iterator
+
+module _ {A R : Type 0} where
+  -- how far its search has come
+  abbrev pub progress_of : StreamFindIter A R → Scanned
+  progress_of i = i.scan
+
+  -- the reader
+  abbrev pub reader_of : StreamFindIter A R → Watched R
+  reader_of i = i.reader.now
+
+  -- the ghost name of the reference to the reader
+  abbrev pub reader_name : StreamFindIter A R → GName
+  reader_name i = i.reader.ghost_name

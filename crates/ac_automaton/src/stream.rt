@@ -1,0 +1,150 @@
+//! The matches of a stream, one after another.
+//!
+//! A stream is read piece by piece into one buffer, which is taken before the first read, and each piece is searched before the
+//! next one is read. So a match is given as soon as its last byte was read, a stream may be as long as places can be counted, and
+//! no memory is taken on the way. A match may begin in one piece and end in another; what the pieces are changes nothing.
+//!
+//! Only an automaton of the standard kind can do so: a leftmost match may be settled only by bytes far behind it. An empty pattern
+//! is refused, since it would match at each place before anything is read. No prefilter is asked.
+//!
+//! [`StreamFindIter`] is the search as an iterator, from
+//! [`try_stream_find_iter`](crate::automaton::Automaton::try_stream_find_iter). The first empty read ends it, and so does the first
+//! error.
+ghost use Rattle.std.specs.Prelude.{◌≡◌, false, IfErr, IfOk, OnOk};
+ghost use Rattle.ac_automaton.specs.Stream.{CanStream, FindsHeld, IsOnCourse, IsStreamRefusal, ScanCounts, fresh_scan};
+ghost use Rattle.ac_automaton.specs.StreamIter.{NextGives, StaysStopped, TurnGives, progress_of, reader_name, reader_of};
+ghost use Rattle.ac_automaton.specs.Watched.{has_ended};
+
+mod output;
+pub(crate) mod replace;
+mod scan;
+
+use crate::automaton::Automaton;
+use crate::error::StreamError;
+use crate::watched::Watched;
+use ac_input::search::Match;
+use ac_input::steps::Steps;
+use scan::Scan;
+use std::alloc::Global;
+use std::io::Read;
+
+/// The matches of a stream that are left to come. From
+/// [`try_stream_find_iter`](crate::automaton::Automaton::try_stream_find_iter).
+///
+/// After its first error, and after its first `None`, it gives `None` for good, and asks the reader no more.
+#[derive(Drop)]
+pub struct StreamFindIter<'a, A: Automaton, R> {
+    scan: Scan<'a, A>,
+    reader: &'a mut Watched<R>,
+}
+
+/// What one turn of a search comes to.
+enum Turn {
+    /// A match among the bytes that were read.
+    Found(Match),
+    /// All of these were given, and more bytes were read.
+    More,
+    /// All were given, and nothing is left to read.
+    Over,
+    /// All were given, and the read failed, or there are more bytes than places.
+    Failed(StreamError),
+}
+
+/// The matches of a stream, one after another.
+pub fn stream_find_iter<'a, A: Automaton, R: Read>(
+    automaton: &'a A,
+    alloc: Global,
+    reader: &'a mut Watched<R>,
+) -> Result<StreamFindIter<'a, A, R>, StreamError>
+    requires { has_ended reader.old ≡ false }
+    ensures fresh { IfOk result
+        (λ matches. progress_of matches ≡ fresh_scan (A.built automaton.now)) }
+    ensures reader { IfOk result (λ matches. reader_of matches ≡ reader.old) }
+    ensures same_reference { IfOk result
+        (λ matches. reader_name matches ≡ reader.entry.ghost_name) }
+    ensures can { OnOk result (CanStream (A.built automaton.now) (A.supports automaton.now)) }
+    ensures refused { IfErr result (IsStreamRefusal (A.built automaton.now)
+        (A.supports automaton.now)) }
+{
+    let scan = Scan::new(automaton, alloc)?;
+    Ok(StreamFindIter { scan, reader })
+}
+
+/// The next match of what was read; or one read, where there is none.
+fn search_or_read<A: Automaton, R: Read>(
+    scan: &mut Scan<'_, A>,
+    reader: &mut Watched<R>,
+    steps: &mut Steps,
+) -> Turn
+    ensures gives { TurnGives R.remaining scan.old scan.new reader.old reader.new result }
+    ensures counts { ScanCounts scan.old scan.new steps.old steps.new }
+    ensures kept { IsOnCourse scan.new }
+{
+    if let Some(found) = scan.next_held(steps) {
+        return Turn::Found(found);
+    }
+    if scan.is_over() || reader.ended() {
+        return Turn::Over;
+    }
+    match scan.read_more(reader, steps) {
+        Ok(0) => Turn::Over,
+        Ok(_) => Turn::More,
+        Err(error) => Turn::Failed(error),
+    }
+}
+
+impl<'a, A: Automaton, R: Read> StreamFindIter<'a, A, R> {
+    /// The next match among the bytes that were read, without a read; and counts what it does. None says that all of them were
+    /// given.
+    pub fn next_held_counted(&mut self, steps: &mut Steps) -> Option<Match>
+        ensures finds { FindsHeld (progress_of self.old) result (progress_of self.new) }
+        ensures reader { reader_of self.new ≡ reader_of self.old }
+        ensures same_reference { reader_name self.new ≡ reader_name self.old }
+        ensures counts { ScanCounts (progress_of self.old) (progress_of self.new)
+            steps.old steps.new }
+        ensures kept { IsOnCourse (progress_of self.new) }
+    {
+        self.scan.next_held(steps)
+    }
+
+    /// The next item, as `next` gives it; and counts what it does.
+    pub fn next_counted(&mut self, steps: &mut Steps) -> Option<Result<Match, StreamError>>
+        ensures gives { NextGives R.remaining (progress_of self.old) (progress_of self.new)
+            (reader_of self.old) (reader_of self.new) result }
+        ensures stopped { StaysStopped (progress_of self.old) (progress_of self.new)
+            (reader_of self.old) (reader_of self.new) result }
+        ensures same_reference { reader_name self.new ≡ reader_name self.old }
+        ensures counts { ScanCounts (progress_of self.old) (progress_of self.new)
+            steps.old steps.new }
+        ensures kept { IsOnCourse (progress_of self.new) }
+    {
+        loop {
+            match search_or_read(&mut self.scan, self.reader, steps) {
+                Turn::More => {}
+                Turn::Found(found) => return Some(Ok(found)),
+                Turn::Over => return None,
+                Turn::Failed(error) => return Some(Err(error)),
+            }
+        }
+    }
+}
+
+impl<'a, A: Automaton, R: Read> Iterator for StreamFindIter<'a, A, R> {
+    ghost use Rattle.std.specs.Prelude.{◌≡◌};
+    ghost use Rattle.ac_automaton.specs.Stream.{IsOnCourse};
+    ghost use Rattle.ac_automaton.specs.StreamIter.{NextGives, StaysStopped, progress_of, reader_name, reader_of};
+
+    type Item = Result<Match, StreamError>;
+
+    ghost next_gives = { λ s r t. NextGives R.remaining (progress_of s) (progress_of t) (reader_of s) (reader_of t) r
+        × StaysStopped (progress_of s) (progress_of t) (reader_of s) (reader_of t) r
+        × (reader_name t ≡ reader_name s) × IsOnCourse (progress_of t) };
+
+    fn next(&mut self) -> Option<Result<Match, StreamError>> {
+        let mut steps = Steps::new();
+        self.next_counted(&mut steps)
+    }
+}
+
+#[cfg(test)]
+mod tests;

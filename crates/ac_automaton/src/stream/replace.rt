@@ -1,0 +1,174 @@
+//! Replacement over a stream.
+//!
+//! What was read is written with each match exchanged for the replacement of its pattern. A match that was found is never taken
+//! back, and what is still to be found begins at the cut or behind it; so everything before the cut is written before the next
+//! read, and a reader that waits keeps back nothing but what may still become a match. What is written is gathered into one
+//! buffer, which is sent before each read: a stream over a file makes about one write a read.
+//!
+//! Nothing is tried again, and nothing is flushed. Both buffers are taken before the first read, and no memory after that.
+ghost use Rattle.std.specs.Prelude.{◌≡◌, ◌+◌, ◌-◌, ◌≤◌, ◌++◌, [], drop, false, length, map, slice_range, IfErr, IfOk, OnErr, OnOk};
+ghost use Rattle.ac_automaton.specs.Output.{Sent, Stopped};
+ghost use Rattle.ac_automaton.specs.Stream.{CanStream, IsOnCourse, ScanCounts, fresh_scan};
+ghost use Rattle.ac_automaton.specs.StreamReplace.{CostsStream, HasSearched, IsBegun, IsPlaced, IsReplaceStreamError, ReplacesStream, SendsDecided, SendsMatch, StopsSending};
+ghost use Rattle.ac_automaton.specs.Watched.{IsOfWrite, has_ended};
+
+use super::output::Output;
+use super::scan::Scan;
+use crate::automaton::Automaton;
+use crate::error::StreamError;
+use crate::watched::Watched;
+use ac_input::steps::Steps;
+use std::alloc::Global;
+use std::io::{Read, Write};
+
+/// The bytes between two places of a stream, of which the bytes from a place on are held.
+fn part(held: &[u8], from: usize, start: usize, end: usize) -> &[u8]
+    requires held { from ≤ start }
+    requires order { start ≤ end }
+    requires within { end ≤ from + length held.now }
+    ensures { result.now ≡ slice_range held.now (start - from) (end - from) }
+{
+    &held[start - from..end - from]
+}
+
+/// Sends what stands before a match, and what is put in its place.
+fn send_exchanged<W: Write>(
+    before: &[u8],
+    replacement: &[u8],
+    output: &mut Output,
+    writer: &mut Watched<W>,
+) -> Result<(), StreamError>
+    ensures sent { OnOk result (Sent W.contents writer.old writer.new output.old output.new
+        (before.now ++ replacement.now)) }
+    ensures stopped { OnErr result (Stopped W.contents writer.old writer.new output.old
+        (before.now ++ replacement.now)) }
+    ensures kind { IfErr result (IsOfWrite writer.old writer.new) }
+{
+    output.send(writer, before)?;
+    output.send(writer, replacement)
+}
+
+/// Finds the next match of what was read, and sends the text from a place to its end. It answers where that is, or none where there
+/// is no further match.
+fn send_match<A: Automaton, W: Write>(
+    scan: &mut Scan<'_, A>,
+    replacements: &[&[u8]],
+    at: usize,
+    output: &mut Output,
+    writer: &mut Watched<W>,
+    steps: &mut Steps,
+) -> Result<Option<usize>, StreamError>
+    requires placed { IsPlaced scan.old at }
+    requires one_each { length replacements.now ≡ length scan.old.built.dictionary.patterns }
+    ensures sent { IfOk result (SendsMatch W.contents (map (λ r. r.now) replacements.now)
+        scan.old scan.new at writer.old writer.new output.old output.new) }
+    ensures stopped { OnErr result (StopsSending W.contents (map (λ r. r.now) replacements.now)
+        scan.old scan.new at writer.old writer.new output.old) }
+    ensures kind { IfErr result (IsOfWrite writer.old writer.new) }
+    ensures counts { ScanCounts scan.old scan.new steps.old steps.new }
+    ensures kept { IsOnCourse scan.new }
+{
+    let Some(found) = scan.next_held(steps) else {
+        return Ok(None);
+    };
+    let from = scan.from();
+    let before = part(scan.held(), from, at, found.start());
+    let replacement = replacements[found.pattern().as_usize()];
+    send_exchanged(before, replacement, output, writer)?;
+    Ok(Some(found.end()))
+}
+
+/// Sends the text from a place up to the cut, and holds nothing back. It answers where the cut is.
+fn send_decided<A: Automaton, W: Write>(
+    scan: &mut Scan<'_, A>,
+    replacements: &[&[u8]],
+    at: usize,
+    output: &mut Output,
+    writer: &mut Watched<W>,
+    steps: &mut Steps,
+) -> Result<usize, StreamError>
+    requires placed { IsPlaced scan.old at }
+    requires one_each { length replacements.now ≡ length scan.old.built.dictionary.patterns }
+    ensures sent { IfOk result (SendsDecided W.contents (map (λ r. r.now) replacements.now)
+        scan.old scan.new at writer.old writer.new output.old) }
+    ensures none { OnOk result (output.new ≡ []) }
+    ensures stopped { OnErr result (StopsSending W.contents (map (λ r. r.now) replacements.now)
+        scan.old scan.new at writer.old writer.new output.old) }
+    ensures kind { IfErr result (IsOfWrite writer.old writer.new) }
+    ensures counts { ScanCounts scan.old scan.new steps.old steps.new }
+    ensures kept { IsOnCourse scan.new }
+{
+    let mut written = at;
+    while let Some(end) = send_match(scan, replacements, written, output, writer, steps)? {
+        written = end;
+    }
+    let cut = scan.cut();
+    let from = scan.from();
+    output.send_all(writer, part(scan.held(), from, written, cut))?;
+    Ok(cut)
+}
+
+/// The bytes of a stream from a place on, of which the bytes from an earlier place on are held.
+fn rest(held: &[u8], from: usize, start: usize) -> &[u8]
+    requires held { from ≤ start }
+    requires within { start ≤ from + length held.now }
+    ensures { result.now ≡ drop (start - from) held.now }
+{
+    &held[start - from..]
+}
+
+/// Reads on to the end of the input. Before each read all that is decided is written, and at the end what is left.
+fn replace_read<A: Automaton, R: Read, W: Write>(
+    scan: &mut Scan<'_, A>,
+    output: &mut Output,
+    reader: &mut Watched<R>,
+    writer: &mut Watched<W>,
+    replacements: &[&[u8]],
+    steps: &mut Steps,
+) -> Result<(), StreamError>
+    requires fresh { scan.old ≡ fresh_scan scan.old.built }
+    requires course { IsOnCourse scan.old }
+    requires none { output.old ≡ [] }
+    requires open { has_ended reader.old ≡ false }
+    requires one_each { length replacements.now ≡ length scan.old.built.dictionary.patterns }
+    ensures replaced { ReplacesStream R.remaining W.contents scan.old.built
+        (map (λ r. r.now) replacements.now) reader.old reader.new writer.old writer.new result }
+    ensures begun { IfErr result IsBegun }
+    ensures searched { HasSearched scan.old scan.new reader.old reader.new steps.old steps.new
+        result }
+{
+    let mut at = 0;
+    while scan.read_more(reader, steps)? > 0 {
+        at = send_decided(scan, replacements, at, output, writer, steps)?;
+    }
+    let from = scan.from();
+    output.send_all(writer, rest(scan.held(), from, at))
+}
+
+/// Writes what is read with each match exchanged for the replacement of its pattern, and counts what it does.
+pub fn replace_all_counted<A: Automaton, R: Read, W: Write>(
+    automaton: &A,
+    alloc: Global,
+    reader: &mut Watched<R>,
+    writer: &mut Watched<W>,
+    replacements: &[&[u8]],
+    steps: &mut Steps,
+) -> Result<(), StreamError>
+    requires open { has_ended reader.old ≡ false }
+    requires one_each { length replacements.now
+        ≡ length (A.built automaton.now).dictionary.patterns }
+    ensures replaced { ReplacesStream R.remaining W.contents (A.built automaton.now)
+        (map (λ r. r.now) replacements.now) reader.old reader.new writer.old writer.new result }
+    ensures can { OnOk result (CanStream (A.built automaton.now) (A.supports automaton.now)) }
+    ensures refused { IfErr result (IsReplaceStreamError (A.built automaton.now)
+        (A.supports automaton.now) reader.old reader.new writer.old writer.new) }
+    ensures cost { CostsStream (A.built automaton.now) reader.old reader.new
+        steps.old steps.new result }
+{
+    let mut scan = Scan::new(automaton, alloc)?;
+    let mut output = Output::new(alloc)?;
+    replace_read(&mut scan, &mut output, reader, writer, replacements, steps)
+}
+
+#[cfg(test)]
+mod tests;

@@ -1,0 +1,65 @@
+-- What the parts of a build say together.
+use Rattle.std.proofs.Common.{◌≡◌, ◌≢◌, ℕ, Bool, true, false, IsTrue, List, Option, Some, None, Result, Ok, Err, IfOk, IfSome, IsSome, refl, sym, ap, subst, ◌∙◌}
+use Rattle.std.proofs.lemmas.Bool.{false≢true}
+use Rattle.std.specs.declared.alloc.AllocError.{AllocError}
+use Rattle.ac_input.specs.Candidate.{Filter}
+use Rattle.ac_input.specs.Dictionary.{Dictionary}
+use Rattle.ac_input.specs.Limits.{IsWithinLimits}
+use Rattle.ac_literal.specs.Prefilter.{IsDemanded, IsAdmissible, IsWay}
+use Rattle.ac_noncontiguous.specs.Builder.{Settings, AreCompiled, IsBuiltBy, IsHeld}
+use Rattle.ac_noncontiguous.specs.Nfa.{AreParts, IsHeldFor}
+use Rattle.ac_noncontiguous.specs.ReadCalls.{IsMadeOf}
+use Rattle.ac_noncontiguous.specs.Reads.{built_as, dictionary}
+use Rattle.ac_noncontiguous.specs.declared.nfa.NFA.{NFA}
+use Rattle.ac_noncontiguous.specs.declared.nfa.tables.Tables.{Tables}
+
+-- two things that hold of an answer give a third
+pub if_ok-both : {T E : Type 0} (r : Result T E) (P Q R : T → Type 0) → IfOk r P → IfOk r Q → ((t : T) → P t → Q t → R t) → IfOk r R
+if_ok-both (Ok t) P Q R p q f = f t p q
+if_ok-both (Err e) P Q R p q f = tt
+
+-- no prefilter is held where none is wanted
+pub none-held : (m : Dictionary) (wanted : Bool) → wanted ≡ false → IsHeld wanted m None
+none-held m wanted off =
+    record {
+      off = λ _. refl;
+      demanded = λ on. absurd (let e : true ≡ false = sym on ∙ off in cc);
+      made = λ f is. absurd (let e : None ≡ Some f = is in cc);
+    }
+
+-- where one is wanted it is what the build of the prefilter says
+pub some-held : (m b : Dictionary) (wanted : Bool) (r : Result (Option Filter) AllocError) → b ≡ m → wanted ≡ true
+    → IfOk r (λ made. IfSome made (λ f. f.dictionary ≡ b))
+    → IfOk r (λ made. IsSome made → IsAdmissible b)
+    → IfOk r (λ made. IsDemanded b → IsSome made)
+    → IfOk r (λ made. IfSome made IsWay)
+    → IfOk r (λ held. IsHeld wanted m held)
+some-held m b wanted (Err e) same on d a n y = tt
+some-held m b wanted (Ok None) same on d a n y =
+    record {
+      off = λ _. refl;
+      demanded = λ _ demand. absurd (false≢true (n (subst IsDemanded (sym same) demand)));
+      made = λ f is. absurd (let e : None ≡ Some f = is in cc);
+    }
+some-held m b wanted (Ok (Some f)) same on d a n y =
+    record {
+      off = λ off. absurd (let e : true ≡ false = sym on ∙ off in cc);
+      demanded = λ _ _ is. absurd (let e : Some f ≡ None = is in cc);
+      made = λ g is. let e : f ≡ g = cc in subst (λ (h : Filter). IsAdmissible m × IsWay h × (h.dictionary ≡ m)) e (subst IsAdmissible same (a refl), y, d ∙ same);
+    }
+
+-- what an automaton is made from
+pub parts-of : (m from : Dictionary) (wanted : Bool) (tables : Tables) (held : Option Filter) → from ≡ m → AreCompiled m tables → IsHeld wanted m held → AreParts from tables held
+parts-of m from wanted tables held same compiled is =
+    subst (λ (k : Dictionary). AreParts k tables held) (sym same)
+    (record { stands = ∣ compiled.0 ∣₁; classed = ∣ compiled.1 ∣₁; held = λ f holds. (is.made f holds).2 })
+
+-- what is built
+pub built-by : (s : Settings) (m from : Dictionary) (tables : Tables) (held : Option Filter) (nfa : NFA) → from ≡ m → IsMadeOf from tables held nfa → IsHeld s.prefilter m held → IsWithinLimits m → IsBuiltBy s m (built_as nfa)
+built-by s m from tables held nfa same made is within =
+    record {
+      dictionary = made.dictionary ∙ same;
+      looks = refl;
+      prefilter = subst (λ (o : Option Filter). IsHeld s.prefilter m o) (sym made.prefilter) is;
+      within = within;
+    }

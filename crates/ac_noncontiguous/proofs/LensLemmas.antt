@@ -1,0 +1,19 @@
+-- How long patterns are, one after another.
+use Rattle.std.proofs.Common.{◌≡◌, ℕ, ◌≤◌, min, max, List, [], ◌∷◌, ◌++◌, length, arith}
+use Rattle.std.proofs.lemmas.List.{map-append}
+use Rattle.ac_input.specs.Work.{longest, shortest}
+use Rattle.ac_noncontiguous.specs.Nfa.{lens_of}
+
+-- the shortest of some patterns and one more
+pub shortest-more : (ps : List (List ℕ)) (p : List ℕ) → length p ≤ 18446744073709551615 → shortest (ps ++ p ∷ []) ≡ min (shortest ps) (length p)
+shortest-more [] p fits = omega arith
+shortest-more (q ∷ ps) p fits = let so = shortest-more ps p fits in omega (arith, so)
+
+-- the longest
+pub longest-more : (ps : List (List ℕ)) (p : List ℕ) → longest (ps ++ p ∷ []) ≡ max (longest ps) (length p)
+longest-more [] p = omega arith
+longest-more (q ∷ ps) p = let so = longest-more ps p in omega (arith, so)
+
+-- and how long each is
+pub lens-more : (ps : List (List ℕ)) (p : List ℕ) → lens_of (ps ++ p ∷ []) ≡ lens_of ps ++ length p ∷ []
+lens-more ps p = map-append (λ (q : List ℕ). length q) ps (p ∷ [])

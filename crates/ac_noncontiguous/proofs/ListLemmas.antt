@@ -1,0 +1,280 @@
+-- The lists of patterns of a trie's states: each pattern stands in them once, and they are those of the definitions.
+use Rattle.std.proofs.Common.{◌≡◌, ◌≢◌, ℕ, suc, ◌+◌, ◌-◌, ◌<◌, ◌≤◌, List, [], ◌∷◌, ◌++◌, length, take, drop, Option, Some, None, refl, sym, ap, subst, ◌∙◌, inl, inr, ⊎_elim, arith, get_or, slice_get, slice_index, slice_set, length-append, length-set, length-drop, get_or-set_same, get_or-set_other, append-nil, append_assoc}
+use Rattle.std.specs.List.{Contains, range_with_len, slice_range}
+use Rattle.std.proofs.Math.Seq.{drop-append_seam}
+use Rattle.std.proofs.lemmas.Bool.{cases_lt, cases_eq}
+use Rattle.std.proofs.lemmas.List.{get_or_read, take_all, take-append-le, drop-append-le, take-append-drop, length-take-le}
+use Rattle.std.proofs.lemmas.List.Elements.{Contains-append_left, Contains-append_right, Contains-append_cases}
+use Rattle.std.proofs.lemmas.List.FromFn.{length-range_with_len, get_or-range_with_len}
+use Rattle.std.proofs.lemmas.Option.{slice_get_within, slice_get-get_or, get_or_from_slice_get}
+use Rattle.ac_input.proofs.OrderLemmas.{slice_range-length}
+use Rattle.ac_input.proofs.DistinctLemmas.{distinct-shorter}
+use Rattle.ac_input.proofs.ContainsLemmas.{Contains-nil, Contains-head, Contains-tail}
+use Rattle.ac_input.specs.Dictionary.{Dictionary}
+use Rattle.ac_input.specs.Failure.{AreRising, AreOwn, IsList}
+use Rattle.ac_input.specs.Pairing.{IsDistinct}
+use Rattle.ac_input.specs.StateLaws.{FailureTellsList, OwnPatternsAreList}
+use Rattle.ac_noncontiguous.specs.declared.links.Range.{Range}
+use Rattle.ac_noncontiguous.specs.declared.trie.State.{State}
+use Rattle.ac_noncontiguous.specs.Tree.{depth, text}
+use Rattle.ac_noncontiguous.specs.Own.{EndsIn, IsOwnList}
+use Rattle.ac_noncontiguous.specs.Order.{IsBreadthFirst}
+use Rattle.ac_noncontiguous.specs.Links.{no_range, in_range, AreFails, AreRanges}
+use Rattle.ac_noncontiguous.specs.Lists.{range_at, IsInside, EndAbove, AreRoom, IsRest, IsListed}
+use Rattle.ac_noncontiguous.specs.Failures.{AreShallower}
+use Rattle.ac_noncontiguous.proofs.BridgeLemmas.{Stands, ends-own, own-ends}
+use Rattle.ac_noncontiguous.proofs.FailsLemmas.{place-of, shallower-before, order-apart}
+
+-- ---- own patterns
+
+-- a list that rises place by place has nothing greater before something less
+rising-from : (ns : List ℕ) → ((j k : ℕ) → j < k → k < length ns → slice_index ns j < slice_index ns k) → AreRising ns
+rising-from [] h = tt
+rising-from (n ∷ ns) h = (
+  λ later c.
+      let less : n < slice_index ns c.0 = h 0 (suc c.0) (omega arith) (omega (arith, c.1)) in
+      omega (arith, less, get_or_read ns c.0 later c.1 (sym c.2) 0),
+  rising-from ns (λ j k lt within. h (suc j) (suc k) (omega arith) (omega arith)),
+)
+
+-- in a rising list nothing stands twice
+rising-distinct : (ns : List ℕ) → AreRising ns → IsDistinct ns
+rising-distinct [] r = tt
+rising-distinct (n ∷ ns) r = ((λ c. omega (arith, r.0 n c)), rising-distinct ns r.1)
+
+-- what stands in the list of a state ends there
+own-ended : (ends : List (Option ℕ)) (i n : ℕ) (own : List ℕ) → IsOwnList ends i own → Contains own n → EndsIn ends i n
+own-ended ends i n own are c = subst (EndsIn ends i) (sym (get_or_read own c.0 n c.1 (sym c.2) 0)) (are.within c.0 c.1)
+
+-- they are the own patterns of its text
+own-are : (m : Dictionary) (states : List State) (ends : List (Option ℕ)) → Stands m states ends → (i : ℕ) (own : List ℕ) → i < length states → IsOwnList ends i own → AreOwn m (text states i) own
+own-are m states ends s i own within are = (rising-from own are.rising, λ n. ((λ c. ends-own m states ends s i n (own-ended ends i n own are c)), (λ o. are.all n (own-ends m states ends s i n within o))))
+
+-- ---- each pattern once
+
+-- two lists that have nothing in common
+distinct-append : {X : Type 0} (xs ys : List X) → IsDistinct xs → IsDistinct ys → ((x : X) → Contains xs x → ¬ Contains ys x) → IsDistinct (xs ++ ys)
+distinct-append [] ys d e apart = e
+distinct-append (x ∷ xs) ys d e apart = (
+  λ c. ⊎_elim (λ first. d.0 first) (λ second. apart x (Contains-head x xs) second) (Contains-append_cases xs ys x c),
+  distinct-append xs ys d.1 e (λ y c. apart y (Contains-tail x xs y c)),
+)
+
+-- a pattern ends in one state
+one-end : (ends : List (Option ℕ)) (i e n : ℕ) → EndsIn ends i n → EndsIn ends e n → i ≡ e
+one-end ends i e n a b = let two : Some (Some i) ≡ Some (Some e) = sym a ∙ b in cc
+
+-- own patterns and a rest of states of lesser depth
+pub own-above : (states : List State) (ends : List (Option ℕ)) (i : ℕ) (own rest : List ℕ) → IsOwnList ends i own → EndAbove states ends (depth states i) rest → EndAbove states ends (depth states i + 1) (own ++ rest)
+own-above states ends i own rest are above =
+    record {
+      distinct = distinct-append own rest (rising-distinct own (rising-from own are.rising)) above.distinct
+          (λ n c d.
+          let e = above.ended n d in
+          omega (arith, e.2, ap (depth states) (one-end ends i e.0 n (own-ended ends i n own are c) e.1)));
+      ended = λ n c.
+          ⊎_elim
+          (λ first. (i, own-ended ends i n own are first, omega arith))
+          (λ second. let e = above.ended n second in (e.0, e.1, omega (arith, e.2)))
+          (Contains-append_cases own rest n c);
+    }
+
+-- a number stands among those less than a greater one
+among : (n x : ℕ) → x < n → Contains (range_with_len 0 n) x
+among n x lt = (x, omega (arith, length-range_with_len 0 n), omega (arith, get_or-range_with_len 0 n x x lt))
+
+-- there are no more of them than patterns
+pub above-few : (states : List State) (ends : List (Option ℕ)) (deep : ℕ) (list : List ℕ) → EndAbove states ends deep list → length list ≤ length ends
+above-few states ends deep list above =
+    omega (
+      arith,
+      length-range_with_len 0 (length ends),
+      distinct-shorter list (range_with_len 0 (length ends)) above.distinct
+          (λ n c. let e = above.ended n c in among (length ends) n (slice_get_within ends n (Some e.0) e.1)),
+    )
+
+-- so their number fits
+pub own-few : (states : List State) (ends : List (Option ℕ)) (i : ℕ) (own rest : List ℕ) → IsOwnList ends i own → EndAbove states ends (depth states i) rest → length own + length rest ≤ length ends
+own-few states ends i own rest are above = omega (arith, length-append own rest, above-few states ends (depth states i + 1) (own ++ rest) (own-above states ends i own rest are above))
+
+-- ---- ranges
+
+-- a range stays as the list grows
+pub range-kept : (old more : List ℕ) (r : Range) → IsInside old r → in_range (old ++ more) r ≡ in_range old r
+range-kept old more r inside =
+    ap (take r.len) (drop-append-le r.from old more (omega arith)) ∙ take-append-le r.len (drop r.from old) more (omega (arith, length-drop r.from old))
+
+-- what stands in a range stands in the list
+range-among : (xs : List ℕ) (r : Range) (n : ℕ) → Contains (in_range xs r) n → Contains xs n
+range-among xs r n c =
+    let d = drop r.from xs in
+    let inner = subst (λ (ys : List ℕ). Contains ys n) (take-append-drop r.len d) (Contains-append_left (take r.len d) (drop r.len d) n c) in
+    subst (λ (ys : List ℕ). Contains ys n) (take-append-drop r.from xs) (Contains-append_right (take r.from xs) d n inner)
+
+-- a range has as many patterns as it says
+range-length : (xs : List ℕ) (r : Range) → IsInside xs r → length (in_range xs r) ≡ r.len
+range-length xs r inside = length-take-le r.len (drop r.from xs) (omega (arith, length-drop r.from xs))
+
+-- no own patterns: the rest is shared
+pub listed-shared : (ends : List (Option ℕ)) (i : ℕ) (rest : Range) (old new own : List ℕ) → IsOwnList ends i own → new ≡ old ++ own → length new ≡ length old → IsInside old rest → IsListed ends i rest rest old new
+listed-shared ends i rest old new own are pushed same inside =
+    let none : own ≡ [] = empty own (omega (arith, ap length pushed, length-append old own)) in
+    let is : new ≡ old = pushed ∙ (ap (λ (xs : List ℕ). old ++ xs) none ∙ append-nil old) in
+    record {
+      own = own;
+      are_own = are;
+      list = ap (λ (xs : List ℕ). in_range xs rest) is ∙ ap (λ (xs : List ℕ). xs ++ in_range old rest) (sym none);
+      more = own;
+      kept = pushed;
+      inside = omega (arith, same);
+      known = λ n c. inl (subst (λ (xs : List ℕ). Contains xs n) is c);
+    }
+  where
+    empty : (xs : List ℕ) → length xs ≡ 0 → xs ≡ []
+    empty [] e = refl
+    empty (x ∷ xs) e = absurd (omega arith)
+
+-- else the rest is put after the own ones
+pub listed-copied : (ends : List (Option ℕ)) (i : ℕ) (rest range : Range) (old mid new own : List ℕ) → IsOwnList ends i own → mid ≡ old ++ own → new ≡ mid ++ slice_range mid rest.from (rest.from + rest.len) → IsInside old rest → range.from ≡ length old → range.len ≡ length new - length old → IsListed ends i rest range old new
+listed-copied ends i rest range old mid new own are pushed copied inside from_is len_is =
+    let few : rest.from + rest.len - rest.from ≡ rest.len = omega arith in
+    let part : slice_range mid rest.from (rest.from + rest.len) ≡ in_range old rest =
+    ap (λ (k : ℕ). take k (drop rest.from mid)) few ∙ (ap (λ (xs : List ℕ). in_range xs rest) pushed ∙ range-kept old own rest inside) in
+    let more = own ++ in_range old rest in
+    let kept : new ≡ old ++ more = copied ∙ (ap (λ (xs : List ℕ). mid ++ xs) part ∙ (ap (λ (xs : List ℕ). xs ++ in_range old rest) pushed ∙ append_assoc old own (in_range old rest))) in
+    let len : length new ≡ length old + length more = ap length kept ∙ length-append old more in
+    let back : drop range.from new ≡ more = ap (λ (k : ℕ). drop k new) from_is ∙ (ap (drop (length old)) kept ∙ drop-append_seam old more) in
+    record {
+      own = own;
+      are_own = are;
+      list = ap (take range.len) back ∙ take_all range.len more (omega arith);
+      more = more;
+      kept = kept;
+      inside = omega arith;
+      known = λ n c.
+          ⊎_elim
+          (λ first. inl first)
+          (λ second.
+          ⊎_elim
+          (λ here. inr (own-ended ends i n own are here))
+          (λ there. inl (range-among old rest n there))
+          (Contains-append_cases own (in_range old rest) n second))
+          (Contains-append_cases old more n (subst (λ (xs : List ℕ). Contains xs n) kept c));
+    }
+
+-- at first nothing is listed
+pub room-none : (states : List State) (ends : List (Option ℕ)) (ranges : List Range) → length ranges ≡ length states → ((i : ℕ) → i < length states → range_at ranges i ≡ no_range) → AreRoom states ends ranges []
+room-none states ends ranges len none =
+    record {
+      counted = len;
+      inside = λ i within. subst (IsInside []) (sym (none i within)) (omega arith);
+      above = λ i within. subst (λ (r : Range). EndAbove states ends (depth states i + 1) (in_range [] r)) (sym (none i within)) (record { distinct = tt; ended = λ n c. absurd (Contains-nil n c) });
+      known = λ n c. absurd (Contains-nil n c);
+    }
+
+-- the rest of a state's list is that of its failure, in states of lesser depth
+pub rest-above : (states : List State) (ends fails : List (Option ℕ)) (ranges : List Range) (matches : List ℕ) (i : ℕ) (rest : Range) → AreShallower states fails → AreRoom states ends ranges matches → i < length states → IsRest fails ranges i rest → IsInside matches rest × EndAbove states ends (depth states i) (in_range matches rest)
+rest-above states ends fails ranges matches i rest s room within is = by (get_or fails i None) (slice_get-get_or fails i None (omega (arith, s.counted)))
+  where
+    by : (r : Option ℕ) → slice_get fails i ≡ Some r → IsInside matches rest × EndAbove states ends (depth states i) (in_range matches rest)
+    by (Some f) given =
+        let h = s.shallower i f given in
+        let a = room.above f h.0 in
+        subst (λ (r : Range). IsInside matches r × EndAbove states ends (depth states i) (in_range matches r)) (sym (is.some f given))
+        (room.inside f h.0, record { distinct = a.distinct; ended = λ n c. let e = a.ended n c in (e.0, e.1, omega (arith, e.2, h.1)) })
+    by None given =
+        subst (λ (r : Range). IsInside matches r × EndAbove states ends (depth states i) (in_range matches r)) (sym (is.none given))
+        (omega arith, record { distinct = tt; ended = λ n c. absurd (Contains-nil n c) })
+
+-- the range of another state, after one is set
+range-other : (ranges : List Range) (matches new : List ℕ) (more : List ℕ) (i j : ℕ) (range : Range) → j ≢ i → new ≡ matches ++ more → IsInside matches (range_at ranges j) → (range_at (slice_set ranges i range) j ≡ range_at ranges j) × (in_range new (range_at (slice_set ranges i range) j) ≡ in_range matches (range_at ranges j))
+range-other ranges matches new more i j range ne kept inside =
+    let same : range_at (slice_set ranges i range) j ≡ range_at ranges j = get_or-set_other ranges i j range no_range ne in
+    (same, ap (in_range new) same ∙ (ap (λ (xs : List ℕ). in_range xs (range_at ranges j)) kept ∙ range-kept matches more (range_at ranges j) inside))
+
+-- one more list
+pub room-more : (states : List State) (ends : List (Option ℕ)) (ranges : List Range) (matches new : List ℕ) (i : ℕ) (rest range : Range) → AreRoom states ends ranges matches → i < length states → EndAbove states ends (depth states i) (in_range matches rest) → IsListed ends i rest range matches new → AreRoom states ends (slice_set ranges i range) new
+room-more states ends ranges matches new i rest range room within above listed =
+    let here : range_at (slice_set ranges i range) i ≡ range = get_or-set_same ranges i range no_range (omega (arith, room.counted)) in
+    record {
+      counted = length-set ranges i range ∙ room.counted;
+      inside = λ j j_in.
+          ⊎_elim
+          (λ (same : j ≡ i). subst (IsInside new) (sym (ap (range_at (slice_set ranges i range)) same ∙ here)) listed.inside)
+          (λ (ne : j ≢ i).
+          let o = range-other ranges matches new listed.more i j range ne listed.kept (room.inside j j_in) in
+          subst (IsInside new) (sym o.0) (omega (arith, room.inside j j_in, ap length listed.kept, length-append matches listed.more)))
+          (cases_eq j i);
+      above = λ j j_in.
+          ⊎_elim
+          (λ (same : j ≡ i).
+          subst (λ (k : ℕ). EndAbove states ends (depth states k + 1) (in_range new (range_at (slice_set ranges i range) k))) (sym same)
+          (subst (EndAbove states ends (depth states i + 1)) (sym (ap (in_range new) here ∙ listed.list)) (own-above states ends i listed.own (in_range matches rest) listed.are_own above)))
+          (λ (ne : j ≢ i).
+          let o = range-other ranges matches new listed.more i j range ne listed.kept (room.inside j j_in) in
+          subst (EndAbove states ends (depth states j + 1)) (sym o.1) (room.above j j_in))
+          (cases_eq j i);
+      known = λ n c. ⊎_elim (λ before. room.known n before) (λ ended. (i, ended)) (listed.known n c);
+    }
+
+-- ---- the lists so far
+
+-- the first so many states have their lists
+abbrev pub AreFirstLists : Dictionary → List State → List Range → List ℕ → List ℕ → ℕ → Type 0
+AreFirstLists m states ranges matches order most = (k : ℕ) → k < most → IsList m (text states (slice_index order k)) (in_range matches (range_at ranges (slice_index order k)))
+
+-- the list of a state
+list-of : OwnPatternsAreList → FailureTellsList → (m : Dictionary) (states : List State) (ends fails : List (Option ℕ)) (ranges : List Range) (matches order : List ℕ) (k i : ℕ) (rest : Range) (own : List ℕ) → Stands m states ends → AreFails m states fails → AreShallower states fails → IsBreadthFirst states order → k < length order → i ≡ slice_index order k → i < length states → IsRest fails ranges i rest → IsOwnList ends i own → AreFirstLists m states ranges matches order k → IsList m (text states i) (own ++ in_range matches rest)
+list-of alone tells m states ends fails ranges matches order k i rest own s leads shallower o k_in is within rest_is are known = by (get_or fails i None) (slice_get-get_or fails i None (omega (arith, shallower.counted)))
+  where
+    by : (r : Option ℕ) → slice_get fails i ≡ Some r → IsList m (text states i) (own ++ in_range matches rest)
+    by (Some f) given =
+        let h = shallower.shallower i f given in
+        let p = place-of states order o f h.0 in
+        let before = shallower-before states order o p.0 k p.1 k_in (omega (arith, h.1, ap (depth states) p.2, ap (depth states) is)) in
+        let above = subst (λ (j : ℕ). IsList m (text states j) (in_range matches (range_at ranges j))) p.2 (known p.0 before) in
+        subst (λ (r : Range). IsList m (text states i) (own ++ in_range matches r)) (sym (rest_is.some f given))
+        (tells m (text states i) (text states f) own (in_range matches (range_at ranges f)) s.inverse (own-are m states ends s i own within are) (leads.leads i (Some f) given) above)
+    by None given =
+        subst (λ (r : Range). IsList m (text states i) (own ++ in_range matches r)) (sym (rest_is.none given))
+        (subst (IsList m (text states i)) (sym (append-nil own)) (alone m (text states i) own (own-are m states ends s i own within are) (leads.leads i None given)))
+
+-- one more list
+pub lists-more : OwnPatternsAreList → FailureTellsList → (m : Dictionary) (states : List State) (ends fails : List (Option ℕ)) (ranges : List Range) (matches new order : List ℕ) (k i : ℕ) (rest range : Range) → Stands m states ends → AreFails m states fails → AreShallower states fails → IsBreadthFirst states order → k < length order → i ≡ slice_index order k → AreRoom states ends ranges matches → IsRest fails ranges i rest → IsListed ends i rest range matches new → AreFirstLists m states ranges matches order k → AreFirstLists m states (slice_set ranges i range) new order (k + 1)
+lists-more alone tells m states ends fails ranges matches new order k i rest range s leads shallower o k_in is room rest_is listed known j lt =
+    let within : i < length states = omega (arith, is, o.within k k_in) in
+    ⊎_elim
+    (λ (before : j < k).
+    let ne : slice_index order j ≢ i = λ same. order-apart states order o j k before k_in (same ∙ is) in
+    let other = range-other ranges matches new listed.more i (slice_index order j) range ne listed.kept (room.inside (slice_index order j) (o.within j (omega arith))) in
+    subst (IsList m (text states (slice_index order j))) (sym other.1) (known j before))
+    (λ (ge : k ≤ j).
+    let here : slice_index order j ≡ i = ap (slice_index order) (let same : j ≡ k = omega arith in same) ∙ sym is in
+    let set : range_at (slice_set ranges i range) i ≡ range = get_or-set_same ranges i range no_range (omega (arith, room.counted)) in
+    subst (λ (z : ℕ). IsList m (text states z) (in_range new (range_at (slice_set ranges i range) z))) (sym here)
+    (subst (IsList m (text states i)) (sym (ap (in_range new) set ∙ listed.list)) (list-of alone tells m states ends fails ranges matches order k i rest listed.own s leads shallower o k_in is within rest_is listed.are_own known)))
+    (cases_lt j k)
+
+-- all lists
+pub lists-all : (m : Dictionary) (states : List State) (ends : List (Option ℕ)) (ranges : List Range) (matches order : List ℕ) (k : ℕ) → Stands m states ends → IsBreadthFirst states order → length order ≤ k → AreRoom states ends ranges matches → AreFirstLists m states ranges matches order k → AreRanges m states ranges matches
+lists-all m states ends ranges matches order k s o past room known =
+    record {
+      counted = room.counted;
+      within = room.inside;
+      lists = λ i within.
+          let p = place-of states order o i within in
+          subst (λ (j : ℕ). IsList m (text states j) (in_range matches (range_at ranges j))) p.2 (known p.0 (omega (arith, p.1)));
+      known = λ j within.
+          let n = slice_index matches j in
+          let e = room.known n (j, within, get_or_from_slice_get matches j n n (slice_get-get_or matches j 0 within)) in
+          omega (arith, slice_get_within ends n (Some e.0) e.1, s.entered.counted);
+    }
+
+-- the number of a list's patterns is one of a pattern
+pub list-fits : (states : List State) (ends : List (Option ℕ)) (i : ℕ) (own old mid new : List ℕ) (rest : Range) → IsOwnList ends i own → EndAbove states ends (depth states i) (in_range old rest) → mid ≡ old ++ own → new ≡ mid ++ slice_range mid rest.from (rest.from + rest.len) → IsInside old rest → length new - length old ≤ length ends
+list-fits states ends i own old mid new rest are above pushed copied inside =
+    let few = own-few states ends i own (in_range old rest) are above in
+    let mid_len : length mid ≡ length old + length own = ap length pushed ∙ length-append old own in
+    let part = slice_range-length mid rest.from (rest.from + rest.len) (omega arith) (omega arith) in
+    let new_len : length new ≡ length mid + length (slice_range mid rest.from (rest.from + rest.len)) = ap length copied ∙ length-append mid (slice_range mid rest.from (rest.from + rest.len)) in
+    omega (arith, few, range-length old rest inside, mid_len, part, new_len)

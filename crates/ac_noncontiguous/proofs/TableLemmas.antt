@@ -1,0 +1,196 @@
+-- The tables of the automaton are those of the dictionary for which the trie and its links stand.
+use Rattle.std.proofs.Common.{◌≡◌, ◌≢◌, ◌↔◌, ◌⊎◌, ℕ, ◌+◌, ◌<◌, ◌≤◌, List, [], length, take, drop, refl, sym, ap, ap₂, subst, ◌∙◌, inl, inr, ⊎_elim, arith, slice_index, slice_index_or, slice_get, get_or, Some, None, Option, option_map, length-drop}
+use Rattle.std.proofs.lemmas.Bool.{cases_lt}
+use Rattle.std.proofs.lemmas.List.{length-take-le}
+use Rattle.std.proofs.lemmas.List.Elements.{Contains-get_or}
+use Rattle.ac_input.specs.declared.search.MatchKind.TheVariants.{Standard}
+use Rattle.ac_input.specs.Alphabet.{class}
+use Rattle.ac_input.specs.Dictionary.{Dictionary}
+use Rattle.ac_input.specs.Failure.{IsList, OwnAlone, OwnThen, AreOwn, IsOwn}
+use Rattle.ac_input.specs.FailureLaws.{CanonicalBytesAreTheSame}
+use Rattle.ac_input.specs.LiveLaws.{canonical, PairingIsOwnInverse, CanonicalBytesTellTexts}
+use Rattle.ac_input.specs.States.{FailsTo}
+use Rattle.ac_input.specs.StateLaws.{StartIsNext, StartIsLeft}
+use Rattle.ac_noncontiguous.specs.declared.links.Links.{Links}
+use Rattle.ac_noncontiguous.specs.declared.trie.Trie.{Trie}
+use Rattle.ac_noncontiguous.specs.declared.nfa.tables.State.{State}
+use Rattle.ac_noncontiguous.specs.declared.nfa.tables.Transition.{Transition}
+use Rattle.ac_noncontiguous.specs.declared.compiler.numbering.Numbering.{Numbering}
+use Rattle.ac_noncontiguous.specs.Tree.{text}
+use Rattle.ac_noncontiguous.specs.Kept.{IsTrieOf}
+use Rattle.ac_noncontiguous.specs.Links.{no_range, in_range, AreLinks}
+use Rattle.ac_noncontiguous.specs.Nfa.{transitions_from, state_of, byte_at, next_at, row_of, fail_of, depth_of, matches_from, matches_len, list_of, IsEdge, AreTransitions, AreRows, AreFailures, AreLists}
+use Rattle.ac_noncontiguous.specs.Numbering.{IsNumbering, IsLastMatch, range_len}
+use Rattle.ac_noncontiguous.specs.Layout.{IsLaid, AreLaidOut, AreRowsOf, HasAll}
+use Rattle.ac_noncontiguous.specs.Assembly.{IsBack, number_or_dead, AreKept}
+use Rattle.ac_noncontiguous.specs.Edges.{missing, IsChildFor}
+use Rattle.ac_noncontiguous.proofs.TextLemmas.{text-start, length-text}
+use Rattle.ac_noncontiguous.proofs.TrieLemmas.{trie-inverse}
+use Rattle.ac_noncontiguous.proofs.ChildLemmas.{text-canonical, child-begins}
+use Rattle.ac_noncontiguous.proofs.MeaningLemmas.{Setting, text_of, state_of-some, is-edge, missing-not}
+
+-- ---- where the bytes that begin nothing lead
+
+-- the list of the empty text is its own patterns
+own-list : (m : Dictionary) (t ns : List ℕ) → t ≡ [] → IsList m t ns → AreOwn m t ns
+own-list m t ns empty (OwnAlone text own a f) = a
+own-list m t ns empty (OwnThen text own rest from a f l) = absurd (omega (arith, f.0.0, f.0.1.within, ap length empty))
+
+-- where its range has some, there is an own one
+own-some : (m : Dictionary) (matches : List ℕ) (from len : ℕ) → from + len ≤ length matches → AreOwn m [] (take len (drop from matches)) → 0 < len → (n : ℕ) × IsOwn m [] n
+own-some m matches from len within own some =
+    let ns = take len (drop from matches) in
+    let count : length ns ≡ len = length-take-le len (drop from matches) (omega (arith, length-drop from matches)) in
+    (get_or ns 0 0, (own.1 (get_or ns 0 0)).0 (Contains-get_or ns 0 0 (omega arith)))
+
+-- and where it has none, there is none
+own-none : (m : Dictionary) (matches : List ℕ) (from len : ℕ) → from + len ≤ length matches → AreOwn m [] (take len (drop from matches)) → len ≡ 0 → (n : ℕ) → ¬ IsOwn m [] n
+own-none m matches from len within own none n is =
+    let ns = take len (drop from matches) in
+    let count : length ns ≡ len = length-take-le len (drop from matches) (omega (arith, length-drop from matches)) in
+    let c = (own.1 n).1 is in
+    omega (arith, c.1)
+
+-- the setting
+pub setting : CanonicalBytesTellTexts → CanonicalBytesAreTheSame → PairingIsOwnInverse → StartIsNext → StartIsLeft → (m : Dictionary) (trie : Trie) (links : Links) (numbering : Numbering) (back : ℕ) → IsTrieOf m trie → AreLinks m trie.states.items links → IsNumbering (length trie.states.items) numbering → IsBack trie.kind links.ranges.items numbering.start back → Setting m trie numbering back
+setting tell same invert next left m trie links numbering back t l n b =
+    let states = trie.states.items in
+    let inverse = trie-inverse invert m trie t in
+    let some : 0 < length states = trie.tree.start.0 in
+    let range = slice_index_or links.ranges.items 0 no_range in
+    let within = l.lists.within 0 some in
+    let empty = text-start states trie.tree in
+    let own : AreOwn m [] (in_range links.matches.items range) = subst (λ (x : List ℕ). AreOwn m x (in_range links.matches.items range)) empty (own-list m (text states 0) (in_range links.matches.items range) empty (l.lists.lists 0 some)) in
+    record {
+      tell = tell;
+      same = same;
+      inverse = inverse;
+      stands = t;
+      numbered = n;
+      to_start = ⊎_elim (λ (dead : (trie.kind ≢ Standard) × (0 < range_len links.ranges.items 0) × (back ≡ 0)). inl dead.2) (λ (start : (trie.kind ≢ Standard → range_len links.ranges.items 0 ≡ 0) × (back ≡ numbering.start)). inr start.1) b;
+      leads = λ byte nothing.
+          ⊎_elim
+          (λ (dead : (trie.kind ≢ Standard) × (0 < range_len links.ranges.items 0) × (back ≡ 0)).
+          let n_own = own-some m links.matches.items range.from range.len within own dead.1 in (
+            (λ _. left m byte n_own.0 (λ is. dead.0 (sym t.kind ∙ is)) n_own.1 nothing),
+            (λ is. absurd (omega (arith, dead.2, n.places.starts.0))),
+          ))
+          (λ (start : (trie.kind ≢ Standard → range_len links.ranges.items 0 ≡ 0) × (back ≡ numbering.start)). (
+            (λ is. absurd (omega (arith, start.1, n.places.starts.0))),
+            (λ _. next m byte inverse (λ leftmost. own-none m links.matches.items range.from range.len within own (start.0 (λ is. leftmost (t.kind ∙ is)))) nothing),
+          ))
+          b;
+    }
+
+-- ---- the tables
+
+-- the transitions
+pub are-transitions : (m : Dictionary) (trie : Trie) (links : Links) (numbering : Numbering) (back : ℕ) (offsets rows : List ℕ) (states : List State) (transitions : List Transition) → Setting m trie numbering back → AreLaidOut trie numbering back (length numbering.at.items) offsets transitions → AreKept trie numbering links offsets rows states → AreTransitions m (length numbering.at.items) numbering.start (text_of trie numbering) states transitions
+are-transitions m trie links numbering back offsets rows states transitions s l k =
+    let len = length numbering.at.items in
+    let start = numbering.start in
+    let p = s.numbered.places.starts in
+    let from : (i : ℕ) → i ≤ len → transitions_from states i ≡ slice_index offsets i =
+    λ i le. ⊎_elim (λ (lt : i < len). (k.kept i lt).places.0) (λ (ge : len ≤ i). let end : i ≡ len = omega arith in ap (transitions_from states) end ∙ (k.last ∙ ap (slice_index offsets) (sym end))) (cases_lt i len) in
+    let laid : (i : ℕ) → i < len → IsLaid trie numbering back i (transitions_from states i) (transitions_from states (i + 1)) transitions =
+    λ i lt. subst (λ (n : ℕ). IsLaid trie numbering back i (transitions_from states i) n transitions) (sym (from (i + 1) (omega arith))) (subst (λ (n : ℕ). IsLaid trie numbering back i n (slice_index offsets (i + 1)) transitions) (sym (from i (omega arith))) (l.laid i lt)) in
+    record {
+      ranges = λ i lt. (laid i lt).order;
+      last = k.last ∙ l.last;
+      edges = λ i at lt place. let e = (laid i lt).edges at place.0 place.1 in (e.within, is-edge m trie numbering back s i (byte_at transitions at) (next_at transitions at) lt e);
+      rising = λ i j at lt one two less. (laid i lt).rising j at one.0 less two.1;
+      missing = λ i byte lt small apart. is-edge m trie numbering back s i byte 1 lt ((laid i lt).missing byte small (λ at past before. apart at (past, before)));
+      all = λ i has.
+          let lt : i < len = ⊎_elim (λ (z : i ≡ 0). omega (arith, p.1)) (λ (two : (i ≡ start) ⊎ (i ≡ start + 1)). ⊎_elim (λ (a : i ≡ start). omega (arith, p.1)) (λ (b : i ≡ start + 1). omega (arith, p.1)) two) has in
+          (laid i lt).all has;
+      none = (laid 1 (omega (arith, p.0, p.1))).none refl;
+      longer = λ i at past lt not_start not_next place.
+          let is_not : ¬ HasAll start i = λ has. ⊎_elim (λ (z : i ≡ 0). omega arith) (λ (two : (i ≡ start) ⊎ (i ≡ start + 1)). ⊎_elim (λ (a : i ≡ start). not_start a) (λ (b : i ≡ start + 1). not_next b) two) has in
+          let h = laid i lt in
+          let e = h.edges at place.0 place.1 in
+          let b = byte_at transitions at in
+          let node = slice_index numbering.at.items i in
+          ⊎_elim
+          (λ (none : next_at transitions at ≡ missing start back i). absurd (h.longer is_not at place.0 place.1 (none ∙ missing-not start back i not_start)))
+          (λ (one : (c : ℕ) × IsChildFor trie.states.items node (canonical trie.pairing b) c).
+          let same_low : canonical m.pairing b ≡ canonical trie.pairing b = ap (λ (q : List ℕ). canonical q b) s.stands.pairing in
+          let own = text-canonical s.same m trie.states.items trie.ends.items s.inverse trie.tree s.stands.stands node (s.numbered.places.within i lt) in
+          child-begins s.tell m trie.states.items trie.ends.items node b one.0 s.inverse trie.tree s.stands.stands own one.1.0 one.1.1 one.1.2 (one.1.3 ∙ sym same_low))
+          (e.cases past);
+    }
+
+-- the rows
+pub are-rows : (m : Dictionary) (trie : Trie) (links : Links) (numbering : Numbering) (back : ℕ) (offsets row_offsets rows classes : List ℕ) (states : List State) → Setting m trie numbering back → length row_offsets ≡ length numbering.at.items → AreRowsOf trie numbering back classes row_offsets rows → AreKept trie numbering links offsets row_offsets states → AreRows m (length numbering.at.items) numbering.start (text_of trie numbering) states classes rows
+are-rows m trie links numbering back offsets row_offsets rows classes states s counted r k i byte lt small has =
+    let at : row_of states i ≡ slice_index row_offsets i = (k.kept i lt).places.1 in
+    let h = r i (omega arith) (λ none. has (at ∙ none)) byte small in
+    let same : slice_index row_offsets i + class classes byte ≡ row_of states i + class classes byte = ap (λ (n : ℕ). n + class classes byte) (sym at) in
+    let whole = is-edge m trie numbering back s i byte _ lt h.1 in
+    subst (λ (n : ℕ). (n < length rows) × (slice_index rows n < length numbering.at.items) × IsEdge m (length numbering.at.items) numbering.start (text_of trie numbering) i byte (slice_index rows n)) same (h.0, h.1.within, whole)
+
+-- the number of a failure
+fail-number : (trie : Trie) (numbering : Numbering) (links : Links) (to : Option ℕ) (i fail : ℕ) → IsNumbering (length trie.states.items) numbering → ((f : ℕ) → slice_get links.fails.items i ≡ Some (Some f) → f < length trie.states.items) → slice_get links.fails.items i ≡ Some to → fail ≡ number_or_dead numbering.of.items to → (fail < length numbering.at.items) × (fail ≢ 1) × (fail ≢ numbering.start + 1) × (state_of (text_of trie numbering) fail ≡ option_map (text trie.states.items) to)
+fail-number trie numbering links None i fail n within at is =
+    let p = n.places.starts in
+    (omega (arith, p.1), (λ e. absurd (omega arith)), (λ e. absurd (omega arith)), ap (state_of (text_of trie numbering)) is)
+fail-number trie numbering links (Some f) i fail n within at is =
+    let h = n.numbers.numbers f (within f at) in
+    let past : 1 < fail = omega (arith, h.0) in (
+      omega (arith, h.1),
+      (λ e. absurd (omega arith)),
+      (λ e. h.2 (sym is ∙ e)),
+      state_of-some (text_of trie numbering) fail past ∙ ap (λ (t : List ℕ). Some t) (ap (text_of trie numbering) is ∙ ap (text trie.states.items) h.3),
+    )
+
+-- the failures
+pub are-failures : (m : Dictionary) (trie : Trie) (links : Links) (numbering : Numbering) (back : ℕ) (offsets rows : List ℕ) (states : List State) → Setting m trie numbering back → AreLinks m trie.states.items links → AreKept trie numbering links offsets rows states → AreFailures m (length numbering.at.items) numbering.start (text_of trie numbering) states
+are-failures m trie links numbering back offsets rows states s l k =
+    let len = length numbering.at.items in
+    let start = numbering.start in
+    let p = s.numbered.places in
+    let flat : (i : ℕ) → i < 2 → (fail_of states i ≡ 0) × (depth_of states i ≡ 0) = λ i lt. let f = (k.kept i (omega (arith, p.starts.0, p.starts.1))).flat lt in (f.2, f.3) in
+    let number : (to : Option ℕ) (i fail : ℕ) → i < length trie.states.items → slice_get links.fails.items i ≡ Some to → fail ≡ number_or_dead numbering.of.items to → (fail < len) × (fail ≢ 1) × (fail ≢ start + 1) × (state_of (text_of trie numbering) fail ≡ option_map (text trie.states.items) to) =
+    λ to i fail lt at is. fail-number trie numbering links to i fail s.numbered (λ f e. l.fails.within i f e) at is in
+    record {
+      fails = λ i past lt.
+          let f = (k.kept i lt).fails past in
+          let node = slice_index numbering.at.items i in
+          let n = number f.0 node (fail_of states i) (p.within i lt) f.1 f.2 in
+          subst (FailsTo m (text_of trie numbering i)) (sym n.3) (l.fails.leads node f.0 f.1);
+      within = λ i lt.
+          ⊎_elim
+          (λ (low : i < 2). let f = (flat i low).0 in (omega (arith, p.starts.1), (λ is. absurd (omega arith)), (λ is. absurd (omega arith))))
+          (λ (high : 2 ≤ i).
+          let f = (k.kept i lt).fails (omega arith) in
+          let n = number f.0 (slice_index numbering.at.items i) (fail_of states i) (p.within i lt) f.1 f.2 in
+          (n.0, n.1, n.2))
+          (cases_lt i 2);
+      none = ((flat 0 (omega arith)).0, (flat 1 (omega arith)).0);
+      depths = λ i past lt. (k.kept i lt).deep past ∙ sym (length-text trie.states.items (slice_index numbering.at.items i));
+      flat = ((flat 0 (omega arith)).1, (flat 1 (omega arith)).1);
+    }
+
+-- the lists
+pub are-lists : (m : Dictionary) (trie : Trie) (links : Links) (numbering : Numbering) (back : ℕ) (offsets rows : List ℕ) (states : List State) → Setting m trie numbering back → AreLinks m trie.states.items links → IsLastMatch links.ranges.items numbering.at.items numbering.start numbering.max_match → AreKept trie numbering links offsets rows states → AreLists m (length numbering.at.items) numbering.start numbering.max_match (text_of trie numbering) states links.matches.items
+are-lists m trie links numbering back offsets rows states s l last k =
+    let p = s.numbered.places in
+    let matches = links.matches.items in
+    let flat : (i : ℕ) → i < 2 → (matches_from states i ≡ 0) × (matches_len states i ≡ 0) = λ i lt. let f = (k.kept i (omega (arith, p.starts.0, p.starts.1))).flat lt in (f.0, f.1) in
+    record {
+      ranges = λ i lt.
+          ⊎_elim
+          (λ (low : i < 2). let f = flat i low in omega (arith, f.0, f.1))
+          (λ (high : 2 ≤ i). let f = (k.kept i lt).matches (omega arith) in omega (arith, f.0, f.1, l.lists.within (slice_index numbering.at.items i) (p.within i lt)))
+          (cases_lt i 2);
+      lists = λ i past lt.
+          let f = (k.kept i lt).matches past in
+          let node = slice_index numbering.at.items i in
+          let same : list_of states matches i ≡ in_range matches (slice_index_or links.ranges.items node no_range) = ap₂ (λ (len from : ℕ). take len (drop from matches)) f.1 f.0 in
+          subst (IsList m (text_of trie numbering i)) (sym same) (l.lists.lists node (p.within i lt));
+      none = ((flat 0 (omega arith)).1, (flat 1 (omega arith)).1);
+      some = λ i past lt.
+          let f = ((k.kept i lt).matches past).1 in
+          subst (λ (n : ℕ). (0 < n) ↔ (i ≤ numbering.max_match)) (sym f) (last.some i past lt);
+      greatest = last.greatest;
+      known = l.lists.known;
+    }

@@ -1,0 +1,7 @@
+use Rattle.std.proofs.Common.{◌≡◌, ◌++◌, take}
+use Rattle.std.specs.List.{filter}
+use Rattle.ac_noncontiguous.specs.Numbering.{is_chosen}
+use Rattle.ac_noncontiguous.proofs.compiler.numbering.push_chosen.Given as goal
+
+abbrev pub invariant-loop-id : goal.invariant-loop-id
+invariant-loop-id l = l.at.items ≡ l.initial.at.items ++ filter (is_chosen l.links.ranges.items l.matching) (take l.id-index l.states)

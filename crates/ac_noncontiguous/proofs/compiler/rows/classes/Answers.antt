@@ -1,0 +1,37 @@
+-- Each byte of a state, and its partner, is parted from the others, and no other one is.
+use Rattle.std.proofs.Common.{◌≡◌, ap, subst, ◌∙◌, ℕ, length, arith}
+use Rattle.ac_noncontiguous.specs.declared.trie.State.{State}
+use Rattle.ac_noncontiguous.specs.Tree.{byte}
+use Rattle.ac_noncontiguous.specs.Layout.{AreParted, AreStateEdges}
+use Rattle.ac_noncontiguous.proofs.RowLemmas.{parted-more, parted-all}
+use Rattle.ac_noncontiguous.proofs.ByteLemmas.{edges-more}
+use Rattle.ac_noncontiguous.proofs.compiler.rows.classes.Goals as goal
+
+pub loop-id-preserved : goal.loop-id-preserved
+loop-id-preserved c =
+    let trie = c.args.trie.now in
+    let id = c.loop-id.id in
+    let b = c.state-byte.result.byte in
+    let o = c.other.result in
+    let old = c.loop-id.set in
+    let mid = c.part.new.set in
+    let new = c.part-in-loop-id.new.set in
+    let low : b ≡ byte trie.states.items id = ap (λ (s : State). s.byte) c.state-byte.ensures ∙ ap (byte trie.states.items) c.must.ensures in
+    record {
+      parted = parted-more trie id b o old mid new c.loop-id.invariant.parted low (omega arith) c.other.ensures c.part.ensures.parted c.part.ensures.kept c.part-in-loop-id.ensures.parted c.part-in-loop-id.ensures.kept;
+      edges = edges-more trie id b o old mid new c.loop-id.invariant.edges (omega arith) low c.other.ensures c.part.ensures.edges c.part-in-loop-id.ensures.edges;
+    }
+
+pub returns-clause-alone : goal.returns-clause-alone
+returns-clause-alone c =
+    let trie = c.args.trie.now in
+    let some = trie.tree.start.0 in
+    let all : c.loop-id.id ≡ length trie.states.items = omega (arith, c.len-id-end.ensures) in
+    parted-all trie c.loop-id.set c.byte_classes.result c.byte_classes.ensures (subst (λ (n : ℕ). AreParted trie n c.loop-id.set) all c.loop-id.invariant.parted)
+
+pub returns-clause-made : goal.returns-clause-made
+returns-clause-made c =
+    let trie = c.args.trie.now in
+    let some = trie.tree.start.0 in
+    let all : c.loop-id.id ≡ length trie.states.items = omega (arith, c.len-id-end.ensures) in
+    (c.loop-id.set, c.byte_classes.ensures, subst (λ (n : ℕ). AreStateEdges trie n c.loop-id.set) all c.loop-id.invariant.edges)

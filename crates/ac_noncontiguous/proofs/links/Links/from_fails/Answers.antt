@@ -1,0 +1,62 @@
+-- Each state's list is its own patterns and the list of its failure, which was made before.
+use Rattle.std.proofs.Common.{◌≡◌, ◌<◌, length, slice_index, arith}
+use Rattle.std.proofs.lemmas.List.{get_or_read}
+use Rattle.ac_noncontiguous.proofs.FailLemmas.{stands-of}
+use Rattle.ac_noncontiguous.proofs.ListLemmas.{rest-above, room-more, lists-more, lists-all}
+use Rattle.ac_noncontiguous.proofs.links.Links.from_fails.Goals as goal
+
+pub rest-rest-requires-clause-inner : goal.rest-rest-requires-clause-inner
+rest-rest-requires-clause-inner c =
+    rw c.deref.ensures.value (λ f given. omega (arith, (c.requires.shallower.shallower c.id-item.result f given).0, c.requires.shallower.counted))
+
+pub push_list-requires-clause-within : goal.push_list-requires-clause-within
+push_list-requires-clause-within c =
+    let order = c.args.order.now in
+    let k = c.loop-id.id-index in
+    let lt : k < length order = omega arith in
+    let is : c.id-item.result ≡ slice_index order k = get_or_read order k c.id-item.result lt c.id-item.is 0 in
+    omega (arith, is, c.requires.order.within k lt)
+
+pub push_list-requires-clause-inside : goal.push_list-requires-clause-inside
+push_list-requires-clause-inside c =
+    let rest = rw (c.deref.ensures.value, c.deref-in-loop-id.ensures.value) at c.rest-rest.ensures in
+    (rest-above c.args.trie.now.states.items c.args.trie.now.ends.items _ _ _ c.id-item.result c.rest-rest.result c.requires.shallower c.loop-id.invariant.room (push_list-requires-clause-within c) rest).0
+
+pub push_list-requires-clause-above : goal.push_list-requires-clause-above
+push_list-requires-clause-above c =
+    let rest = rw (c.deref.ensures.value, c.deref-in-loop-id.ensures.value) at c.rest-rest.ensures in
+    (rest-above c.args.trie.now.states.items c.args.trie.now.ends.items _ _ _ c.id-item.result c.rest-rest.result c.requires.shallower c.loop-id.invariant.room (push_list-requires-clause-within c) rest).1
+
+pub index_mut-requires : goal.index_mut-requires
+index_mut-requires c =
+    let order = c.args.order.now in
+    let k = c.loop-id.id-index in
+    let lt : k < length order = omega arith in
+    let is : c.id-item.result ≡ slice_index order k = get_or_read order k c.id-item.result lt c.id-item.is 0 in
+    omega (arith, is, c.requires.order.within k lt, c.as_usize.ensures.value, c.loop-id.invariant.room.counted)
+
+pub loop-id-preserved : goal.loop-id-preserved
+loop-id-preserved c =
+    let states = c.args.trie.now.states.items in
+    let order = c.args.order.now in
+    let k = c.loop-id.id-index in
+    let id = c.id-item.result in
+    let lt : k < length order = omega arith in
+    let is : id ≡ slice_index order k = get_or_read order k id lt c.id-item.is 0 in
+    let within : id < length states = omega (arith, is, c.requires.order.within k lt) in
+    let rest = rw (c.deref.ensures.value, c.deref-in-loop-id.ensures.value) at c.rest-rest.ensures in
+    let room = c.loop-id.invariant.room in
+    let above = rest-above states c.args.trie.now.ends.items _ _ _ id c.rest-rest.result c.requires.shallower room within rest in
+    rw c.as_usize.ensures.value
+    (record {
+      room = room-more states _ _ _ _ id c.rest-rest.result c.in_ok-range.range room within above.1 c.in_ok-range.ensures;
+      known = λ m t leads.
+          let s = stands-of c.canonical_bytes_tell_texts.ensures c.canonical_bytes_are_the_same.ensures c.pairing_is_own_inverse.ensures c.args.trie.now m t in
+          lists-more c.own_patterns_are_list.ensures c.failure_tells_list.ensures m states _ _ _ _ _ order k id c.rest-rest.result c.in_ok-range.range s leads c.requires.shallower c.requires.order lt is room rest c.in_ok-range.ensures
+          (c.loop-id.invariant.known m t leads);
+    })
+
+pub returns : goal.returns
+returns c m t leads =
+    let s = stands-of c.canonical_bytes_tell_texts.ensures c.canonical_bytes_are_the_same.ensures c.pairing_is_own_inverse.ensures c.args.trie.now m t in
+    record { fails = leads; lists = lists-all m _ _ _ _ c.args.order.now c.loop-id.id-index s c.requires.order (omega arith) c.loop-id.invariant.room (c.loop-id.invariant.known m t leads) }

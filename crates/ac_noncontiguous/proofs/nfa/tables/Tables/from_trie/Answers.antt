@@ -1,0 +1,36 @@
+-- The tables stand for each dictionary for which the trie and the links do.
+use Rattle.std.proofs.Common.{ℕ, List, length, subst, arith}
+use Rattle.ac_noncontiguous.specs.Assembly.{AreKept}
+use Rattle.ac_noncontiguous.proofs.MeaningLemmas.{text_of, are-texts}
+use Rattle.ac_noncontiguous.proofs.TableLemmas.{setting, are-transitions, are-rows, are-failures, are-lists}
+use Rattle.ac_noncontiguous.proofs.ByteLemmas.{trie-classed}
+use Rattle.ac_noncontiguous.proofs.nfa.tables.Tables.from_trie.Goals as goal
+
+pub returns-clause-stands : goal.returns-clause-stands
+returns-clause-stands c m t l =
+    let trie = c.args.trie.now in
+    let links = c.args.links in
+    let numbering = c.in_ok-numbering.numbering in
+    let made = c.in_ok-numbering.ensures.made in
+    let back = c.start_back-back.result in
+    let offsets = c.in_ok-layout.layout.offsets.items in
+    let row_offsets = c.in_ok-rows.rows.offsets.items in
+    let states = c.in_ok-states.states.items in
+    let s = setting c.canonical_bytes_tell_texts.ensures c.canonical_bytes_are_the_same.ensures c.pairing_is_own_inverse.ensures c.start_is_next.ensures c.start_is_left.ensures m trie links numbering back t l made c.start_back-back.ensures in
+    let kept : AreKept trie numbering links offsets row_offsets states =
+    subst (λ (xs : List ℕ). AreKept trie numbering links offsets xs states) c.deref-2.ensures.value (subst (λ (xs : List ℕ). AreKept trie numbering links xs c.deref-2.result.now states) c.deref.ensures.value c.in_ok-states.ensures) in (
+      text_of trie numbering,
+      record {
+        len = length numbering.at.items;
+        counted = kept.counted;
+        few = omega (arith, made.places.few, trie.few);
+        texts = are-texts m trie numbering back s;
+        transitions = are-transitions m trie links numbering back offsets row_offsets states c.in_ok-layout.layout.transitions.items s c.in_ok-layout.ensures kept;
+        rows = are-rows m trie links numbering back offsets row_offsets c.in_ok-rows.rows.rows.items c.classes-classes.result states s c.in_ok-rows.ensures.0 c.in_ok-rows.ensures.1 kept;
+        failures = are-failures m trie links numbering back offsets row_offsets states s l kept;
+        lists = are-lists m trie links numbering back offsets row_offsets states s l c.in_ok-numbering.ensures.matches kept;
+      },
+    )
+
+pub returns-clause-classed : goal.returns-clause-classed
+returns-clause-classed c m t = trie-classed c.canonical_bytes_tell_texts.ensures c.canonical_bytes_are_the_same.ensures c.pairing_is_own_inverse.ensures c.args.trie.now c.classes-classes.result c.classes-classes.ensures.made m t

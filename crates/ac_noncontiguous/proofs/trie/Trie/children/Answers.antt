@@ -1,0 +1,12 @@
+-- One state after another.
+use Rattle.std.proofs.Common.{◌≡◌, ◌∷◌, ◌++◌, [], ℕ, length, subst, ap, ◌∙◌, arith}
+use Rattle.ac_noncontiguous.specs.Children.{AppendsChildren}
+use Rattle.ac_noncontiguous.proofs.ChildrenLemmas.{all-more}
+use Rattle.ac_noncontiguous.proofs.trie.Trie.children.Goals as goal
+
+pub loop-of-preserved : goal.loop-of-preserved
+loop-of-preserved c =
+    let states = c.args.self.now.states.items in
+    let more = subst (λ (z : ℕ). AppendsChildren states z c.loop-of.ids.items c.push_children.new.ids.items) c.must.ensures c.in_ok-push_children.ensures.children in
+    let long : c.len.result ≡ length c.push_children.new.ids.items = omega arith in
+    all-more states c.loop-of.of _ _ _ _ _ _ c.loop-of.invariant more c.in_ok-push_children.ensures.bytes (c.in_ok-push-2.ensures.items ∙ ap (λ (n : ℕ). c.loop-of.firsts.items ++ n ∷ []) long)

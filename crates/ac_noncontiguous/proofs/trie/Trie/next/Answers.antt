@@ -1,0 +1,45 @@
+-- Along the failures each state is less deep, and a byte leads from each to where it leads from the first one.
+use Rattle.std.proofs.Common.{◌≡◌, ◌<◌, ◌∙◌, sym, refl, Some, None, length, subst, slice_get, arith}
+use Rattle.std.proofs.lemmas.Option.{slice_get_read}
+use Rattle.ac_noncontiguous.specs.Failures.{IsToldBy}
+use Rattle.ac_noncontiguous.proofs.FailLemmas.{follows-more, left-less, failure-within, told-returns, stands-of, none-of}
+use Rattle.ac_noncontiguous.proofs.trie.Trie.next.Goals as goal
+
+pub told_by-told-requires-clause-within : goal.told_by-told-requires-clause-within
+told_by-told-requires-clause-within c = (c.loop-at.invariant.shallow c.in-Some.id c.in-Some.is).0
+
+pub returns-then-is_some-clause-leads : goal.returns-then-is_some-clause-leads
+returns-then-is_some-clause-leads c m t goes settled known =
+    let at = c.loop-at.invariant.shallow c.in-Some.id c.in-Some.is in
+    let s = stands-of c.canonical_bytes_tell_texts.ensures c.canonical_bytes_are_the_same.ensures c.pairing_is_own_inverse.ensures c.args.self.now m t in
+    told-returns c.child_is_next.ensures c.start_is_next.ensures m _ _ s goes c.args.byte c.args.from c.in-Some.id c.told_by-told.result at.0 settled
+    (sym c.is_some.ensures ∙ c.if-is_some.true) c.told_by-told.ensures (rw c.in-Some.is at (c.loop-at.invariant.follows m t goes settled known))
+
+pub bounds-fails-as_usize : goal.bounds-fails-as_usize
+bounds-fails-as_usize c =
+    let at = c.loop-at.invariant.shallow c.in-Some.id c.in-Some.is in
+    omega (arith, at.0, c.requires.shallower.counted, c.as_usize.ensures.value)
+
+pub loop-at-smaller : goal.loop-at-smaller
+loop-at-smaller c =
+    let fails = c.args.fails.now in
+    let at = c.loop-at.invariant.shallow c.in-Some.id c.in-Some.is in
+    let within : c.in-Some.id < length fails = omega (arith, at.0, c.requires.shallower.counted) in
+    let given : slice_get fails c.in-Some.id ≡ Some c.index-fails-as_usize.result = slice_get_read fails (length fails) c.in-Some.id c.index-fails-as_usize.result refl within (rw c.as_usize.ensures.value at c.index-fails-as_usize.is) in
+    left-less _ fails c.loop-at.at _ c.in-Some.id c.requires.shallower c.in-Some.is given
+
+pub loop-at-preserved : goal.loop-at-preserved
+loop-at-preserved c =
+    let states = c.args.self.now.states.items in
+    let fails = c.args.fails.now in
+    let at = c.loop-at.invariant.shallow c.in-Some.id c.in-Some.is in
+    let within : c.in-Some.id < length fails = omega (arith, at.0, c.requires.shallower.counted) in
+    let given : slice_get fails c.in-Some.id ≡ Some c.index-fails-as_usize.result = slice_get_read fails (length fails) c.in-Some.id c.index-fails-as_usize.result refl within (rw c.as_usize.ensures.value at c.index-fails-as_usize.is) in
+    let untold : IsToldBy states c.in-Some.id c.args.byte None = subst (IsToldBy states c.in-Some.id c.args.byte) (none-of c.told_by-told.result (sym c.is_some.ensures ∙ c.if-is_some.false)) c.told_by-told.ensures in
+    record {
+      shallow = failure-within states fails _ c.in-Some.id _ c.requires.shallower at.1 given;
+      follows = λ m t goes settled known.
+          let s = stands-of c.canonical_bytes_tell_texts.ensures c.canonical_bytes_are_the_same.ensures c.pairing_is_own_inverse.ensures c.args.self.now m t in
+          follows-more c.failure_tells_next.ensures c.dead_is_next.ensures m states _ fails s c.args.byte c.args.from c.in-Some.id _ at.0 at.1 settled known given untold
+          (rw c.in-Some.is at (c.loop-at.invariant.follows m t goes settled known));
+    }

@@ -1,0 +1,37 @@
+-- The first child and its siblings are the children, in rising order of byte.
+use Rattle.std.proofs.Common.{ℕ, ◌+◌, ◌<◌, ◌∷◌, ◌++◌, [], List, length, map, subst, sym, ap, ◌∙◌, append-nil, append_assoc, arith}
+use Rattle.std.proofs.lemmas.Bool.Decides.{nat_tests}
+use Rattle.std.proofs.lemmas.List.{map-append}
+use Rattle.ac_noncontiguous.specs.declared.trie.State.{State}
+use Rattle.ac_noncontiguous.specs.Tree.{IsFirstChild, parent, byte, sibling}
+use Rattle.ac_noncontiguous.proofs.ChildrenLemmas.{below-none, below-more}
+use Rattle.ac_noncontiguous.proofs.trie.Trie.push_children.Goals as goal
+
+pub loop-at-init : goal.loop-at-init
+loop-at-init c =
+    let states = c.args.self.now.states.items in (
+      0,
+      [],
+      subst (λ (z : ℕ). IsFirstChild (length states) (parent states) (byte states) c.args.of 0 z) (sym (ap (λ (s : State). s.child) c.state-at.ensures)) (c.args.self.now.tree.children c.args.of c.requires.within),
+      below-none _ _,
+      sym (append-nil _),
+      c.requires.before,
+    )
+
+pub loop-at-preserved : goal.loop-at-preserved
+loop-at-preserved c =
+    let states = c.args.self.now.states.items in
+    let tree = c.args.self.now.tree in
+    let i = c.loop-at.invariant in
+    let at = c.loop-at.at in
+    let some : 0 < at = grind (arith, nat_tests) in
+    let h = i.2.is_child some in
+    let pushed = c.in_ok-push.ensures.items in (
+      byte states at + 1,
+      i.1 ++ at ∷ [],
+      subst (λ (z : ℕ). IsFirstChild (length states) (parent states) (byte states) c.args.of (byte states at + 1) z) (sym (ap (λ (s : State). s.sibling) c.state-state.ensures))
+          (subst (λ (p : ℕ). IsFirstChild (length states) (parent states) (byte states) p (byte states at + 1) (sibling states at)) h.1 (tree.siblings at some h.0)),
+      below-more states c.args.of i.0 at i.1 tree i.2 some i.3,
+      pushed ∙ (ap (λ (xs : List ℕ). xs ++ at ∷ []) i.4 ∙ append_assoc c.args.ids.now.items i.1 (at ∷ [])),
+      c.in_ok-push-2.ensures.items ∙ (ap (λ (xs : List ℕ). xs ++ c.state-state.result.byte ∷ []) i.5 ∙ (ap (λ (b : ℕ). map (byte states) c.loop-at.ids.items ++ b ∷ []) (ap (λ (s : State). s.byte) c.state-state.ensures) ∙ (sym (map-append (byte states) c.loop-at.ids.items (at ∷ [])) ∙ ap (map (byte states)) (sym pushed)))),
+    )

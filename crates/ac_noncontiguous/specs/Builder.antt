@@ -1,0 +1,58 @@
+-- What a builder of automata is told, and what is built.
+use Rattle.std.specs.Prelude.{◌≡◌, ◌≢◌, ℕ, Bool, true, false, IsTrue, List, Option, None, Some}
+use Rattle.std.specs.Borrow.{Bor}
+use Rattle.ac_input.specs.Candidate.{Filter}
+use Rattle.ac_input.specs.Dictionary.{Dictionary}
+use Rattle.ac_input.specs.Limits.{IsWithinLimits}
+use Rattle.ac_input.specs.Same.{IsUnpaired}
+use Rattle.ac_input.specs.declared.search.MatchKind.{MatchKind}
+use Rattle.ac_input.specs.declared.search.MatchKind.TheVariants.{Standard}
+use Rattle.ac_automaton.specs.Automaton.{Built}
+use Rattle.ac_literal.specs.Prefilter.{IsDemanded, IsAdmissible, IsWay}
+use Rattle.ac_noncontiguous.specs.Nfa.{AreTablesOf, AreByteClasses}
+use Rattle.ac_noncontiguous.specs.Standing.{dictionary_of, IsBuildRefused}
+use Rattle.ac_noncontiguous.specs.declared.error.BuildErrorKind.{BuildErrorKind}
+use Rattle.ac_noncontiguous.specs.declared.nfa.tables.Tables.{Tables}
+
+-- the kind, which bytes are paired, to which depth states keep a row, and whether a prefilter is wanted
+pub record Settings : Type 0 where
+  pub kind : MatchKind
+  pub pairing : List ℕ
+  pub dense_depth : ℕ
+  pub prefilter : Bool
+
+-- what they are at first
+pub record AreFirst (s : Settings) : Type 0 where
+  pub kind : s.kind ≡ Standard
+  pub pairing : IsUnpaired s.pairing
+  pub dense_depth : s.dense_depth ≡ 3
+  pub prefilter : s.prefilter ≡ true
+
+-- the dictionary of these patterns under the settings
+abbrev pub dictionary_by : Settings → List (Bor (List ℕ)) → Dictionary
+dictionary_by s patterns = dictionary_of patterns s.pairing s.kind
+
+-- The prefilter that is held: none where none is wanted; else one wherever one is demanded, and only one that may be built.
+pub record IsHeld (wanted : Bool) (m : Dictionary) (held : Option Filter) : Type 0 where
+  pub off : wanted ≡ false → held ≡ None
+  pub demanded : wanted ≡ true → IsDemanded m → held ≢ None
+  pub made : (f : Filter) → held ≡ Some f → IsAdmissible m × IsWay f × (f.dictionary ≡ m)
+
+-- An automaton was built by the settings for a dictionary, which is within the limits of a build.
+pub record IsBuiltBy (s : Settings) (m : Dictionary) (built : Built) : Type 0 where
+  pub dictionary : built.dictionary ≡ m
+  pub looks : built.deterministic ≡ false
+  pub prefilter : IsHeld s.prefilter m built.prefilter
+  pub within : IsWithinLimits m
+
+-- an automaton was built by the settings that a builder has at first
+abbrev pub IsBuiltAtFirst : List (Bor (List ℕ)) → Built → Type 0
+IsBuiltAtFirst patterns built = (s : Settings) × AreFirst s × IsBuiltBy s (dictionary_by s patterns) built
+
+-- why there is none by these settings
+abbrev pub IsRefusedAtFirst : List (Bor (List ℕ)) → BuildErrorKind → Type 0
+IsRefusedAtFirst patterns error = (s : Settings) × AreFirst s × IsBuildRefused (dictionary_by s patterns) error
+
+-- the tables and the classes of bytes of a dictionary
+abbrev pub AreCompiled : Dictionary → Tables → Type 0
+AreCompiled m tables = AreTablesOf m tables × AreByteClasses m tables.classes

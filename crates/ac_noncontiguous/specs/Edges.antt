@@ -1,0 +1,40 @@
+-- Where the bytes lead from each state of the automaton, by its trie state.
+use Rattle.std.specs.Prelude.{◌≡◌, ◌≢◌, ◌⊎◌, ℕ, ◌<◌, ◌==◌, if◌then◌else◌, List, length, slice_index}
+use Rattle.ac_input.specs.LiveLaws.{canonical}
+use Rattle.ac_noncontiguous.specs.declared.trie.State.{State}
+use Rattle.ac_noncontiguous.specs.declared.trie.Trie.{Trie}
+use Rattle.ac_noncontiguous.specs.declared.compiler.numbering.Numbering.{Numbering}
+use Rattle.ac_noncontiguous.specs.Tree.{parent, byte}
+use Rattle.ac_noncontiguous.specs.Entering.{HasNoChild}
+
+-- the child of a trie state for a byte
+abbrev pub IsChildFor : List State → ℕ → ℕ → ℕ → Type 0
+IsChildFor states of low c = (0 < c) × (c < length states) × (parent states c ≡ of) × (byte states c ≡ low)
+
+-- For each byte the number of the child of a trie state for it, and another number where there is no such child.
+pub record AreTargets (states : List State) (numbers : List ℕ) (of other : ℕ) (targets : List ℕ) : Type 0 where
+  pub child : (c : ℕ) → 0 < c → c < length states → parent states c ≡ of → slice_index targets (byte states c) ≡ slice_index numbers c
+  pub none : (b : ℕ) → b < 256 → HasNoChild states of b → slice_index targets b ≡ other
+  pub cases : (b : ℕ) → b < 256 → (slice_index targets b ≡ other) ⊎ ((c : ℕ) × IsChildFor states of b c × (slice_index targets b ≡ slice_index numbers c))
+
+-- So far for the children of lesser bytes than this one.
+pub record AreTargetsBelow (states : List State) (numbers : List ℕ) (of other from : ℕ) (targets : List ℕ) : Type 0 where
+  pub child : (c : ℕ) → 0 < c → c < length states → parent states c ≡ of → byte states c < from → slice_index targets (byte states c) ≡ slice_index numbers c
+  pub none : (b : ℕ) → b < 256 → ((c : ℕ) → 0 < c → c < length states → parent states c ≡ of → byte states c < from → byte states c ≢ b) → slice_index targets b ≡ other
+  pub cases : (b : ℕ) → b < 256 → (slice_index targets b ≡ other) ⊎ ((c : ℕ) × IsChildFor states of b c × (slice_index targets b ≡ slice_index numbers c))
+
+-- where a byte leads from a state that is no longer by it: from the unanchored start back, and from the others to none
+abbrev pub missing : ℕ → ℕ → ℕ → ℕ
+missing start back i = if i == start then back else 1
+
+-- Where a byte leads from a state: to the number of the trie state's child, where there is one.
+pub record IsEdgeTo (trie : Trie) (numbering : Numbering) (back i b next : ℕ) : Type 0 where
+  pub within : next < length numbering.at.items
+  pub dead : i ≡ 0 → next ≡ 0
+  pub child : 1 < i → (c : ℕ) → IsChildFor trie.states.items (slice_index numbering.at.items i) (canonical trie.pairing b) c → next ≡ slice_index numbering.of.items c
+  pub none : 1 < i → HasNoChild trie.states.items (slice_index numbering.at.items i) (canonical trie.pairing b) → next ≡ missing numbering.start back i
+  pub cases : 1 < i → (next ≡ missing numbering.start back i) ⊎ ((c : ℕ) × IsChildFor trie.states.items (slice_index numbering.at.items i) (canonical trie.pairing b) c)
+
+-- where each byte leads from a state
+abbrev pub AreEdges : Trie → Numbering → ℕ → ℕ → List ℕ → Type 0
+AreEdges trie numbering back i edges = (b : ℕ) → b < 256 → IsEdgeTo trie numbering back i b (slice_index edges b)

@@ -1,0 +1,46 @@
+-- How the failure of a state is found from those of the states of lesser depth.
+use Rattle.std.specs.Prelude.{◌≡◌, ◌≢◌, ◌⊎◌, ℕ, ◌<◌, ◌≤◌, List, [], ◌∷◌, ◌++◌, length, slice_get, Option, Some, None, option_map, Bool, true, false}
+use Rattle.ac_input.specs.declared.search.MatchKind.{MatchKind}
+use Rattle.ac_input.specs.declared.search.MatchKind.TheVariants.{Standard}
+use Rattle.ac_input.specs.Dictionary.{Dictionary}
+use Rattle.ac_input.specs.Failure.{IsOwn}
+use Rattle.ac_input.specs.States.{LeadsTo, FailsTo}
+use Rattle.ac_noncontiguous.specs.declared.trie.State.{State}
+use Rattle.ac_noncontiguous.specs.Tree.{parent, byte, depth, text, is_match}
+use Rattle.ac_noncontiguous.specs.Entering.{HasNoChild}
+
+-- the child of the state for the byte, or none where it has none
+abbrev pub IsChildOf : List State → ℕ → ℕ → Option ℕ → Type 0
+IsChildOf states of low None = HasNoChild states of low
+IsChildOf states of low (Some c) = (0 < c) × (c < length states) × (parent states c ≡ of) × (byte states c ≡ low)
+
+-- what a state itself tells of a byte: its child, and of the start where it has none that the byte leads back to it
+abbrev pub IsToldBy : List State → ℕ → ℕ → Option ℕ → Type 0
+IsToldBy states of low None = (of ≢ 0) × HasNoChild states of low
+IsToldBy states of low (Some id) = IsChildOf states of low (Some id) ⊎ ((of ≡ 0) × (id ≡ 0) × HasNoChild states of low)
+
+-- each failure that is given is a state of lesser depth
+pub record AreShallower (states : List State) (fails : List (Option ℕ)) : Type 0 where
+  pub counted : length fails ≡ length states
+  pub shallower : (i f : ℕ) → slice_get fails i ≡ Some (Some f) → (f < length states) × (depth states f < depth states i)
+
+-- the failures are given of all states of lesser depth than this
+abbrev pub AreFailsAbove : Dictionary → List State → List (Option ℕ) → ℕ → Type 0
+AreFailsAbove m states fails deep = (i : ℕ) (r : Option ℕ) → i < length states → depth states i < deep → slice_get fails i ≡ Some r → FailsTo m (text states i) (option_map (text states) r)
+
+-- a state that is no deeper than this
+abbrev pub IsWithinDepth : List State → ℕ → Option ℕ → Type 0
+IsWithinDepth states most r = (id : ℕ) → r ≡ Some id → (id < length states) × (depth states id ≤ most)
+
+-- under a leftmost kind the dictionary has no empty pattern
+abbrev pub GoesOnFromStart : Dictionary → Type 0
+GoesOnFromStart m = m.kind ≢ Standard → (n : ℕ) → ¬ IsOwn m [] n
+
+-- under a leftmost kind a pattern ends in the state or at the start
+abbrev pub IsFinalIn : MatchKind → List State → ℕ → Bool → Type 0
+IsFinalIn kind states i true = (kind ≢ Standard) × ((is_match states i ≡ true) ⊎ (is_match states 0 ≡ true))
+IsFinalIn kind states i false = kind ≢ Standard → (is_match states i ≡ false) × (is_match states 0 ≡ false)
+
+-- where one more byte leads from the text of a state
+abbrev pub NextOf : Dictionary → List State → ℕ → ℕ → Option ℕ → Type 0
+NextOf m states of low r = LeadsTo m false (text states of ++ low ∷ []) (option_map (text states) r)

@@ -1,0 +1,109 @@
+-- How the transitions and the rows of the states are laid out.
+use Rattle.std.specs.Prelude.{◌≡◌, ◌≢◌, ◌⊎◌, ◌↔◌, ℕ, ◌+◌, ◌<◌, ◌≤◌, Bool, true, false, List, length, slice_index, slice_index_or, IsTrue}
+use Rattle.ac_input.specs.Alphabet.{has, class, is_edge, AreClassesOf}
+use Rattle.ac_input.specs.Same.{other, same}
+use Rattle.ac_noncontiguous.specs.declared.nfa.tables.Transition.{Transition}
+use Rattle.ac_noncontiguous.specs.declared.trie.Trie.{Trie}
+use Rattle.ac_noncontiguous.specs.declared.compiler.numbering.Numbering.{Numbering}
+use Rattle.ac_noncontiguous.specs.Tree.{byte}
+use Rattle.ac_noncontiguous.specs.Nfa.{no_transition, no_row, byte_at, next_at}
+use Rattle.ac_noncontiguous.specs.Edges.{IsEdgeTo}
+
+-- what a list has stays where it is
+pub record Keeps (old new : List Transition) : Type 0 where
+  pub longer : length old ≤ length new
+  pub same : (k : ℕ) → k < length old → slice_index_or new k no_transition ≡ slice_index_or old k no_transition
+
+-- The transitions for the bytes below one, in rising order: for all of them, or for those that lead somewhere.
+pub record AreAppended (edges : List ℕ) (all : Bool) (to : ℕ) (old new : List Transition) : Type 0 where
+  pub keeps : Keeps old new
+  pub reads : (k : ℕ) → length old ≤ k → k < length new → (byte_at new k < to) × (next_at new k ≡ slice_index edges (byte_at new k)) × (all ≡ false → next_at new k ≢ 1)
+  pub rising : (j k : ℕ) → length old ≤ j → j < k → k < length new → byte_at new j < byte_at new k
+  pub missing : (b : ℕ) → b < to → ((k : ℕ) → length old ≤ k → k < length new → byte_at new k ≢ b) → slice_index edges b ≡ 1
+  pub complete : all ≡ true → length new ≡ length old + to
+
+-- the dead state and both starts have a transition for each byte
+abbrev pub HasAll : ℕ → ℕ → Type 0
+HasAll start i = (i ≡ 0) ⊎ (i ≡ start) ⊎ (i ≡ start + 1)
+
+-- The transitions of a state are those from one place up to another one.
+pub record IsLaid (trie : Trie) (numbering : Numbering) (back i from to : ℕ) (transitions : List Transition) : Type 0 where
+  pub order : from ≤ to
+  pub edges : (k : ℕ) → from ≤ k → k < to → IsEdgeTo trie numbering back i (byte_at transitions k) (next_at transitions k)
+  pub rising : (j k : ℕ) → from ≤ j → j < k → k < to → byte_at transitions j < byte_at transitions k
+  pub missing : (b : ℕ) → b < 256 → ((k : ℕ) → from ≤ k → k < to → byte_at transitions k ≢ b) → IsEdgeTo trie numbering back i b 1
+  pub all : HasAll numbering.start i → to ≡ from + 256
+  pub none : i ≡ 1 → to ≡ from
+  pub longer : (¬ HasAll numbering.start i) → (k : ℕ) → from ≤ k → k < to → next_at transitions k ≢ 1
+
+-- those of one state more
+pub record IsAppended (trie : Trie) (numbering : Numbering) (back i : ℕ) (old new : List Transition) : Type 0 where
+  pub keeps : Keeps old new
+  pub laid : IsLaid trie numbering back i (length old) (length new) new
+
+-- those of the first so many states
+pub record AreLaidOut (trie : Trie) (numbering : Numbering) (back states : ℕ) (offsets : List ℕ) (transitions : List Transition) : Type 0 where
+  pub counted : length offsets ≡ states + 1
+  pub last : slice_index offsets states ≡ length transitions
+  pub within : (i : ℕ) → i ≤ states → slice_index offsets i ≤ length transitions
+  pub laid : (i : ℕ) → i < states → IsLaid trie numbering back i (slice_index offsets i) (slice_index offsets (i + 1)) transitions
+
+-- a class ends behind the byte, and one ends in front of it
+abbrev pub IsParted : List Bool → ℕ → Type 0
+IsParted boundaries byte = (has boundaries byte ≡ true) × ((before : ℕ) → before + 1 ≡ byte → has boundaries before ≡ true)
+
+-- the byte is a class of its own
+abbrev pub IsAlone : List ℕ → ℕ → Type 0
+IsAlone classes byte = (b : ℕ) → b < 256 → class classes b ≡ class classes byte → b ≡ byte
+
+-- the byte of each of the first so many states of a trie, and its partner, have boundaries around them
+abbrev pub AreParted : Trie → ℕ → List Bool → Type 0
+AreParted trie states boundaries = (c : ℕ) → 0 < c → c < states → (byte trie.states.items c < 256) × IsParted boundaries (byte trie.states.items c) × IsParted boundaries (other trie.pairing (byte trie.states.items c))
+
+-- the byte of each state of a trie, and its partner, are classes of their own
+abbrev pub AreAlone : Trie → List ℕ → Type 0
+AreAlone trie classes = (c : ℕ) → 0 < c → c < length trie.states.items → IsAlone classes (byte trie.states.items c) × IsAlone classes (other trie.pairing (byte trie.states.items c))
+
+-- the byte is that of one of the first so many states of a trie, or the partner of one
+abbrev pub IsStateByte : Trie → ℕ → ℕ → Type 0
+IsStateByte trie states x = (c : ℕ) × (0 < c) × (c < states) × IsTrue (same trie.pairing (byte trie.states.items c) x)
+
+-- a byte is a boundary exactly where it or the next one is such a byte
+abbrev pub AreStateEdges : Trie → ℕ → List Bool → Type 0
+AreStateEdges trie states boundaries = (b : ℕ) → IsTrue (has boundaries b) ↔ ((x : ℕ) × IsStateByte trie states x × IsTrue (is_edge x x b))
+
+-- the boundaries around the bytes of the first so many states of a trie and their partners, and no others
+pub record AreBoundaries (trie : Trie) (states : ℕ) (boundaries : List Bool) : Type 0 where
+  pub parted : AreParted trie states boundaries
+  pub edges : AreStateEdges trie states boundaries
+
+-- the classes that the bytes of the states of a trie and their partners make, each of those alone
+abbrev pub AreClassesOfTrie : Trie → List ℕ → Type 0
+AreClassesOfTrie trie classes = (boundaries : List Bool) × AreClassesOf boundaries classes × AreStateEdges trie (length trie.states.items) boundaries
+
+-- two bytes of one class lead to one state
+abbrev pub LeadAlike : List ℕ → List ℕ → Type 0
+LeadAlike classes edges = (b c : ℕ) → b < 256 → c < 256 → class classes b ≡ class classes c → slice_index edges b ≡ slice_index edges c
+
+-- what the rows have stays where it is
+pub record KeepsRows (old new : List ℕ) : Type 0 where
+  pub longer : length old ≤ length new
+  pub same : (k : ℕ) → k < length old → slice_index new k ≡ slice_index old k
+
+-- behind the others there is a row, with the next state for the class of each byte below one
+pub record IsRowAppended (classes edges : List ℕ) (to : ℕ) (old new : List ℕ) : Type 0 where
+  pub keeps : KeepsRows old new
+  pub row : (b : ℕ) → b < to → (length old + class classes b < length new) × (slice_index new (length old + class classes b) ≡ slice_index edges b)
+
+-- at a place there is the row of a state, if it is one
+abbrev pub IsRowAt : Trie → Numbering → ℕ → List ℕ → ℕ → ℕ → List ℕ → Type 0
+IsRowAt trie numbering back classes i row rows = row ≢ no_row → (b : ℕ) → b < 256 → (row + class classes b < length rows) × IsEdgeTo trie numbering back i b (slice_index rows (row + class classes b))
+
+-- a state's row may have been put behind the others
+pub record IsRowOf (trie : Trie) (numbering : Numbering) (back : ℕ) (classes : List ℕ) (i row : ℕ) (old new : List ℕ) : Type 0 where
+  pub keeps : KeepsRows old new
+  pub at : IsRowAt trie numbering back classes i row new
+
+-- the rows of the first so many states
+abbrev pub AreRowsOf : Trie → Numbering → ℕ → List ℕ → List ℕ → List ℕ → Type 0
+AreRowsOf trie numbering back classes offsets rows = (i : ℕ) → i < length offsets → IsRowAt trie numbering back classes i (slice_index offsets i) rows

@@ -1,0 +1,188 @@
+-- What the states of the automaton stand for, and what its tables keep of them.
+use Rattle.std.specs.Prelude.{◌≡◌, ◌≢◌, ◌↔◌, ◌⊎◌, ℕ, zero, suc, ◌+◌, ◌-◌, ◌<◌, ◌≤◌, map, false, List, [], ◌∷◌, ◌++◌, length, take, drop, slice_index, slice_index_or, slice_get, Option, Some, None, Contains, IsTrue, Bool}
+use Rattle.ac_input.specs.declared.search.MatchKind.{MatchKind}
+use Rattle.ac_input.specs.Alphabet.{class, has, is_edge, AreClassesOf}
+use Rattle.ac_input.specs.Candidate.{Filter}
+use Rattle.ac_input.specs.Dictionary.{Dictionary, IsEntered, BeginsEntered}
+use Rattle.ac_input.specs.Same.{same}
+use Rattle.ac_input.specs.Failure.{IsList}
+use Rattle.ac_input.specs.Limits.{greatest}
+use Rattle.ac_input.specs.LiveLaws.{canonical}
+use Rattle.ac_input.specs.States.{LeadsTo, FailsTo}
+use Rattle.ac_noncontiguous.specs.declared.nfa.tables.State.{State}
+use Rattle.ac_noncontiguous.specs.declared.nfa.tables.Transition.{Transition}
+use Rattle.ac_noncontiguous.specs.declared.nfa.tables.Tables.{Tables}
+
+-- ---- what is kept of a state, by its number
+
+-- what a place past the last state is read as
+abbrev pub nothing_kept : State
+nothing_kept = record { transitions = 0; matches = 0; matches_len = 0; fail = 0; depth = 0; row = 0 }
+
+abbrev pub kept_of : List State → ℕ → State
+kept_of states i = slice_index_or states i nothing_kept
+
+-- where its transitions begin; they end where those of the next state begin
+abbrev pub transitions_from : List State → ℕ → ℕ
+transitions_from states i = (kept_of states i).transitions
+
+-- where its patterns begin, and how many there are
+abbrev pub matches_from : List State → ℕ → ℕ
+matches_from states i = (kept_of states i).matches
+
+abbrev pub matches_len : List State → ℕ → ℕ
+matches_len states i = (kept_of states i).matches_len
+
+-- the state to which it fails, how many bytes lead to it, and where its row begins
+abbrev pub fail_of : List State → ℕ → ℕ
+fail_of states i = (kept_of states i).fail
+
+abbrev pub depth_of : List State → ℕ → ℕ
+depth_of states i = (kept_of states i).depth
+
+abbrev pub row_of : List State → ℕ → ℕ
+row_of states i = (kept_of states i).row
+
+-- a state that has no row
+abbrev pub no_row : ℕ
+no_row = 4294967295
+
+-- the byte and the next state of a transition
+abbrev pub no_transition : Transition
+no_transition = record { byte = 0; next = 0 }
+
+abbrev pub byte_at : List Transition → ℕ → ℕ
+byte_at transitions k = (slice_index_or transitions k no_transition).byte
+
+abbrev pub next_at : List Transition → ℕ → ℕ
+next_at transitions k = (slice_index_or transitions k no_transition).next
+
+-- the byte of a transition, and the state to which it leads
+abbrev pub edge_of : Transition → ℕ × ℕ
+edge_of transition = (transition.byte, transition.next)
+
+-- the transitions of a state
+abbrev pub transitions_of : List State → List Transition → ℕ → List Transition
+transitions_of states transitions i = take (transitions_from states (i + 1) - transitions_from states i) (drop (transitions_from states i) transitions)
+
+-- ---- what states stand for
+
+-- The state of the definitions for which a number stands. State 0 is the dead one. State 1 is the fail state: it stands for no
+-- state, and no text leads there. Each other one stands for a text.
+abbrev pub state_of : (ℕ → List ℕ) → ℕ → Option (List ℕ)
+state_of text zero = None
+state_of text (suc zero) = None
+state_of text (suc (suc i)) = Some (text (suc (suc i)))
+
+-- The texts for which the states stand, from state 2 on: canonical bytes that begin an entered pattern. The empty one stands twice:
+-- for the unanchored start, and for the anchored one behind it.
+pub record AreTexts (m : Dictionary) (len start : ℕ) (text : ℕ → List ℕ) : Type 0 where
+  pub starts : (1 < start) × (start + 1 < len) × (text start ≡ []) × (text (start + 1) ≡ [])
+  pub others : (i : ℕ) → 1 < i → i < len → text i ≡ [] → (i ≡ start) ⊎ (i ≡ start + 1)
+  pub begin : (i : ℕ) → 1 < i → i < len → BeginsEntered m (text i) × (map (canonical m.pairing) (text i) ≡ text i)
+
+-- Where a byte leads from a state: to the state that is one byte longer, or else to none (1); but from the unanchored start to
+-- where the byte alone leads, and from the dead state to itself.
+pub record IsEdge (m : Dictionary) (len start : ℕ) (text : ℕ → List ℕ) (i byte j : ℕ) : Type 0 where
+  pub dead : i ≡ 0 → j ≡ 0
+  pub child : 1 < i → BeginsEntered m (text i ++ byte ∷ []) → (1 < j) × (j < len) × (text j ≡ text i ++ canonical m.pairing byte ∷ [])
+  pub none : 1 < i → i ≢ start → (¬ BeginsEntered m (text i ++ byte ∷ [])) → j ≡ 1
+  pub back : i ≡ start → (¬ BeginsEntered m (text i ++ byte ∷ [])) → ((j ≡ 0) ⊎ (j ≡ start)) × LeadsTo m false (text i ++ byte ∷ []) (state_of text j)
+
+-- ---- the tables
+
+-- a place among the transitions of a state
+abbrev pub IsPlaceOf : List State → ℕ → ℕ → Type 0
+IsPlaceOf states i k = (transitions_from states i ≤ k) × (k < transitions_from states (i + 1))
+
+-- The transitions of each state are a range, in rising order of byte. The dead state and both starts have one for each byte, the
+-- fail state has none, and each other state those that lead to a state that is one byte longer.
+pub record AreTransitions (m : Dictionary) (len start : ℕ) (text : ℕ → List ℕ) (states : List State) (transitions : List Transition) : Type 0 where
+  pub ranges : (i : ℕ) → i < len → transitions_from states i ≤ transitions_from states (i + 1)
+  pub last : transitions_from states len ≡ length transitions
+  pub edges : (i k : ℕ) → i < len → IsPlaceOf states i k → (next_at transitions k < len) × IsEdge m len start text i (byte_at transitions k) (next_at transitions k)
+  pub rising : (i j k : ℕ) → i < len → IsPlaceOf states i j → IsPlaceOf states i k → j < k → byte_at transitions j < byte_at transitions k
+  pub missing : (i byte : ℕ) → i < len → byte < 256 → ((k : ℕ) → IsPlaceOf states i k → byte_at transitions k ≢ byte) → IsEdge m len start text i byte 1
+  pub all : (i : ℕ) → (i ≡ 0) ⊎ (i ≡ start) ⊎ (i ≡ start + 1) → transitions_from states (i + 1) ≡ transitions_from states i + 256
+  pub none : transitions_from states 2 ≡ transitions_from states 1
+  pub longer : (i k : ℕ) → 1 < i → i < len → i ≢ start → i ≢ start + 1 → IsPlaceOf states i k → BeginsEntered m (text i ++ byte_at transitions k ∷ [])
+
+-- A state that has a row has in it the next state for each class of bytes.
+abbrev pub AreRows : Dictionary → ℕ → ℕ → (ℕ → List ℕ) → List State → List ℕ → List ℕ → Type 0
+AreRows m len start text states classes rows = (i byte : ℕ) → i < len → byte < 256 → row_of states i ≢ no_row → (row_of states i + class classes byte < length rows) × (slice_index rows (row_of states i + class classes byte) < len) × IsEdge m len start text i byte (slice_index rows (row_of states i + class classes byte))
+
+-- To which state each one fails, and how many bytes lead to it. None fails to the fail state or to the anchored start.
+pub record AreFailures (m : Dictionary) (len start : ℕ) (text : ℕ → List ℕ) (states : List State) : Type 0 where
+  pub fails : (i : ℕ) → 1 < i → i < len → FailsTo m (text i) (state_of text (fail_of states i))
+  pub within : (i : ℕ) → i < len → (fail_of states i < len) × (fail_of states i ≢ 1) × (fail_of states i ≢ start + 1)
+  pub none : (fail_of states 0 ≡ 0) × (fail_of states 1 ≡ 0)
+  pub depths : (i : ℕ) → 1 < i → i < len → depth_of states i ≡ length (text i)
+  pub flat : (depth_of states 0 ≡ 0) × (depth_of states 1 ≡ 0)
+
+-- the patterns that match at a state
+abbrev pub list_of : List State → List ℕ → ℕ → List ℕ
+list_of states matches i = take (matches_len states i) (drop (matches_from states i) matches)
+
+-- Which patterns match at each state. The states at which some match come first, and the starts behind them: they are among them
+-- where the empty pattern is there.
+pub record AreLists (m : Dictionary) (len start max_match : ℕ) (text : ℕ → List ℕ) (states : List State) (matches : List ℕ) : Type 0 where
+  pub ranges : (i : ℕ) → i < len → matches_from states i + matches_len states i ≤ length matches
+  pub lists : (i : ℕ) → 1 < i → i < len → IsList m (text i) (list_of states matches i)
+  pub none : (matches_len states 0 ≡ 0) × (matches_len states 1 ≡ 0)
+  pub some : (i : ℕ) → 1 < i → i < len → (0 < matches_len states i) ↔ (i ≤ max_match)
+  pub greatest : (max_match + 1 ≡ start) ⊎ (max_match ≡ start + 1)
+  pub known : (k : ℕ) → k < length matches → slice_index matches k < length m.patterns
+
+-- The tables are those of the automaton of a dictionary, whose states stand for these texts. One more entry stands behind the last
+-- state, for the end of its transitions.
+pub record AreTables (m : Dictionary) (text : ℕ → List ℕ) (tables : Tables) : Type 0 where
+  pub len : ℕ
+  pub counted : length tables.states.items ≡ len + 1
+  pub few : len ≤ 2147483647
+  pub texts : AreTexts m len tables.start text
+  pub transitions : AreTransitions m len tables.start text tables.states.items tables.transitions.items
+  pub rows : AreRows m len tables.start text tables.states.items tables.classes tables.rows.items
+  pub failures : AreFailures m len tables.start text tables.states.items
+  pub lists : AreLists m len tables.start tables.max_match text tables.states.items tables.matches.items
+
+-- ---- what the automaton keeps beside them
+
+-- what an automaton of these patterns is made from
+abbrev pub dictionary_from : List (List ℕ) → List ℕ → MatchKind → Dictionary
+dictionary_from patterns pairing kind = record { patterns = patterns; pairing = pairing; kind = kind }
+
+-- how long each pattern is
+abbrev pub lens_of : List (List ℕ) → List ℕ
+lens_of patterns = map (λ p. length p) patterns
+
+-- no pattern is longer than the greatest number
+abbrev pub AreShort : List (List ℕ) → Type 0
+AreShort patterns = (n : ℕ) (p : List ℕ) → slice_get patterns n ≡ Some p → length p ≤ greatest
+
+-- the byte stands in an entered pattern, or its partner does
+abbrev pub IsByteOf : Dictionary → ℕ → Type 0
+IsByteOf m byte = (n : ℕ) × (p : List ℕ) × (c : ℕ) × IsEntered m n p × Contains p c × IsTrue (same m.pairing c byte)
+
+-- A byte ends a class where it or the next one stands in an entered pattern, or its partner: each of those is a class alone.
+abbrev pub AreByteClasses : Dictionary → List ℕ → Type 0
+AreByteClasses m classes = (boundaries : List Bool) × AreClassesOf boundaries classes × ((b : ℕ) → b < 255 → IsTrue (has boundaries b) ↔ ((byte : ℕ) × (byte < 256) × IsByteOf m byte × IsTrue (is_edge byte byte b)))
+
+-- The tables are those of the automaton of the dictionary.
+abbrev pub AreTablesOf : Dictionary → Tables → Type 0
+AreTablesOf m tables = (text : ℕ → List ℕ) × AreTables m text tables
+
+-- The greatest state at which a search has more to do than to read on: the anchored start, where a prefilter is held, else the last
+-- one that matches.
+abbrev pub last_special : Tables → Option Filter → ℕ
+last_special tables None = tables.max_match
+last_special tables (Some f) = tables.start + 1
+
+-- The prefilter, if one is held, is made for the automaton's dictionary.
+abbrev pub IsHeldFor : Dictionary → Option Filter → Type 0
+IsHeldFor m held = (f : Filter) → held ≡ Some f → f.dictionary ≡ m
+
+-- the tables of an automaton, the classes of its bytes, and its prefilter, if it holds one
+pub record AreParts (m : Dictionary) (tables : Tables) (prefilter : Option Filter) : Type 0 where
+  pub stands : ∥ AreTablesOf m tables ∥₁
+  pub classed : ∥ AreByteClasses m tables.classes ∥₁
+  pub held : IsHeldFor m prefilter

@@ -1,0 +1,64 @@
+-- How the states of the automaton are numbered, and which trie state each stands for.
+use Rattle.std.specs.Prelude.{◌≡◌, ◌≢◌, ◌↔◌, ◌⊎◌, ℕ, ◌+◌, ◌<◌, ◌≤◌, nat_lt, not, Bool, true, false, List, [], ◌∷◌, ◌++◌, length, slice_index, slice_index_or, slice_get, Some}
+use Rattle.std.specs.List.{filter}
+use Rattle.ac_noncontiguous.specs.declared.links.Links.{Links}
+use Rattle.ac_noncontiguous.specs.declared.links.Range.{Range}
+use Rattle.ac_noncontiguous.specs.declared.compiler.numbering.Numbering.{Numbering}
+use Rattle.ac_noncontiguous.specs.declared.compiler.numbering.Places.{Places}
+use Rattle.ac_noncontiguous.specs.Links.{no_range}
+
+-- There is a failure and a range for each of so many trie states, and no failure is another.
+pub record FitsTrie (states : ℕ) (links : Links) : Type 0 where
+  pub fails : length links.fails.items ≡ states
+  pub within : (i f : ℕ) → slice_get links.fails.items i ≡ Some (Some f) → f < states
+  pub ranges : length links.ranges.items ≡ states
+
+-- how many patterns match at a trie state
+abbrev pub range_len : List Range → ℕ → ℕ
+range_len ranges i = (slice_index_or ranges i no_range).len
+
+-- some pattern matches at the trie state, or none does
+abbrev pub is_chosen : List Range → Bool → ℕ → Bool
+is_chosen ranges true i = nat_lt 0 (range_len ranges i)
+is_chosen ranges false i = not (nat_lt 0 (range_len ranges i))
+
+-- those of the trie states at which some pattern matches, or none does
+abbrev pub chosen : List Range → Bool → List ℕ → List ℕ
+chosen ranges matching states = filter (is_chosen ranges matching) states
+
+-- the trie states by number: two that stand for nothing, those of a first list, the start twice, and those of a second list
+abbrev pub numbered : List ℕ → List ℕ → List ℕ
+numbered first second = 0 ∷ (0 ∷ first) ++ 0 ∷ [] ++ 0 ∷ [] ++ second
+
+-- the states at which some pattern matches come first, then both starts, and then the others
+pub record AreListed (ranges : List Range) (states : List ℕ) (places : Places) : Type 0 where
+  pub at : places.at.items ≡ numbered (chosen ranges true states) (chosen ranges false states)
+  pub start : places.start ≡ length (chosen ranges true states) + 2
+
+-- Each state but the first two stands for a trie state: both starts for the trie's start, and no other one does.
+pub record ArePlaces (states : ℕ) (at : List ℕ) (start : ℕ) : Type 0 where
+  pub few : length at ≤ states + 3
+  pub starts : (1 < start) × (start + 1 < length at) × (slice_index at start ≡ 0) × (slice_index at (start + 1) ≡ 0)
+  pub others : (j : ℕ) → 1 < j → j < length at → slice_index at j ≡ 0 → (j ≡ start) ⊎ (j ≡ start + 1)
+  pub within : (j : ℕ) → j < length at → slice_index at j < states
+  pub all : (i : ℕ) → i < states → (j : ℕ) × (1 < j) × (j < length at) × (slice_index at j ≡ i)
+
+-- each trie state for which a state stands, from a state on, has the first number of those that stand for it
+pub record AreFirst (at : List ℕ) (from : ℕ) (of : List ℕ) : Type 0 where
+  pub back : (j : ℕ) → from ≤ j → j < length at → slice_index at (slice_index of (slice_index at j)) ≡ slice_index at j
+  pub least : (j : ℕ) → from ≤ j → j < length at → (from ≤ slice_index of (slice_index at j)) × (slice_index of (slice_index at j) ≤ j)
+
+-- The numbers of so many trie states. The start has that of the unanchored one.
+pub record AreNumbers (states : ℕ) (at of : List ℕ) (start : ℕ) : Type 0 where
+  pub counted : length of ≡ states
+  pub numbers : (i : ℕ) → i < states → (1 < slice_index of i) × (slice_index of i < length at) × (slice_index of i ≢ start + 1) × (slice_index at (slice_index of i) ≡ i)
+
+-- up to which state some pattern matches
+pub record IsLastMatch (ranges : List Range) (at : List ℕ) (start max_match : ℕ) : Type 0 where
+  pub some : (j : ℕ) → 1 < j → j < length at → (0 < range_len ranges (slice_index at j)) ↔ (j ≤ max_match)
+  pub greatest : (max_match + 1 ≡ start) ⊎ (max_match ≡ start + 1)
+
+-- The states in the order of their numbers, and the numbers of so many trie states.
+pub record IsNumbering (states : ℕ) (numbering : Numbering) : Type 0 where
+  pub places : ArePlaces states numbering.at.items numbering.start
+  pub numbers : AreNumbers states numbering.at.items numbering.of.items numbering.start

@@ -1,0 +1,212 @@
+//! How an automaton is built: the settings, and the build.
+//!
+//! The settings say which of several overlapping occurrences is the match, which bytes stand for one another, whether searches
+//! have a prefilter, and up to which depth states keep a row of next states. The last two change no answer.
+//!
+//! A build enters the patterns into a trie, links each of its states to the one to which it fails, and makes the tables from
+//! both; trie and links are given back then. It takes time in proportion to the bytes of all patterns, and memory likewise.
+ghost use Rattle.std.specs.Prelude.{◌≡◌, map, length, IfOk, IfErr, OnOk};
+ghost use Rattle.ac_input.specs.Dictionary.{Dictionary};
+ghost use Rattle.ac_input.specs.Pairing.{IsFolded};
+ghost use Rattle.ac_input.specs.Limits.{IsWithinLimits};
+ghost use Rattle.ac_noncontiguous.specs.Builder.{AreFirst, AreCompiled, IsBuiltBy, IsBuiltAtFirst, IsRefusedAtFirst, IsHeld, dictionary_by};
+ghost use Rattle.ac_noncontiguous.specs.Kept.{IsTrieOf};
+ghost use Rattle.ac_noncontiguous.specs.Reads.{built_as};
+ghost use Rattle.ac_noncontiguous.specs.Standing.{IsBuildRefused};
+
+use crate::error::BuildError;
+use crate::links::Links;
+use crate::nfa::NFA;
+use crate::nfa::lens::Lens;
+use crate::nfa::tables::Tables;
+use crate::trie::Trie;
+use ac_input::pairing::Pairing;
+use ac_input::search::MatchKind;
+use ac_literal::prefilter::{Prefilter, PrefilterBuilder};
+use std::alloc::{AllocError, Global};
+use std::marker::Model;
+
+/// To which depth states keep a row where nothing else is set: the starts, and those of one byte and of two.
+const DENSE_DEPTH: usize = 3;
+
+/// The settings of an automaton. A builder may build several times.
+///
+/// ```text
+/// let mut builder = Builder::new();
+/// builder.match_kind(MatchKind::LeftmostFirst).ascii_case_insensitive(true);
+/// let nfa = builder.build(alloc, &[b"fox", b"dog"])?;
+/// ```
+#[derive(Clone, Drop)]
+pub struct Builder {
+    kind: MatchKind,
+    pairing: Pairing,
+    dense_depth: usize,
+    prefilter: bool,
+}
+
+impl Model for Builder {
+    ghost use Rattle.ac_noncontiguous.specs.Builder.{Settings};
+
+    ghost Value = { Settings };
+
+    ghost view = { λ b. record { kind = b.kind; pairing = b.pairing; dense_depth = b.dense_depth; prefilter = b.prefilter } };
+
+    ghost inverse = { λ s. record { kind = s.kind; pairing = s.pairing; dense_depth = s.dense_depth; prefilter = s.prefilter } };
+}
+
+impl Default for Builder {
+    ghost use Rattle.ac_noncontiguous.specs.Builder.{AreFirst};
+
+    ghost is_default = { AreFirst };
+
+    fn default() -> Builder {
+        Builder::new()
+    }
+}
+
+impl Builder {
+    /// Standard matches, no byte paired, a prefilter wanted, and rows for states of up to two bytes.
+    pub fn new() -> Builder
+        ensures { AreFirst result }
+    {
+        Builder {
+            kind: MatchKind::Standard,
+            pairing: Pairing::none(),
+            dense_depth: DENSE_DEPTH,
+            prefilter: true,
+        }
+    }
+
+    /// Sets which of several overlapping occurrences is the match.
+    pub fn match_kind(&mut self, kind: MatchKind) -> &mut Builder
+        ensures same { result.ghost_name ≡ self.entry.ghost_name }
+        ensures value { result.now ≡ record self.old { kind = kind } }
+    {
+        self.kind = kind;
+        self
+    }
+
+    /// Sets whether ASCII letters count as the same in their two cases. It sets the whole pairing: of this call and
+    /// [`Builder::pairing`] the last one decides.
+    pub fn ascii_case_insensitive(&mut self, yes: bool) -> &mut Builder
+        ensures same { result.ghost_name ≡ self.entry.ghost_name }
+        ensures rest { result.now ≡ record self.old { pairing = result.now.pairing } }
+        ensures pairing { IsFolded yes result.now.pairing }
+    {
+        let pairing = if yes {
+            Pairing::ascii()
+        } else {
+            Pairing::none()
+        };
+        self.pairing(pairing)
+    }
+
+    /// Sets which bytes stand for one another. At first none does.
+    pub fn pairing(&mut self, pairing: Pairing) -> &mut Builder
+        ensures same { result.ghost_name ≡ self.entry.ghost_name }
+        ensures value { result.now ≡ record self.old { pairing = pairing } }
+    {
+        self.pairing = pairing;
+        self
+    }
+
+    /// Sets to which depth states keep a row: those to which fewer bytes lead. A row makes a look-up fast, and takes four bytes
+    /// for each class of bytes. It changes no answer.
+    pub fn dense_depth(&mut self, depth: usize) -> &mut Builder
+        ensures same { result.ghost_name ≡ self.entry.ghost_name }
+        ensures value { result.now ≡ record self.old { dense_depth = depth } }
+    {
+        self.dense_depth = depth;
+        self
+    }
+
+    /// Sets whether searches have a prefilter, where one serves. It changes no answer.
+    pub fn prefilter(&mut self, yes: bool) -> &mut Builder
+        ensures same { result.ghost_name ≡ self.entry.ghost_name }
+        ensures value { result.now ≡ record self.old { prefilter = yes } }
+    {
+        self.prefilter = yes;
+        self
+    }
+
+    /// A builder of prefilters with the patterns, under these settings.
+    fn collect(&self, alloc: Global, patterns: &[&[u8]]) -> Result<PrefilterBuilder, AllocError>
+        ensures { IfOk result (λ builder. builder ≡ dictionary_by self.now patterns.now) }
+    {
+        let mut builder = PrefilterBuilder::new(alloc, self.kind);
+        builder.pairing(self.pairing);
+        for pattern in patterns {
+            builder.try_add(*pattern)?;
+        }
+        Ok(builder)
+    }
+
+    /// The prefilter of the patterns, if one is wanted and serves.
+    fn build_prefilter(
+        &self,
+        alloc: Global,
+        patterns: &[&[u8]],
+    ) -> Result<Option<Prefilter>, AllocError>
+        ensures { IfOk result
+            (λ held. IsHeld self.now.prefilter (dictionary_by self.now patterns.now) held) }
+    {
+        if !self.prefilter {
+            return Ok(None);
+        }
+        self.collect(alloc, patterns)?.build()
+    }
+
+    /// The automaton of the patterns, which are numbered from 0 in this order.
+    ///
+    /// It is refused where there are more than 2147483647 patterns, where one has more than 2147483646 bytes, where more than
+    /// 2147483647 states would be wanted (four, and one for each different beginning of a pattern), and where memory ends; and
+    /// only then. Where several limits are passed, the first pattern that passes one decides.
+    pub fn build(&self, alloc: Global, patterns: &[&[u8]]) -> Result<NFA, BuildError>
+        ensures built { IfOk result (λ nfa. IsBuiltBy self.now
+            (dictionary_by self.now patterns.now) (built_as nfa)) }
+        ensures refused { IfErr result (IsBuildRefused (dictionary_by self.now patterns.now)) }
+    {
+        let tables = self.build_tables(alloc, patterns)?;
+        let lens = Lens::of(alloc, patterns)?;
+        let prefilter = self.build_prefilter(alloc, patterns)?;
+        Ok(NFA::from_parts(tables, lens, prefilter, self.pairing, self.kind))
+    }
+
+    /// The tables of the patterns, which pass no limit.
+    fn build_tables(&self, alloc: Global, patterns: &[&[u8]]) -> Result<Tables, BuildError>
+        ensures made { IfOk result (AreCompiled (dictionary_by self.now patterns.now)) }
+        ensures within { OnOk result (IsWithinLimits (dictionary_by self.now patterns.now)) }
+        ensures refused { IfErr result (IsBuildRefused (dictionary_by self.now patterns.now)) }
+    {
+        let trie = Trie::from_patterns(alloc, patterns, self.pairing, self.kind)?;
+        trie.is_within_limits();
+        Ok(tables_of(alloc, &trie, self.dense_depth)?)
+    }
+}
+
+impl NFA {
+    /// The automaton of the patterns by the settings that a builder has at first: standard matches, no byte paired.
+    pub fn new(alloc: Global, patterns: &[&[u8]]) -> Result<NFA, BuildError>
+        ensures built { IfOk result (λ nfa. IsBuiltAtFirst patterns.now (built_as nfa)) }
+        ensures refused { IfErr result (IsRefusedAtFirst patterns.now) }
+    {
+        Builder::new().build(alloc, patterns)
+    }
+
+    /// A builder with the settings that it has at first.
+    pub fn builder() -> Builder
+        ensures { AreFirst result }
+    {
+        Builder::new()
+    }
+}
+
+/// The tables of a trie.
+fn tables_of(alloc: Global, trie: &Trie, dense_depth: usize) -> Result<Tables, AllocError>
+    requires { (m : Dictionary) × IsTrieOf m trie.now }
+    ensures { IfOk result (λ tables. (m : Dictionary) → IsTrieOf m trie.now → AreCompiled m tables) }
+{
+    let order = trie.breadth_first(alloc)?;
+    let links = Links::of(alloc, trie, &order)?;
+    Tables::from_trie(alloc, trie, &order, links, dense_depth)
+}

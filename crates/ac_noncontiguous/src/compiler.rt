@@ -1,0 +1,85 @@
+//! How the tables of the automaton are made from the trie and its links.
+//!
+//! The states get their numbers first ([`numbering`]). Then they are laid out one after another in the order of these: where each
+//! byte leads from a state is looked up in the trie ([`edges`]), and written down as its transitions ([`transitions`]) and, near to
+//! the start, as its row ([`rows`]). It takes time in proportion to the states, and nothing but the tables is kept.
+ghost use Rattle.std.specs.Prelude.{◌≡◌, ◌<◌, length, IfOk};
+ghost use Rattle.ac_noncontiguous.specs.Order.{IsBreadthFirst};
+ghost use Rattle.ac_noncontiguous.specs.Numbering.{FitsTrie};
+ghost use Rattle.ac_noncontiguous.specs.Assembly.{IsBack, StandFor, AreClassedFor};
+
+mod edges;
+mod numbering;
+mod rows;
+mod states;
+mod transitions;
+
+use crate::compiler::numbering::{Numbering, is_chosen};
+use crate::compiler::rows::{Rows, classes};
+use crate::compiler::states::states;
+use crate::compiler::transitions::Transitions;
+use crate::links::Links;
+use crate::nfa::tables::Tables;
+use crate::trie::Trie;
+use ac_input::failure_laws::canonical_bytes_are_the_same;
+use ac_input::live_laws::{canonical_bytes_tell_texts, pairing_is_own_inverse};
+use ac_input::primitives::StateID;
+use ac_input::search::MatchKind;
+use ac_input::state_laws::{start_is_left, start_is_next};
+use std::alloc::{AllocError, Global};
+
+/// Where the bytes that begin no entered pattern lead from the unanchored start.
+fn start_back(trie: &Trie, links: &Links, start: StateID) -> StateID
+    requires { 0 < length links.now.ranges.items }
+    ensures { IsBack trie.now.kind links.now.ranges.items start result }
+{
+    if trie.kind() != MatchKind::Standard && is_chosen(links, StateID::ZERO, true) {
+        StateID::ZERO
+    } else {
+        start
+    }
+}
+
+impl Tables {
+    /// The tables for the trie and its links. States less deep than `dense_depth` keep a row as well; no answer depends on it.
+    pub(crate) fn from_trie(
+        alloc: Global,
+        trie: &Trie,
+        order: &[StateID],
+        links: Links,
+        dense_depth: usize,
+    ) -> Result<Tables, AllocError>
+        requires order { IsBreadthFirst trie.now.states.items order.now }
+        requires links { FitsTrie (length trie.now.states.items) links }
+        ensures stands { IfOk result (StandFor trie.now links) }
+        ensures classed { IfOk result (AreClassedFor trie.now) }
+    {
+        canonical_bytes_tell_texts();
+        canonical_bytes_are_the_same();
+        pairing_is_own_inverse();
+        start_is_next();
+        start_is_left();
+        let numbering = Numbering::new(alloc, trie, order, &links)?;
+        let back = start_back(trie, &links, numbering.start);
+        let classes = classes(trie);
+        let layout = Transitions::new(alloc, trie, &numbering, back)?;
+        let rows = Rows::new(alloc, trie, &numbering, back, &classes, dense_depth)?;
+        let states = states(
+            alloc,
+            trie,
+            &numbering,
+            &links,
+            &layout.offsets,
+            &rows.offsets,
+        )?;
+        Ok(Tables {
+            states,
+            transitions: layout.transitions,
+            rows: rows.rows,
+            classes,
+            matches: links.matches,
+            start: numbering.start,
+            max_match: numbering.max_match,
+        })
+    }
+}

@@ -1,0 +1,95 @@
+//! The transitions of the states, one state after another.
+//!
+//! A state keeps the transitions that lead somewhere, and none for the other bytes, at which its failure is asked. The dead state
+//! and both starts keep all 256: they are asked last or most often, and have no failure to ask.
+ghost use Rattle.std.specs.Prelude.{◌≡◌, ◌+◌, ◌<◌, length, true, false, IfOk};
+ghost use Rattle.ac_noncontiguous.specs.Numbering.{IsNumbering};
+ghost use Rattle.ac_noncontiguous.specs.Layout.{AreAppended, HasAll, IsAppended, AreLaidOut};
+
+use crate::compiler::edges::edges;
+use crate::compiler::numbering::Numbering;
+use crate::nfa::tables::Transition;
+use crate::trie::Trie;
+use ac_input::primitives::StateID;
+use std::alloc::{AllocError, Global};
+
+/// The transitions of all states.
+#[derive(Drop)]
+pub(super) struct Transitions {
+    /// Where those of each state begin, and last where they end.
+    pub offsets: Vec<usize>,
+    pub transitions: Vec<Transition>,
+}
+
+/// Puts the transitions for all bytes after the others, or those that lead somewhere.
+fn push_edges(
+    edges: &[StateID; 256],
+    all: bool,
+    transitions: &mut Vec<Transition>,
+) -> Result<(), AllocError>
+    ensures { IfOk result (λ _. AreAppended edges.now all 256 transitions.old.items transitions.new.items) }
+{
+    for byte in 0..256usize {
+        let next = edges[byte];
+        if all || next.as_usize() != 1 {
+            let byte = byte as u8;
+            transitions.push(Transition { byte, next })?;
+        }
+    }
+    Ok(())
+}
+
+/// Whether the state has a transition for each byte.
+fn has_all(numbering: &Numbering, state: usize) -> bool
+    ensures yes { HasAll numbering.now.start state → result ≡ true }
+    ensures no { (¬ HasAll numbering.now.start state) → result ≡ false }
+{
+    state == 0 || state == numbering.start.as_usize() || state == numbering.start.one_more()
+}
+
+/// Puts the transitions of the state after those of the others.
+fn push_state(
+    trie: &Trie,
+    numbering: &Numbering,
+    back: StateID,
+    state: usize,
+    transitions: &mut Vec<Transition>,
+) -> Result<(), AllocError>
+    requires numbering { IsNumbering (length trie.now.states.items) numbering.now }
+    requires within { state < length numbering.now.at.items }
+    requires back { back < length numbering.now.at.items }
+    ensures { IfOk result (λ _. IsAppended trie.now numbering.now back state transitions.old.items transitions.new.items) }
+{
+    if state == 1 {
+        return Ok(());
+    }
+    let edges = edges(trie, numbering, back, state);
+    push_edges(&edges, has_all(numbering, state), transitions)
+}
+
+impl Transitions {
+    /// The transitions of all states; `back` is where the bytes that begin nothing lead from the unanchored start.
+    pub(super) fn new(
+        alloc: Global,
+        trie: &Trie,
+        numbering: &Numbering,
+        back: StateID,
+    ) -> Result<Transitions, AllocError>
+        requires numbering { IsNumbering (length trie.now.states.items) numbering.now }
+        requires back { back < length numbering.now.at.items }
+        ensures { IfOk result (λ it. AreLaidOut trie.now numbering.now back (length numbering.now.at.items) it.offsets.items it.transitions.items) }
+    {
+        let states = numbering.at.len();
+        let mut offsets = Vec::with_capacity(alloc, states + 1)?;
+        let mut transitions = Vec::new(alloc);
+        offsets.push(0)?;
+        for state in 0..states {
+            push_state(trie, numbering, back, state, &mut transitions)?;
+            offsets.push(transitions.len())?;
+        }
+        Ok(Transitions {
+            offsets,
+            transitions,
+        })
+    }
+}

@@ -1,0 +1,123 @@
+//! To which state each state of a trie fails, and which patterns match there.
+//!
+//! The patterns of a state are its own, and then those of the state to which it fails. They are a range of one list: a state
+//! without patterns of its own shares the range of its failure, and another one has a copy behind its own. No pattern stands
+//! twice in a range.
+ghost use Rattle.std.specs.Prelude.{◌≡◌, ℕ, ◌+◌, ◌<◌, ◌≤◌, length, slice_get, Some, IfOk};
+ghost use Rattle.ac_input.specs.Dictionary.{Dictionary};
+ghost use Rattle.ac_noncontiguous.specs.Tree.{depth};
+ghost use Rattle.ac_noncontiguous.specs.Kept.{IsTrieOf};
+ghost use Rattle.ac_noncontiguous.specs.Own.{AreOwn};
+ghost use Rattle.ac_noncontiguous.specs.Order.{IsBreadthFirst};
+ghost use Rattle.ac_noncontiguous.specs.Links.{AreFails, AreLinks, in_range};
+ghost use Rattle.ac_noncontiguous.specs.Lists.{IsInside, EndAbove, IsRest, IsListed};
+ghost use Rattle.ac_noncontiguous.specs.Failures.{AreShallower};
+
+use crate::trie::Trie;
+use crate::trie::own::OwnPatterns;
+use ac_input::failure_laws::canonical_bytes_are_the_same;
+use ac_input::live_laws::{canonical_bytes_tell_texts, pairing_is_own_inverse};
+use ac_input::primitives::{PatternID, StateID};
+use ac_input::state_laws::{failure_tells_list, own_patterns_are_list};
+use std::alloc::{AllocError, Global};
+
+/// Some patterns of a list: from one place on, so many.
+#[derive(Clone, Copy, Debug)]
+pub(crate) struct Range {
+    pub from: usize,
+    pub len: u32,
+}
+
+/// For each state of a trie where it fails, and its patterns.
+#[derive(Drop)]
+pub(crate) struct Links {
+    /// The state to which it fails, if not the dead one.
+    pub fails: Vec<Option<StateID>>,
+    /// Where its patterns stand.
+    pub ranges: Vec<Range>,
+    /// The patterns.
+    pub matches: Vec<PatternID>,
+}
+
+/// Where the patterns of the state's failure stand.
+fn rest(fails: &[Option<StateID>], ranges: &[Range], id: StateID) -> Range
+    requires within { id < length fails.now }
+    requires counted { length ranges.now ≡ length fails.now }
+    requires inner { (f : ℕ) → slice_get fails.now id ≡ Some (Some f) → f < length fails.now }
+    ensures { IsRest fails.now ranges.now id result }
+{
+    let failure = fails[id.as_usize()];
+    match failure {
+        None => Range { from: 0, len: 0 },
+        Some(f) => ranges[f.as_usize()],
+    }
+}
+
+/// Lists the patterns of the state, its own and the rest, and answers where they stand.
+fn push_list(
+    trie: &Trie,
+    own: &OwnPatterns,
+    id: StateID,
+    rest: &Range,
+    matches: &mut Vec<PatternID>,
+) -> Result<Range, AllocError>
+    requires own { AreOwn (length trie.now.states.items) trie.now.ends.items 0 own.now.first.items own.now.next.items }
+    requires within { id < length trie.now.states.items }
+    requires inside { IsInside matches.old.items rest.now }
+    requires above { EndAbove trie.now.states.items trie.now.ends.items (depth trie.now.states.items id) (in_range matches.old.items rest.now) }
+    ensures { IfOk result (λ range. IsListed trie.now.ends.items id rest.now range matches.old.items matches.new.items) }
+{
+    let from = matches.len();
+    trie.push_own(own, id, matches)?;
+    if matches.len() == from {
+        return Ok(*rest);
+    }
+    matches.extend_from_within(rest.from..rest.from + rest.len as usize)?;
+    let len = (matches.len() - from) as u32;
+    Ok(Range { from, len })
+}
+
+impl Links {
+    /// The links of a trie. The order is that of [`breadth_first`](Trie::breadth_first).
+    pub(crate) fn of(alloc: Global, trie: &Trie, order: &[StateID]) -> Result<Links, AllocError>
+        requires { IsBreadthFirst trie.now.states.items order.now }
+        ensures { IfOk result (λ links. (m : Dictionary) → IsTrieOf m trie.now → AreLinks m trie.now.states.items links) }
+    {
+        let fails = trie.failures(alloc, order)?;
+        Links::from_fails(alloc, trie, order, fails)
+    }
+
+    /// The links of a trie of which the failures are known.
+    fn from_fails(
+        alloc: Global,
+        trie: &Trie,
+        order: &[StateID],
+        fails: Vec<Option<StateID>>,
+    ) -> Result<Links, AllocError>
+        requires order { IsBreadthFirst trie.now.states.items order.now }
+        requires shallower { AreShallower trie.now.states.items fails.items }
+        ensures { IfOk result (λ links. (m : Dictionary) → IsTrieOf m trie.now → AreFails m trie.now.states.items fails.items → AreLinks m trie.now.states.items links) }
+    {
+        canonical_bytes_tell_texts();
+        canonical_bytes_are_the_same();
+        pairing_is_own_inverse();
+        own_patterns_are_list();
+        failure_tells_list();
+        let own = trie.own_patterns(alloc)?;
+        let mut ranges = vec![in alloc; Range { from: 0, len: 0 }; fails.len()]?;
+        let mut matches = Vec::new(alloc);
+        for id in order {
+            let rest = rest(&fails, &ranges, *id);
+            let range = push_list(trie, &own, *id, &rest, &mut matches)?;
+            ranges[id.as_usize()] = range;
+        }
+        Ok(Links {
+            fails,
+            ranges,
+            matches,
+        })
+    }
+}
+
+#[cfg(test)]
+mod tests;

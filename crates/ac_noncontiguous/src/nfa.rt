@@ -1,0 +1,83 @@
+//! The noncontiguous automaton.
+//!
+//! It is the trie of the patterns, with a link from each state to the one that is asked where the state has no transition for a
+//! byte: the state of the longest proper suffix that may still grow into the answer. A search looks at one state for a byte, and
+//! at one more for each link that it follows; since each link gives up bytes that were read, there are no more than two looks for
+//! a byte on the whole.
+//!
+//! It is the automaton that is made first, fast to build and thrifty; the others are made from it by its read calls.
+mod automaton;
+pub(crate) mod lens;
+pub mod read;
+pub(crate) mod tables;
+
+ghost use Rattle.std.specs.Prelude.{◌≡◌, ◌≤◌, ◌+◌, if◌then◌else◌};
+ghost use Rattle.std.proofs.Props.{props};
+ghost use Rattle.ac_input.specs.Pairing.{IsPairing};
+ghost use Rattle.ac_input.specs.Limits.{greatest};
+ghost use Rattle.ac_noncontiguous.specs.Nfa.{dictionary_from, AreTablesOf, AreByteClasses, last_special, IsHeldFor, AreParts};
+
+use crate::nfa::lens::Lens;
+use crate::nfa::tables::Tables;
+use ac_input::pairing::Pairing;
+use ac_input::primitives::StateID;
+use ac_input::search::MatchKind;
+use ac_literal::prefilter::Prefilter;
+
+/// A noncontiguous automaton.
+#[derive(Drop)]
+pub struct NFA {
+    tables: Tables,
+    lens: Lens,
+    /// The last state at which a search has more to do than to read on.
+    max_special: StateID,
+    prefilter: Option<Prefilter>,
+    pairing: Pairing,
+    kind: MatchKind,
+    ghost paired: { IsPairing pairing },
+    ghost stands: { ∥ AreTablesOf (dictionary_from lens.patterns.items pairing kind) tables ∥₁ },
+    ghost classed: { ∥ AreByteClasses (dictionary_from lens.patterns.items pairing kind) tables.classes ∥₁ },
+    ghost special: { max_special ≡ last_special tables prefilter },
+    ghost held: { IsHeldFor (dictionary_from lens.patterns.items pairing kind) prefilter } by { Prim.hlevel props },
+}
+
+/// The last state at which a search has more to do than to read on.
+fn last_special_of(tables: &Tables, held: bool) -> StateID
+    requires { tables.now.start + 1 ≤ greatest }
+    ensures { result ≡ (if held then tables.now.start + 1 else tables.now.max_match) }
+{
+    if held {
+        StateID::must(tables.start.one_more())
+    } else {
+        tables.max_match
+    }
+}
+
+impl NFA {
+    ghost use Rattle.ac_noncontiguous.specs.ReadCalls.{IsMadeOf};
+
+    /// The automaton of these tables, patterns and settings.
+    pub(crate) fn from_parts(
+        tables: Tables,
+        lens: Lens,
+        prefilter: Option<Prefilter>,
+        pairing: Pairing,
+        kind: MatchKind,
+    ) -> NFA
+        requires { AreParts (dictionary_from lens.patterns.items pairing kind) tables prefilter }
+        ensures { IsMadeOf (dictionary_from lens.patterns.items pairing kind) tables prefilter
+            result }
+    {
+        // what the call answers matters to nobody, but it tells that the pairing is one
+        let _ = pairing.other(0);
+        let max_special = last_special_of(&tables, prefilter.is_some());
+        NFA {
+            tables,
+            lens,
+            max_special,
+            prefilter,
+            pairing,
+            kind,
+        }
+    }
+}

@@ -1,0 +1,216 @@
+//! Reading the automaton, state by state.
+//!
+//! Other automata are made from this one by these calls: they tell of each state where its bytes lead, to which state it fails,
+//! and which patterns match there. A state is a number below [`NFA::state_len`].
+//!
+//! The states are numbered so: 0 is the dead one, which is never left; 1 is the fail state, which stands for no state where a byte
+//! leads to none; then come the states that match, the unanchored start and the anchored one, and all others. Where the empty
+//! pattern is there, both starts match too.
+ghost use Rattle.std.specs.Prelude.{◌≡◌, ◌<◌, IfOk};
+
+use crate::nfa::NFA;
+use crate::nfa::tables::{Transition, part};
+use ac_input::alphabet::ByteClasses;
+use ac_input::primitives::{PatternID, StateID};
+use ac_literal::prefilter::Prefilter;
+use std::alloc::{AllocError, Global};
+use std::marker::Model;
+
+/// The numbers that stand between the parts of the states.
+#[derive(Clone, Copy, Debug, PartialEq, Eq)]
+pub struct Special {
+    /// The last state at which a search has more to do than to read on.
+    pub max_special_id: StateID,
+    /// The last state at which a pattern matches; 1 where there is none.
+    pub max_match_id: StateID,
+    /// The start of searches that aren't anchored.
+    pub start_unanchored_id: StateID,
+    /// The start of anchored searches.
+    pub start_anchored_id: StateID,
+}
+
+/// The patterns of a state that are left to come. From [`NFA::iter_matches`].
+#[derive(Drop)]
+pub struct MatchIter<'a> {
+    rest: &'a [PatternID],
+}
+
+impl<'a> Model for MatchIter<'a> {
+    ghost use Rattle.std.specs.Prelude.{ℕ, List};
+
+    ghost Value = { List ℕ };
+
+    ghost view = { λ i. i.rest.now };
+}
+
+impl<'a> Iterator for MatchIter<'a> {
+    ghost use Rattle.std.specs.Iterator.{YieldsFirst, item_count};
+
+    type Item = PatternID;
+
+    ghost next_gives = { YieldsFirst (λ rest. rest) };
+
+    ghost remaining = { item_count (λ rest. rest) };
+
+    fn next(&mut self) -> Option<PatternID> {
+        let (first, rest) = self.rest.split_first()?;
+        self.rest = rest;
+        Some(*first)
+    }
+}
+
+/// The transitions of a state that are left to come, in rising order of byte. From [`NFA::iter_trans`].
+#[derive(Drop)]
+pub struct TransIter<'a> {
+    rest: &'a [Transition],
+}
+
+impl<'a> Model for TransIter<'a> {
+    ghost use Rattle.std.specs.Prelude.{ℕ, List, map};
+    ghost use Rattle.ac_noncontiguous.specs.Nfa.{edge_of};
+
+    ghost Value = { List (ℕ × ℕ) };
+
+    ghost view = { λ i. map edge_of i.rest.now };
+}
+
+impl<'a> Iterator for TransIter<'a> {
+    ghost use Rattle.std.specs.Iterator.{YieldsFirst, item_count};
+
+    type Item = (u8, StateID);
+
+    ghost next_gives = { YieldsFirst (λ rest. rest) };
+
+    ghost remaining = { item_count (λ rest. rest) };
+
+    fn next(&mut self) -> Option<(u8, StateID)> {
+        let (first, rest) = self.rest.split_first()?;
+        self.rest = rest;
+        Some((first.byte, first.next))
+    }
+}
+
+impl NFA {
+    ghost use Rattle.ac_noncontiguous.specs.Reads.{dictionary, matches_at};
+    ghost use Rattle.ac_noncontiguous.specs.ReadCalls.{state_len, fail_in, depth_in, edges_in, classes_in, special_in, ClassesAreThose, FailsIn, IsDeepIn, ListsIn, EdgesLeadIn, StandForSome, IsCopy};
+
+    /// How many states there are.
+    pub fn state_len(&self) -> usize
+        ensures { result ≡ state_len self.now }
+    {
+        self.tables.states.len() - 1
+    }
+
+    /// The state that is asked where a byte leads to none.
+    pub fn fail(&self, sid: StateID) -> StateID
+        requires { sid < state_len self.now }
+        ensures value { result ≡ fail_in self.now sid }
+        ensures fails { FailsIn self.now sid result }
+    {
+        self.tables.states[sid.as_usize()].fail
+    }
+
+    /// How many bytes lead to the state from a start.
+    pub fn depth(&self, sid: StateID) -> usize
+        requires { sid < state_len self.now }
+        ensures value { result ≡ depth_in self.now sid }
+        ensures deep { IsDeepIn self.now sid result }
+    {
+        self.tables.states[sid.as_usize()].depth as usize
+    }
+
+    /// The patterns that match at the state.
+    pub fn match_list(&self, sid: StateID) -> &[PatternID]
+        requires { sid < state_len self.now }
+        ensures value { result.now ≡ matches_at self.now sid }
+        ensures lists { ListsIn self.now sid result.now }
+    {
+        let state = &self.tables.states[sid.as_usize()];
+        part(
+            &self.tables.matches,
+            state.matches,
+            state.matches_len as usize,
+        )
+    }
+
+    /// The patterns that match at the state, one after another.
+    pub fn iter_matches(&self, sid: StateID) -> MatchIter<'_>
+        requires { sid < state_len self.now }
+        ensures value { result ≡ matches_at self.now sid }
+        ensures lists { ListsIn self.now sid (matches_at self.now sid) }
+    {
+        MatchIter {
+            rest: self.match_list(sid),
+        }
+    }
+
+    /// The transitions of the state, in rising order of byte.
+    pub fn iter_trans(&self, sid: StateID) -> TransIter<'_>
+        requires { sid < state_len self.now }
+        ensures value { result ≡ edges_in self.now sid }
+        ensures lead { EdgesLeadIn self.now sid }
+    {
+        let at = sid.as_usize();
+        let from = self.tables.states[at].transitions;
+        let end = self.tables.states[at + 1].transitions;
+        TransIter {
+            rest: part(&self.tables.transitions, from, end - from),
+        }
+    }
+
+    /// The classes of the bytes: those that no pattern tells apart are in one.
+    pub fn byte_classes(&self) -> &ByteClasses
+        ensures value { result.now ≡ classes_in self.now }
+        ensures classes { ClassesAreThose self.now }
+    {
+        &self.tables.classes
+    }
+
+    /// The numbers that stand between the parts of the states.
+    pub fn special(&self) -> Special
+        ensures { result ≡ special_in self.now }
+    {
+        Special {
+            max_special_id: self.max_special,
+            max_match_id: self.tables.max_match,
+            start_unanchored_id: self.tables.start,
+            start_anchored_id: StateID::must(self.tables.start.one_more()),
+        }
+    }
+
+    /// Each state from 2 on stands for a text: canonical bytes that begin an entered pattern. State 1 stands for none.
+    pub fn states_stand(&self)
+        ensures { StandForSome self.now }
+    {}
+
+    /// The prefilter once more, if one is held.
+    fn clone_prefilter(&self, alloc: Global) -> Result<Option<Prefilter>, AllocError>
+        ensures { IfOk result (λ copy. copy ≡ self.now.prefilter) }
+    {
+        match &self.prefilter {
+            Some(prefilter) => Ok(Some(prefilter.clone(alloc)?)),
+            None => Ok(None),
+        }
+    }
+
+    /// The same automaton once more, in memory from `alloc`.
+    pub fn clone(&self, alloc: Global) -> Result<NFA, AllocError>
+        ensures { IfOk result (IsCopy self.now) }
+    {
+        let prefilter = self.clone_prefilter(alloc)?;
+        let lens = self.lens.clone(alloc)?;
+        let tables = self.tables.clone(alloc)?;
+        Ok(NFA::from_parts(tables, lens, prefilter, self.pairing, self.kind))
+    }
+
+    /// How many bytes of memory it takes, beside itself.
+    pub(crate) fn memory_of_parts(&self) -> usize {
+        self.tables
+            .memory_usage()
+            .saturating_add(self.lens.each.len().saturating_mul(4))
+            .saturating_add(match &self.prefilter {
+                Some(prefilter) => prefilter.memory_usage(),
+                None => 0,
+            })
+    }
+}

@@ -1,0 +1,201 @@
+//! The tables of the automaton, and how a search looks things up in them.
+//!
+//! The transitions of a state are one range of one vector, in rising order of byte, and so are its patterns; a state without
+//! patterns of its own shares the range of the state to which it fails. States that few bytes lead to keep a row as well, with the
+//! next state for each class of bytes: there a look-up is two loads, elsewhere it halves the range.
+ghost use Rattle.std.specs.Prelude.{◌≡◌, ◌≤◌, ◌+◌, false, length, take, drop, IfOk};
+ghost use Rattle.ac_input.specs.Input.{is_anchored};
+ghost use Rattle.ac_noncontiguous.specs.Nfa.{fail_of};
+ghost use Rattle.ac_noncontiguous.specs.Lookups.{IsKept, IsVisited, Leads, AreRisingIn, IsNextIn, LeadsNext, AreSame};
+
+use ac_input::alphabet::ByteClasses;
+use ac_input::primitives::{PatternID, StateID};
+use ac_input::search::Anchored;
+use ac_input::steps::Steps;
+use std::alloc::{AllocError, Global};
+
+/// What a state has that keeps no row.
+pub(crate) const NO_ROW: u32 = u32::MAX;
+
+/// What is kept of a state: 32 bytes.
+#[derive(Clone, Copy, Debug)]
+pub(crate) struct State {
+    /// Where its transitions begin. They end where those of the next state begin.
+    pub transitions: usize,
+    /// Where its patterns begin.
+    pub matches: usize,
+    /// How many patterns match here.
+    pub matches_len: u32,
+    /// The state that is asked where no transition has the byte.
+    pub fail: StateID,
+    /// How many bytes lead here from the start.
+    pub depth: u32,
+    /// Where its row begins, if it keeps one.
+    pub row: u32,
+}
+
+/// Where one byte leads.
+#[derive(Clone, Copy, Debug)]
+pub(crate) struct Transition {
+    /// The byte.
+    pub byte: u8,
+    /// The next state.
+    pub next: StateID,
+}
+
+/// The tables. States are numbered so: the dead one (0), the one that stands for no state (1), those that match, the unanchored
+/// start, the anchored start, the others.
+#[derive(Drop)]
+pub(crate) struct Tables {
+    /// The states, and one entry more behind them.
+    pub states: Vec<State>,
+    pub transitions: Vec<Transition>,
+    pub rows: Vec<StateID>,
+    pub classes: ByteClasses,
+    pub matches: Vec<PatternID>,
+    /// The unanchored start; the anchored one is the next state.
+    pub start: StateID,
+    /// The last state at which a pattern matches; 1 where there is none.
+    pub max_match: StateID,
+}
+
+/// What stands for no state: the number of the fail state.
+pub(crate) const FAIL: usize = 1;
+
+/// So many items of a list, from a place on.
+pub(crate) fn part<T>(items: &[T], from: usize, len: usize) -> &[T]
+    requires { from + len ≤ length items.now }
+    ensures { result.now ≡ take len (drop from items.now) }
+{
+    let rest = &items[from..];
+    &rest[..len]
+}
+
+impl Tables {
+    /// The state that is asked where no transition has the byte.
+    #[inline]
+    pub(crate) fn fail(&self, sid: StateID) -> StateID
+        requires { IsKept self.now sid }
+        ensures { result ≡ fail_of self.now.states.items sid }
+    {
+        self.states[sid.as_usize()].fail
+    }
+
+    /// The next state of that one of some transitions that has the byte, found by halves; the fail state where none has it.
+    #[inline]
+    fn find(&self, from: usize, end: usize, byte: u8) -> StateID
+        requires ordered { from ≤ end }
+        requires within { end ≤ length self.now.transitions.items }
+        requires rising { AreRisingIn self.now.transitions.items from end }
+        ensures { IsNextIn self.now.transitions.items from end byte result }
+    {
+        let mut low = from;
+        let mut high = end;
+        while low < high {
+            let middle = low + (high - low) / 2;
+            let here = self.transitions[middle].byte;
+            if here == byte {
+                return self.transitions[middle].next;
+            }
+            if here < byte {
+                low = middle + 1;
+            } else {
+                high = middle;
+            }
+        }
+        StateID::must(FAIL)
+    }
+
+    /// The next state of a state that keeps no row.
+    #[inline]
+    fn step_by_range(&self, sid: StateID, byte: u8) -> StateID
+        requires { IsKept self.now sid }
+        ensures { Leads self.now sid byte result }
+    {
+        let at = sid.as_usize();
+        self.find(
+            self.states[at].transitions,
+            self.states[at + 1].transitions,
+            byte,
+        )
+    }
+
+    /// Where the byte leads from the state; the fail state where it leads to none.
+    #[inline]
+    pub(crate) fn step(&self, sid: StateID, byte: u8) -> StateID
+        requires { IsKept self.now sid }
+        ensures { Leads self.now sid byte result }
+    {
+        let row = self.states[sid.as_usize()].row;
+        if row == NO_ROW {
+            return self.step_by_range(sid, byte);
+        }
+        self.rows[row as usize + self.classes.get(byte) as usize]
+    }
+
+    /// Where the byte leads from the states to which a state fails, one after another, where it leads to none from the state itself.
+    ///
+    /// Few bytes of most texts need it, so it stays out of the loops that call it.
+    #[inline(never)]
+    fn follow(&self, sid: StateID, byte: u8, steps: &mut Steps) -> StateID
+        requires visited { IsVisited self.now false sid }
+        requires stuck { Leads self.now sid byte 1 }
+        ensures { LeadsNext self.now false 1 sid byte result steps.old steps.new }
+    {
+        let mut from = sid;
+        loop {
+            from = self.fail(from);
+            steps.look();
+            let next = self.step(from, byte);
+            if next.as_usize() != FAIL {
+                return next;
+            }
+        }
+    }
+
+    /// The state after one more byte, where the search began with this anchoring; and counts the states that it looks at.
+    #[inline]
+    pub(crate) fn next(
+        &self,
+        anchored: Anchored,
+        sid: StateID,
+        byte: u8,
+        steps: &mut Steps,
+    ) -> StateID
+        requires { IsVisited self.now (is_anchored anchored) sid }
+        ensures { LeadsNext self.now (is_anchored anchored) 0 sid byte result steps.old steps.new }
+    {
+        steps.look();
+        let next = self.step(sid, byte);
+        if next.as_usize() != FAIL {
+            return next;
+        }
+        match anchored {
+            Anchored::No => self.follow(sid, byte, steps),
+            Anchored::Yes => StateID::ZERO,
+        }
+    }
+
+    /// How many bytes of memory they take, beside themselves.
+    pub(crate) fn memory_usage(&self) -> usize {
+        (self.states.len().saturating_mul(32))
+            .saturating_add(self.transitions.len().saturating_mul(8))
+            .saturating_add(self.rows.len().saturating_mul(4))
+            .saturating_add(self.matches.len().saturating_mul(4))
+    }
+
+    /// The same once more, in memory from `alloc`.
+    pub(crate) fn clone(&self, alloc: Global) -> Result<Tables, AllocError>
+        ensures { IfOk result (AreSame self.now) }
+    {
+        Ok(Tables {
+            states: Vec::from_slice(alloc, &self.states)?,
+            transitions: Vec::from_slice(alloc, &self.transitions)?,
+            rows: Vec::from_slice(alloc, &self.rows)?,
+            classes: self.classes.clone()?,
+            matches: Vec::from_slice(alloc, &self.matches)?,
+            start: self.start,
+            max_match: self.max_match,
+        })
+    }
+}

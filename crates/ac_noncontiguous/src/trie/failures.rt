@@ -1,0 +1,157 @@
+//! To which state each state of a trie fails.
+//!
+//! A state fails to the one for the longest part of its text that may still grow into the answer. That is where its last byte
+//! leads from the failure of its parent; and where a byte leads from a state is told by the state's child for it, or else by the
+//! failure of the state. So failures are found from shallow states to deep ones.
+//!
+//! Each step from a failure to the next one is paid by a byte of the pattern by which the states were added: the time is in
+//! proportion to the bytes of the patterns.
+ghost use Rattle.std.specs.Prelude.{◌≡◌, ℕ, ◌+◌, ◌∷◌, ◌++◌, ◌<◌, ◌≤◌, [], false, length, Some, option_map, IfOk};
+ghost use Rattle.ac_input.specs.Dictionary.{Dictionary};
+ghost use Rattle.ac_input.specs.LiveLaws.{canonical};
+ghost use Rattle.ac_input.specs.States.{LeadsTo, FailsTo};
+ghost use Rattle.ac_noncontiguous.specs.Tree.{depth, text};
+ghost use Rattle.ac_noncontiguous.specs.Kept.{IsTrieOf};
+ghost use Rattle.ac_noncontiguous.specs.Links.{AreFails};
+ghost use Rattle.ac_noncontiguous.specs.Order.{IsBreadthFirst};
+ghost use Rattle.ac_noncontiguous.specs.Children.{AreChildrenOfAll};
+ghost use Rattle.ac_noncontiguous.specs.Failures.{IsChildOf, IsToldBy, AreShallower, AreFailsAbove, IsWithinDepth, GoesOnFromStart, NextOf, IsFinalIn};
+
+use super::Trie;
+use super::children::Children;
+use ac_input::failure_laws::{
+    canonical_bytes_are_the_same, empty_has_no_failure, empty_pattern_leaves_no_failure,
+    match_has_no_failure, no_failure_stays,
+};
+use ac_input::live_laws::{canonical_bytes_tell_texts, pairing_is_own_inverse};
+use ac_input::primitives::StateID;
+use ac_input::search::MatchKind;
+use ac_input::state_laws::{
+    child_is_next, dead_is_next, failure_tells_failure, failure_tells_next, first_fails_to_start,
+    start_is_next,
+};
+use std::alloc::{AllocError, Global};
+
+impl Trie {
+    /// The child of the state for the byte.
+    pub(crate) fn child(&self, of: StateID, byte: u8) -> Option<StateID>
+        requires { of < length self.now.states.items }
+        ensures { IsChildOf self.now.states.items of byte result }
+    {
+        let at = self.place(of, byte).at;
+        if at != StateID::ZERO && self.state(at).byte == byte {
+            Some(at)
+        } else {
+            None
+        }
+    }
+
+    /// Where the byte leads from the state, if its failure needn't be asked.
+    fn told_by(&self, children: &Children, of: StateID, byte: u8) -> Option<StateID>
+        requires within { of < length self.now.states.items }
+        requires children { AreChildrenOfAll self.now.states.items children.now }
+        ensures { IsToldBy self.now.states.items of byte result }
+    {
+        let child = self.child_among(children, of, byte);
+        if child.is_none() && of == StateID::ZERO {
+            return Some(of);
+        }
+        child
+    }
+
+    /// Where the byte leads from the state: as the first state tells it along the failures, if any does.
+    fn next(
+        &self,
+        children: &Children,
+        fails: &[Option<StateID>],
+        from: StateID,
+        byte: u8,
+    ) -> Option<StateID>
+        requires within { from < length self.now.states.items }
+        requires children { AreChildrenOfAll self.now.states.items children.now }
+        requires shallower { AreShallower self.now.states.items fails.now }
+        ensures shallow { IsWithinDepth self.now.states.items (depth self.now.states.items from + 1) result }
+        ensures leads { (m : Dictionary) → IsTrieOf m self.now → GoesOnFromStart m → canonical m.pairing byte ≡ byte → AreFailsAbove m self.now.states.items fails.now (depth self.now.states.items from + 1) → NextOf m self.now.states.items from byte result }
+    {
+        canonical_bytes_tell_texts();
+        canonical_bytes_are_the_same();
+        pairing_is_own_inverse();
+        child_is_next();
+        start_is_next();
+        failure_tells_next();
+        dead_is_next();
+        let mut at = Some(from);
+        while let Some(id) = at {
+            let told = self.told_by(children, id, byte);
+            if told.is_some() {
+                return told;
+            }
+            at = fails[id.as_usize()];
+        }
+        None
+    }
+
+    /// Whether no state after this one can be better: under a leftmost kind a pattern ends in it, or at the start.
+    fn is_final(&self, id: StateID) -> bool
+        requires { id < length self.now.states.items }
+        ensures { IsFinalIn self.now.kind self.now.states.items id result }
+    {
+        self.kind != MatchKind::Standard
+            && (self.state(id).is_match || self.state(StateID::ZERO).is_match)
+    }
+
+    /// To which state this one fails, by the failures of the states of lesser depth.
+    fn failure(
+        &self,
+        children: &Children,
+        fails: &[Option<StateID>],
+        id: StateID,
+    ) -> Option<StateID>
+        requires within { id < length self.now.states.items }
+        requires children { AreChildrenOfAll self.now.states.items children.now }
+        requires shallower { AreShallower self.now.states.items fails.now }
+        ensures shallower { (f : ℕ) → result ≡ Some f → (f < length self.now.states.items) × (depth self.now.states.items f < depth self.now.states.items id) }
+        ensures fails { (m : Dictionary) → IsTrieOf m self.now → AreFailsAbove m self.now.states.items fails.now (depth self.now.states.items id) → FailsTo m (text self.now.states.items id) (option_map (text self.now.states.items) result) }
+    {
+        canonical_bytes_tell_texts();
+        canonical_bytes_are_the_same();
+        pairing_is_own_inverse();
+        empty_has_no_failure();
+        empty_pattern_leaves_no_failure();
+        match_has_no_failure();
+        no_failure_stays();
+        first_fails_to_start();
+        failure_tells_failure();
+        if id == StateID::ZERO || self.is_final(id) {
+            return None;
+        }
+        let state = self.state(id);
+        if state.parent == StateID::ZERO {
+            return Some(StateID::ZERO);
+        }
+        let above = fails[state.parent.as_usize()];
+        match above {
+            None => None,
+            Some(from) => self.next(children, fails, from, state.byte),
+        }
+    }
+
+    /// To which state each one fails. The order is that of [`breadth_first`](Self::breadth_first).
+    pub(crate) fn failures(
+        &self,
+        alloc: Global,
+        order: &[StateID],
+    ) -> Result<Vec<Option<StateID>>, AllocError>
+        requires { IsBreadthFirst self.now.states.items order.now }
+        ensures shallower { IfOk result (λ fails. AreShallower self.now.states.items fails.items) }
+        ensures fails { IfOk result (λ fails. (m : Dictionary) → IsTrieOf m self.now → AreFails m self.now.states.items fails.items) }
+    {
+        let children = self.children(alloc)?;
+        let mut fails = vec![in alloc; None; self.states.len()]?;
+        for id in order {
+            let failure = self.failure(&children, &fails, *id);
+            fails[id.as_usize()] = failure;
+        }
+        Ok(fails)
+    }
+}

@@ -4,10 +4,6 @@ pub mod WriteWholeLoop
 pub mod ToldLemmas
 pub mod TakenLemmas
 pub mod WalkLemmas
-pub mod Gathered
-pub mod PlainStates
-pub mod PlainEntries
-pub mod PlainLaws
 pub mod IterLemmas
 pub mod OverlappingLemmas
 pub mod CandidateLemmas
@@ -23,7 +19,11 @@ pub mod SearchLemmas
 pub mod StreamCutLemmas
 pub mod StreamSendLemmas
 pub mod StreamCountLemmas
+pub mod MovedLemmas
 pub mod StreamReplaceLemmas
 pub mod ScanLemmas
 pub mod StreamIterLemmas
 pub mod StreamAnswerLemmas
+pub mod WriterChainLemmas
+pub mod StreamWithLemmas
+pub mod StreamWithReadLemmas

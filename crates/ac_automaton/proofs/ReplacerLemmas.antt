@@ -5,42 +5,42 @@ use Rattle.std.specs.Fn.{Called}
 use Rattle.std.specs.declared.alloc.AllocError.{AllocError}
 use Rattle.ac_input.specs.Chain.{Calls, IsChain, IsRefusedChain}
 use Rattle.ac_input.specs.Occurrence.{Occurrence}
-use Rattle.ac_automaton.specs.Replace.{Replacer, TakesMatches, IsForMatches, RepliesAt, calls_of}
+use Rattle.ac_automaton.specs.Replace.{Replacer, MemoryReplacer, TakesMatches, IsForMatches, RepliesAt, calls_of}
 
 -- after a call the closure may be called at every match again
-pub callable-next : {F D : Type 0} (g : Replacer F D) (patterns : ℕ) (f after : F) (found : Bor Occurrence) (bytes : Bor (List ℕ)) (dst left : MutBor D) (r : Result Bool AllocError)
+pub callable-next : {F D A : Type 0} (g : Replacer F D A) (patterns : ℕ) (f after : F) (found : Bor Occurrence) (bytes : Bor (List ℕ)) (dst left : MutBor D) (r : A)
     → IsForMatches g patterns f → found.now.pattern < patterns → Called g f (found, (bytes, (dst, tt))) (r, (left, tt)) after → IsForMatches g patterns after
 callable-next g patterns f after found bytes dst left r h lt called = record { takes = h.keeps f found bytes dst r left after h.takes lt called; keeps = h.keeps }
 
 -- the same of a call that is told by what it shows
-pub callable-after : {F D : Type 0} (g : Replacer F D) (patterns : ℕ) (f after : F) (o : Occurrence) (bytes : List ℕ) (old new : D) (r : Result Bool AllocError)
+pub callable-after : {F D A : Type 0} (g : Replacer F D A) (patterns : ℕ) (f after : F) (o : Occurrence) (bytes : List ℕ) (old new : D) (r : A)
     → IsForMatches g patterns f → o.pattern < patterns → RepliesAt g f o bytes old r after new → IsForMatches g patterns after
 callable-after g patterns f after o bytes old new r h lt reply = callable-next g patterns f after reply.found reply.text reply.dst reply.left r h (subst (λ (q : Occurrence). q.pattern < patterns) (sym reply.shows.0) lt) reply.called
 
 -- what may be called at every match may be called at one
-pub takes-one : {F D : Type 0} (g : Replacer F D) (patterns : ℕ) (f : F) (o : Occurrence) → IsForMatches g patterns f → o.pattern < patterns → TakesMatches g (o.pattern + 1) f
+pub takes-one : {F D A : Type 0} (g : Replacer F D A) (patterns : ℕ) (f : F) (o : Occurrence) → IsForMatches g patterns f → o.pattern < patterns → TakesMatches g (o.pattern + 1) f
 takes-one g patterns f o h lt found bytes dst le = h.takes found bytes dst (omega arith)
 
 -- a call that is told so is one of the closure's
-pub told : {F D : Type 0} (held : D → List ℕ) (g : Replacer F D) (f after : F) (o : Occurrence) (bytes reads before : List ℕ) (old new : D) (r : Result Bool AllocError) (more : Bool)
+pub told : {F D : Type 0} (held : D → List ℕ) (g : MemoryReplacer F D) (f after : F) (o : Occurrence) (bytes reads before : List ℕ) (old new : D) (r : Result Bool AllocError) (more : Bool)
     → RepliesAt g f o reads old r after new → r ≡ Ok more → reads ≡ bytes → held old ≡ before → calls_of held g f o bytes before (Some more) after (held new)
 told {F} {D} held g f after o bytes reads before old new r more reply is same was =
     (old, new, was, refl, subst (λ (q : Result Bool AllocError). RepliesAt g f o bytes old q after new) is (subst (λ (t : List ℕ). RepliesAt g f o t old r after new) same reply))
 
-pub told-refused : {F D : Type 0} (held : D → List ℕ) (g : Replacer F D) (f after : F) (o : Occurrence) (bytes reads before : List ℕ) (old new : D) (r : Result Bool AllocError) (error : AllocError)
+pub told-refused : {F D : Type 0} (held : D → List ℕ) (g : MemoryReplacer F D) (f after : F) (o : Occurrence) (bytes reads before : List ℕ) (old new : D) (r : Result Bool AllocError) (error : AllocError)
     → RepliesAt g f o reads old r after new → r ≡ Err error → reads ≡ bytes → held old ≡ before → calls_of held g f o bytes before None after (held new)
 told-refused {F} {D} held g f after o bytes reads before old new r error reply is same was =
     (old, new, error, was, refl, subst (λ (q : Result Bool AllocError). RepliesAt g f o bytes old q after new) is (subst (λ (t : List ℕ). RepliesAt g f o t old r after new) same reply))
 
 -- a call that answered
-pub replied : {F D : Type 0} (held : D → List ℕ) (g : Replacer F D) (f after : F) (found : Bor Occurrence) (text : Bor (List ℕ)) (dst left : MutBor D) (r : Result Bool AllocError) (more : Bool) (o : Occurrence) (bytes before : List ℕ)
+pub replied : {F D : Type 0} (held : D → List ℕ) (g : MemoryReplacer F D) (f after : F) (found : Bor Occurrence) (text : Bor (List ℕ)) (dst left : MutBor D) (r : Result Bool AllocError) (more : Bool) (o : Occurrence) (bytes before : List ℕ)
     → Called g f (found, (text, (dst, tt))) (r, (left, tt)) after → r ≡ Ok more → found.now ≡ o → text.now ≡ bytes → held dst.now ≡ before
     → calls_of held g f o bytes before (Some more) after (held left.now)
 replied {F} {D} held g f after found text dst left r more o bytes before called is at reads was =
     (dst.now, left.now, was, refl, record { found = found; text = text; dst = dst; shows = (at, reads, refl); left = left; called = subst (λ (q : Result Bool AllocError). Called g f (found, (text, (dst, tt))) (q, (left, tt)) after) is called; leaves = refl })
 
 -- a call that refused
-pub refused : {F D : Type 0} (held : D → List ℕ) (g : Replacer F D) (f after : F) (found : Bor Occurrence) (text : Bor (List ℕ)) (dst left : MutBor D) (r : Result Bool AllocError) (error : AllocError) (o : Occurrence) (bytes before : List ℕ)
+pub refused : {F D : Type 0} (held : D → List ℕ) (g : MemoryReplacer F D) (f after : F) (found : Bor Occurrence) (text : Bor (List ℕ)) (dst left : MutBor D) (r : Result Bool AllocError) (error : AllocError) (o : Occurrence) (bytes before : List ℕ)
     → Called g f (found, (text, (dst, tt))) (r, (left, tt)) after → r ≡ Err error → found.now ≡ o → text.now ≡ bytes → held dst.now ≡ before
     → calls_of held g f o bytes before None after (held left.now)
 refused {F} {D} held g f after found text dst left r error o bytes before called is at reads was =

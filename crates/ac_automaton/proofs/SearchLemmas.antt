@@ -1,5 +1,5 @@
 -- A search over the bytes that are held: where it stands after it, and what it found.
-use Rattle.std.proofs.Common.{◌≡◌, ◌≢◌, ⊎_elim, ℕ, ◌+◌, ◌-◌, ◌*◌, ◌<◌, ◌≤◌, max, Bool, true, false, IsTrue, List, [], ◌∷◌, ◌++◌, length, take, drop, Option, None, Some, get_or, slice_get, slice_range, sym, ap, subst, refl, ◌∙◌, arith, append-nil, length-drop}
+use Rattle.std.proofs.Common.{◌≡◌, ◌≢◌, ⊎_elim, ℕ, ◌+◌, ◌-◌, ◌*◌, ◌<◌, ◌≤◌, Bool, true, false, IsTrue, List, [], ◌∷◌, ◌++◌, length, take, drop, Option, None, Some, slice_get, slice_range, sym, ap, subst, refl, ◌∙◌, arith, append-nil, length-drop}
 use Rattle.std.proofs.lemmas.List.{length-take-le}
 use Rattle.std.specs.Option.{option_map}
 use Rattle.std.proofs.lemmas.Bool.{cases_lt}
@@ -17,20 +17,19 @@ use Rattle.ac_input.specs.Occurrence.{Occurrence, Occurs}
 use Rattle.ac_input.specs.Steps.{Done, looked_of}
 use Rattle.ac_input.specs.Tells.{Tells, TellsUnanchored, ending}
 use Rattle.ac_input.specs.Walk.{IsPick}
-use Rattle.ac_input.specs.Work.{IsLookups, longest, lookups_per_byte, shortest}
-use Rattle.ac_input.proofs.LiveLemmas.{occurs-append}
+use Rattle.ac_input.specs.Work.{IsLookups, lookups_per_byte, shortest}
 use Rattle.ac_input.proofs.OrderLemmas.{occurrence_from_parts, slice_range-length}
 use Rattle.ac_input.specs.declared.search.MatchKind.{MatchKind}
-use Rattle.ac_automaton.specs.Automaton.{Built, IsReadCost}
+use Rattle.ac_automaton.specs.Automaton.{Built}
 use Rattle.ac_automaton.specs.Cursor.{ending_at}
 use Rattle.ac_automaton.specs.Replace.{matches_in}
-use Rattle.ac_automaton.specs.Scan.{GoesOn, IsHeldAt, IsScanPaid, SearchesOn, StandsInState, StopsAtMatch, after_search, since_last}
-use Rattle.ac_automaton.specs.Stream.{CanBeCounted, IsHeldMatch, IsOnCourse, IsWithinStreamBudget, Scanned, cut_of, keep_of, read_by, room_of}
+use Rattle.ac_automaton.specs.Scan.{GoesOn, IsHeldAt, IsScanPaid, SearchesOn, StandsInState, after_search, since_last}
+use Rattle.ac_automaton.specs.Stream.{CanBeCounted, IsHeldMatch, IsOnCourse, Scanned, cut_of, read_by, room_of}
+use Rattle.ac_automaton.specs.declared.automaton.Advance.{Advance}
 use Rattle.ac_automaton.specs.declared.stream.scan.Progress.{Progress}
-use Rattle.ac_automaton.specs.declared.stream.scan.Searched.{Searched}
-use Rattle.ac_automaton.specs.declared.stream.scan.Stop.{Stop}
 use Rattle.ac_automaton.proofs.CursorLemmas.{part-empty, part-front}
 use Rattle.ac_automaton.proofs.IterLemmas.{occurs-not_empty}
+use Rattle.ac_automaton.proofs.PassLemmas.{StopsAtMatch, matching-none}
 use Rattle.ac_automaton.proofs.StreamLemmas.{all-given, decided-from, goes-match, none-ends_before, nothing-ends, pick-since}
 use Rattle.ac_automaton.proofs.ToldLemmas.{IsEarlier, ending-fits, told-standard}
 use Rattle.ac_automaton.proofs.WalkLemmas.{occurs-bound}
@@ -111,32 +110,32 @@ stands-from Reads t start sid standard filled ordered inside kept behind room sc
 -- ---- reading on
 
 -- on the way the states told nothing
-tells-on : (s : Scanned) (Reads : Anchored → List ℕ → StateID → Type 0) (matches : StateID → List ℕ) (sid : StateID) (stop : Stop) (y z : Steps)
+tells-on : (s : Scanned) (Reads : Anchored → List ℕ → StateID → Type 0) (matches : StateID → List ℕ) (sid : StateID) (stop : Advance) (matched : Bool) (y z : Steps)
     → ((text : List ℕ) (state : StateID) → Reads No text state → Tells s.built.dictionary No text (matches state))
     → s.last ≤ s.at
     → Reads No (since_last s) sid
-    → StopsAtMatch s.built Reads matches sid (drop s.at (read_by s)) stop y z
+    → StopsAtMatch s.built Reads matches sid (drop s.at (read_by s)) stop matched y z
     → (k : ℕ) → s.at < k → k < s.at + stop.taken → Tells s.built.dictionary No (slice_range (read_by s) s.last k) []
-tells-on s Reads matches sid stop y z tells ordered here stops k lt less =
+tells-on s Reads matches sid stop matched y z tells ordered here stops k lt less =
     let x = read_by s in
     let i : ℕ = k - s.at in
     let there : s.at + i ≡ k = omega arith in
     let within = stops.within in
     let rest = length-drop s.at x in
-    let mid = stops.quiet i (omega arith) (omega arith) in
+    let mid = stops.plain i (omega arith) (omega arith) in
     let text : since_last s ++ take i (drop s.at x) ≡ slice_range x s.last k = text-on x s.last s.at i ordered (omega arith) ∙ ap (slice_range x s.last) there in
     let reads : Reads No (slice_range x s.last k) mid.0 = subst (λ (l : List ℕ). Reads No l mid.0) text (mid.1 (since_last s) here) in
-    subst (λ (ns : List ℕ). Tells s.built.dictionary No (slice_range x s.last k) ns) mid.2 (tells (slice_range x s.last k) mid.0 reads)
+    subst (λ (ns : List ℕ). Tells s.built.dictionary No (slice_range x s.last k) ns) (matching-none (matches mid.0) mid.2) (tells (slice_range x s.last k) mid.0 reads)
 
 -- what reading on cost
-cost-on : (s : Scanned) (Reads : Anchored → List ℕ → StateID → Type 0) (matches : StateID → List ℕ) (sid : StateID) (stop : Stop) (y z : Steps) (before after : Option ℕ)
+cost-on : (s : Scanned) (Reads : Anchored → List ℕ → StateID → Type 0) (matches : StateID → List ℕ) (sid : StateID) (stop : Advance) (matched : Bool) (y z : Steps) (before after : Option ℕ)
     → s.last ≤ s.at
     → Reads No (since_last s) sid
-    → StopsAtMatch s.built Reads matches sid (drop s.at (read_by s)) stop y z
+    → StopsAtMatch s.built Reads matches sid (drop s.at (read_by s)) stop matched y z
     → IsLive s.built.dictionary false (since_last s) before
     → IsLive s.built.dictionary false (slice_range (read_by s) s.last (s.at + stop.taken)) after
     → IsLookups s.built.deterministic stop.taken (live_len (since_last s) before) (live_len (slice_range (read_by s) s.last (s.at + stop.taken)) after) y z
-cost-on s Reads matches sid stop y z before after ordered here stops g h =
+cost-on s Reads matches sid stop matched y z before after ordered here stops g h =
     let x = read_by s in
     let within = stops.within in
     let rest = length-drop s.at x in
@@ -156,12 +155,12 @@ paid-on deterministic looked live at n more y z paid some one run =
     (omega arith, omega arith, λ d. let e = one d in let f = run.one d in omega arith)
 
 -- the state in which reading on stopped was reached by the bytes since the last match
-reads-on : (s : Scanned) (Reads : Anchored → List ℕ → StateID → Type 0) (matches : StateID → List ℕ) (sid : StateID) (stop : Stop) (y z : Steps)
+reads-on : (s : Scanned) (Reads : Anchored → List ℕ → StateID → Type 0) (matches : StateID → List ℕ) (sid : StateID) (stop : Advance) (matched : Bool) (y z : Steps)
     → s.last ≤ s.at
     → Reads No (since_last s) sid
-    → StopsAtMatch s.built Reads matches sid (drop s.at (read_by s)) stop y z
+    → StopsAtMatch s.built Reads matches sid (drop s.at (read_by s)) stop matched y z
     → Reads No (slice_range (read_by s) s.last (s.at + stop.taken)) stop.sid
-reads-on s Reads matches sid stop y z ordered here stops =
+reads-on s Reads matches sid stop matched y z ordered here stops =
     let within = stops.within in
     let rest = length-drop s.at (read_by s) in
     subst (λ (l : List ℕ). Reads No l stop.sid) (text-on (read_by s) s.last s.at stop.taken ordered (omega arith)) (stops.reads (since_last s) here)
@@ -187,14 +186,13 @@ quiet-on m x last at to standard g h inside quiet tells ends = λ o occurs.
     (cases_lt (last + o.end) to)
 
 -- All that is held was searched, and nothing was found.
-pub search-none : (s : Scanned) (Reads : Anchored → List ℕ → StateID → Type 0) (matches : StateID → List ℕ) (start sid : StateID) (stop : Stop) (y z : Steps)
+pub search-none : (s : Scanned) (Reads : Anchored → List ℕ → StateID → Type 0) (matches : StateID → List ℕ) (start sid : StateID) (stop : Advance) (y z : Steps)
     → ((text : List ℕ) (state : StateID) → Reads No text state → Tells s.built.dictionary No text (matches state))
     → ((text : List ℕ) (state : StateID) → Reads No text state → (live : Option ℕ) × IsLive s.built.dictionary false text live)
     → StandsInState (Reads No) s start sid
-    → StopsAtMatch s.built Reads matches sid (drop s.at (read_by s)) stop y z
-    → stop.matches ≡ false
+    → StopsAtMatch s.built Reads matches sid (drop s.at (read_by s)) stop false y z
     → SearchesOn (Reads No) s start (record { progress = record { sid = stop.sid; from = s.from; at = s.at + stop.taken; last = s.last }; found = None }) y z
-search-none s Reads matches start sid stop y z tells lives stands stops none =
+search-none s Reads matches start sid stop y z tells lives stands stops =
     let m = s.built.dictionary in
     let x = read_by s in
     let course = stands.course in
@@ -204,22 +202,22 @@ search-none s Reads matches start sid stop y z tells lives stands stops none =
     let to : ℕ = s.at + stop.taken in
     let rest = length-drop s.at x in
     let within = stops.within in
-    let over = stops.none none in
+    let over = stops.none refl in
     let all : to ≡ length x = omega (arith, over.0) in
     let before = lives (since_last s) sid stands.reads in
-    let reads = reads-on s Reads matches sid stop y z ordered stands.reads stops in
+    let reads = reads-on s Reads matches sid stop false y z ordered stands.reads stops in
     let after = lives (slice_range x s.last to) stop.sid reads in
     let looks : ℕ = looked_of z - looked_of y in
     let paid = stands.lookups before.0 before.1 in
     let quiet : IsBest Standard (whole m (slice_range x s.last to) false) None =
-    quiet-on m x s.last s.at to course.standard ordered (omega arith) (omega arith) stands.quiet (tells-on s Reads matches sid stop y z tells ordered stands.reads stops)
-    (λ lt. subst (λ (ns : List ℕ). Tells m No (slice_range x s.last to) ns) (over.1 (omega arith)) (tells (slice_range x s.last to) stop.sid reads)) in
+    quiet-on m x s.last s.at to course.standard ordered (omega arith) (omega arith) stands.quiet (tells-on s Reads matches sid stop false y z tells ordered stands.reads stops)
+    (λ lt. subst (λ (ns : List ℕ). Tells m No (slice_range x s.last to) ns) over.1 (tells (slice_range x s.last to) stop.sid reads)) in
     let t : Scanned = after_search s (record { progress = record { sid = stop.sid; from = s.from; at = to; last = s.last }; found = None }) looks in
     let same : s.given ++ [] ≡ s.given = append-nil s.given in
     let goes : GoesOn t = subst (λ (l : List Occurrence). GoesOn (record t { given = l })) (sym same) stands.goes in
     record {
       looks = looks;
-      done = looks-done s.built.deterministic stop.taken _ _ y z (cost-on s Reads matches sid stop y z before.0 after.0 ordered stands.reads stops before.1 after.1);
+      done = looks-done s.built.deterministic stop.taken _ _ y z (cost-on s Reads matches sid stop false y z before.0 after.0 ordered stands.reads stops before.1 after.1);
       from = refl;
       finds = (
         record { on = omega arith; built = refl; pieces = refl; from = refl },
@@ -228,7 +226,7 @@ search-none s Reads matches start sid stop y z tells lives stands stops none =
         λ countable. (all, same ∙ all-given s course.standard (omega arith) (subst (λ (n : ℕ). IsBest Standard (whole m (slice_range x s.last n) false) None) all quiet) stands.goes),
       );
       stands = stands-from (Reads No) t start stop.sid course.standard course.filled (omega arith) (omega arith) (omega arith) (omega arith) kept.2 course.paid.scanned course.paid.moved stands.begins reads quiet goes
-          (λ live is. paid-on s.built.deterministic s.looked (live_len (since_last s) before.0) s.at stop.taken (live_len (slice_range x s.last to) live) y z paid.0 paid.1 paid.2 (cost-on s Reads matches sid stop y z before.0 live ordered stands.reads stops before.1 is))
+          (λ live is. paid-on s.built.deterministic s.looked (live_len (since_last s) before.0) s.at stop.taken (live_len (slice_range x s.last to) live) y z paid.0 paid.1 paid.2 (cost-on s Reads matches sid stop false y z before.0 live ordered stands.reads stops before.1 is))
           after.0 after.1;
     }
 
@@ -245,6 +243,15 @@ told-best_at m text (n ∷ ns) last at o standard long none tells some is =
     let fits = ending-fits m false text n best.0 in
     let same : ending_at m at n ≡ o = sym (same_Some o (ending_at m at n) is) in
     (ending m text n, best, occurrence_from_parts (shifted last (ending m text n)) (ending_at m at n) refl (omega arith) long ∙ same, sym (ap (λ (q : Occurrence). q.end) same))
+
+-- a state at the end of a text in which nothing is tells nothing
+told-some : (m : Dictionary) (text ns : List ℕ) → m.kind ≡ Standard → Tells m No text ns → ns ≢ [] → ¬ IsBest Standard (whole m text false) None
+told-some m text [] standard tells some quiet = some refl
+told-some m text (n ∷ ns) standard tells some quiet =
+    let all : TellsUnanchored Standard m text (n ∷ ns) = subst (λ (k : MatchKind). TellsUnanchored k m text (n ∷ ns)) standard tells in
+    let earlier : IsEarlier Standard m false text None = record { least = λ q h. quiet q h.0 } in
+    let best = told-standard m text (n ∷ ns) earlier all in
+    quiet (ending m text n) best.0
 
 -- nothing is live of no text
 pub live-empty : (x : List ℕ) (at : ℕ) (live : Option ℕ) → live_len (slice_range x at at) live ≡ 0
@@ -272,16 +279,15 @@ found-held s b o at course lt inside ends behind occurs is =
     }
 
 -- The next match among the bytes that are held was found.
-pub search-some : (s : Scanned) (Reads : Anchored → List ℕ → StateID → Type 0) (matches : StateID → List ℕ) (start sid : StateID) (stop : Stop) (o : Occurrence) (y z : Steps)
+pub search-some : (s : Scanned) (Reads : Anchored → List ℕ → StateID → Type 0) (matches : StateID → List ℕ) (start sid : StateID) (stop : Advance) (o : Occurrence) (y z : Steps)
     → ((text : List ℕ) (state : StateID) → Reads No text state → Tells s.built.dictionary No text (matches state))
     → ((text : List ℕ) (state : StateID) → Reads No text state → (live : Option ℕ) × IsLive s.built.dictionary false text live)
     → StandsInState (Reads No) s start sid
-    → StopsAtMatch s.built Reads matches sid (drop s.at (read_by s)) stop y z
-    → stop.matches ≡ true
+    → StopsAtMatch s.built Reads matches sid (drop s.at (read_by s)) stop true y z
     → CanBeCounted (read_by s)
     → Some o ≡ option_map (ending_at s.built.dictionary (s.at + stop.taken)) (slice_get (matches stop.sid) 0)
     → SearchesOn (Reads No) s start (record { progress = record { sid = start; from = s.from; at = s.at + stop.taken; last = s.at + stop.taken }; found = Some o }) y z
-search-some s Reads matches start sid stop o y z tells lives stands stops matched countable is =
+search-some s Reads matches start sid stop o y z tells lives stands stops countable is =
     let m = s.built.dictionary in
     let x = read_by s in
     let course = stands.course in
@@ -291,20 +297,23 @@ search-some s Reads matches start sid stop o y z tells lives stands stops matche
     let to : ℕ = s.at + stop.taken in
     let rest = length-drop s.at x in
     let within = stops.within in
-    let there = stops.there matched in
-    let some = there.0 in
+    let there = stops.there refl in
     let text = slice_range x s.last to in
     let long = slice_range-length x s.last to (omega arith) (omega arith) in
-    let reads = reads-on s Reads matches sid stop y z ordered stands.reads stops in
+    let reads = reads-on s Reads matches sid stop true y z ordered stands.reads stops in
+    let still = λ (le : stop.taken ≤ 0).
+    let same : s.at ≡ to = omega (arith, le) in
+    told-some m text (matches stop.sid) course.standard (tells text stop.sid reads) there (subst (λ (n : ℕ). IsBest Standard (whole m (slice_range x s.last n) false) None) same stands.quiet) in
+    let some : 0 < stop.taken = ⊎_elim (λ (lt : 0 < stop.taken). lt) (λ (le : stop.taken ≤ 0). absurd (still le)) (cases_lt 0 stop.taken) in
     let before = lives (since_last s) sid stands.reads in
     let after = lives text stop.sid reads in
     let looks : ℕ = looked_of z - looked_of y in
     let paid = stands.lookups before.0 before.1 in
-    let run = cost-on s Reads matches sid stop y z before.0 after.0 ordered stands.reads stops before.1 after.1 in
+    let run = cost-on s Reads matches sid stop true y z before.0 after.0 ordered stands.reads stops before.1 after.1 in
     let more = paid-on s.built.deterministic s.looked (live_len (since_last s) before.0) s.at stop.taken (live_len text after.0) y z paid.0 paid.1 paid.2 run in
     let best = told-best_at m text (matches stop.sid) s.last to o course.standard (omega arith)
-    (λ q h lt. none-ends_before m x s.last s.at to q course.standard ordered (omega arith) (omega arith) stands.quiet (tells-on s Reads matches sid stop y z tells ordered stands.reads stops) h (omega arith))
-    (tells text stop.sid reads) there.1 is in
+    (λ q h lt. none-ends_before m x s.last s.at to q course.standard ordered (omega arith) (omega arith) stands.quiet (tells-on s Reads matches sid stop true y z tells ordered stands.reads stops) h (omega arith))
+    (tells text stop.sid reads) there is in
     let pick = λ (tail : List ℕ). subst (λ (q : Occurrence). IsPick Standard (whole m (x ++ tail) false) s.last (Some s.last) (Some q)) best.2 (pick-since m x tail s.last to best.0 (omega arith) (omega arith) course.filled best.1) in
     let ends = best.3 in
     let starts : s.last + best.0.start ≡ o.start = ap (λ (q : Occurrence). q.start) best.2 in
@@ -340,55 +349,51 @@ progress-same : (s : Scanned) (p : Progress) → p.from ≡ s.from → p.at ≡ 
 progress-same s p f a l = λ i. record { sid = p.sid; from = sym f i; at = sym a i; last = sym l i }
 
 -- where nothing was found
-pub searches-none : (b : Built) (s : Scanned) (Reads : Anchored → List ℕ → StateID → Type 0) (matches : StateID → List ℕ) (start : StateID) (p : Progress) (held : List ℕ) (stop : Stop) (y z : Steps)
+pub searches-none : (b : Built) (s : Scanned) (Reads : Anchored → List ℕ → StateID → Type 0) (matches : StateID → List ℕ) (start : StateID) (p : Progress) (held : List ℕ) (stop : Advance) (y z : Steps)
     → ((text : List ℕ) (state : StateID) → Reads No text state → Tells b.dictionary No text (matches state))
     → ((text : List ℕ) (state : StateID) → Reads No text state → (live : Option ℕ) × IsLive b.dictionary false text live)
     → IsHeldAt b (Reads No) s start p held
-    → StopsAtMatch b Reads matches p.sid (drop (p.at - p.from) held) stop y z
-    → stop.matches ≡ false
+    → StopsAtMatch b Reads matches p.sid (drop (p.at - p.from) held) stop false y z
     → SearchesOn (Reads No) s start (record { progress = record { sid = stop.sid; from = p.from; at = p.at + stop.taken; last = p.last }; found = None }) y z
-searches-none b s Reads matches start p held stop y z tells lives is stops none =
+searches-none b s Reads matches start p held stop y z tells lives is stops =
     let rest : drop (p.at - p.from) held ≡ drop s.at (read_by s) = rest-held (read_by s) held s.from s.at p.from p.at is.from is.at is.bytes is.stands.course.kept.1 in
-    let here : StopsAtMatch b Reads matches p.sid (drop s.at (read_by s)) stop y z = subst (λ (l : List ℕ). StopsAtMatch b Reads matches p.sid l stop y z) rest stops in
+    let here : StopsAtMatch b Reads matches p.sid (drop s.at (read_by s)) stop false y z = subst (λ (l : List ℕ). StopsAtMatch b Reads matches p.sid l stop false y z) rest stops in
     subst (λ (q : Progress). SearchesOn (Reads No) s start (record { progress = record { sid = stop.sid; from = q.from; at = q.at + stop.taken; last = q.last }; found = None }) y z) (progress-same s p is.from is.at is.last)
     (search-none s Reads matches start p.sid stop y z
     (subst (λ (d : Built). (text : List ℕ) (state : StateID) → Reads No text state → Tells d.dictionary No text (matches state)) (sym is.built) tells)
     (subst (λ (d : Built). (text : List ℕ) (state : StateID) → Reads No text state → (live : Option ℕ) × IsLive d.dictionary false text live) (sym is.built) lives)
     is.stands
-    (subst (λ (d : Built). StopsAtMatch d Reads matches p.sid (drop s.at (read_by s)) stop y z) (sym is.built) here)
-    none)
+    (subst (λ (d : Built). StopsAtMatch d Reads matches p.sid (drop s.at (read_by s)) stop false y z) (sym is.built) here))
 
 -- where a match was found
-pub searches-some : (b : Built) (s : Scanned) (Reads : Anchored → List ℕ → StateID → Type 0) (matches : StateID → List ℕ) (start : StateID) (p : Progress) (held : List ℕ) (stop : Stop) (o : Occurrence) (y z : Steps)
+pub searches-some : (b : Built) (s : Scanned) (Reads : Anchored → List ℕ → StateID → Type 0) (matches : StateID → List ℕ) (start : StateID) (p : Progress) (held : List ℕ) (stop : Advance) (o : Occurrence) (y z : Steps)
     → ((text : List ℕ) (state : StateID) → Reads No text state → Tells b.dictionary No text (matches state))
     → ((text : List ℕ) (state : StateID) → Reads No text state → (live : Option ℕ) × IsLive b.dictionary false text live)
     → IsHeldAt b (Reads No) s start p held
-    → StopsAtMatch b Reads matches p.sid (drop (p.at - p.from) held) stop y z
-    → stop.matches ≡ true
+    → StopsAtMatch b Reads matches p.sid (drop (p.at - p.from) held) stop true y z
     → Some o ≡ option_map (ending_at b.dictionary (p.at + stop.taken)) (slice_get (matches stop.sid) 0)
     → SearchesOn (Reads No) s start (record { progress = record { sid = start; from = p.from; at = p.at + stop.taken; last = p.at + stop.taken }; found = Some o }) y z
-searches-some b s Reads matches start p held stop o y z tells lives is stops matched found =
+searches-some b s Reads matches start p held stop o y z tells lives is stops found =
     let rest : drop (p.at - p.from) held ≡ drop s.at (read_by s) = rest-held (read_by s) held s.from s.at p.from p.at is.from is.at is.bytes is.stands.course.kept.1 in
-    let here : StopsAtMatch b Reads matches p.sid (drop s.at (read_by s)) stop y z = subst (λ (l : List ℕ). StopsAtMatch b Reads matches p.sid l stop y z) rest stops in
+    let here : StopsAtMatch b Reads matches p.sid (drop s.at (read_by s)) stop true y z = subst (λ (l : List ℕ). StopsAtMatch b Reads matches p.sid l stop true y z) rest stops in
     let at : Some o ≡ option_map (ending_at b.dictionary (s.at + stop.taken)) (slice_get (matches stop.sid) 0) = subst (λ (n : ℕ). Some o ≡ option_map (ending_at b.dictionary (n + stop.taken)) (slice_get (matches stop.sid) 0)) is.at found in
     subst (λ (q : Progress). SearchesOn (Reads No) s start (record { progress = record { sid = start; from = q.from; at = q.at + stop.taken; last = q.at + stop.taken }; found = Some o }) y z) (progress-same s p is.from is.at is.last)
     (search-some s Reads matches start p.sid stop o y z
     (subst (λ (d : Built). (text : List ℕ) (state : StateID) → Reads No text state → Tells d.dictionary No text (matches state)) (sym is.built) tells)
     (subst (λ (d : Built). (text : List ℕ) (state : StateID) → Reads No text state → (live : Option ℕ) × IsLive d.dictionary false text live) (sym is.built) lives)
     is.stands
-    (subst (λ (d : Built). StopsAtMatch d Reads matches p.sid (drop s.at (read_by s)) stop y z) (sym is.built) here)
-    matched
+    (subst (λ (d : Built). StopsAtMatch d Reads matches p.sid (drop s.at (read_by s)) stop true y z) (sym is.built) here)
     is.countable
     (subst (λ (d : Built). Some o ≡ option_map (ending_at d.dictionary (s.at + stop.taken)) (slice_get (matches stop.sid) 0)) (sym is.built) at))
 
 -- the bytes since the last match are no more than there are places before where the search stands
-pub reached-text : (b : Built) (s : Scanned) (Reads : Anchored → List ℕ → StateID → Type 0) (matches : StateID → List ℕ) (start : StateID) (p : Progress) (held : List ℕ) (stop : Stop) (y z : Steps)
+pub reached-text : (b : Built) (s : Scanned) (Reads : Anchored → List ℕ → StateID → Type 0) (matches : StateID → List ℕ) (start : StateID) (p : Progress) (held : List ℕ) (stop : Advance) (y z : Steps)
     → IsHeldAt b (Reads No) s start p held
-    → StopsAtMatch b Reads matches p.sid (drop (p.at - p.from) held) stop y z
+    → StopsAtMatch b Reads matches p.sid (drop (p.at - p.from) held) stop true y z
     → (text : List ℕ) × Reads No text stop.sid × (length text ≤ p.at + stop.taken)
 reached-text b s Reads matches start p held stop y z is stops =
     let rest : drop (p.at - p.from) held ≡ drop s.at (read_by s) = rest-held (read_by s) held s.from s.at p.from p.at is.from is.at is.bytes is.stands.course.kept.1 in
-    let here : StopsAtMatch b Reads matches p.sid (drop s.at (read_by s)) stop y z = subst (λ (l : List ℕ). StopsAtMatch b Reads matches p.sid l stop y z) rest stops in
+    let here : StopsAtMatch b Reads matches p.sid (drop s.at (read_by s)) stop true y z = subst (λ (l : List ℕ). StopsAtMatch b Reads matches p.sid l stop true y z) rest stops in
     let ordered = is.stands.course.ordered in
     let at = is.at in
     let within = here.within in

@@ -1,23 +1,26 @@
 -- What the matches of a stream read and give, turn by turn.
-use Rattle.std.proofs.Common.{◌≡◌, ◌≢◌, ◌⊎◌, ⊎_elim, inl, inr, ℕ, ◌+◌, ◌-◌, ◌<◌, ◌≤◌, Bool, true, false, IsTrue, List, [], ◌∷◌, ◌++◌, length, take, Option, None, Some, Result, Ok, Err, sym, ap, subst, refl, ◌∙◌, arith, append-nil, append_assoc, length-append}
+use Rattle.std.proofs.Common.{◌≡◌, ◌≢◌, ◌⊎◌, ⊎_elim, inl, inr, ℕ, ◌+◌, ◌-◌, ◌<◌, ◌≤◌, true, false, IsTrue, List, [], ◌∷◌, ◌++◌, length, take, Option, None, Some, Ok, Err, sym, ap, subst, refl, ◌∙◌, arith, append-nil, append_assoc, length-append}
 use Rattle.std.specs.Io.KnownBytes.{Consumes}
-use Rattle.std.specs.List.{All, concat}
+use Rattle.std.specs.List.{concat}
 use Rattle.std.proofs.KnownBytes.{Consumes-nil, Consumes-trans}
 use Rattle.std.proofs.Math.Seq.{take-append_seam}
 use Rattle.std.proofs.lemmas.Bool.{false≢true}
-use Rattle.std.proofs.lemmas.List.Elements.{All-push}
+use Rattle.std.proofs.lemmas.List.Elements.{All-pop, All-push}
 use Rattle.std.proofs.lemmas.List.Folds.{concat-append}
 use Rattle.ac_input.specs.declared.steps.Steps.{Steps}
 use Rattle.ac_input.specs.Occurrence.{Occurrence}
 use Rattle.ac_automaton.specs.Automaton.{Built}
 use Rattle.ac_automaton.specs.Replace.{matches_in}
 use Rattle.ac_automaton.specs.Stream.{CanBeCounted, FindsHeld, HasRead, IsSearched, ReadsMore, ReadsNothing, ScanCounts, Scanned, matches_read, read_by, room_of}
-use Rattle.ac_automaton.specs.StreamIter.{AreAllGiven, AreFilled, EndsInLastPiece, HasGained, IsStopped, IsNextMatch, NextGives, StaysStopped, TurnGives, TurnReads}
+use Rattle.ac_automaton.specs.Moved.{AreFilled}
+use Rattle.ac_automaton.specs.StreamIter.{AreAllGiven, EndsInLastPiece, HasGained, IsStopped, IsNextMatch, NextGives, StaysStopped, TurnGives, TurnReads}
 use Rattle.ac_automaton.specs.Watched.{NoneTaken, has_ended, inner_of, pieces_of}
+use Rattle.ac_automaton.proofs.StreamReplaceLemmas.{still-open}
 use Rattle.ac_automaton.specs.declared.error.StreamError.{StreamError}
 use Rattle.ac_automaton.specs.declared.error.StreamError.TheVariants.{Config, Read, Write, WriteZero, Memory, Position}
 use Rattle.ac_automaton.specs.declared.stream.Turn.TheVariants.{Found, More, Over, Failed}
 use Rattle.ac_automaton.specs.declared.watched.Watched.{Watched}
+use Rattle.ac_automaton.proofs.MovedLemmas.{AreFilled-pop, AreFilled-push}
 
 -- ---- counting
 
@@ -65,6 +68,7 @@ gained-none remaining s before = record {
   pieces = sym (append-nil s.pieces);
   short = λ k d lt. absurd (omega arith);
   reader = sym (append-nil (pieces_of before));
+  ended = λ filled. refl;
   failures = omega arith;
   writes = record { taken = refl; stalls = refl };
   device = Consumes-nil (remaining (inner_of before));
@@ -77,6 +81,7 @@ gained-same remaining s t u before after gained failed has nothing = record {
   pieces = nothing.pieces ∙ has.pieces;
   short = has.short;
   reader = has.reader;
+  ended = has.ended;
   failures = has.failures;
   writes = has.writes;
   device = has.device;
@@ -92,6 +97,9 @@ gained-more remaining s t u before mid after gained piece failed has turn =
       pieces = read.pieces ∙ ap (λ (l : List (List ℕ)). l ++ piece ∷ []) (turn.nothing.pieces ∙ has.pieces) ∙ append_assoc s.pieces gained (piece ∷ []);
       short = All-push (λ l. length l ≤ room_of s.built) gained piece has.short (subst (λ (b : Built). length piece ≤ room_of b) built read.short);
       reader = read.reader ∙ ap (λ (l : List (List ℕ)). l ++ piece ∷ []) has.reader ∙ append_assoc (pieces_of before) gained (piece ∷ []);
+      ended = λ filled.
+          let parts = AreFilled-pop gained piece filled in
+          still-open (has_ended after) piece read.ended parts.1 ∙ sym turn.unended ∙ has.ended parts.0;
       failures = let e = read.failures in let f = has.failures in omega arith;
       writes = record { taken = read.writes.taken ∙ has.writes.taken; stalls = read.writes.stalls ∙ has.writes.stalls };
       device = subst (λ (l : List ℕ). Consumes (remaining (inner_of before)) (remaining (inner_of after)) l) (sym (concat-append gained (piece ∷ []) ∙ ap (λ (l : List ℕ). concat gained ++ l) (append-nil piece)))
@@ -148,7 +156,7 @@ turned-more remaining s t u before mid after x y z has turn counts =
     record {
       gained = has.gained ++ piece ∷ [];
       has = gained-more remaining s t u before mid after has.gained piece 0 has.has turn.1;
-      filled = All-push (λ l. l ≢ []) has.gained piece has.filled turn.2;
+      filled = AreFilled-push has.gained piece has.filled turn.2;
       given = read.given ∙ given ∙ has.given;
       fresh = λ some. (omega arith, λ e. turn.2 (read.ended.0 e), turn.3);
       first = λ none. absurd (more-some has.gained piece none);
@@ -213,7 +221,7 @@ turned-over {R} remaining s t u before mid after x y has (inl stopped) = (
 turned-over remaining s t u before mid after x y has (inr turn) = (
   has.gained ++ [] ∷ [],
   gained-more remaining s t u before mid after has.gained [] 0 has.has turn,
-  inr ((has.gained, has.filled, refl), turn.read.at_end refl refl),
+  inr ((has.gained, has.filled, refl), all-given-still remaining t u mid after 0 turn, turn.read.at_end refl refl),
   turn.read.given ∙ turn.given ∙ has.given,
   inl (turn.read.ended.1 refl, all-given-still remaining t u mid after 0 turn),
 )
@@ -235,7 +243,7 @@ turned-failed remaining s t u before mid after x y Memory has turn = turn
 turned-failed remaining s t u before mid after x y Position has turn = (
   has.gained ++ turn.0 ∷ [],
   gained-more remaining s t u before mid after has.gained turn.0 0 has.has turn.1,
-  All-push (λ l. l ≢ []) has.gained turn.0 has.filled turn.2,
+  AreFilled-push has.gained turn.0 has.filled turn.2,
   turn.1.read.given ∙ turn.1.given ∙ has.given,
   turn.3,
 )

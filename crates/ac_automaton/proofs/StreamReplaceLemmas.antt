@@ -1,14 +1,13 @@
 -- What a replacement over a stream has read and written, from one read to the next, and at its end.
-use Rattle.std.proofs.Common.{◌≡◌, ◌≢◌, ◌↔◌, ℕ, ◌+◌, ◌-◌, ◌*◌, ◌<◌, ◌≤◌, max, Bool, true, false, IsTrue, List, [], ◌∷◌, ◌++◌, length, take, drop, Option, Some, None, Result, Ok, Err, refl, sym, ap, ◌∙◌, subst, arith, append_assoc, add-zero, ⊎_elim}
+use Rattle.std.proofs.Common.{◌≡◌, ◌≢◌, ◌↔◌, ℕ, ◌+◌, ◌-◌, ◌<◌, ◌≤◌, Bool, true, false, IsTrue, List, [], ◌∷◌, ◌++◌, length, take, drop, Option, None, Result, Ok, Err, refl, sym, ap, ◌∙◌, subst, arith, append_assoc, add-zero, ⊎_elim}
 use Rattle.std.specs.List.{concat}
 use Rattle.std.specs.Prelude.{slice_index_or, IfErr, OnErr, OnOk}
-use Rattle.std.specs.Io.KnownBytes.{Appends, Consumes, IsAtEnd}
+use Rattle.std.specs.Io.KnownBytes.{Appends, Consumes}
 use Rattle.std.proofs.KnownBytes.{Appends-nil, Appends-trans, Consumes-nil, Consumes-trans}
 use Rattle.std.proofs.lemmas.List.{append-nil, drop-drop, length-append, same_from_push, take-append-le, take_all, take_rest}
 use Rattle.std.proofs.lemmas.List.Folds.{concat-append}
 use Rattle.std.proofs.lemmas.Bool.{cases_lt}
 use Rattle.ac_input.specs.declared.search.MatchKind.TheVariants.{Standard}
-use Rattle.ac_input.specs.declared.steps.Steps.{Steps}
 use Rattle.ac_input.specs.BeginningLaws.{IsBeginning}
 use Rattle.ac_input.specs.Dictionary.{whole}
 use Rattle.ac_input.specs.Occurrence.{Occurrence, starting_at}
@@ -23,13 +22,14 @@ use Rattle.ac_automaton.specs.Output.{Sent, Stopped}
 use Rattle.ac_automaton.specs.Replace.{LieInOrder, matches_in}
 use Rattle.ac_automaton.specs.Stream.{CanBeCounted, HasRead, IsOnCourse, IsSearched, ReadsMore, Scanned, cut_of, fresh_scan, held_by, keep_of, matches_read, read_by}
 use Rattle.ac_automaton.specs.StreamReplace.{HasReplaced, IsAtCut, IsPlaced, IsReading, IsBegun, IsReplacedFront, ReplacedToFailedWrite, ReplacesStream, SendsTo, StopsSending, replaced_in, text_to}
-use Rattle.ac_automaton.specs.Watched.{IsOfWrite, failures_of, inner_of, pieces_of, stalls_of, taken_of}
+use Rattle.ac_automaton.specs.Watched.{IsOfWrite, inner_of, pieces_of, stalls_of, taken_of}
 use Rattle.ac_automaton.specs.declared.error.StreamError.{StreamError}
 use Rattle.ac_automaton.specs.declared.error.StreamError.TheVariants.{Config, Read, Write, WriteZero, Memory, Position}
 use Rattle.ac_automaton.specs.declared.watched.Watched.{Watched}
 use Rattle.ac_automaton.proofs.IterLemmas.{occurs-not_empty}
+pub use Rattle.ac_automaton.proofs.MovedLemmas.{AreFilled-push}
 use Rattle.ac_automaton.proofs.StreamCutLemmas.{matches-cut, matches-front, matches-walk}
-use Rattle.ac_automaton.proofs.StreamSendLemmas.{cut-within, lies-wider, text-begins}
+use Rattle.ac_automaton.proofs.StreamSendLemmas.{cut-within, text-begins}
 use Rattle.ac_automaton.proofs.StreamTextLemmas.{replaced-grows}
 
 -- ---- pieces
@@ -37,11 +37,6 @@ use Rattle.ac_automaton.proofs.StreamTextLemmas.{replaced-grows}
 -- the bytes of the pieces, with one more
 concat-push : (pieces : List (List ℕ)) (piece : List ℕ) → concat (pieces ++ piece ∷ []) ≡ concat pieces ++ piece
 concat-push pieces piece = concat-append pieces (piece ∷ []) ∙ ap (λ (t : List ℕ). concat pieces ++ t) (append-nil piece)
-
--- one more piece that isn't empty
-pub AreFilled-push : (pieces : List (List ℕ)) (piece : List ℕ) → AreFilled pieces → piece ≢ [] → AreFilled (pieces ++ piece ∷ [])
-AreFilled-push [] piece f n = (n, tt)
-AreFilled-push (p ∷ ps) piece f n = (f.0, AreFilled-push ps piece f.1 n)
 
 -- all pieces but the last
 but_last-push : (pieces : List (List ℕ)) (piece : List ℕ) → but_last (pieces ++ piece ∷ []) ≡ pieces
@@ -85,7 +80,7 @@ pub taken-none : {W : Type 0} (contents : W → Option (List ℕ)) (writer : Wat
 taken-none contents writer = record { taken = sym (append-nil _); failures = sym (add-zero _); stalls = sym (add-zero _); device = Appends-nil (contents (inner_of writer)) }
 
 -- more was written
-taken-sent : {W : Type 0} (contents : W → Option (List ℕ)) (old mid new : Watched W) (text bytes : List ℕ) → HasTaken contents old mid text 0 0 → Sent contents mid new [] [] bytes → HasTaken contents old new (text ++ bytes) 0 0
+pub taken-sent : {W : Type 0} (contents : W → Option (List ℕ)) (old mid new : Watched W) (text bytes : List ℕ) → HasTaken contents old mid text 0 0 → Sent contents mid new [] [] bytes → HasTaken contents old new (text ++ bytes) 0 0
 taken-sent contents old mid new text bytes t s =
     let same : s.gained ≡ bytes = sym (append-nil s.gained) ∙ s.order in
     record {
@@ -96,7 +91,7 @@ taken-sent contents old mid new text bytes t s =
     }
 
 -- a write stopped
-taken-stopped : {W : Type 0} (contents : W → Option (List ℕ)) (old mid new : Watched W) (text bytes : List ℕ) (stalls : ℕ) (h : Stopped contents mid new [] bytes) → HasTaken contents old mid text 0 0 → stalls_of new ≡ stalls_of mid + stalls → HasTaken contents old new (text ++ h.gained) 1 stalls
+pub taken-stopped : {W : Type 0} (contents : W → Option (List ℕ)) (old mid new : Watched W) (text bytes : List ℕ) (stalls : ℕ) (h : Stopped contents mid new [] bytes) → HasTaken contents old mid text 0 0 → stalls_of new ≡ stalls_of mid + stalls → HasTaken contents old new (text ++ h.gained) 1 stalls
 taken-stopped contents old mid new text bytes stalls h t stalled =
     record {
       taken = h.taken ∙ ap (λ (xs : List ℕ). xs ++ h.gained) t.taken ∙ append_assoc (taken_of old) text h.gained;
@@ -129,7 +124,7 @@ front-at_cut b replacements s at built place =
     })
 
 -- nothing matches in an empty text
-nothing-matches : (b : Built) (os : List Occurrence) → 1 ≤ shortest b.dictionary.patterns → IsWalk Standard (whole b.dictionary [] false) 0 None os → [] ≡ os
+pub nothing-matches : (b : Built) (os : List Occurrence) → 1 ≤ shortest b.dictionary.patterns → IsWalk Standard (whole b.dictionary [] false) 0 None os → [] ≡ os
 nothing-matches b [] some walk = refl
 nothing-matches b (o ∷ os) some walk =
     let s = whole b.dictionary [] false in
@@ -137,6 +132,51 @@ nothing-matches b (o ∷ os) some walk =
     let filled = occurs-not_empty (starting_at s found.0) o (omega arith) some found.2 in
     let within : o.end ≤ 0 = (pick-within Standard s 0 None o walk.0).2 in
     absurd (omega arith)
+
+-- ---- what a read leaves as it was
+
+module _ {R : Type 0} (remaining : R → Option (List ℕ)) (s t : Scanned) (at : ℕ) (r r1 : Watched R) (piece : List ℕ) (failed : ℕ) (place : IsAtCut s at) (read : HasRead remaining s t r r1 piece failed) where
+  -- all that was read
+  pub read-more : read_by t ≡ read_by s ++ piece
+  read-more = ap concat read.pieces ∙ concat-push s.pieces piece
+
+  -- the same, where the read gave nothing
+  pub read-same : piece ≡ [] → read_by t ≡ read_by s
+  read-same none = read-more ∙ ap (λ (x : List ℕ). read_by s ++ x) none ∙ append-nil (read_by s)
+
+  -- the place lies within it
+  pub place-within : at ≤ length (read_by s)
+  place-within = let is = place.cut in let le = cut-within s place.placed.course in omega arith
+
+  -- the cut stays
+  pub same-cut : at ≤ cut_of t
+  same-cut =
+      let is : at ≡ cut_of s = place.cut in
+      let keep : keep_of t.built ≡ keep_of s.built = ap keep_of read.built in
+      let last : t.last ≡ s.last = read.last in
+      let there : t.at ≡ s.at = read.at in
+      omega arith
+
+  -- what was read before the last piece
+  pub before-last : concat (but_last t.pieces) ≡ read_by s
+  before-last = ap (λ (ps : List (List ℕ)). concat (but_last ps)) read.pieces ∙ ap concat (but_last-push s.pieces piece)
+
+  -- the matches that were given lie in order
+  pub same-lies : LieInOrder (length t.built.dictionary.patterns) at 0 t.given
+  same-lies = subst (λ (c : Built). LieInOrder (length c.dictionary.patterns) at 0 t.given) (sym read.built) (subst (LieInOrder (length s.built.dictionary.patterns) at 0) (sym read.given) place.placed.lies)
+
+  -- the search stands at the place
+  pub placed-after : IsOnCourse t → CanBeCounted (read_by t) → IsPlaced t at
+  placed-after course countable =
+      let from : t.from ≤ cut_of s = read.from in
+      let is : at ≡ cut_of s = place.cut in
+      let last : t.last ≡ s.last = read.last in
+      let before : s.last ≤ at = place.placed.last in
+      record { course = course; countable = countable; held = omega arith; last = omega arith; cut = same-cut; lies = same-lies }
+
+  -- all matches were given, where the read gave nothing
+  pub given-all : piece ≡ [] → t.given ≡ matches_read t
+  given-all none = read.given ∙ place.all ∙ ap (λ (c : Built). matches_in c (read_by s)) (sym read.built) ∙ ap (matches_in t.built) (sym (read-same none))
 
 -- ---- from one read to the next
 
@@ -157,58 +197,28 @@ module _ {R W : Type 0} (remaining : R → Option (List ℕ)) (contents : W → 
   }
 
   module _ (s t : Scanned) (at : ℕ) (r0 r r1 : Watched R) (w0 w : Watched W) (piece : List ℕ) (failed : ℕ) (h : HasReplaced remaining contents replacements b s at r0 r w0 w) (read : HasRead remaining s t r r1 piece failed) where
-    -- all that was read
-    read-more : read_by t ≡ read_by s ++ piece
-    read-more = ap concat read.pieces ∙ concat-push s.pieces piece
-
-    -- the place lies within it
-    place-within : at ≤ length (read_by s)
-    place-within = let is = h.place.cut in let le = cut-within s h.place.placed.course in omega arith
-
     -- what was written stays
     pub same-text : text_to t replacements at ≡ text_to s replacements at
     same-text =
-        ap (λ (x : List ℕ). replaced_from 0 (take at x) replacements t.given) read-more
-        ∙ ap (λ (x : List ℕ). replaced_from 0 x replacements t.given) (take-append-le at (read_by s) piece place-within)
+        ap (λ (x : List ℕ). replaced_from 0 (take at x) replacements t.given) (read-more remaining s t at r r1 piece failed h.place read)
+        ∙ ap (λ (x : List ℕ). replaced_from 0 x replacements t.given) (take-append-le at (read_by s) piece (place-within remaining s t at r r1 piece failed h.place read))
         ∙ ap (replaced_from 0 (take at (read_by s)) replacements) read.given
-
-    -- the cut stays
-    same-cut : at ≤ cut_of t
-    same-cut =
-        let is : at ≡ cut_of s = h.place.cut in
-        let keep : keep_of t.built ≡ keep_of s.built = ap keep_of read.built in
-        let last : t.last ≡ s.last = read.last in
-        let place : t.at ≡ s.at = read.at in
-        omega arith
-
-    -- what was read before the last piece
-    before-last : concat (but_last t.pieces) ≡ read_by s
-    before-last = ap (λ (ps : List (List ℕ)). concat (but_last ps)) read.pieces ∙ ap concat (but_last-push s.pieces piece)
-
-    -- the matches that were given lie in order
-    same-lies : LieInOrder (length t.built.dictionary.patterns) at 0 t.given
-    same-lies = subst (λ (c : Built). LieInOrder (length c.dictionary.patterns) at 0 t.given) (sym read.built) (subst (LieInOrder (length s.built.dictionary.patterns) at 0) (sym read.given) h.place.placed.lies)
 
     -- the search stands after the read
     pub reading : IsOnCourse t → CanBeCounted (read_by t) → IsReading contents replacements b t at w0 w
     reading course countable =
-        let from : t.from ≤ cut_of s = read.from in
-        let is : at ≡ cut_of s = h.place.cut in
-        let last : t.last ≡ s.last = read.last in
-        let before : s.last ≤ at = h.place.placed.last in
         let front = front-at_cut b replacements s at h.built h.place in
         record {
           built = read.built ∙ h.built;
-          placed = record { course = course; countable = countable; held = omega arith; last = omega arith; cut = same-cut; lies = same-lies };
-          front = subst (λ (x : List ℕ). IsReplacedFront b replacements x (text_to t replacements at)) (sym before-last) (subst (IsReplacedFront b replacements (read_by s)) (sym same-text) front);
+          placed = placed-after remaining s t at r r1 piece failed h.place read course countable;
+          front = subst (λ (x : List ℕ). IsReplacedFront b replacements x (text_to t replacements at)) (sym (before-last remaining s t at r r1 piece failed h.place read)) (subst (IsReplacedFront b replacements (read_by s)) (sym same-text) front);
           written = subst (λ (x : List ℕ). HasTaken contents w0 w x 0 0) (sym same-text) h.written;
         }
 
     -- all matches were given, where the read gave nothing
     pub all-given : piece ≡ [] → t.given ≡ matches_read t
     all-given none =
-        let same : read_by t ≡ read_by s = read-more ∙ ap (λ (x : List ℕ). read_by s ++ x) none ∙ append-nil (read_by s) in
-        read.given ∙ h.place.all ∙ ap (λ (c : Built). matches_in c (read_by s)) (sym read.built) ∙ ap (matches_in t.built) (sym same)
+        given-all remaining s t at r r1 piece failed h.place read none
 
     pub all-whole : piece ≡ [] → AreWhole t.pieces
     all-whole none = (s.pieces, h.filled, read.pieces ∙ ap (λ (x : List ℕ). s.pieces ++ x ∷ []) none)
@@ -218,13 +228,13 @@ module _ {R W : Type 0} (remaining : R → Option (List ℕ)) (contents : W → 
 
     pub all-searched : piece ≡ [] → IsSearched t
     all-searched none =
-        let same : read_by t ≡ read_by s = read-more ∙ ap (λ (x : List ℕ). read_by s ++ x) none ∙ append-nil (read_by s) in
+        let same : read_by t ≡ read_by s = read-same remaining s t at r r1 piece failed h.place read none in
         read.at ∙ h.place.searched ∙ ap length (sym same)
 
     -- the read failed
     pub ends-failed_read : (error : _) → failed ≡ 1 → piece ≡ [] → ReplacesStream remaining contents b replacements r0 r1 w0 w (Err (Read error))
     ends-failed_read error fails none =
-        let same : read_by t ≡ read_by s = read-more ∙ ap (λ (x : List ℕ). read_by s ++ x) none ∙ append-nil (read_by s) in (
+        let same : read_by t ≡ read_by s = read-same remaining s t at r r1 piece failed h.place read none in (
           record { pieces = t.pieces; failed_reads = failed; taken = text_to s replacements at; failed_writes = 0; stalled_writes = 0 },
           record { reader = given-more remaining s t r0 r r1 piece failed h.read read; writer = h.written },
           record {
@@ -236,7 +246,7 @@ module _ {R W : Type 0} (remaining : R → Option (List ℕ)) (contents : W → 
     -- the input is too long
     pub ends-too_long : failed ≡ 0 → IsOnCourse t → ¬ CanBeCounted (read_by t) → ReplacesStream remaining contents b replacements r0 r1 w0 w (Err Position)
     ends-too_long fails course long =
-        let begins_all = text-begins t replacements at course same-cut same-lies in
+        let begins_all = text-begins t replacements at course (same-cut remaining s t at r r1 piece failed h.place read) (same-lies remaining s t at r r1 piece failed h.place read) in
         let of_built = subst (λ (c : Built). IsBeginning (text_to t replacements at) (replaced_in c replacements (read_by t))) (read.built ∙ h.built) begins_all in (
           record { pieces = t.pieces; failed_reads = failed; taken = text_to s replacements at; failed_writes = 0; stalled_writes = 0 },
           record { reader = given-more remaining s t r0 r r1 piece failed h.read read; writer = h.written },

@@ -106,7 +106,7 @@ module _ (replacements : List (List ℕ)) (s t : Scanned) (at : ℕ) (o : Occurr
   match-behind = let from = match-begins s t o finds.0 placed.course.decided course.decided finds.1 in let le = placed.cut in omega arith
 
   -- the text may be written up to its end
-  match-placed : IsPlaced t o.end
+  pub match-placed : IsPlaced t o.end
   match-placed =
       let found = finds.4 in
       let patterns = length s.built.dictionary.patterns in

@@ -1,5 +1,5 @@
 -- What an automaton was built as, what its calls on states say, and what its searches answer and cost.
-use Rattle.std.specs.Prelude.{◌≡◌, ◌≢◌, ◌⊎◌, ◌↔◌, ℕ, ◌<◌, ◌≤◌, Bool, List, [], ◌++◌, length, take, IsTrue, Option, None, Some, slice_get}
+use Rattle.std.specs.Prelude.{◌≡◌, ◌≢◌, ◌⊎◌, ◌↔◌, ℕ, ◌<◌, ◌≤◌, Bool, false, true, List, [], ◌∷◌, ◌++◌, length, take, IsTrue, Option, None, Some}
 use Rattle.ac_input.specs.declared.primitives.state_id.StateID.{StateID}
 use Rattle.ac_input.specs.declared.search.Anchored.{Anchored}
 use Rattle.ac_input.specs.declared.search.Anchored.TheVariants.{No, Yes}
@@ -75,6 +75,15 @@ TakesSome bytes taken = (taken ≤ length bytes) × (0 < length bytes → 0 < ta
 -- no state on the way is special, but for the one after the last of so many bytes
 abbrev pub PassesPlain : (List ℕ → StateID → Type 0) → (StateID → Bool) → StateID → List ℕ → ℕ → Type 0
 PassesPlain Reads special sid bytes taken = (at : ℕ) → 0 < at → at < taken → (mid : StateID) × Leads Reads sid (take at bytes) mid × ¬ IsTrue (special mid)
+
+-- whether there are patterns in a list
+abbrev pub has_some : List ℕ → Bool
+has_some [] = false
+has_some (n ∷ ns) = true
+
+-- whether patterns match at a state
+abbrev pub is_matching : (StateID → List ℕ) → StateID → Bool
+is_matching matches sid = has_some (matches sid)
 
 -- ---- searches
 

@@ -20,7 +20,6 @@ pub mod Automaton
 pub mod Cursor
 pub mod Find
 pub mod Iter
-pub mod PlainAutomaton
 pub mod Overlapping
 pub mod OverlappingIter
 pub mod Replace
@@ -30,4 +29,5 @@ pub mod Scan
 pub mod Moved
 pub mod Output
 pub mod StreamReplace
+pub mod StreamReplaceWith
 pub mod StreamIter

@@ -50,23 +50,22 @@ abbrev pub IsReplaceRefusal : (Anchored → Type 0) → ReplaceError → Type 0
 IsReplaceRefusal supports (Match error) = (¬ supports No) × (error ≡ refusal_of No)
 IsReplaceRefusal supports Memory = supports No
 
--- What a closure of replacement takes and gives: a match, its bytes and the destination; whether to go on, or a refusal, and the
--- destination.
-abbrev pub Replacer : Type 0 → Type 0 → Type 1
-Replacer F D = Mut F (Bor Occurrence × (Bor (List ℕ) × (MutBor D × Unit {0}))) (Result Bool AllocError × (MutBor D × Unit {0}))
+-- What a closure of replacement takes and gives: a match, its bytes and the destination; its answer, and the destination.
+abbrev pub Replacer : Type 0 → Type 0 → Type 0 → Type 1
+Replacer F D A = Mut F (Bor Occurrence × (Bor (List ℕ) × (MutBor D × Unit {0}))) (A × (MutBor D × Unit {0}))
 
 -- in this state it may be called at every match of a pattern below a number, whatever else it is given
-abbrev pub TakesMatches : {F D : Type 0} → Replacer F D → ℕ → F → Type 0
+abbrev pub TakesMatches : {F D A : Type 0} → Replacer F D A → ℕ → F → Type 0
 TakesMatches {F} {D} g patterns f = (found : Bor Occurrence) (bytes : Bor (List ℕ)) (dst : MutBor D) → found.now.pattern < patterns → g.pre f (found, (bytes, (dst, tt)))
 
 -- it may be called so, and where it may, it may again after each call
-pub record IsForMatches {F D : Type 0} (g : Replacer F D) (patterns : ℕ) (f : F) : Type 0 where
+pub record IsForMatches {F D A : Type 0} (g : Replacer F D A) (patterns : ℕ) (f : F) : Type 0 where
   pub takes : TakesMatches g patterns f
-  pub keeps : (state : F) (found : Bor Occurrence) (bytes : Bor (List ℕ)) (dst : MutBor D) (r : Result Bool AllocError) (left : MutBor D) (after : F)
+  pub keeps : (state : F) (found : Bor Occurrence) (bytes : Bor (List ℕ)) (dst : MutBor D) (r : A) (left : MutBor D) (after : F)
       → TakesMatches g patterns state → found.now.pattern < patterns → Called g state (found, (bytes, (dst, tt))) (r, (left, tt)) after → TakesMatches g patterns after
 
 -- one call: at this occurrence, with these bytes and this destination it may answer so, and leave itself and the destination so
-pub record RepliesAt {F D : Type 0} (g : Replacer F D) (f : F) (o : Occurrence) (bytes : List ℕ) (old : D) (r : Result Bool AllocError) (after : F) (new : D) : Type 0 where
+pub record RepliesAt {F D A : Type 0} (g : Replacer F D A) (f : F) (o : Occurrence) (bytes : List ℕ) (old : D) (r : A) (after : F) (new : D) : Type 0 where
   pub found : Bor Occurrence
   pub text : Bor (List ℕ)
   pub dst : MutBor D
@@ -75,21 +74,25 @@ pub record RepliesAt {F D : Type 0} (g : Replacer F D) (f : F) (o : Occurrence) 
   pub called : Called g f (found, (text, (dst, tt))) (r, (left, tt)) after
   pub leaves : left.now ≡ new
 
+-- the closure of a replacement in memory: it answers whether to go on, or a refusal
+abbrev pub MemoryReplacer : Type 0 → Type 0 → Type 1
+MemoryReplacer F D = Replacer F D (Result Bool AllocError)
+
 -- the calls of a closure on destinations that hold these bytes
-abbrev pub calls_of : {F D : Type 0} → (D → List ℕ) → Replacer F D → Calls F
+abbrev pub calls_of : {F D : Type 0} → (D → List ℕ) → MemoryReplacer F D → Calls F
 calls_of {F} {D} held g f o bytes old (Some more) after new = (from to : D) × (held from ≡ old) × (held to ≡ new) × RepliesAt g f o bytes from (Ok more) after to
 calls_of {F} {D} held g f o bytes old None after new = (from to : D) × (error : AllocError) × (held from ≡ old) × (held to ≡ new) × RepliesAt g f o bytes from (Err error) after to
 
 -- what the closure makes of the occurrences of a haystack, one after another, to the end or to its first false
-abbrev pub IsReplacedWith : {F D : Type 0} → (D → List ℕ) → Replacer F D → List ℕ → List Occurrence → F → D → D → Type 0
+abbrev pub IsReplacedWith : {F D : Type 0} → (D → List ℕ) → MemoryReplacer F D → List ℕ → List Occurrence → F → D → D → Type 0
 IsReplacedWith {F} held g haystack os f old new = (last : F) × IsChain (calls_of held g) haystack 0 os f (held old) last (held new)
 
 -- what it has made of them where memory was refused
-abbrev pub IsBrokenOff : {F D : Type 0} → (D → List ℕ) → Replacer F D → List ℕ → List Occurrence → F → D → D → Type 0
+abbrev pub IsBrokenOff : {F D : Type 0} → (D → List ℕ) → MemoryReplacer F D → List ℕ → List Occurrence → F → D → D → Type 0
 IsBrokenOff {F} held g haystack os f old new = (last : F) × IsRefusedChain (calls_of held g) haystack 0 os f (held old) last (held new)
 
 -- The error says what was refused, and what that leaves: the destination as it was where the search is refused, and a value of
 -- the chain where memory is.
-abbrev pub IsRefusedWith : {F D : Type 0} → (D → List ℕ) → Replacer F D → List ℕ → List Occurrence → F → D → D → (Anchored → Type 0) → ReplaceError → Type 0
+abbrev pub IsRefusedWith : {F D : Type 0} → (D → List ℕ) → MemoryReplacer F D → List ℕ → List Occurrence → F → D → D → (Anchored → Type 0) → ReplaceError → Type 0
 IsRefusedWith held g haystack os f old new supports (Match error) = IsReplaceRefusal supports (Match error) × (new ≡ old)
 IsRefusedWith held g haystack os f old new supports Memory = supports No × IsBrokenOff held g haystack os f old new

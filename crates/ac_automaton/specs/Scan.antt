@@ -1,39 +1,20 @@
--- What a search of a stream keeps between its calls, and how it reads on over what is held.
-use Rattle.std.specs.Prelude.{◌≡◌, ◌≢◌, ℕ, ◌+◌, ◌-◌, ◌*◌, ◌<◌, ◌≤◌, Bool, true, false, IsTrue, List, [], ◌∷◌, ◌++◌, length, take, slice_range, Option, None, Some}
+-- What a search of a stream keeps between its calls, and how it goes on over what is held.
+use Rattle.std.specs.Prelude.{◌≡◌, ℕ, ◌+◌, ◌*◌, ◌≤◌, Bool, true, false, IsTrue, List, [], ◌∷◌, ◌++◌, length, take, slice_range, Option, None, Some}
 use Rattle.std.specs.List.{concat}
 use Rattle.ac_input.specs.declared.primitives.state_id.StateID.{StateID}
-use Rattle.ac_input.specs.declared.search.Anchored.{Anchored}
-use Rattle.ac_input.specs.declared.search.Anchored.TheVariants.{No}
 use Rattle.ac_input.specs.declared.search.MatchKind.TheVariants.{Standard}
 use Rattle.ac_input.specs.declared.steps.Steps.{Steps}
 use Rattle.ac_input.specs.Best.{IsBest}
-use Rattle.ac_input.specs.Dictionary.{Dictionary, IsLive, live_len, whole}
+use Rattle.ac_input.specs.Dictionary.{IsLive, live_len, whole}
 use Rattle.ac_input.specs.Occurrence.{Occurrence}
 use Rattle.ac_input.specs.Steps.{looked_of, scanned_of, Done}
 use Rattle.ac_input.specs.Walk.{IsWalk}
-use Rattle.ac_automaton.specs.Automaton.{Built, Leads, IsReadCost}
+use Rattle.ac_automaton.specs.Automaton.{Built}
 use Rattle.ac_automaton.specs.Buffer.{Held, IsPaid}
-use Rattle.ac_automaton.specs.Cursor.{ending_at}
 use Rattle.ac_automaton.specs.Replace.{matches_in}
 use Rattle.ac_automaton.specs.Stream.{Scanned, CanBeCounted, FindsHeld, IsOnCourse, held_by, keep_of, read_by}
 use Rattle.ac_automaton.specs.declared.stream.scan.Progress.{Progress}
 use Rattle.ac_automaton.specs.declared.stream.scan.Searched.{Searched}
-use Rattle.ac_automaton.specs.declared.stream.scan.Stop.{Stop}
-
--- ---- reading on over bytes
-
--- no pattern matches on the way, but where the last of so many bytes leads
-abbrev pub PassesQuiet : (List ℕ → StateID → Type 0) → (StateID → List ℕ) → StateID → List ℕ → ℕ → Type 0
-PassesQuiet Reads matches sid bytes taken = (at : ℕ) → 0 < at → at < taken → (mid : StateID) × Leads Reads sid (take at bytes) mid × (matches mid ≡ [])
-
--- Reading on from a state stopped at the first state that matches, or after the last byte.
-pub record StopsAtMatch (b : Built) (Reads : Anchored → List ℕ → StateID → Type 0) (matches : StateID → List ℕ) (sid : StateID) (bytes : List ℕ) (stop : Stop) (before after : Steps) : Type 0 where
-  pub within : stop.taken ≤ length bytes
-  pub reads : Leads (Reads No) sid (take stop.taken bytes) stop.sid
-  pub quiet : PassesQuiet (Reads No) matches sid bytes stop.taken
-  pub there : stop.matches ≡ true → (0 < stop.taken) × (matches stop.sid ≢ [])
-  pub none : stop.matches ≡ false → (stop.taken ≡ length bytes) × (0 < stop.taken → matches stop.sid ≡ [])
-  pub cost : IsReadCost b Reads No sid (take stop.taken bytes) before after
 
 -- ---- what is kept
 

@@ -1,12 +1,13 @@
 -- What the matches of a stream, as an iterator, give and read.
 use Rattle.std.specs.Prelude.{◌≡◌, ◌≢◌, ◌⊎◌, ℕ, ◌+◌, ◌-◌, ◌<◌, ◌≤◌, true, false, List, [], ◌∷◌, ◌++◌, length, take, Option, None, Some, Result, Ok, Err}
-use Rattle.std.specs.Borrow.{GName}
+use Rattle.std.specs.Borrow.{Fml, GName, MutBor, RattleType, RestsIfErr}
 use Rattle.std.specs.Io.KnownBytes.{Consumes, IsAtEnd}
 use Rattle.std.specs.List.{All, concat}
 use Rattle.ac_input.specs.Occurrence.{Occurrence}
-use Rattle.ac_automaton.specs.Automaton.{Built}
-use Rattle.ac_automaton.specs.Stream.{CanBeCounted, FindsHeld, HasRead, IsSearched, ReadsNothing, Scanned, fresh_scan, matches_read, read_by, room_of}
+use Rattle.ac_automaton.specs.Moved.{AreFilled, AreWhole}
+use Rattle.ac_automaton.specs.Stream.{CanBeCounted, FindsHeld, HasRead, IsSearched, ReadsNothing, Scanned, matches_read, read_by, room_of}
 use Rattle.ac_automaton.specs.Watched.{pieces_of, has_ended, failures_of, inner_of, NoneTaken}
+use Rattle.ac_automaton.specs.contracts.watched.Watched.{the_row}
 use Rattle.ac_automaton.specs.declared.error.StreamError.{StreamError}
 use Rattle.ac_automaton.specs.declared.error.StreamError.TheVariants.{Config, Read, Write, WriteZero, Memory, Position}
 use Rattle.ac_automaton.specs.declared.stream.StreamFindIter.{StreamFindIter}
@@ -16,24 +17,17 @@ use Rattle.ac_automaton.specs.declared.watched.Watched.{Watched}
 
 -- ---- what was read
 
--- Reads gave these pieces, none longer than the buffer, and so many of them failed. The matches that were given are those that
--- were given before. Where the reader tells what is left of it, that lost the pieces.
+-- Reads gave these pieces, none longer than the buffer, and so many of them failed; no input ends by pieces of some bytes. Where
+-- the reader tells what is left of it, that lost the pieces.
 pub record HasGained {R : Type 0} (remaining : R → Option (List ℕ)) (s t : Scanned) (before after : Watched R) (gained : List (List ℕ)) (failed : ℕ) : Type 0 where
   pub built : t.built ≡ s.built
   pub pieces : t.pieces ≡ s.pieces ++ gained
   pub short : All (λ piece. length piece ≤ room_of s.built) gained
   pub reader : pieces_of after ≡ pieces_of before ++ gained
+  pub ended : AreFilled gained → has_ended after ≡ has_ended before
   pub failures : failures_of after ≡ failures_of before + failed
   pub writes : NoneTaken before after
   pub device : Consumes (remaining (inner_of before)) (remaining (inner_of after)) (concat gained)
-
--- no piece is empty
-abbrev pub AreFilled : List (List ℕ) → Type 0
-AreFilled pieces = All (λ piece. piece ≢ []) pieces
-
--- The pieces are those of an input that was read to its end: the last one is empty, and no other.
-abbrev pub AreWhole : List (List ℕ) → Type 0
-AreWhole pieces = (filled : List (List ℕ)) × AreFilled filled × (pieces ≡ filled ++ [] ∷ [])
 
 -- all matches of what was read were given, and all of it was searched
 abbrev pub AreAllGiven : Scanned → Type 0
@@ -58,7 +52,7 @@ pub record IsNextMatch (s t : Scanned) (o : Occurrence) : Type 0 where
 
 -- What the next item is, and what was read for it. A match is the next one of those that were not given yet. An error is of a read
 -- that failed, when all matches of what was read were given; or there are now more bytes than places. None: nothing is left to
--- come; if anything was read for it, that was to the end.
+-- come; if anything was read for it, that was to the end, and all matches were given.
 abbrev pub NextGives : {R : Type 0} → (R → Option (List ℕ)) → Scanned → Scanned → Watched R → Watched R → Option (Result Occurrence StreamError) → Type 0
 NextGives remaining s t before after (Some (Ok o)) = (gained : List (List ℕ)) × HasGained remaining s t before after gained 0 × AreFilled gained × (t.given ≡ s.given ++ o ∷ []) × (t.last ≡ o.end) × IsNextMatch s t o × EndsInLastPiece t gained o
 NextGives remaining s t before after (Some (Err (Config error))) = ⊥
@@ -67,7 +61,7 @@ NextGives remaining s t before after (Some (Err (Write error))) = ⊥
 NextGives remaining s t before after (Some (Err WriteZero)) = ⊥
 NextGives remaining s t before after (Some (Err Memory)) = ⊥
 NextGives remaining s t before after (Some (Err Position)) = (gained : List (List ℕ)) × HasGained remaining s t before after gained 0 × AreFilled gained × (t.given ≡ s.given) × ¬ CanBeCounted (read_by t)
-NextGives remaining s t before after None = (gained : List (List ℕ)) × HasGained remaining s t before after gained 0 × ((gained ≡ []) ⊎ (AreWhole gained × IsAtEnd (remaining (inner_of after)))) × (t.given ≡ s.given) × IsStopped t after
+NextGives remaining s t before after None = (gained : List (List ℕ)) × HasGained remaining s t before after gained 0 × ((gained ≡ []) ⊎ (AreWhole gained × AreAllGiven t × IsAtEnd (remaining (inner_of after)))) × (t.given ≡ s.given) × IsStopped t after
 
 -- where nothing was left to come, nothing comes, and nothing is read
 abbrev pub StaysStopped : {R : Type 0} → Scanned → Scanned → Watched R → Watched R → Option (Result Occurrence StreamError) → Type 0
@@ -115,3 +109,8 @@ module _ {A R : Type 0} where
   -- the ghost name of the reference to the reader
   abbrev pub reader_name : StreamFindIter A R → GName
   reader_name i = i.reader.ghost_name
+
+-- Where the search is refused, the reader ends as it was. Else the search holds the reference to it, and the reader ends as the last
+-- value under that name.
+abbrev pub RestsIfRefused : (R : RattleType) {A E : Type 0} → MutBor (Watched R.Denot) → Result (StreamFindIter A R.Denot) E → Fml
+RestsIfRefused R reader result = RestsIfErr (the_row R) reader reader_name result (λ last. last ≡ reader.now)

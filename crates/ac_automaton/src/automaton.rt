@@ -47,13 +47,14 @@ pub trait Automaton {
     ghost use Rattle.ac_input.specs.Dictionary.{IsLive};
     ghost use Rattle.ac_input.specs.Tells.{Tells};
     ghost use Rattle.ac_input.specs.Work.{longest, shortest};
-    ghost use Rattle.ac_automaton.specs.Automaton.{Built, IsReached, IsState, AtEach, Leads, IsReadCost, TellsDead, StartIsAlive, StartIsEmpty, IsSpecial, TakesSome, PassesPlain, refusal_of, searched, IsFound, IsFindCost, walk_in, listing_in};
+    ghost use Rattle.ac_automaton.specs.Automaton.{Built, IsReached, IsState, AtEach, Leads, IsReadCost, TellsDead, StartIsAlive, StartIsEmpty, IsSpecial, TakesSome, PassesPlain, is_matching, refusal_of, searched, IsFound, IsFindCost, walk_in, listing_in};
     ghost use Rattle.ac_automaton.specs.Iter.{fresh_walk, left_of};
     ghost use Rattle.ac_automaton.specs.Overlapping.{CameFrom, ShowsNext, IsOverlappingCost, CanOverlap, IsOverlappingRefusal, sums_of};
     ghost use Rattle.ac_automaton.specs.OverlappingIter.{CanRun, IsRunRefusal, fresh_run, rest_of};
     ghost use Rattle.ac_automaton.specs.Stream.{CanStream, IsStreamRefusal, fresh_scan};
     ghost use Rattle.ac_automaton.specs.StreamIter.{progress_of, reader_name, reader_of};
     ghost use Rattle.ac_automaton.specs.StreamReplace.{CostsStream, IsReplaceStreamError, ReplacesStream};
+    ghost use Rattle.ac_automaton.specs.StreamReplaceWith.{ReplacesStreamWith};
     ghost use Rattle.ac_automaton.specs.Watched.{has_ended};
     ghost use Rattle.ac_automaton.specs.Replace.{IsForMatches, IsReplaceRefusal, IsReplacedWith, IsRefusedWith, matches_in, text_matches_in, with_replaced};
 
@@ -113,6 +114,44 @@ pub trait Automaton {
         for (read, byte) in bytes.iter().enumerate() {
             current = self.next_state_counted(anchored, current, *byte, steps);
             if self.is_special(current) {
+                return Advance {
+                    sid: current,
+                    taken: read + 1,
+                };
+            }
+        }
+        Advance {
+            sid: current,
+            taken: bytes.len(),
+        }
+    }
+
+    /// Reads on from a state over bytes, to the first state that matches, or to the last byte; it passes over starts and dead states.
+    /// It takes a byte at least, where there is one; and counts the states that it looks at, as `advance` does.
+    ///
+    /// So a search goes that asks no prefilter: there a start is a state like any other.
+    fn advance_to_match(
+        &self,
+        anchored: Anchored,
+        sid: StateID,
+        bytes: &[u8],
+        steps: &mut Steps,
+    ) -> Advance
+        requires { IsReached (Reads self.now anchored) sid }
+        ensures taken { TakesSome bytes.now result.taken }
+        ensures reads { Leads (Reads self.now anchored) sid
+            (take result.taken bytes.now) result.sid }
+        ensures plain { PassesPlain (Reads self.now anchored) (is_matching (matches self.now)) sid
+            bytes.now result.taken }
+        ensures stops { result.taken < length bytes.now
+            → IsTrue (is_matching (matches self.now) result.sid) }
+        ensures cost { IsReadCost (built self.now) (Reads self.now) anchored sid
+            (take result.taken bytes.now) steps.old steps.new }
+    {
+        let mut current = sid;
+        for (read, byte) in bytes.iter().enumerate() {
+            current = self.next_state_counted(anchored, current, *byte, steps);
+            if self.is_match(current) {
                 return Advance {
                     sid: current,
                     taken: read + 1,
@@ -332,7 +371,7 @@ pub trait Automaton {
         ensures can { OnOk result (CanStream (built self.now) (supports self.now)) }
         ensures refused { IfErr result (IsStreamRefusal (built self.now) (supports self.now)) }
     {
-        stream::stream_find_iter(self, alloc, reader)
+        stream::stream_find_iter(reader, self, alloc)
     }
 
     /// The text with each match exchanged for the replacement of its pattern. There is one replacement for each pattern. A match
@@ -466,5 +505,29 @@ pub trait Automaton {
             steps.old steps.new result }
     {
         stream::replace::replace_all_counted(self, alloc, reader, writer, replacements, steps)
+    }
+
+    /// Writes what is read, and in place of each match what the closure writes: it is given the match, its bytes and the writer, which
+    /// has taken all that stands before the match. The closure must take every pattern's number below
+    /// [`patterns_len`](Automaton::patterns_len), also after each call.
+    ///
+    /// It reads, writes and is refused as `try_stream_replace_all` is, but gathers nothing, so that it takes one buffer alone. What the
+    /// closure refuses ends it, and is answered as it is; so an error may be the closure's.
+    final fn try_stream_replace_all_with<R: Read, W: Write, F>(
+        &self,
+        alloc: Global,
+        reader: &mut Watched<R>,
+        writer: &mut Watched<W>,
+        replace_with: F,
+    ) -> Result<(), StreamError>
+    where
+        F: FnMut(&Match, &[u8], &mut Watched<W>) -> Result<(), StreamError>,
+        requires open { has_ended reader.old ≡ false }
+        requires ready { IsForMatches F.FnMut (length (built self.now).dictionary.patterns)
+            replace_with }
+        ensures { ReplacesStreamWith W.contents F.FnMut R.remaining (built self.now)
+            (supports self.now) replace_with reader.old reader.new writer.old writer.new result }
+    {
+        stream::replace_with::replace_all_with(self, alloc, reader, writer, replace_with)
     }
 }

@@ -151,6 +151,3 @@ impl<'a, 'h, A: Automaton> Iterator for FindIter<'a, 'h, A> {
         self.next_counted(&mut steps)
     }
 }
-
-#[cfg(test)]
-mod tests;

@@ -10,8 +10,6 @@ pub mod iter;
 pub mod overlapping;
 mod replace;
 pub mod stream;
-#[cfg(test)]
-mod tests;
 pub mod watched;
 
 pub use ac_input::pairing::{Pairing, PairingError};

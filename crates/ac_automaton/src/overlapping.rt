@@ -564,6 +564,3 @@ pub fn find_overlapping<A: Automaton>(
     steps.add(&done);
     Ok(())
 }
-
-#[cfg(test)]
-mod tests;

@@ -173,6 +173,3 @@ where
     dst.push_str(&haystack[at..])?;
     Ok(())
 }
-
-#[cfg(test)]
-mod tests;

@@ -11,12 +11,14 @@
 //! [`try_stream_find_iter`](crate::automaton::Automaton::try_stream_find_iter). The first empty read ends it, and so does the first
 //! error.
 ghost use Rattle.std.specs.Prelude.{◌≡◌, false, IfErr, IfOk, OnOk};
+ghost use Rattle.std.specs.Borrow.{sem};
 ghost use Rattle.ac_automaton.specs.Stream.{CanStream, FindsHeld, IsOnCourse, IsStreamRefusal, ScanCounts, fresh_scan};
-ghost use Rattle.ac_automaton.specs.StreamIter.{NextGives, StaysStopped, TurnGives, progress_of, reader_name, reader_of};
+ghost use Rattle.ac_automaton.specs.StreamIter.{NextGives, RestsIfRefused, StaysStopped, TurnGives, progress_of, reader_name, reader_of};
 ghost use Rattle.ac_automaton.specs.Watched.{has_ended};
 
 mod output;
 pub(crate) mod replace;
+pub(crate) mod replace_with;
 mod scan;
 
 use crate::automaton::Automaton;
@@ -50,13 +52,17 @@ enum Turn {
     Failed(StreamError),
 }
 
-/// The matches of a stream, one after another.
+/// The matches of a stream, one after another: as
+/// [`try_stream_find_iter`](crate::automaton::Automaton::try_stream_find_iter), with the reader first. A caller whose own contract
+/// speaks of the reader calls this one: it says of the reader what it is where the search is refused, and only of a first parameter
+/// can a contract say what becomes of what was lent.
 pub fn stream_find_iter<'a, A: Automaton, R: Read>(
+    reader: &'a mut Watched<R>,
     automaton: &'a A,
     alloc: Global,
-    reader: &'a mut Watched<R>,
 ) -> Result<StreamFindIter<'a, A, R>, StreamError>
     requires { has_ended reader.old ≡ false }
+    ensures* rests { sem 𝓛 (RestsIfRefused R.row reader.entry result) }
     ensures fresh { IfOk result
         (λ matches. progress_of matches ≡ fresh_scan (A.built automaton.now)) }
     ensures reader { IfOk result (λ matches. reader_of matches ≡ reader.old) }
@@ -94,6 +100,17 @@ fn search_or_read<A: Automaton, R: Read>(
 }
 
 impl<'a, A: Automaton, R: Read> StreamFindIter<'a, A, R> {
+    /// The reader, as the search left it.
+    ///
+    /// A caller whose own contract speaks of the reader ends the search so. Where the search is dropped, the reader is the same, but
+    /// no contract says so.
+    pub fn into_reader(self) -> &'a mut Watched<R>
+        ensures reader { result.now ≡ reader_of self.entry }
+        ensures same_reference { result.ghost_name ≡ reader_name self.entry }
+    {
+        self.reader
+    }
+
     /// The next match among the bytes that were read, without a read; and counts what it does. None says that all of them were
     /// given.
     pub fn next_held_counted(&mut self, steps: &mut Steps) -> Option<Match>
@@ -136,7 +153,8 @@ impl<'a, A: Automaton, R: Read> Iterator for StreamFindIter<'a, A, R> {
 
     type Item = Result<Match, StreamError>;
 
-    ghost next_gives = { λ s r t. NextGives R.remaining (progress_of s) (progress_of t) (reader_of s) (reader_of t) r
+    ghost next_gives = { λ s r t. NextGives R.remaining (progress_of s) (progress_of t)
+        (reader_of s) (reader_of t) r
         × StaysStopped (progress_of s) (progress_of t) (reader_of s) (reader_of t) r
         × (reader_name t ≡ reader_name s) × IsOnCourse (progress_of t) };
 
@@ -145,6 +163,3 @@ impl<'a, A: Automaton, R: Read> Iterator for StreamFindIter<'a, A, R> {
         self.next_counted(&mut steps)
     }
 }
-
-#[cfg(test)]
-mod tests;

@@ -34,6 +34,13 @@ impl Steps {
         self.looked = self.looked.next();
     }
 
+    /// So many more states were looked at, one for each of as many bytes.
+    pub fn looks(&mut self, states: usize)
+        ensures { Done states 0 0 self.old self.new }
+    {
+        self.looked = self.looked.more(&states);
+    }
+
     /// So many more places were covered by a byte scan.
     pub fn scan(&mut self, places: usize)
         ensures { Done 0 places 0 self.old self.new }

@@ -1,5 +1,5 @@
 -- The first of a few bytes, and what it costs to find it.
-use Rattle.std.specs.Prelude.{◌≡◌, ◌≢◌, ℕ, ◌+◌, ◌-◌, ◌⊎◌, Bool, true, false, ◌==◌, nat_lt, ◌&&◌, ◌||◌, List, [], ◌∷◌, Option, None, Some, IsTrue}
+use Rattle.std.specs.Prelude.{◌≡◌, ◌≢◌, ℕ, ◌+◌, ◌-◌, ◌⊎◌, Bool, true, false, ◌==◌, nat_lt, ◌&&◌, ◌||◌, List, [], ◌∷◌, Option, None, Some, MatchOption, IsTrue}
 use Rattle.memchr.specs.Find.{Passes, IsFirst, is_byte, is_byte2, is_byte3}
 use Rattle.ac_input.specs.declared.search.Span.{Span}
 use Rattle.ac_literal.specs.declared.prefilter.needles.Needles.{Needles}
@@ -58,6 +58,10 @@ pub record HasFour (f : ℕ → Bool) : Type 0 where
   pub d : ℕ
   pub apart : (a ≢ b) × (a ≢ c) × (a ≢ d) × (b ≢ c) × (b ≢ d) × (c ≢ d)
   pub pass : IsTrue (f a) × IsTrue (f b) × IsTrue (f c) × IsTrue (f d)
+
+-- one more needle, whatever test the others pass; none where there would be four
+abbrev pub AddsNeedle : Needles → ℕ → Option Needles → Type 0
+AddsNeedle before added after = (f : ℕ → Bool) → AreNeedles before f → MatchOption after (HasFour (with_byte f added)) (λ needles. AreNeedles needles (with_byte f added))
 
 -- the bytes that pass the test, where they are few
 abbrev pub AreFew : FewBytes → (ℕ → Bool) → Type 0

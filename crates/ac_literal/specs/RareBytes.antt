@@ -24,6 +24,10 @@ paired_rank_of pairing byte = max (rank_of byte) (rank_of (other pairing byte))
 abbrev pub IsRarest : List ℕ → List ℕ → ℕ → Type 0
 IsRarest pairing p rare = EachIndex p (λ k. paired_rank_of pairing rare ≤ paired_rank_of pairing (slice_index p k))
 
+-- one of these bytes stands in the pattern
+abbrev pub HoldsOne : FewBytes → List ℕ → Type 0
+HoldsOne these p = (at : ℕ) × (at < length p) × IsTrue (few_has these (slice_index p at))
+
 -- the pattern has at some place a byte that is among these, as is what is paired with it
 pub record HoldsFew (pairing : List ℕ) (these : FewBytes) (p : List ℕ) : Type 0 where
   pub at : ℕ

@@ -12,12 +12,20 @@
 //! - *Rare bytes*: a scan for one to three bytes of which each pattern holds one. Where one is found, a match may have begun
 //!   some bytes before; how many at most is kept for each byte, so that the scan can be stepped back by that.
 //!
-//! Which of those that serve its patterns a [`PrefilterBuilder`] takes is a matter of speed alone. The search for one pattern
-//! comes first. Then come start bytes or rare bytes, whichever are taken to be the rarer, if they are rare enough: a scan
-//! costs hardly more than to read the text, until it stops. The limit was measured beside a packed search that was slower than
-//! today's (docs/SPEED.md). How rare bytes are is guessed by their ranks, those of their partners counted. Then comes packed
-//! search, which costs nearly the same whatever the text is. Bytes that are not rare are looked for only where one to three
-//! ASCII bytes begin all patterns and nothing else serves; rare bytes that aren't so rare are not worth their scan, and then there is no prefilter.
+//! Which of those that serve its patterns a [`PrefilterBuilder`] takes is a matter of speed alone:
+//!
+//! 1. The search for one pattern.
+//! 2. Start bytes or rare bytes, whichever are taken to be the rarer, if the scan for them is taken to stop rarely: beside packed
+//!    search at most once in a thousand bytes (`STOPS_BESIDE_PACKED`), and where packed search doesn't serve, under standard,
+//!    with a byte paired or for too many patterns, at most 50 times (`STOPS_ALONE`).
+//! 3. Packed search.
+//! 4. That scan, however often it stops, where one to three ASCII bytes begin all patterns. Else there is no prefilter.
+//!
+//! There are two limits since a scan gains more on an automaton alone than on packed search. A scan costs hardly more than to
+//! read the text, until it stops; then the automaton is asked, some bytes before a rare one, and the scan starts anew. Packed
+//! search answers exact matches, costs nearly the same whatever the text is, and passes a thousand bytes in the time of about one
+//! stop; an automaton takes as long as a hundred for them. How often a scan stops is guessed, from its bytes and their partners
+//! (`rank`), so the second limit is half of that. docs/SPEED.md has the measurements.
 //!
 //! A scan looks at many bytes at a time, and at each once; stepping back makes the automaton look at up to 254 bytes that were
 //! scanned before. A search for patterns costs what packed search costs. A prefilter takes the memory of a table of 256 bytes
@@ -67,9 +75,15 @@ impl Model for Prefilter {
     ghost Value = { Filter };
 
     ghost view = { λ p.
-        record { dictionary = record { patterns = p.patterns.items; pairing = p.pairing; kind = p.kind }; needles = needles_of p.strategy } };
+        record {
+          dictionary = record { patterns = p.patterns.items; pairing = p.pairing; kind = p.kind };
+          needles = needles_of p.strategy;
+        } };
 
-    ghost invariant = { λ p. IsStrategyOf (record { patterns = p.patterns.items; pairing = p.pairing; kind = p.kind }) p.strategy };
+    ghost invariant = { λ p.
+        IsStrategyOf
+        (record { patterns = p.patterns.items; pairing = p.pairing; kind = p.kind })
+        p.strategy };
 }
 
 impl Prefilter {

@@ -1,5 +1,5 @@
 -- What the parts of a build say together.
-use Rattle.std.proofs.Common.{◌≡◌, ◌≢◌, ℕ, Bool, true, false, IsTrue, List, Option, Some, None, Result, Ok, Err, IfOk, IfSome, IsSome, refl, sym, ap, subst, ◌∙◌}
+use Rattle.std.proofs.Common.{◌≡◌, Bool, true, false, Option, Some, None, Result, Ok, Err, IfOk, IfSome, IsSome, refl, sym, subst, ◌∙◌}
 use Rattle.std.proofs.lemmas.Bool.{false≢true}
 use Rattle.std.specs.declared.alloc.AllocError.{AllocError}
 use Rattle.ac_input.specs.Candidate.{Filter}
@@ -7,9 +7,9 @@ use Rattle.ac_input.specs.Dictionary.{Dictionary}
 use Rattle.ac_input.specs.Limits.{IsWithinLimits}
 use Rattle.ac_literal.specs.Prefilter.{IsDemanded, IsAdmissible, IsWay}
 use Rattle.ac_noncontiguous.specs.Builder.{Settings, AreCompiled, IsBuiltBy, IsHeld}
-use Rattle.ac_noncontiguous.specs.Nfa.{AreParts, IsHeldFor}
+use Rattle.ac_noncontiguous.specs.Nfa.{AreParts}
 use Rattle.ac_noncontiguous.specs.ReadCalls.{IsMadeOf}
-use Rattle.ac_noncontiguous.specs.Reads.{built_as, dictionary}
+use Rattle.ac_noncontiguous.specs.Reads.{built_as}
 use Rattle.ac_noncontiguous.specs.declared.nfa.NFA.{NFA}
 use Rattle.ac_noncontiguous.specs.declared.nfa.tables.Tables.{Tables}
 

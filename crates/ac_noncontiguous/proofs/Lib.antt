@@ -16,6 +16,7 @@ pub mod OwnLemmas
 pub mod LookupLemmas
 pub mod NextLemmas
 pub mod ReadLemmas
+pub mod IdleLemmas
 pub mod BridgeLemmas
 pub mod FailLemmas
 pub mod FailsLemmas
@@ -28,6 +29,7 @@ pub mod PlacesLemmas
 pub mod EdgeLemmas
 pub mod ChildLemmas
 pub mod LayoutLemmas
+pub mod OnlyLemmas
 pub mod MeaningLemmas
 pub mod RowLemmas
 pub mod ByteLemmas

@@ -3,7 +3,7 @@ use Rattle.std.proofs.Common.{◌≡◌, ◌≢◌, ◌⊎◌, ℕ, zero, suc, �
 use Rattle.std.proofs.Math.Logic.{∥∥₁_elim, ∥∥₁_map}
 use Rattle.std.proofs.lemmas.Bool.{cases_eq}
 use Rattle.std.specs.Coded.{le_prop}
-use Rattle.std.proofs.lemmas.List.{length-map}
+use Rattle.std.proofs.lemmas.List.{length-map, nil_from_length}
 use Rattle.ac_input.specs.declared.steps.Steps.{Steps}
 use Rattle.ac_input.specs.Dictionary.{Dictionary, BeginsEntered}
 use Rattle.ac_input.specs.LiveLaws.{IsOwnInverse, canonical}
@@ -289,11 +289,6 @@ visited-fail tables i h = (
   λ e. ∥∥₁_elim h (λ x y. absurd x) (λ w. (w.2.failures.within i w.3).2 e),
 )
 
--- a text of no bytes is empty
-nil-from : (xs : List ℕ) → length xs ≡ 0 → xs ≡ []
-nil-from [] e = refl
-nil-from (x ∷ xs) e = absurd (omega (arith, e))
-
 -- fewer bytes lead there
 pub kept-shallower : (tables : Tables) (i byte : ℕ) → IsVisited tables false i → Leads tables i byte 1 → depth_of tables.states.items (fail_of tables.states.items i) < depth_of tables.states.items i
 kept-shallower tables i byte h leads = ∥∥₁_elim h.0 le_prop (λ w. by w.0 w.1 w.2 w.3)
@@ -304,7 +299,7 @@ kept-shallower tables i byte h leads = ∥∥₁_elim h.0 le_prop (λ w. by w.0 
         let deep = t.failures.depths i s.more within in
         let f = fail_of tables.states.items i in
         let f_in = t.failures.within i within in
-        let some : length (text i) ≢ 0 = λ e. ⊎_elim (λ (a : i ≡ tables.start). s.apart a) (λ (b : i ≡ tables.start + 1). h.2 b) (t.texts.others i s.more within (nil-from (text i) e)) in
+        let some : length (text i) ≢ 0 = λ e. ⊎_elim (λ (a : i ≡ tables.start). s.apart a) (λ (b : i ≡ tables.start + 1). h.2 b) (t.texts.others i s.more within (nil_from_length (text i) e)) in
         ⊎_elim
         (λ (none : (f ≡ 0) × FailsTo m (text i) None). let e = ap (depth_of tables.states.items) none.0 in let flat = t.failures.flat.0 in omega (arith, e, flat, deep, some))
         (λ (more : (1 < f) × FailsTo m (text i) (Some (text f))).

@@ -5,7 +5,7 @@ use Rattle.std.specs.Coded.{le_prop, Coded-set, coded_ℕ, coded_list}
 use Rattle.std.proofs.Math.Logic.{∥∥₁_elim, ∥∥₁_map}
 use Rattle.std.proofs.lemmas.Bool.{cases_lt, cases_eq, or_cases, eqb-true, false≢true}
 use Rattle.std.proofs.lemmas.Bool.Decides.{nat_tests}
-use Rattle.std.proofs.lemmas.List.{length-take-le, get_or-take, get_or-drop}
+use Rattle.std.proofs.lemmas.List.{length-take-le, get_or-take, get_or-drop, nil_from_length}
 use Rattle.std.proofs.lemmas.Option.{slice_get_read}
 use Rattle.ac_input.specs.declared.search.Anchored.{Anchored}
 use Rattle.ac_input.specs.declared.search.Anchored.TheVariants.{No, Yes}
@@ -288,7 +288,7 @@ read-from nfa anchored text sid h =
 -- ---- one more byte
 
 -- where the state leads with it the text does
-leads-on : (m : Dictionary) (anchored : Bool) (text state : List ℕ) (byte : ℕ) (r : Option (List ℕ)) → IsOwnInverse m.pairing → LeadsTo m anchored text (Some state) → LeadsTo m anchored (state ++ byte ∷ []) r → LeadsTo m anchored (text ++ byte ∷ []) r
+pub leads-on : (m : Dictionary) (anchored : Bool) (text state : List ℕ) (byte : ℕ) (r : Option (List ℕ)) → IsOwnInverse m.pairing → LeadsTo m anchored text (Some state) → LeadsTo m anchored (state ++ byte ∷ []) r → LeadsTo m anchored (text ++ byte ∷ []) r
 leads-on m false text state byte r inverse live h = (leads-next m text state byte r inverse live).0 h
 leads-on m true text state byte r inverse live h =
     let on = leads-anchored m text state byte inverse live in
@@ -390,11 +390,6 @@ start-alive nfa anchored text sid h is dead =
     let some = tables-start (dictionary nfa) nfa.tables nfa.stands in
     ⊎_elim (λ (a : sid ≡ nfa.tables.start). omega (arith, a, le, some)) (λ (b : sid ≡ nfa.tables.start + 1). omega (arith, b, le)) is
 
--- a text of no bytes is empty
-nil-from : (xs : List ℕ) → length xs ≤ 0 → xs ≡ []
-nil-from [] e = refl
-nil-from (x ∷ xs) e = absurd (omega (arith, e))
-
 -- and nothing of it is live
 pub start-empty : (nfa : NFA) (anchored : Bool) (text : List ℕ) (sid : ℕ) → IsReachedBy (dictionary nfa) nfa.tables anchored text sid → (sid ≡ nfa.tables.start) ⊎ (sid ≡ nfa.tables.start + 1) → IsLive (dictionary nfa) anchored text (Some (length text))
 start-empty nfa anchored text sid h is = by (leads-some (dictionary nfa) anchored text (own_inverse-pairing nfa.pairing nfa.paired)).0 (leads-some (dictionary nfa) anchored text (own_inverse-pairing nfa.pairing nfa.paired)).1
@@ -410,4 +405,4 @@ start-empty nfa anchored text sid h is = by (leads-some (dictionary nfa) anchore
         let same : state ≡ [] = cc in
         let none = ap length same in
         omega (arith, none)) in
-        leads-empty (dictionary nfa) anchored text (subst (λ (v : List ℕ). LeadsTo (dictionary nfa) anchored text (Some v)) (nil-from state short) leads)
+        leads-empty (dictionary nfa) anchored text (subst (λ (v : List ℕ). LeadsTo (dictionary nfa) anchored text (Some v)) (nil_from_length state (omega (arith, short))) leads)

@@ -3,6 +3,7 @@ use Rattle.std.proofs.Common.{◌≡◌, ℕ, ◌<◌, List, length, refl, ◌�
 use Rattle.ac_noncontiguous.specs.declared.trie.State.{State}
 use Rattle.ac_noncontiguous.specs.Tree.{IsTree, IsChildPlace, Extends, IsAdded, byte}
 use Rattle.ac_noncontiguous.specs.Entering.{IsChildStep}
+use Rattle.ac_noncontiguous.specs.Edges.{IsChildFor}
 use Rattle.ac_noncontiguous.proofs.TreeLemmas.{way-at}
 
 -- a trie extends itself
@@ -19,6 +20,10 @@ extends-further a b c g h =
           let t = h.same i (omega (arith, g.longer)) in
           (t.0 ∙ s.0, t.1 ∙ s.1, t.2 ∙ s.2, t.3 ∙ s.3);
     }
+
+-- the child is known
+pub step-known : (states : List State) (of low id : ℕ) → IsChildFor states of low id → IsChildStep states states of low id
+step-known states of low id h = record { extends = extends-itself states; child = h; added = inl refl }
 
 -- the child is there
 pub step-found : (states : List State) (of low before at : ℕ) → IsTree states → of < length states → IsChildPlace states of low before at → 0 < at → byte states at ≡ low → IsChildStep states states of low at

@@ -1,13 +1,16 @@
 -- How the failure of a state is found from those of the states of lesser depth.
-use Rattle.std.specs.Prelude.{◌≡◌, ◌≢◌, ◌⊎◌, ℕ, ◌<◌, ◌≤◌, List, [], ◌∷◌, ◌++◌, length, slice_get, Option, Some, None, option_map, Bool, true, false}
+use Rattle.std.specs.Prelude.{◌≡◌, ◌≢◌, ◌⊎◌, ℕ, ◌<◌, ◌≤◌, List, [], ◌∷◌, ◌++◌, ◌+◌, length, slice_get, Option, Some, None, option_map, Bool, true, false}
 use Rattle.ac_input.specs.declared.search.MatchKind.{MatchKind}
 use Rattle.ac_input.specs.declared.search.MatchKind.TheVariants.{Standard}
 use Rattle.ac_input.specs.Dictionary.{Dictionary}
 use Rattle.ac_input.specs.Failure.{IsOwn}
+use Rattle.ac_input.specs.LiveLaws.{canonical}
 use Rattle.ac_input.specs.States.{LeadsTo, FailsTo}
 use Rattle.ac_noncontiguous.specs.declared.trie.State.{State}
+use Rattle.ac_noncontiguous.specs.declared.trie.Trie.{Trie}
 use Rattle.ac_noncontiguous.specs.Tree.{parent, byte, depth, text, is_match}
 use Rattle.ac_noncontiguous.specs.Entering.{HasNoChild}
+use Rattle.ac_noncontiguous.specs.Kept.{IsTrieOf}
 
 -- the child of the state for the byte, or none where it has none
 abbrev pub IsChildOf : List State → ℕ → ℕ → Option ℕ → Type 0
@@ -44,3 +47,12 @@ IsFinalIn kind states i false = kind ≢ Standard → (is_match states i ≡ fal
 -- where one more byte leads from the text of a state
 abbrev pub NextOf : Dictionary → List State → ℕ → ℕ → Option ℕ → Type 0
 NextOf m states of low r = LeadsTo m false (text states of ++ low ∷ []) (option_map (text states) r)
+
+-- Where one more byte leads from a state, whatever dictionary the trie is that of: if the failures are given of the states that
+-- are no deeper, and the byte stands for itself.
+abbrev pub IsNextByFails : Trie → List (Option ℕ) → ℕ → ℕ → Option ℕ → Type 0
+IsNextByFails trie fails of low r = (m : Dictionary) → IsTrieOf m trie → GoesOnFromStart m → canonical m.pairing low ≡ low → AreFailsAbove m trie.states.items fails (depth trie.states.items of + 1) → NextOf m trie.states.items of low r
+
+-- To which state one fails, whatever dictionary the trie is that of: if the failures are given of the states that are less deep.
+abbrev pub IsFailureByFails : Trie → List (Option ℕ) → ℕ → Option ℕ → Type 0
+IsFailureByFails trie fails i r = (m : Dictionary) → IsTrieOf m trie → AreFailsAbove m trie.states.items fails (depth trie.states.items i) → FailsTo m (text trie.states.items i) (option_map (text trie.states.items) r)

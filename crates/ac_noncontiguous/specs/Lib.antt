@@ -37,10 +37,13 @@ pub mod Links
 pub mod Lists
 pub mod Nfa
 pub mod Lookups
+pub mod Starters
+pub mod Idle
 pub mod Reads
 pub mod ReadCalls
 pub mod Builder
 pub mod Numbering
 pub mod Edges
 pub mod Layout
+pub mod Only
 pub mod Assembly

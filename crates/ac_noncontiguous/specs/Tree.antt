@@ -46,6 +46,10 @@ pub record HasLinks (len : ℕ) (parent byte child sibling depth : ℕ → ℕ) 
 abbrev pub IsTree : List State → Type 0
 IsTree states = HasLinks (length states) (parent states) (byte states) (child states) (sibling states) (depth states)
 
+-- a child of the state for a lesser byte
+abbrev pub IsChildBelow : List State → ℕ → ℕ → ℕ → Type 0
+IsChildBelow states of low c = (0 < c) × (c < length states) × (parent states c ≡ of) × (byte states c < low)
+
 -- The children of a state were followed from the first one on to this one, past those of lesser bytes alone: the one before it
 -- is 0 where it is the first, and it is 0 itself past the last one.
 pub record IsWay (states : List State) (of low before at : ℕ) : Type 0 where

@@ -49,9 +49,19 @@ impl Model for Builder {
 
     ghost Value = { Settings };
 
-    ghost view = { λ b. record { kind = b.kind; pairing = b.pairing; dense_depth = b.dense_depth; prefilter = b.prefilter } };
+    ghost view = { λ b. record {
+      kind = b.kind;
+      pairing = b.pairing;
+      dense_depth = b.dense_depth;
+      prefilter = b.prefilter;
+    } };
 
-    ghost inverse = { λ s. record { kind = s.kind; pairing = s.pairing; dense_depth = s.dense_depth; prefilter = s.prefilter } };
+    ghost inverse = { λ s. record {
+      kind = s.kind;
+      pairing = s.pairing;
+      dense_depth = s.dense_depth;
+      prefilter = s.prefilter;
+    } };
 }
 
 impl Default for Builder {
@@ -201,10 +211,11 @@ impl NFA {
     }
 }
 
-/// The tables of a trie.
+/// The tables of a trie. They have rows up to the depth, on which no answer depends.
 fn tables_of(alloc: Global, trie: &Trie, dense_depth: usize) -> Result<Tables, AllocError>
     requires { (m : Dictionary) × IsTrieOf m trie.now }
-    ensures { IfOk result (λ tables. (m : Dictionary) → IsTrieOf m trie.now → AreCompiled m tables) }
+    ensures { IfOk result
+        (λ tables. (m : Dictionary) → IsTrieOf m trie.now → AreCompiled m tables) }
 {
     let order = trie.breadth_first(alloc)?;
     let links = Links::of(alloc, trie, &order)?;

@@ -61,11 +61,14 @@ fn push_list(
     rest: &Range,
     matches: &mut Vec<PatternID>,
 ) -> Result<Range, AllocError>
-    requires own { AreOwn (length trie.now.states.items) trie.now.ends.items 0 own.now.first.items own.now.next.items }
+    requires own { AreOwn (length trie.now.states.items) trie.now.ends.items 0
+        own.now.first.items own.now.next.items }
     requires within { id < length trie.now.states.items }
     requires inside { IsInside matches.old.items rest.now }
-    requires above { EndAbove trie.now.states.items trie.now.ends.items (depth trie.now.states.items id) (in_range matches.old.items rest.now) }
-    ensures { IfOk result (λ range. IsListed trie.now.ends.items id rest.now range matches.old.items matches.new.items) }
+    requires above { EndAbove trie.now.states.items trie.now.ends.items
+        (depth trie.now.states.items id) (in_range matches.old.items rest.now) }
+    ensures { IfOk result (λ range.
+        IsListed trie.now.ends.items id rest.now range matches.old.items matches.new.items) }
 {
     let from = matches.len();
     trie.push_own(own, id, matches)?;
@@ -81,7 +84,8 @@ impl Links {
     /// The links of a trie. The order is that of [`breadth_first`](Trie::breadth_first).
     pub(crate) fn of(alloc: Global, trie: &Trie, order: &[StateID]) -> Result<Links, AllocError>
         requires { IsBreadthFirst trie.now.states.items order.now }
-        ensures { IfOk result (λ links. (m : Dictionary) → IsTrieOf m trie.now → AreLinks m trie.now.states.items links) }
+        ensures { IfOk result (λ links. (m : Dictionary) → IsTrieOf m trie.now →
+            AreLinks m trie.now.states.items links) }
     {
         let fails = trie.failures(alloc, order)?;
         Links::from_fails(alloc, trie, order, fails)
@@ -96,7 +100,8 @@ impl Links {
     ) -> Result<Links, AllocError>
         requires order { IsBreadthFirst trie.now.states.items order.now }
         requires shallower { AreShallower trie.now.states.items fails.items }
-        ensures { IfOk result (λ links. (m : Dictionary) → IsTrieOf m trie.now → AreFails m trie.now.states.items fails.items → AreLinks m trie.now.states.items links) }
+        ensures { IfOk result (λ links. (m : Dictionary) → IsTrieOf m trie.now →
+            AreFails m trie.now.states.items fails.items → AreLinks m trie.now.states.items links) }
     {
         canonical_bytes_tell_texts();
         canonical_bytes_are_the_same();

@@ -9,6 +9,7 @@
 mod automaton;
 pub(crate) mod lens;
 pub mod read;
+pub(crate) mod starters;
 pub(crate) mod tables;
 
 ghost use Rattle.std.specs.Prelude.{◌≡◌, ◌≤◌, ◌+◌, if◌then◌else◌};
@@ -16,8 +17,10 @@ ghost use Rattle.std.proofs.Props.{props};
 ghost use Rattle.ac_input.specs.Pairing.{IsPairing};
 ghost use Rattle.ac_input.specs.Limits.{greatest};
 ghost use Rattle.ac_noncontiguous.specs.Nfa.{dictionary_from, AreTablesOf, AreByteClasses, last_special, IsHeldFor, AreParts};
+ghost use Rattle.ac_noncontiguous.specs.Starters.{SkipsIdle};
 
 use crate::nfa::lens::Lens;
+use crate::nfa::starters::Starters;
 use crate::nfa::tables::Tables;
 use ac_input::pairing::Pairing;
 use ac_input::primitives::StateID;
@@ -28,6 +31,7 @@ use ac_literal::prefilter::Prefilter;
 #[derive(Drop)]
 pub struct NFA {
     tables: Tables,
+    starters: Starters,
     lens: Lens,
     /// The last state at which a search has more to do than to read on.
     max_special: StateID,
@@ -36,9 +40,12 @@ pub struct NFA {
     kind: MatchKind,
     ghost paired: { IsPairing pairing },
     ghost stands: { ∥ AreTablesOf (dictionary_from lens.patterns.items pairing kind) tables ∥₁ },
-    ghost classed: { ∥ AreByteClasses (dictionary_from lens.patterns.items pairing kind) tables.classes ∥₁ },
+    ghost classed: { ∥ AreByteClasses (dictionary_from lens.patterns.items pairing kind)
+        tables.classes ∥₁ },
     ghost special: { max_special ≡ last_special tables prefilter },
-    ghost held: { IsHeldFor (dictionary_from lens.patterns.items pairing kind) prefilter } by { Prim.hlevel props },
+    ghost skips: { ∥ SkipsIdle tables starters ∥₁ },
+    ghost held: { IsHeldFor (dictionary_from lens.patterns.items pairing kind)
+        prefilter } by { Prim.hlevel props },
 }
 
 /// The last state at which a search has more to do than to read on.
@@ -71,8 +78,10 @@ impl NFA {
         // what the call answers matters to nobody, but it tells that the pairing is one
         let _ = pairing.other(0);
         let max_special = last_special_of(&tables, prefilter.is_some());
+        let starters = Starters::of(&tables);
         NFA {
             tables,
+            starters,
             lens,
             max_special,
             prefilter,

@@ -12,9 +12,17 @@ use std::test::Fail;
 
 mod built;
 mod compared;
+mod devices;
 mod found;
+mod one_start;
+mod overlapping;
 mod repeated;
+mod replaced;
+mod starters;
 mod states;
+mod streams;
+mod streams_replaced;
+mod streams_with;
 mod walked;
 
 /// The settings that change no answer: whether there is a prefilter, and to which depth there are rows.

@@ -5,8 +5,9 @@
 //! automaton that is made from it gets a transition for each.
 //!
 //! The children of a state are a list in rising order of byte: a state has its first child, and each child the next one of the
-//! same parent. So a state takes 20 bytes and a transition none besides, and a look-up passes at most 256 children. Numbers are
-//! handed out as states are added, and a parent's is less than its child's.
+//! same parent. So a state takes 20 bytes and a transition none besides, and a look-up passes at most 256 children; where a child
+//! isn't the first, a hint mostly tells it at once ([`hints`]). Numbers are handed out as states are added, and a parent's is less
+//! than its child's.
 //!
 //! Under leftmost-first a pattern that begins with an earlier one can never match, and is not entered: the walk that enters it
 //! meets the state in which the earlier one ends.
@@ -23,10 +24,12 @@ ghost use Rattle.ac_noncontiguous.specs.Standing.{dictionary_of, IsPatternRefuse
 
 mod children;
 mod failures;
+mod hints;
 mod order;
 pub(crate) mod own;
 
 use crate::error::{BuildError, BuildErrorKind};
+use crate::trie::hints::Hints;
 use ac_input::live_laws::{canonical_bytes_tell_texts, pairing_is_own_inverse};
 use ac_input::pairing::Pairing;
 use ac_input::primitives::{PatternID, StateID};
@@ -69,6 +72,7 @@ pub(crate) struct Trie {
     states: Vec<State>,
     /// For each pattern the state in which it ends, if it is entered.
     ends: Vec<Option<StateID>>,
+    hints: Hints,
     pairing: Pairing,
     kind: MatchKind,
     ghost tree: { IsTree states.items },
@@ -103,6 +107,7 @@ impl Trie {
         Ok(Trie {
             states,
             ends: Vec::new(alloc),
+            hints: Hints::new(alloc),
             pairing,
             kind,
         })
@@ -151,8 +156,7 @@ impl Trie {
         requires { of < length self.now.states.items }
         ensures { IsChildPlace self.now.states.items of byte result.before result.at }
     {
-        let mut before = StateID::ZERO;
-        let mut at = self.state(of).child;
+        let Place { mut before, mut at } = self.from_where(of, byte);
         while at != StateID::ZERO && self.state(at).byte < byte {
             before = at;
             at = self.state(at).sibling;
@@ -165,7 +169,8 @@ impl Trie {
         requires within { of < length self.old.states.items }
         requires place { IsChildPlace self.old.states.items of byte place.before place.at }
         requires missing { 0 < place.at → byte < byte_of self.old.states.items place.at }
-        ensures added { IfOk result (λ id. IsAdded self.old.states.items self.new.states.items of byte id) }
+        ensures added { IfOk result
+            (λ id. IsAdded self.old.states.items self.new.states.items of byte id) }
         ensures refused { IfErr result (λ kind. IsChildRefused self.old.states.items of byte kind) }
         ensures rest { KeepsSettings self.old self.new }
     {
@@ -196,7 +201,24 @@ impl Trie {
     /// The child of the state for the byte, which is added where it isn't there.
     fn child_for(&mut self, of: StateID, byte: u8) -> Result<StateID, BuildError>
         requires { of < length self.old.states.items }
-        ensures step { IfOk result (λ id. IsChildStep self.old.states.items self.new.states.items of byte id) }
+        ensures step { IfOk result
+            (λ id. IsChildStep self.old.states.items self.new.states.items of byte id) }
+        ensures refused { IfErr result (λ kind. IsChildRefused self.old.states.items of byte kind) }
+        ensures rest { KeepsSettings self.old self.new }
+    {
+        if let Some(id) = self.known(of, byte) {
+            return Ok(id);
+        }
+        let id = self.found_or_added(of, byte)?;
+        self.note_child(of, byte, id);
+        Ok(id)
+    }
+
+    /// The child of the state for the byte, which is walked to, and added where it isn't there.
+    fn found_or_added(&mut self, of: StateID, byte: u8) -> Result<StateID, BuildError>
+        requires { of < length self.old.states.items }
+        ensures step { IfOk result
+            (λ id. IsChildStep self.old.states.items self.new.states.items of byte id) }
         ensures refused { IfErr result (λ kind. IsChildRefused self.old.states.items of byte kind) }
         ensures rest { KeepsSettings self.old self.new }
     {
@@ -231,8 +253,10 @@ impl Trie {
     /// Whether a pattern that goes on from the state can't match, since an earlier one ends in the state and is preferred.
     fn is_shadowing(&self, at: StateID) -> bool
         requires { at < length self.now.states.items }
-        ensures yes { IsTrue result → (self.now.kind ≡ MatchKind.LeftmostFirst) × (is_match self.now.states.items at ≡ true) }
-        ensures no { result ≡ false → self.now.kind ≡ MatchKind.LeftmostFirst → is_match self.now.states.items at ≡ false }
+        ensures yes { IsTrue result → (self.now.kind ≡ MatchKind.LeftmostFirst) ×
+            (is_match self.now.states.items at ≡ true) }
+        ensures no { result ≡ false → self.now.kind ≡ MatchKind.LeftmostFirst →
+            is_match self.now.states.items at ≡ false }
     {
         self.kind == MatchKind::LeftmostFirst && self.state(at).is_match
     }
@@ -240,8 +264,10 @@ impl Trie {
     /// Enters the pattern, and answers the state in which it ends. Under leftmost-first a pattern that begins with an earlier one
     /// ends nowhere.
     fn enter(&mut self, pattern: &[u8]) -> Result<Option<StateID>, BuildError>
-        ensures ended { IfOk result (λ end. IsEnd self.old.kind self.old.states.items self.new.states.items (map (canonical self.old.pairing) pattern.now) end) }
-        ensures stuck { IfErr result (λ kind. IsStuck self.old.kind self.old.states.items (map (canonical self.old.pairing) pattern.now) kind) }
+        ensures ended { IfOk result (λ end. IsEnd self.old.kind self.old.states.items
+            self.new.states.items (map (canonical self.old.pairing) pattern.now) end) }
+        ensures stuck { IfErr result (λ kind. IsStuck self.old.kind self.old.states.items
+            (map (canonical self.old.pairing) pattern.now) kind) }
         ensures rest { KeepsSettings self.old self.new }
     {
         let mut at = StateID::ZERO;
@@ -281,8 +307,10 @@ impl Trie {
     ///
     /// After an error the trie may have states of a pattern that wasn't added whole: it is given up.
     pub(crate) fn add(&mut self, pattern: &[u8]) -> Result<(), BuildError>
-        ensures added { IfOk result (λ _. (m : Dictionary) → IsTrieOf m self.old → IsTrieOf (with_pattern m pattern.now) self.new) }
-        ensures refused { IfErr result (λ kind. (m : Dictionary) → IsTrieOf m self.old → IsPatternRefused m pattern.now kind) }
+        ensures added { IfOk result (λ _. (m : Dictionary) → IsTrieOf m self.old →
+            IsTrieOf (with_pattern m pattern.now) self.new) }
+        ensures refused { IfErr result
+            (λ kind. (m : Dictionary) → IsTrieOf m self.old → IsPatternRefused m pattern.now kind) }
     {
         canonical_bytes_tell_texts();
         pairing_is_own_inverse();

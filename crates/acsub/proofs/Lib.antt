@@ -10,3 +10,5 @@ pub mod PlaceLemmas
 pub mod TypedLemmas
 pub mod FinderLemmas
 pub mod BuiltLemmas
+pub mod StreamListLemmas
+pub mod StreamedLemmas

@@ -1,5 +1,5 @@
 -- How the text of an input grows by one pick, or by one occurrence.
-use Rattle.std.proofs.Common.{◌≡◌, ℕ, ◌<◌, List, [], ◌∷◌, ◌++◌, length, Option, Some, drop, get_or, refl, sym, ap, ◌∙◌, subst, append_assoc}
+use Rattle.std.proofs.Common.{◌≡◌, ℕ, ◌<◌, List, [], ◌∷◌, ◌++◌, length, Option, Some, drop, get_or, sym, ap, ◌∙◌, subst, append_assoc}
 use Rattle.std.specs.Prelude.{slice_range}
 use Rattle.std.proofs.lemmas.List.{append-nil, get_or-map}
 use Rattle.std.proofs.lemmas.Option.{slice_get_within}
@@ -10,18 +10,12 @@ use Rattle.ac_input.specs.Rules.{Rule}
 use Rattle.ac_input.specs.Text.{replaced_from, line, listed}
 use Rattle.ac_input.proofs.WalkLemmas.{pick-within}
 use Rattle.ac_input.proofs.TextLemmas.{pick-occurs}
-use Rattle.std.proofs.KnownBytes.{Appends-nil}
-use Rattle.ac_automaton.specs.Watched.{inner_of}
 use Rattle.ac_automaton.specs.declared.watched.Watched.{Watched}
 use Rattle.acsub.specs.Lines.{rule_at}
-use Rattle.acsub.specs.Output.{Sent, Stopped}
+use Rattle.ac_automaton.specs.Output.{Sent, Stopped}
 use Rattle.ac_automaton.specs.Replace.{LieInOrder}
 use Rattle.acsub.specs.Sides.{replacements_of}
-use Rattle.acsub.proofs.OutputLemmas.{Sent-then, Stopped-then, Stopped-more}
-
--- sending nothing
-pub Sent-none : {W : Type 0} (contents : W → Option (List ℕ)) (writer : Watched W) (held : List ℕ) → Sent contents writer writer held held []
-Sent-none contents writer held = record { gained = []; taken = sym (append-nil _); order = sym (append-nil held); fine = record { failures = refl; stalls = refl }; device = Appends-nil (contents (inner_of writer)) }
+use Rattle.ac_automaton.proofs.OutputLemmas.{Sent-then, Stopped-then, Stopped-more}
 
 -- a sending that stopped in the middle of a text
 pub Stopped-within : {W : Type 0} (contents : W → Option (List ℕ)) (old mid new : Watched W) (held between front bytes rest text : List ℕ) → Sent contents old mid held between front → Stopped contents mid new between bytes → (front ++ bytes) ++ rest ≡ text → Stopped contents old new held text

@@ -1,111 +1,101 @@
 -- What was moved, and which answers go with it.
-use Rattle.std.proofs.Common.{◌≡◌, ◌≢◌, ◌↔◌, ℕ, Option, length, length-append, List, [], ◌∷◌, ◌++◌, Result, Ok, Err, OnOk, OnErr, IfErr, refl, sym, ap, ◌∙◌, subst, arith, add-zero}
+use Rattle.std.proofs.Common.{◌≡◌, ◌↔◌, ℕ, ◌+◌, Option, List, [], Result, Ok, Err, OnOk, OnErr, IfErr, refl, sym, ap, ◌∙◌, subst, add-zero}
 use Rattle.std.specs.List.{concat}
-use Rattle.std.specs.Io.KnownBytes.{IsAtEnd}
-use Rattle.std.proofs.KnownBytes.{Consumes-nil, Appends-nil}
 use Rattle.std.proofs.lemmas.List.{append-nil}
 use Rattle.ac_input.specs.Rules.{Rule, IsRuleFile, FirstBadLine}
 use Rattle.ac_input.proofs.RuleLemmas.{FirstBadLine-one, FirstBadLine-none}
-use Rattle.ac_automaton.specs.Watched.{failures_of, stalls_of, pieces_of, taken_of, inner_of}
+use Rattle.ac_automaton.specs.Moved.{AreWhole, HasGiven, HasMoved, HasTaken, Moved}
+use Rattle.ac_automaton.specs.Output.{Sent, Stopped}
+use Rattle.ac_automaton.specs.Watched.{stalls_of}
 use Rattle.ac_automaton.specs.declared.watched.Watched.{Watched}
+use Rattle.ac_automaton.proofs.StreamReplaceLemmas.{given-none, taken-none}
 use Rattle.acsub.specs.declared.rules.RuleError.TheVariants as rule_errors
 use Rattle.acsub.specs.declared.error.RunError.{RunError}
 use Rattle.acsub.specs.declared.error.RunError.TheVariants as errors
 use Rattle.acsub.specs.declared.settings.Settings.{Settings}
-use Rattle.acsub.specs.Input.{AreFilled, AreWhole, Gave, ReadsWhole}
-use Rattle.acsub.specs.Output.{Sent, Stopped, IsWriteFault}
+use Rattle.acsub.specs.Input.{ReadsWhole}
+use Rattle.acsub.specs.Output.{IsWriteFault}
 use Rattle.acsub.specs.Settings.{IsAccepted}
-use Rattle.acsub.specs.Run.{Moved, HasMoved, AnswersRun, Ran, RanRules, Accepts, Prepares, output_of}
+use Rattle.acsub.specs.Transformed.{IsStreamed, output_of}
+use Rattle.acsub.specs.Run.{AnswersRun, Ran, RanRules, RanToFailedWrite, Accepts, Prepares}
 use Rattle.acsub.specs.Finder.{Builds}
 use Rattle.acsub.specs.Plan.{Plan}
-
--- an input that was read to its end has a piece, the empty one
-AreWhole-some : (pieces : List (List ℕ)) → AreWhole pieces → pieces ≢ []
-AreWhole-some pieces whole none = let e : length (whole.0 ++ [] ∷ []) ≡ 0 = ap length (sym whole.2 ∙ none) in absurd (omega (arith, e, length-append whole.0 ([] ∷ [])))
-
--- pieces none of which is empty are not those of an input that was read to its end
-AreFilled-unended : (filled more : List (List ℕ)) → ¬ AreFilled (filled ++ [] ∷ more)
-AreFilled-unended [] more f = f.0 refl
-AreFilled-unended (p ∷ ps) more f = AreFilled-unended ps more f.1
-
-AreFilled-open : (pieces : List (List ℕ)) → AreFilled pieces → ¬ AreWhole pieces
-AreFilled-open pieces filled whole = AreFilled-unended whole.0 [] (subst AreFilled whole.2 filled)
 
 -- nothing was moved
 abbrev pub nothing : Moved
 nothing = record { pieces = []; failed_reads = 0; taken = []; failed_writes = 0; stalled_writes = 0 }
 
 pub HasMoved-nothing : {R W : Type 0} (remaining : R → Option (List ℕ)) (contents : W → Option (List ℕ)) (r : Watched R) (w : Watched W) → HasMoved remaining contents r r w w nothing
-HasMoved-nothing remaining contents r w =
-    record {
-      pieces = sym (append-nil (pieces_of r));
-      failed_reads = sym (add-zero (failures_of r));
-      taken = sym (append-nil (taken_of w));
-      failed_writes = sym (add-zero (failures_of w));
-      stalled_writes = sym (add-zero (stalls_of w));
-      reader_device = Consumes-nil (remaining (inner_of r));
-      reader_end = λ _ whole. absurd (AreWhole-some [] whole refl);
-      writer_device = Appends-nil (contents (inner_of w));
-    }
+HasMoved-nothing remaining contents r w = record { reader = given-none remaining r; writer = taken-none contents w }
 
--- pieces were read, and nothing written
-pub HasMoved-reads : {R W : Type 0} (remaining : R → Option (List ℕ)) (contents : W → Option (List ℕ)) (r r' : Watched R) (w : Watched W) (pieces : List (List ℕ)) (failed : ℕ) → Gave remaining r r' pieces failed → (failed ≡ 0 → AreWhole pieces → IsAtEnd (remaining (inner_of r'))) → HasMoved remaining contents r r' w w (record { pieces = pieces; failed_reads = failed; taken = []; failed_writes = 0; stalled_writes = 0 })
-HasMoved-reads remaining contents r r' w pieces failed gave end =
-    record {
-      pieces = gave.pieces;
-      failed_reads = gave.failures;
-      taken = sym (append-nil (taken_of w));
-      failed_writes = sym (add-zero (failures_of w));
-      stalled_writes = sym (add-zero (stalls_of w));
-      reader_device = gave.device;
-      reader_end = end;
-      writer_device = Appends-nil (contents (inner_of w));
-    }
+-- all that was sent was written
+taken-from_sent : {W : Type 0} (contents : W → Option (List ℕ)) (w w' : Watched W) (bytes : List ℕ) (s : Sent contents w w' [] [] bytes) → HasTaken contents w w' s.gained 0 0
+taken-from_sent contents w w' bytes s = record { taken = s.taken; failures = s.fine.failures ∙ sym (add-zero _); stalls = s.fine.stalls ∙ sym (add-zero _); device = s.device }
+
+-- of what was sent, a beginning was written
+taken-from_stopped : {W : Type 0} (contents : W → Option (List ℕ)) (w w' : Watched W) (bytes : List ℕ) (stalls : ℕ) (s : Stopped contents w w' [] bytes) → stalls_of w' ≡ stalls_of w + stalls → HasTaken contents w w' s.gained 1 stalls
+taken-from_stopped contents w w' bytes stalls s stalled = record { taken = s.taken; failures = s.failures; stalls = stalled; device = s.device }
 
 -- the answer where there was no memory before anything was read
 pub memory_answer : (settings : Settings) (rules : List Rule) (file : List ℕ) → IsRuleFile file rules → AnswersRun settings file nothing (Err errors.Memory)
-memory_answer settings rules file grammar = record { rules = rules; grammar = grammar; accepted = λ some. absurd (some refl); filled = tt; written = refl; failed = (refl, refl, refl) }
+memory_answer settings rules file grammar = record { rules = rules; grammar = grammar; accepted = λ some. absurd (some refl); streamed = λ _. refl; filled = tt; written = refl; failed = (refl, refl, refl) }
 
 -- the answer where the input could not be read to its end
-pub read_answer : {R W : Type 0} (remaining : R → Option (List ℕ)) (contents : W → Option (List ℕ)) (settings : Settings) (rules : List Rule) (r r' : Watched R) (w : Watched W) (e : RunError) → IsAccepted settings rules → ReadsWhole remaining r r' (Err e)
+pub read_answer : {R W : Type 0} (remaining : R → Option (List ℕ)) (contents : W → Option (List ℕ)) (settings : Settings) (rules : List Rule) (r r' : Watched R) (w : Watched W) (e : RunError) → IsAccepted settings rules → ¬ IsStreamed settings rules → ReadsWhole remaining r r' (Err e)
     → RanRules remaining contents r r' w w settings rules (Err e)
-read_answer remaining contents settings rules r r' w (errors.Rule e) accepted h = absurd h
-read_answer remaining contents settings rules r r' w (errors.Setting e) accepted h = absurd h
-read_answer remaining contents settings rules r r' w (errors.Build kind) accepted h = absurd h
-read_answer remaining contents settings rules r r' w (errors.Read e) accepted h = (_, HasMoved-reads remaining contents r r' w h.0 1 h.1 (λ e _. absurd (omega (arith, e))), λ refusal. refusal, λ file grammar. record { rules = rules; grammar = grammar; accepted = accepted; written = refl; failed = (refl, refl, refl) })
-read_answer remaining contents settings rules r r' w (errors.Write e) accepted h = absurd h
-read_answer remaining contents settings rules r r' w errors.WriteZero accepted h = absurd h
-read_answer remaining contents settings rules r r' w errors.Memory accepted h = (_, HasMoved-reads remaining contents r r' w h.0 0 h.1 (λ _ whole. absurd (AreFilled-open h.0 h.2 whole)), λ refusal. refusal, λ file grammar. record { rules = rules; grammar = grammar; accepted = λ _. accepted; filled = h.2; written = refl; failed = (refl, refl, refl) })
-read_answer remaining contents settings rules r r' w errors.Position accepted h = absurd h
+read_answer remaining contents settings rules r r' w (errors.Rule e) accepted held h = absurd h
+read_answer remaining contents settings rules r r' w (errors.Setting e) accepted held h = absurd h
+read_answer remaining contents settings rules r r' w (errors.Build kind) accepted held h = absurd h
+read_answer remaining contents settings rules r r' w (errors.Read e) accepted held h = (
+  record { pieces = h.0; failed_reads = 1; taken = []; failed_writes = 0; stalled_writes = 0 },
+  record { reader = h.1; writer = taken-none contents w },
+  λ refusal. refusal,
+  λ file grammar. record { rules = rules; grammar = grammar; accepted = accepted; streamed = λ streamed. absurd (held streamed); whole_input = λ _. refl; written = (_, refl); failed = (refl, refl, refl) },
+)
+read_answer remaining contents settings rules r r' w (errors.Write e) accepted held h = absurd h
+read_answer remaining contents settings rules r r' w errors.WriteZero accepted held h = absurd h
+read_answer remaining contents settings rules r r' w errors.Memory accepted held h = (
+  record { pieces = h.0; failed_reads = 0; taken = []; failed_writes = 0; stalled_writes = 0 },
+  record { reader = h.1; writer = taken-none contents w },
+  λ refusal. refusal,
+  λ file grammar. record { rules = rules; grammar = grammar; accepted = λ _. accepted; streamed = λ streamed. absurd (held streamed); filled = h.2; written = refl; failed = (refl, refl, refl) },
+)
+read_answer remaining contents settings rules r r' w errors.Position accepted held h = absurd h
+
+-- the answer where a write stopped once the input was read to its end
+write_failed : {W : Type 0} (contents : W → Option (List ℕ)) (settings : Settings) (rules : List Rule) (w w' : Watched W) (pieces : List (List ℕ)) (input : List ℕ) (stalls : ℕ) (s : Stopped contents w w' [] (output_of settings rules input)) → IsAccepted settings rules → ¬ IsStreamed settings rules → AreWhole pieces → input ≡ concat pieces
+    → (file : List ℕ) → IsRuleFile file rules → RanToFailedWrite settings file (record { pieces = pieces; failed_reads = 0; taken = s.gained; failed_writes = 1; stalled_writes = stalls }) stalls
+write_failed contents settings rules w w' pieces input stalls s accepted held whole is file grammar =
+    record { rules = rules; grammar = grammar; accepted = accepted; streamed = λ streamed. absurd (held streamed); whole_input = λ _. whole; written = (s.lost, ap (output_of settings rules) (sym is) ∙ sym s.order); failed = (refl, refl, refl) }
 
 -- the answer once the input was read to its end
-pub write_answer : {R W : Type 0} (remaining : R → Option (List ℕ)) (contents : W → Option (List ℕ)) (settings : Settings) (rules : List Rule) (r r' : Watched R) (w w' : Watched W) (pieces : List (List ℕ)) (input : List ℕ) (result : Result (Unit {0}) RunError) → IsAccepted settings rules → Gave remaining r r' pieces 0 → AreWhole pieces → input ≡ concat pieces → IsAtEnd (remaining (inner_of r'))
+pub write_answer : {R W : Type 0} (remaining : R → Option (List ℕ)) (contents : W → Option (List ℕ)) (settings : Settings) (rules : List Rule) (r r' : Watched R) (w w' : Watched W) (pieces : List (List ℕ)) (input : List ℕ) (result : Result (Unit {0}) RunError) → IsAccepted settings rules → ¬ IsStreamed settings rules → HasGiven remaining r r' pieces 0 → AreWhole pieces → input ≡ concat pieces
     → OnOk result (Sent contents w w' [] [] (output_of settings rules input)) → OnErr result (Stopped contents w w' [] (output_of settings rules input)) → IfErr result (IsWriteFault w w')
     → RanRules remaining contents r r' w w' settings rules result
-write_answer remaining contents settings rules r r' w w' pieces input (Ok done) accepted gave whole is end sent stopped kind = (
+write_answer remaining contents settings rules r r' w w' pieces input (Ok done) accepted held gave whole is sent stopped kind = (
   record { pieces = pieces; failed_reads = 0; taken = sent.gained; failed_writes = 0; stalled_writes = 0 },
-  record { pieces = gave.pieces; failed_reads = gave.failures; taken = sent.taken; failed_writes = sent.fine.failures ∙ sym (add-zero _); stalled_writes = sent.fine.stalls ∙ sym (add-zero _); reader_device = gave.device; reader_end = λ _ _. end; writer_device = sent.device },
+  record { reader = gave; writer = taken-from_sent contents w w' _ sent },
   λ refusal. refusal,
   λ file grammar. record { rules = rules; grammar = grammar; accepted = accepted; whole = whole; written = sym (append-nil sent.gained) ∙ sent.order ∙ ap (output_of settings rules) is; failed = (refl, refl, refl) },
 )
-write_answer remaining contents settings rules r r' w w' pieces input (Err (errors.Rule e)) accepted gave whole is end sent stopped kind = absurd kind
-write_answer remaining contents settings rules r r' w w' pieces input (Err (errors.Setting e)) accepted gave whole is end sent stopped kind = absurd kind
-write_answer remaining contents settings rules r r' w w' pieces input (Err (errors.Build limit)) accepted gave whole is end sent stopped kind = absurd kind
-write_answer remaining contents settings rules r r' w w' pieces input (Err (errors.Read e)) accepted gave whole is end sent stopped kind = absurd kind
-write_answer remaining contents settings rules r r' w w' pieces input (Err (errors.Write e)) accepted gave whole is end sent stopped kind = (
+write_answer remaining contents settings rules r r' w w' pieces input (Err (errors.Rule e)) accepted held gave whole is sent stopped kind = absurd kind
+write_answer remaining contents settings rules r r' w w' pieces input (Err (errors.Setting e)) accepted held gave whole is sent stopped kind = absurd kind
+write_answer remaining contents settings rules r r' w w' pieces input (Err (errors.Build limit)) accepted held gave whole is sent stopped kind = absurd kind
+write_answer remaining contents settings rules r r' w w' pieces input (Err (errors.Read e)) accepted held gave whole is sent stopped kind = absurd kind
+write_answer remaining contents settings rules r r' w w' pieces input (Err (errors.Write e)) accepted held gave whole is sent stopped kind = (
   record { pieces = pieces; failed_reads = 0; taken = stopped.gained; failed_writes = 1; stalled_writes = 0 },
-  record { pieces = gave.pieces; failed_reads = gave.failures; taken = stopped.taken; failed_writes = stopped.failures; stalled_writes = kind ∙ sym (add-zero _); reader_device = gave.device; reader_end = λ _ _. end; writer_device = stopped.device },
+  record { reader = gave; writer = taken-from_stopped contents w w' _ 0 stopped (kind ∙ sym (add-zero _)) },
   λ refusal. refusal,
-  λ file grammar. record { rules = rules; grammar = grammar; accepted = accepted; whole = whole; written = (stopped.lost, ap (output_of settings rules) (sym is) ∙ sym stopped.order); failed = (refl, refl, refl) },
+  write_failed contents settings rules w w' pieces input 0 stopped accepted held whole is,
 )
-write_answer remaining contents settings rules r r' w w' pieces input (Err errors.WriteZero) accepted gave whole is end sent stopped kind = (
+write_answer remaining contents settings rules r r' w w' pieces input (Err errors.WriteZero) accepted held gave whole is sent stopped kind = (
   record { pieces = pieces; failed_reads = 0; taken = stopped.gained; failed_writes = 1; stalled_writes = 1 },
-  record { pieces = gave.pieces; failed_reads = gave.failures; taken = stopped.taken; failed_writes = stopped.failures; stalled_writes = kind; reader_device = gave.device; reader_end = λ _ _. end; writer_device = stopped.device },
+  record { reader = gave; writer = taken-from_stopped contents w w' _ 1 stopped kind },
   λ refusal. refusal,
-  λ file grammar. record { rules = rules; grammar = grammar; accepted = accepted; whole = whole; written = (stopped.lost, ap (output_of settings rules) (sym is) ∙ sym stopped.order); failed = (refl, refl, refl) },
+  write_failed contents settings rules w w' pieces input 1 stopped accepted held whole is,
 )
-write_answer remaining contents settings rules r r' w w' pieces input (Err errors.Memory) accepted gave whole is end sent stopped kind = absurd kind
-write_answer remaining contents settings rules r r' w w' pieces input (Err errors.Position) accepted gave whole is end sent stopped kind = absurd kind
+write_answer remaining contents settings rules r r' w w' pieces input (Err errors.Memory) accepted held gave whole is sent stopped kind = absurd kind
+write_answer remaining contents settings rules r r' w w' pieces input (Err errors.Position) accepted held gave whole is sent stopped kind = absurd kind
 
 -- why there are no rules is the answer
 pub prepared_answer : (settings : Settings) (file : List ℕ) (e : RunError) → Prepares settings file (Err e) → AnswersRun settings file nothing (Err e)

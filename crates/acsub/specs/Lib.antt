@@ -9,3 +9,6 @@ pub mod Words
 pub mod Tool
 pub mod Finder
 pub mod Plan
+pub mod Transformed
+pub mod Stream
+pub mod StreamList

@@ -1,61 +1,21 @@
 -- What a run writes, and what its answers say.
-use Rattle.std.specs.Prelude.{◌↔◌, ◌≡◌, ◌≢◌, ℕ, ◌+◌, ◌<◌, List, [], ◌++◌, length, Result, Option, Ok, Err}
-use Rattle.std.specs.Io.KnownBytes.{Appends, Consumes, IsAtEnd}
+use Rattle.std.specs.Prelude.{◌↔◌, ◌≡◌, ◌≢◌, ℕ, ◌+◌, ◌*◌, ◌<◌, ◌≤◌, List, [], ◌++◌, length, Result, Option, Ok, Err, OnOk}
 use Rattle.std.specs.List.{concat}
 use Rattle.ac_input.specs.BeginningLaws.{IsBeginning}
-use Rattle.ac_input.specs.declared.search.MatchKind.{MatchKind}
-use Rattle.ac_input.specs.Occurrence.{Search}
-use Rattle.ac_input.specs.Text.{replaced_from, listed}
 use Rattle.ac_input.specs.Rules.{Rule, IsRuleFile, FirstBadLine}
-use Rattle.ac_input.specs.Computed.{walk_of, listing_of}
-use Rattle.ac_automaton.specs.Watched.{failures_of, stalls_of, pieces_of, taken_of, inner_of}
+use Rattle.ac_input.specs.Steps.{looked_of, moved_of, scanned_of}
+use Rattle.ac_input.specs.declared.steps.Steps.{Steps}
+use Rattle.ac_automaton.specs.Moved.{AreFilled, AreWhole, Failed, HasMoved, Moved, NoneTouched, but_last}
+use Rattle.ac_automaton.specs.Watched.{pieces_of}
 use Rattle.ac_automaton.specs.declared.watched.Watched.{Watched}
 use Rattle.acsub.specs.declared.rules.RuleError.TheVariants as rule_errors
 use Rattle.acsub.specs.declared.error.RunError.{RunError}
 use Rattle.acsub.specs.declared.error.RunError.TheVariants as errors
-use Rattle.acsub.specs.declared.settings.Mode.{Mode}
-use Rattle.acsub.specs.declared.settings.Mode.TheVariants as modes
 use Rattle.acsub.specs.declared.settings.Settings.{Settings}
-use Rattle.acsub.specs.Finder.{whole_search, IsNotBuilt}
+use Rattle.acsub.specs.Finder.{IsNotBuilt}
 use Rattle.acsub.specs.Plan.{Plan}
-use Rattle.acsub.specs.Input.{AreFilled, AreWhole}
 use Rattle.acsub.specs.Settings.{IsAccepted, IsFirstExclusion}
-use Rattle.acsub.specs.Sides.{patterns_of, replacements_of}
-
--- the text that a mode makes of a search
-abbrev pub text_in : Mode → MatchKind → List (List ℕ) → Search → List ℕ
-text_in modes.Replace kind replacements s = replaced_from 0 s.haystack replacements (walk_of kind s)
-text_in modes.List kind replacements s = listed (walk_of kind s)
-text_in modes.Overlap kind replacements s = listed (listing_of s)
-
--- The text that settings and rules make of an input. The engine, its prefilter, dense depth and byte classes are not in it.
-abbrev pub output_of : Settings → List Rule → List ℕ → List ℕ
-output_of settings rules input = text_in settings.mode settings.kind (replacements_of rules) (whole_search settings (patterns_of rules) input)
-
--- what a run moved: the pieces that its reads gave, how many reads failed, the bytes that its writes took, how many writes
--- failed, and how many of those were handed bytes and took none
-pub record Moved : Type 0 where
-  pub pieces : List (List ℕ)
-  pub failed_reads : ℕ
-  pub taken : List ℕ
-  pub failed_writes : ℕ
-  pub stalled_writes : ℕ
-
--- A reader and a writer, before and after, tell that this was moved. A device in memory tells it by its bytes too: what is left
--- to read lost what was read, and is at its end where that was all; what the writer holds grew by what was written.
-pub record HasMoved {R W : Type 0} (remaining : R → Option (List ℕ)) (contents : W → Option (List ℕ)) (reader_before reader_after : Watched R) (writer_before writer_after : Watched W) (m : Moved) : Type 0 where
-  pub pieces : pieces_of reader_after ≡ pieces_of reader_before ++ m.pieces
-  pub failed_reads : failures_of reader_after ≡ failures_of reader_before + m.failed_reads
-  pub taken : taken_of writer_after ≡ taken_of writer_before ++ m.taken
-  pub failed_writes : failures_of writer_after ≡ failures_of writer_before + m.failed_writes
-  pub stalled_writes : stalls_of writer_after ≡ stalls_of writer_before + m.stalled_writes
-  pub reader_device : Consumes (remaining (inner_of reader_before)) (remaining (inner_of reader_after)) (concat m.pieces)
-  pub reader_end : m.failed_reads ≡ 0 → AreWhole m.pieces → IsAtEnd (remaining (inner_of reader_after))
-  pub writer_device : Appends (contents (inner_of writer_before)) (contents (inner_of writer_after)) m.taken
-
--- so many reads failed, so many writes, and so many of those took no byte
-abbrev pub Failed : Moved → ℕ → ℕ → ℕ → Type 0
-Failed m reads writes stalls = (m.failed_reads ≡ reads) × (m.failed_writes ≡ writes) × (m.stalled_writes ≡ stalls)
+use Rattle.acsub.specs.Transformed.{IsOutputFront, IsStreamed, output_of}
 
 -- The rules are in the grammar and go with the settings, the input was read to its end, and the text of all of it was written.
 pub record RanWhole (settings : Settings) (file : List ℕ) (m : Moved) : Type 0 where
@@ -66,30 +26,40 @@ pub record RanWhole (settings : Settings) (file : List ℕ) (m : Moved) : Type 0
   pub written : m.taken ≡ output_of settings rules (concat m.pieces)
   pub failed : Failed m 0 0 0
 
--- A read failed, and nothing was written.
+-- A read failed. Where the text is written while the input is read, all that could be written of what was read was written; else
+-- nothing was written.
 pub record RanToFailedRead (settings : Settings) (file : List ℕ) (m : Moved) : Type 0 where
   pub rules : List Rule
   pub grammar : IsRuleFile file rules
   pub accepted : IsAccepted settings rules
-  pub written : m.taken ≡ []
+  pub streamed : IsStreamed settings rules → IsOutputFront settings rules (concat m.pieces) m.taken
+  pub whole_input : ¬ IsStreamed settings rules → m.taken ≡ []
+  pub written : IsBeginning m.taken (output_of settings rules (concat m.pieces))
   pub failed : Failed m 1 0 0
 
--- A write failed, or was handed bytes and took none, when the input had been read to its end; a beginning of its text was
--- written.
+-- at least that was written of an input which could be written before the last of its pieces was read
+abbrev pub IsPrompt : Settings → List Rule → Moved → Type 0
+IsPrompt settings rules m = (front : List ℕ) × IsOutputFront settings rules (concat (but_last m.pieces)) front × IsBeginning front m.taken
+
+-- A write failed, or was handed bytes and took none. Where the text is written while the input is read, all was written before
+-- that could be written before the last read; else the input had been read to its end. A beginning of the text of all that was
+-- read was written.
 pub record RanToFailedWrite (settings : Settings) (file : List ℕ) (m : Moved) (stalls : ℕ) : Type 0 where
   pub rules : List Rule
   pub grammar : IsRuleFile file rules
   pub accepted : IsAccepted settings rules
-  pub whole : AreWhole m.pieces
+  pub streamed : IsStreamed settings rules → IsPrompt settings rules m
+  pub whole_input : ¬ IsStreamed settings rules → AreWhole m.pieces
   pub written : IsBeginning m.taken (output_of settings rules (concat m.pieces))
   pub failed : Failed m 0 1 stalls
 
--- There was no memory: nothing was written, and the end of the input was not read. Nothing was read at all unless the
--- settings are accepted.
+-- There was no memory: nothing was written, and the end of the input was not read. Nothing was read at all unless the settings
+-- are accepted and the whole input is read before the text is written.
 pub record RanOutOfMemory (settings : Settings) (file : List ℕ) (m : Moved) : Type 0 where
   pub rules : List Rule
   pub grammar : IsRuleFile file rules
   pub accepted : m.pieces ≢ [] → IsAccepted settings rules
+  pub streamed : IsStreamed settings rules → m.pieces ≡ []
   pub filled : AreFilled m.pieces
   pub written : m.taken ≡ []
   pub failed : Failed m 0 0 0
@@ -138,9 +108,30 @@ abbrev pub RanRules : {R W : Type 0} → (R → Option (List ℕ)) → (W → Op
 RanRules remaining contents reader_before reader_after writer_before writer_after settings rules result =
     (m : Moved) × HasMoved remaining contents reader_before reader_after writer_before writer_after m × ¬ IsRefusal result × ((file : List ℕ) → IsRuleFile file rules → AnswersRun settings file m result)
 
--- neither the reader nor the writer was touched
-abbrev pub NoneTouched : {R W : Type 0} → Watched R → Watched R → Watched W → Watched W → Type 0
-NoneTouched reader_before reader_after writer_before writer_after = (reader_after ≡ reader_before) × (writer_after ≡ writer_before)
+-- Where the text is written while the input is read, want of memory is found before anything is read.
+abbrev pub IsFoundBefore : {R W : Type 0} → Settings → List ℕ → Watched R → Watched R → Watched W → Watched W → Type 0
+IsFoundBefore settings file reader_before reader_after writer_before writer_after =
+    (rules : List Rule) → IsRuleFile file rules → IsStreamed settings rules → NoneTouched reader_before reader_after writer_before writer_after
+
+-- What it may cost to read so many bytes, and to write their text while they are read: two states are looked at for each at most,
+-- no place is scanned, and a seventh of them at most is moved within the buffer.
+pub record IsRunCost (n : ℕ) (before after : Steps) : Type 0 where
+  pub looked : looked_of after ≤ looked_of before + 2 * n
+  pub scanned : scanned_of after ≡ scanned_of before
+  pub moved : 7 * moved_of after ≤ 7 * moved_of before + n
+
+-- What a run costs. Where the text is written while the input is read, that goes by the bytes that were read, and where it came to
+-- the end a state was looked at for each of them at least. A run that holds its input counts nothing.
+pub record CostsRun {R : Type 0} (settings : Settings) (rules : List Rule) (reader_before reader_after : Watched R) (before after : Steps) (result : Result (Unit {0}) RunError) : Type 0 where
+  pub gained : List (List ℕ)
+  pub read : pieces_of reader_after ≡ pieces_of reader_before ++ gained
+  pub streamed : IsStreamed settings rules → IsRunCost (length (concat gained)) before after
+  pub whole : IsStreamed settings rules → OnOk result (looked_of before + length (concat gained) ≤ looked_of after)
+  pub whole_input : ¬ IsStreamed settings rules → after ≡ before
+
+-- the same, where the rules are those of a file
+abbrev pub CostsFile : {R : Type 0} → Settings → List ℕ → Watched R → Watched R → Steps → Steps → Result (Unit {0}) RunError → Type 0
+CostsFile settings file reader_before reader_after before after result = (rules : List Rule) → IsRuleFile file rules → CostsRun settings rules reader_before reader_after before after result
 
 -- the first bad line is what is answered, and no other line
 abbrev pub AnswersBadLine : List ℕ → Result (Unit {0}) RunError → Type 0

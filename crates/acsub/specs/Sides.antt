@@ -1,6 +1,5 @@
 -- Rules as they are kept.
 use Rattle.std.specs.Prelude.{ℕ, List, map}
-use Rattle.std.specs.Borrow.{Bor}
 use Rattle.ac_input.specs.Rules.{Rule}
 use Rattle.acsub.specs.declared.rules.Sides.{Sides}
 
@@ -11,10 +10,6 @@ rule_of sides = (sides.pattern.items, sides.replacement.items)
 -- the rules of some sides, in their order
 abbrev pub rules_of : List Sides → List Rule
 rules_of kept = map rule_of kept
-
--- the bytes behind some references
-abbrev pub bytes_of : List (Bor (List ℕ)) → List (List ℕ)
-bytes_of slices = map (λ slice. slice.now) slices
 
 -- what rules look for, and what they put in its place
 abbrev pub patterns_of : List Rule → List (List ℕ)

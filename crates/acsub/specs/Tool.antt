@@ -15,7 +15,8 @@ use Rattle.acsub.specs.declared.settings.SettingError.{SettingError}
 use Rattle.acsub.specs.declared.settings.SettingError.TheVariants.{OverlapLeftmost, PackedStandard, PackedFold, PackedEmpty, PackedCount}
 use Rattle.acsub.specs.declared.words.Words.{Words}
 use Rattle.acsub.specs.declared.words.WordsFault.TheVariants.{Help}
-use Rattle.acsub.specs.Run.{Moved, HasMoved, RanWhole}
+use Rattle.ac_automaton.specs.Moved.{Moved, HasMoved}
+use Rattle.acsub.specs.Run.{RanWhole}
 use Rattle.acsub.specs.Words.{Reads}
 use Rattle.acsub.specs.declared.tool.Fault.{Fault}
 use Rattle.acsub.specs.declared.tool.Fault.TheVariants as faults

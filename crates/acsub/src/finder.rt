@@ -4,10 +4,9 @@
 //! alias [`Chosen`], and how one is built in another, [`build`]; all else is said and proved of any automaton.
 ghost use Rattle.std.specs.Prelude.{◌≡◌, ◌≢◌, IfOk};
 ghost use Rattle.ac_input.specs.declared.search.MatchKind.TheVariants.{Standard};
-ghost use Rattle.ac_literal.specs.Packed.{AreServed, search_kind};
+ghost use Rattle.ac_literal.specs.Packed.{AreServed, bytes_of, search_kind};
 ghost use Rattle.acsub.specs.Finder.{Builds, BuildsAutomaton, IsPackedFor, builder_settings};
 ghost use Rattle.acsub.specs.Settings.{IsAccepted};
-ghost use Rattle.acsub.specs.Sides.{bytes_of};
 
 use crate::error::RunError;
 use crate::rules::Rules;

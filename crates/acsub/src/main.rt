@@ -20,6 +20,7 @@ mod run;
 #[cfg(test)]
 mod scripted;
 mod settings;
+mod stream;
 mod tool;
 mod words;
 

@@ -4,7 +4,8 @@
 //! and writes them together once the buffer is full; a piece that is as large as the buffer is written by itself, and isn't
 //! copied. The buffer is taken once, and never grows.
 ghost use Rattle.std.specs.Prelude.{◌≡◌, ◌-◌, ◌≤◌, [], ◌++◌, length, vec_len, vec_capacity, IfOk, IfErr, OnOk, OnErr};
-ghost use Rattle.acsub.specs.Output.{Sent, Stopped, IsWriteFault};
+ghost use Rattle.ac_automaton.specs.Output.{Sent, Stopped};
+ghost use Rattle.acsub.specs.Output.{IsWriteFault};
 
 use crate::error::RunError;
 use ac_automaton::error::StreamError;

@@ -2,15 +2,17 @@
 //!
 //! A [`Prepared`] holds the settings, the rules, which go with them, and by what the rules' patterns are found. The matches of an
 //! input come from it by one call, and all that overlap by another, whatever finds them.
-ghost use Rattle.std.specs.Prelude.{◌≡◌};
+ghost use Rattle.std.specs.Prelude.{◌≡◌, ◌↔◌, IfSome, IsSome};
+ghost use Rattle.ac_input.specs.declared.search.Anchored.TheVariants.{No};
 ghost use Rattle.ac_input.specs.declared.search.MatchKind.TheVariants.{Standard};
-ghost use Rattle.acsub.specs.Finder.{IsFinderOf, whole_walk, whole_listing};
+ghost use Rattle.acsub.specs.Finder.{IsFinderOf, dictionary_for, whole_walk, whole_listing};
 ghost use Rattle.acsub.specs.Sides.{patterns_of};
+ghost use Rattle.acsub.specs.Transformed.{IsStreamed};
 
 use crate::finder::Finder;
 use crate::matches::Matches;
 use crate::rules::Rules;
-use crate::settings::{Mode, Settings};
+use crate::settings::{Mode, Settings, is_streamed};
 use ac_automaton::automaton::Automaton;
 use ac_input::search::Input;
 use std::marker::Model;
@@ -61,6 +63,25 @@ impl<A: Automaton> Prepared<A> {
         ensures { result.now ≡ self.now.rules }
     {
         &self.rules
+    }
+
+    /// The automaton that finds the matches of what is read, where the text is written while the input is read.
+    pub fn streamed(&self) -> Option<&A>
+        ensures some { IsSome result ↔ IsStreamed self.now.settings self.now.rules }
+        ensures built { IfSome result (λ automaton. (A.built automaton.now).dictionary
+            ≡ dictionary_for self.now.settings (patterns_of self.now.rules)) }
+        ensures supports { IfSome result (λ automaton. A.supports automaton.now No) }
+    {
+        match &self.finder {
+            Finder::Automaton(automaton) => {
+                if is_streamed(&self.settings, &self.rules) {
+                    Some(automaton)
+                } else {
+                    None
+                }
+            }
+            Finder::Packed(_) => None,
+        }
     }
 
     /// The matches of an input, one after another.

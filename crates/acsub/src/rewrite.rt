@@ -5,7 +5,8 @@
 ghost use Rattle.std.specs.Prelude.{◌≡◌, ◌≤◌, ◌<◌, ◌++◌, length, None, slice_range, slice_index_or, IfErr, OnOk, OnErr};
 ghost use Rattle.ac_input.specs.Text.{replaced_from, line, listed};
 ghost use Rattle.acsub.specs.Lines.{rule_at};
-ghost use Rattle.acsub.specs.Output.{Sent, Stopped, IsWriteFault};
+ghost use Rattle.ac_automaton.specs.Output.{Sent, Stopped};
+ghost use Rattle.acsub.specs.Output.{IsWriteFault};
 ghost use Rattle.ac_automaton.specs.Replace.{LieInOrder};
 ghost use Rattle.acsub.specs.Sides.{replacements_of};
 

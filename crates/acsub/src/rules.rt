@@ -11,7 +11,8 @@
 ghost use Rattle.std.specs.Prelude.{◌≡◌, ◌↔◌, ◌==◌, ◌<◌, ℕ, List, ◌∷◌, ◌++◌, length, map, Contains, IsTrue, IfOk, IfErr, MatchOption, MatchResult};
 ghost use Rattle.ac_input.specs.Rules.{Rule, Spells, IsRuleFile, FirstBadLine, BeginsWithNoRule};
 ghost use Rattle.acsub.specs.Lines.{HasRules, IsSpelling, IsSplitAt, BeginsWithLine, rule_at};
-ghost use Rattle.acsub.specs.Sides.{bytes_of, patterns_of};
+ghost use Rattle.ac_literal.specs.Packed.{bytes_of};
+ghost use Rattle.acsub.specs.Sides.{patterns_of, replacements_of};
 ghost use Rattle.acsub.specs.declared.rules.RuleError.TheVariants.{Memory};
 
 use memchr::memchr;
@@ -115,6 +116,17 @@ impl Rules {
             patterns.push(sides.pattern.as_slice())?;
         }
         Ok(patterns)
+    }
+
+    /// All replacements in the order of their patterns, as slices. It takes memory for the slices alone.
+    pub fn replacements(&self, alloc: Global) -> Result<Vec<&[u8]>, AllocError>
+        ensures { IfOk result (λ sides. bytes_of sides.items ≡ replacements_of self.now) }
+    {
+        let mut replacements = Vec::with_capacity(alloc, self.len())?;
+        for sides in &self.sides {
+            replacements.push(sides.replacement.as_slice())?;
+        }
+        Ok(replacements)
     }
 
     /// The bytes that a rule puts in their place.

@@ -1,14 +1,19 @@
 //! A run: rules and settings in, an input read to its end, its text written.
 //!
-//! [`run`] takes all the memory that it needs before the read that finds the end of the input, so want of memory is answered
-//! while nothing is written yet. Then it searches the input, by packed search where the settings name it and by an automaton
-//! otherwise, and writes the text as it is found. The engine and its settings change nothing of the text.
-ghost use Rattle.std.specs.Prelude.{◌≡◌, ℕ, ◌↔◌, List, [], false, map, IfErr, OnOk, OnErr};
-ghost use Rattle.ac_input.specs.Rules.{IsRuleFile};
+//! Under the standard kind no later byte can change a match. So a run that replaces or lists such matches, none of them empty,
+//! writes while it reads: all that is decided is written before each read, and what is kept back is no longer than the longest
+//! pattern. Any other run holds its input: it takes all the memory that it needs before the read that finds the end, then searches,
+//! by packed search where the settings name it and by an automaton otherwise, and writes the text as it is found. On either road
+//! want of memory is answered while nothing is written yet. The engine and its settings change nothing of the text.
+ghost use Rattle.std.specs.Prelude.{◌≡◌, List, [], false, IfErr, OnOk, OnErr};
 ghost use Rattle.ac_automaton.specs.Watched.{has_ended};
-ghost use Rattle.acsub.specs.Output.{Sent, Stopped, IsWriteFault};
-ghost use Rattle.acsub.specs.Run.{Accepts, AnswersBadLine, IsRefusal, NoneTouched, Prepares, Ran, RanRules, output_of};
+ghost use Rattle.ac_automaton.specs.Output.{Sent, Stopped};
+ghost use Rattle.acsub.specs.Output.{IsWriteFault};
+ghost use Rattle.ac_automaton.specs.Moved.{NoneTouched};
+ghost use Rattle.acsub.specs.Run.{Accepts, AnswersBadLine, CostsFile, CostsRun, IsFoundBefore, IsRefusal, Prepares, Ran, RanRules};
 ghost use Rattle.acsub.specs.Settings.{IsAccepted};
+ghost use Rattle.acsub.specs.Transformed.{IsStreamed, output_of};
+ghost use Rattle.acsub.specs.declared.error.RunError.TheVariants.{Memory};
 
 use crate::error::RunError;
 use crate::finder::{self, Chosen};
@@ -18,15 +23,18 @@ use crate::prepared::Prepared;
 use crate::rewrite::{send_list, send_replaced};
 use crate::rules::{RuleError, Rules, read_rules};
 use crate::settings::{Mode, Settings, check};
+use crate::stream::stream_text;
 use ac_automaton::automaton::Automaton;
 use ac_automaton::watched::Watched;
+use ac_input::steps::Steps;
 use std::alloc::Global;
 use std::io::{Read, Write};
 
 /// Reads the input to its end, and writes the text that settings and rules make of it.
 ///
-/// It takes memory for the rules and what is built of them, for the whole input, and one buffer for the text; no text is kept. A
-/// run costs about the input and the text. The writer isn't flushed.
+/// It takes memory for the rules and what is built of them, and for one buffer for the text. Where the text is written while the
+/// input is read, it takes one more buffer, of 64 KiB or eight of the longest pattern; otherwise memory for the whole input. A run
+/// costs about the input and the text. The writer isn't flushed.
 pub fn run<R: Read, W: Write>(
     alloc: Global,
     settings: &Settings,
@@ -42,9 +50,35 @@ pub fn run<R: Read, W: Write>(
     ensures bad_line { AnswersBadLine rules.now result }
     // A refusal has touched nothing: bad rules, settings that don't go together, an automaton that isn't built.
     ensures untouched { IsRefusal result → NoneTouched reader.old reader.new writer.old writer.new }
+    // Nor has want of memory, where the text is written while the input is read.
+    ensures memory { result ≡ Err Memory → IsFoundBefore settings.now rules.now
+        reader.old reader.new writer.old writer.new }
+{
+    let mut steps = Steps::new();
+    run_counted(alloc, settings, rules, reader, writer, &mut steps)
+}
+
+/// The same, and counts what it does where the text is written while the input is read.
+pub fn run_counted<R: Read, W: Write>(
+    alloc: Global,
+    settings: &Settings,
+    rules: &[u8],
+    reader: &mut Watched<R>,
+    writer: &mut Watched<W>,
+    steps: &mut Steps,
+) -> Result<(), RunError>
+    requires { has_ended reader.old ≡ false }
+    ensures answered { Ran R.remaining W.contents reader.old reader.new writer.old writer.new
+        settings.now rules.now result }
+    ensures bad_line { AnswersBadLine rules.now result }
+    ensures untouched { IsRefusal result → NoneTouched reader.old reader.new writer.old writer.new }
+    ensures memory { result ≡ Err Memory → IsFoundBefore settings.now rules.now
+        reader.old reader.new writer.old writer.new }
+    ensures cost { CostsFile settings.now rules.now reader.old reader.new
+        steps.old steps.new result }
 {
     match prepare(alloc, settings, rules) {
-        Ok(prepared) => transform(alloc, &prepared, reader, writer),
+        Ok(prepared) => transform(alloc, &prepared, reader, writer, steps),
         Err(error) => Err(error),
     }
 }
@@ -73,8 +107,31 @@ fn accept(alloc: Global, settings: &Settings, bytes: &[u8]) -> Result<Rules, Run
     }
 }
 
-/// Reads the input, and writes its text.
+/// Reads the input, and writes its text, while it reads where that may be.
 fn transform<A: Automaton, R: Read, W: Write>(
+    alloc: Global,
+    prepared: &Prepared<A>,
+    reader: &mut Watched<R>,
+    writer: &mut Watched<W>,
+    steps: &mut Steps,
+) -> Result<(), RunError>
+    requires open { has_ended reader.old ≡ false }
+    requires accepted { IsAccepted prepared.now.settings prepared.now.rules }
+    ensures ran { RanRules R.remaining W.contents reader.old reader.new writer.old writer.new
+        prepared.now.settings prepared.now.rules result }
+    ensures memory { result ≡ Err Memory → IsStreamed prepared.now.settings prepared.now.rules
+        → NoneTouched reader.old reader.new writer.old writer.new }
+    ensures cost { CostsRun prepared.now.settings prepared.now.rules reader.old reader.new
+        steps.old steps.new result }
+{
+    match prepared.streamed() {
+        Some(automaton) => stream_text(alloc, prepared, automaton, reader, writer, steps),
+        None => transform_held(alloc, prepared, reader, writer),
+    }
+}
+
+/// Reads the whole input, and writes its text then.
+fn transform_held<A: Automaton, R: Read, W: Write>(
     alloc: Global,
     prepared: &Prepared<A>,
     reader: &mut Watched<R>,
@@ -82,6 +139,7 @@ fn transform<A: Automaton, R: Read, W: Write>(
 ) -> Result<(), RunError>
     requires open { has_ended reader.old ≡ false }
     requires accepted { IsAccepted prepared.now.settings prepared.now.rules }
+    requires held { ¬ IsStreamed prepared.now.settings prepared.now.rules }
     ensures { RanRules R.remaining W.contents reader.old reader.new writer.old writer.new
         prepared.now.settings prepared.now.rules result }
 {

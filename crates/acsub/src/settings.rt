@@ -4,6 +4,7 @@
 //! own settings never change the text. Some settings exclude one another; [`check`] says which, before anything is read.
 ghost use Rattle.std.specs.Prelude.{◌↔◌, IsTrue};
 ghost use Rattle.acsub.specs.Settings.{Decides, HasEmptyPattern};
+ghost use Rattle.acsub.specs.Transformed.{IsStreamed};
 
 use crate::rules::Rules;
 use ac_input::pairing::Pairing;
@@ -117,6 +118,16 @@ pub fn check(settings: &Settings, rules: &Rules) -> Result<(), SettingError>
         return Err(SettingError::PackedCount);
     }
     Ok(())
+}
+
+/// Whether the text is written while the input is still read: the matches are those of the standard kind, which no later byte can
+/// change, no pattern is empty, and not all that overlap is listed.
+pub fn is_streamed(settings: &Settings, rules: &Rules) -> bool
+    ensures { IsTrue result ↔ IsStreamed settings.now rules.now }
+{
+    settings.kind == MatchKind::Standard
+        && settings.mode != Mode::Overlap
+        && !has_empty_pattern(rules)
 }
 
 /// Whether some pattern is empty.

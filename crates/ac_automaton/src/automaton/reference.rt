@@ -43,6 +43,16 @@ impl<'a, A: Automaton> Automaton for &'a A {
         (**self).advance(anchored, sid, bytes, steps)
     }
 
+    fn advance_to_match(
+        &self,
+        anchored: Anchored,
+        sid: StateID,
+        bytes: &[u8],
+        steps: &mut Steps,
+    ) -> Advance {
+        (**self).advance_to_match(anchored, sid, bytes, steps)
+    }
+
     fn is_special(&self, sid: StateID) -> bool {
         (**self).is_special(sid)
     }

@@ -22,7 +22,7 @@ use std::alloc::Global;
 use std::io::{Read, Write};
 
 /// The bytes between two places of a stream, of which the bytes from a place on are held.
-fn part(held: &[u8], from: usize, start: usize, end: usize) -> &[u8]
+pub(super) fn part(held: &[u8], from: usize, start: usize, end: usize) -> &[u8]
     requires held { from ≤ start }
     requires order { start ≤ end }
     requires within { end ≤ from + length held.now }
@@ -109,7 +109,7 @@ fn send_decided<A: Automaton, W: Write>(
 }
 
 /// The bytes of a stream from a place on, of which the bytes from an earlier place on are held.
-fn rest(held: &[u8], from: usize, start: usize) -> &[u8]
+pub(super) fn rest(held: &[u8], from: usize, start: usize) -> &[u8]
     requires held { from ≤ start }
     requires within { start ≤ from + length held.now }
     ensures { result.now ≡ drop (start - from) held.now }
@@ -169,6 +169,3 @@ pub fn replace_all_counted<A: Automaton, R: Read, W: Write>(
     let mut output = Output::new(alloc)?;
     replace_read(&mut scan, &mut output, reader, writer, replacements, steps)
 }
-
-#[cfg(test)]
-mod tests;

@@ -10,11 +10,11 @@
 //! found begins there or behind it. So the bytes before the cut are all that a caller may write, and the bytes behind it all that
 //! has to be held: as many as the longest pattern has, at most.
 //!
-//! The hot path is [`Automaton::advance`] over the bytes of a read. Between two matches nothing else is done for a byte.
+//! The hot path is [`Automaton::advance_to_match`] over the bytes of a read. Between two matches nothing else is done for a byte,
+//! also where the automaton holds a prefilter, which a stream doesn't ask.
 ghost use Rattle.std.specs.Prelude.{◌≡◌, ◌≢◌, ◌↔◌, ◌+◌, ◌-◌, ◌≤◌, ◌<◌, ℕ, List, [], false, true, length, IfErr, IfOk, OnOk, IsTrue};
 ghost use Rattle.ac_input.specs.declared.search.Anchored.TheVariants.{No};
-ghost use Rattle.ac_automaton.specs.Automaton.{IsReached};
-ghost use Rattle.ac_automaton.specs.Scan.{IsHeldAt, SearchesOn, StopsAtMatch, some_of};
+ghost use Rattle.ac_automaton.specs.Scan.{IsHeldAt, SearchesOn, some_of};
 ghost use Rattle.ac_automaton.specs.Stream.{CanBeCounted, CanStream, CountsNothing, FindsHeld, HasRoom, IsConfigRefusal, IsOnCourse, IsRolled, IsSearched, IsStreamRefusal, ReadsMore, ScanCounts, Scanned, cut_of, fresh_scan, held_by, read_by};
 ghost use Rattle.ac_automaton.specs.Watched.{has_ended};
 
@@ -39,14 +39,6 @@ struct Progress {
     from: usize,
     at: usize,
     last: usize,
-}
-
-/// Where reading on over bytes stopped: in which state, after how many bytes, and whether a pattern matches there.
-#[derive(Clone, Copy)]
-struct Stop {
-    sid: StateID,
-    taken: usize,
-    matches: bool,
 }
 
 /// Where a search over what is held stands then, and the match that it found.
@@ -77,10 +69,12 @@ impl<'a, A: Automaton> Model for Scan<'a, A> {
 
     ghost use Rattle.ac_automaton.specs.Scan.{IsScan, scanned_at};
 
-    ghost view = { λ i. scanned_at (A.built i.automaton.now) i.pieces.items i.given.value i.progress i.buffer i.sums };
+    ghost view = { λ i. scanned_at (A.built i.automaton.now) i.pieces.items i.given.value
+        i.progress i.buffer i.sums };
 
     ghost invariant = { λ i. IsScan (A.Reads i.automaton.now No)
-        (scanned_at (A.built i.automaton.now) i.pieces.items i.given.value i.progress i.buffer i.sums)
+        (scanned_at (A.built i.automaton.now) i.pieces.items i.given.value
+        i.progress i.buffer i.sums)
         i.start i.progress.sid i.given.value i.buffer i.over };
 }
 
@@ -102,33 +96,6 @@ fn configured<A: Automaton>(automaton: &A) -> Result<StateID, MatchError>
     Ok(start)
 }
 
-/// Reads on from a state over bytes, to the first state that matches, or to the last byte.
-fn read_to_match<A: Automaton>(automaton: &A, sid: StateID, bytes: &[u8], steps: &mut Steps) -> Stop
-    requires { IsReached (A.Reads automaton.now Anchored.No) sid }
-    ensures { StopsAtMatch (A.built automaton.now) (A.Reads automaton.now)
-        (A.matches automaton.now) sid bytes.now result steps.old steps.new }
-{
-    let mut current = sid;
-    let mut taken = 0;
-    while taken < bytes.len() {
-        let advance = automaton.advance(Anchored::No, current, &bytes[taken..], steps);
-        current = advance.sid;
-        taken += advance.taken;
-        if automaton.is_match(current) {
-            return Stop {
-                sid: current,
-                taken,
-                matches: true,
-            };
-        }
-    }
-    Stop {
-        sid: current,
-        taken,
-        matches: false,
-    }
-}
-
 /// Searches the bytes that are held from where a search stands, up to the next match or to the last byte.
 fn search<A: Automaton>(
     automaton: &A,
@@ -144,9 +111,9 @@ fn search<A: Automaton>(
         → SearchesOn (A.Reads automaton.now Anchored.No) s start result steps.old steps.new }
 {
     let rest = &held[progress.at - progress.from..];
-    let stop = read_to_match(automaton, progress.sid, rest, steps);
+    let stop = automaton.advance_to_match(Anchored::No, progress.sid, rest, steps);
     let at = progress.at + stop.taken;
-    if !stop.matches {
+    if !automaton.is_match(stop.sid) {
         return Searched {
             progress: Progress {
                 sid: stop.sid,

@@ -9,15 +9,14 @@ ghost use Rattle.ac_input.specs.Same.{IsUnpaired};
 ghost use Rattle.ac_input.specs.Pairing.{IsFolded};
 ghost use Rattle.ac_input.specs.Dictionary.{Dictionary};
 ghost use Rattle.ac_literal.specs.Packed.{search_kind, added};
-ghost use Rattle.ac_literal.specs.Strategy.{AreStarts, AreRareOf};
-ghost use Rattle.ac_literal.specs.Prefilter.{IsDemanded, IsAdmissible, StartBytesDemand, MemmemServes, IsWay};
-ghost use Rattle.ac_literal.specs.Builder.{IsPackedSoFar, IsCollected, AddsMemmem, AddsStart, AddsPattern, BuildsWhere, BuildsPacked, TakesOne};
+ghost use Rattle.ac_literal.specs.Prefilter.{IsDemanded, IsAdmissible, MemmemServes, IsWay};
+ghost use Rattle.ac_literal.specs.Builder.{IsPackedSoFar, IsCollected, AddsMemmem, AddsStart, AddsPattern, BuildsWhere, BuildsPacked, BuildsStartBytes, BuildsRareBytes, TakesOne};
 ghost use Rattle.ac_input.specs.Limits.{with_pattern};
 
 use crate::packed;
 use crate::prefilter::Prefilter;
 use crate::prefilter::needles::{FewBytes, Needles};
-use crate::prefilter::rank::{is_rare, stops};
+use crate::prefilter::rank::{STOPS_ALONE, STOPS_BESIDE_PACKED, stops, stops_within};
 use crate::prefilter::rare_bytes::RareBytesBuilder;
 use crate::prefilter::strategy::{RareBytes, Strategy};
 use ac_input::history::Pieces;
@@ -49,7 +48,8 @@ impl MemmemBuilder {
 
 /// The packed search of the kind, if it has one.
 fn packed_kind(kind: MatchKind) -> Option<packed::MatchKind>
-    ensures { MatchOption result (kind ≡ MatchKind.Standard) (λ leftmost. search_kind leftmost ≡ kind) }
+    ensures { MatchOption result (kind ≡ MatchKind.Standard)
+        (λ leftmost. search_kind leftmost ≡ kind) }
 {
     match kind {
         MatchKind::Standard => None,
@@ -103,7 +103,8 @@ pub struct Builders {
 impl Builders {
     /// Of no pattern.
     fn new(alloc: Global, kind: MatchKind, pairing: &Pairing) -> Builders
-        ensures { IsCollected (record { patterns = []; pairing = pairing.now; kind = kind }) result }
+        ensures { IsCollected
+            (record { patterns = []; pairing = pairing.now; kind = kind }) result }
     {
         Builders {
             memmem: MemmemBuilder::None,
@@ -154,7 +155,7 @@ impl Builders {
 
     /// The bytes that patterns begin with, where a scan for them serves.
     fn build_start_bytes(&self) -> Option<Needles>
-        ensures { (m : Dictionary) → IsCollected m self.now → MatchOption result (¬ StartBytesDemand m) (AreStarts m) }
+        ensures { BuildsStartBytes self.now result }
     {
         let FewBytes::Some(needles) = self.start_bytes else {
             return None;
@@ -168,7 +169,7 @@ impl Builders {
 
     /// Rare bytes, where a scan for them serves.
     fn build_rare_bytes(&self) -> Option<RareBytes>
-        ensures { (m : Dictionary) → IsCollected m self.now → IfSome result (AreRareOf m) }
+        ensures { BuildsRareBytes self.now result }
     {
         let FewBytes::Some(needles) = self.rare_bytes.few else {
             return None;
@@ -182,6 +183,26 @@ impl Builders {
         })
     }
 
+    /// Whether packed search has patterns to look for.
+    fn has_packed(&self) -> bool {
+        match &self.packed {
+            Some(builder) => builder.len() > 0,
+            None => false,
+        }
+    }
+
+    /// Whether there is a scan for bytes that is rather taken than packed search, or than none.
+    fn prefers(&self, scan: &Option<Strategy>) -> bool
+        ensures { IsTrue result → IsSome scan.now }
+    {
+        let limit = if self.has_packed() {
+            STOPS_BESIDE_PACKED
+        } else {
+            STOPS_ALONE
+        };
+        scans_within(scan, limit)
+    }
+
     /// How candidates are found, where there is a way.
     fn build(&self, alloc: Global, pairing: &Pairing) -> Result<Option<Strategy>, AllocError>
         ensures { IfOk result (BuildsWhere IsDemanded pairing.now self.now) }
@@ -191,7 +212,7 @@ impl Builders {
         }
         let starts = self.build_start_bytes();
         let scan = rarer(starts, self.build_rare_bytes());
-        if stops_rarely(&scan) {
+        if self.prefers(&scan) {
             return Ok(scan);
         }
         if let Some(strategy) = self.build_packed()? {
@@ -219,13 +240,13 @@ fn rarer(starts: Option<Needles>, rare: Option<RareBytes>) -> Option<Strategy>
     }
 }
 
-/// Whether there is a scan for bytes, and it is taken to stop rarely.
-fn stops_rarely(scan: &Option<Strategy>) -> bool
+/// Whether there is a scan for bytes, and it is taken to stop at most so often in a thousand bytes.
+fn scans_within(scan: &Option<Strategy>, limit: u32) -> bool
     ensures { IsTrue result → IsSome scan.now }
 {
     match scan {
-        Some(Strategy::StartBytes(needles)) => is_rare(*needles),
-        Some(Strategy::RareBytes(rare)) => is_rare(rare.needles),
+        Some(Strategy::StartBytes(needles)) => stops_within(*needles, limit),
+        Some(Strategy::RareBytes(rare)) => stops_within(rare.needles, limit),
         _ => false,
     }
 }
@@ -250,9 +271,13 @@ impl Model for PrefilterBuilder {
 
     ghost Value = { Dictionary };
 
-    ghost view = { λ b. record { patterns = b.patterns.items; pairing = b.pairing; kind = b.kind } };
+    ghost view = { λ b.
+        record { patterns = b.patterns.items; pairing = b.pairing; kind = b.kind } };
 
-    ghost invariant = { λ b. IsBuilder (record { patterns = b.patterns.items; pairing = b.pairing; kind = b.kind }) b.has_empty b.builders };
+    ghost invariant = { λ b.
+        IsBuilder
+        (record { patterns = b.patterns.items; pairing = b.pairing; kind = b.kind })
+        b.has_empty b.builders };
 }
 
 impl PrefilterBuilder {

@@ -2,10 +2,10 @@
 //!
 //! `memchr` scans for up to three bytes at once. [`Needles`] are such bytes, and [`FewBytes`] collects them one by one until
 //! there are too many.
-ghost use Rattle.std.specs.Prelude.{◌≡◌, ℕ, ◌≤◌, Bool, length, IfSome, MatchOption};
+ghost use Rattle.std.specs.Prelude.{◌≡◌, ℕ, ◌≤◌, Bool, length, IfSome};
 ghost use Rattle.memchr.specs.Find.{IsFirstByte};
 ghost use Rattle.ac_input.specs.Steps.{Done};
-ghost use Rattle.ac_literal.specs.Needles.{is_needle, all_ascii, IsFirstNeedle, covered, with_byte, AreNeedles, HasFour, few_has, AreFew, AddsByte};
+ghost use Rattle.ac_literal.specs.Needles.{is_needle, all_ascii, IsFirstNeedle, covered, with_byte, AddsNeedle, few_has, AreFew, AddsByte};
 
 use ac_input::search::Span;
 use ac_input::steps::Steps;
@@ -48,6 +48,7 @@ impl Needles {
         steps.scan(offset + 1);
         Some(span.start + offset)
     }
+
     /// Whether the byte is a needle.
     pub fn has(&self, byte: u8) -> bool
         ensures { result ≡ is_needle self.now byte }
@@ -72,8 +73,9 @@ impl Needles {
 
     /// These needles and one more, unless it would be a fourth.
     fn with(self, byte: u8) -> Option<Needles>
-        ensures table { (f : ℕ → Bool) → AreNeedles self f → MatchOption result (HasFour (with_byte f byte)) (λ needles. AreNeedles needles (with_byte f byte)) }
-        ensures more { IfSome result (λ needles. (each : ℕ) → is_needle needles each ≡ with_byte (is_needle self) byte each) }
+        ensures table { AddsNeedle self byte result }
+        ensures more { IfSome result (λ needles. (each : ℕ)
+            → is_needle needles each ≡ with_byte (is_needle self) byte each) }
     {
         if self.has(byte) {
             return Some(self);

@@ -1,9 +1,9 @@
-//! How common bytes are taken to be.
+//! How common bytes are taken to be, and how rare they must be for a scan.
 //!
 //! A scan for bytes costs next to nothing until it stops, and each stop costs what it takes to ask the automaton and to start
-//! the scan again, which is as much as some dozens of bytes cost otherwise. So a prefilter is only as good as its bytes are
-//! rare. The ranks are a rough guess, for text in the Latin alphabet and for the formats that are made of text; how often a
-//! byte of a rank comes in a thousand bytes is a guess as rough. Nothing that is answered depends on either.
+//! the scan again. So a prefilter is only as good as its bytes are rare. The ranks are a rough guess, for text in the Latin
+//! alphabet and for the formats that are made of text; how often a byte comes in a thousand bytes is a guess as rough. Nothing
+//! that is answered depends on either.
 ghost use Rattle.std.specs.Prelude.{◌≡◌, ◌≤◌, ◌*◌};
 ghost use Rattle.ac_literal.specs.RareBytes.{rank_of, paired_rank_of};
 ghost use Rattle.ac_literal.specs.declared.prefilter.rank.TheConstants.{COMMON_STOPS};
@@ -26,9 +26,12 @@ const HIGH: u8 = 50;
 /// How many of a thousand bytes of text one byte of the rank [`COMMON`] is.
 const COMMON_STOPS: u32 = 40;
 
-/// How often a scan may stop in a thousand bytes and still be worth it. It was measured beside a slower packed search, of which
-/// a stop cost as much as some twenty bytes; beside today's, where that serves, it would be 1 (docs/SPEED.md).
-const RARE_STOPS: u32 = 50;
+/// How often a scan may stop in a thousand bytes and still be worth it, where packed search serves too: that passes a thousand
+/// bytes in about the time of one stop.
+pub const STOPS_BESIDE_PACKED: u32 = 1;
+
+/// The same where packed search doesn't serve: an automaton alone takes as long for a thousand bytes as for a hundred stops.
+pub const STOPS_ALONE: u32 = 50;
 
 /// How common a byte is taken to be: the greater, the more common.
 pub fn rank(byte: u8) -> u8
@@ -49,15 +52,18 @@ pub fn paired_rank(pairing: &Pairing, byte: u8) -> u8
     rank(byte).max(rank(pairing.other(byte)))
 }
 
-/// How many of a thousand bytes of text this one is taken to be.
+/// How many of a thousand bytes of text this one is taken to be. From 0x80 up it is more than the rank says, since in text of
+/// another alphabet such bytes are common.
 fn stops_at(byte: u8) -> u32
     ensures { result ≤ COMMON_STOPS }
 {
-    match rank(byte) {
-        COMMON => COMMON_STOPS,
-        CAPITAL => 5,
-        SIGN => 3,
-        _ => 1,
+    match byte {
+        b'J' | b'Q' | b'X' | b'Z' | b'^' | b'~' => 1,
+        _ => match rank(byte) {
+            COMMON => COMMON_STOPS,
+            SIGN => 3,
+            _ => 5,
+        },
     }
 }
 
@@ -72,7 +78,7 @@ pub fn stops(needles: Needles) -> u32
     }
 }
 
-/// Whether a scan for these bytes stops so rarely that it is taken before packed search.
-pub fn is_rare(needles: Needles) -> bool {
-    stops(needles) <= RARE_STOPS
+/// Whether a scan for these bytes is taken to stop at most so often in a thousand bytes of text.
+pub fn stops_within(needles: Needles, limit: u32) -> bool {
+    stops(needles) <= limit
 }

@@ -9,8 +9,7 @@
 ghost use Rattle.std.specs.Prelude.{◌≡◌, ℕ, ◌<◌, [], List, length, slice_index, slice_set, max, IsTrue};
 ghost use Rattle.std.specs.List.{Contains};
 ghost use Rattle.ac_literal.specs.declared.prefilter.rare_bytes.TheConstants.{LEN_LIMIT};
-ghost use Rattle.ac_literal.specs.Needles.{few_has};
-ghost use Rattle.ac_literal.specs.RareBytes.{IsRarest, IsClosed, IsChosen, AreReached, IsRareSoFar, AddsRare};
+ghost use Rattle.ac_literal.specs.RareBytes.{IsRarest, HoldsOne, IsClosed, IsChosen, AreReached, IsRareSoFar, AddsRare};
 
 use crate::prefilter::needles::FewBytes;
 use crate::prefilter::rank::paired_rank;
@@ -36,7 +35,7 @@ fn rarest(pairing: &Pairing, pattern: &[u8]) -> u8
 
 /// Whether one of the bytes stands in the pattern.
 fn is_held(few: &FewBytes, pattern: &[u8]) -> bool
-    ensures { IsTrue result → (at : ℕ) × (at < length pattern.now) × IsTrue (few_has few.now (slice_index pattern.now at)) }
+    ensures { IsTrue result → HoldsOne few.now pattern.now }
 {
     for byte in pattern {
         if few.has(*byte) {
@@ -48,7 +47,8 @@ fn is_held(few: &FewBytes, pattern: &[u8]) -> bool
 
 /// The byte may stand at that place, too.
 fn lengthen(distances: &mut [u8; 256], byte: u8, at: u8)
-    ensures { distances.new ≡ slice_set distances.old byte (max (slice_index distances.old byte) at) }
+    ensures { distances.new
+        ≡ slice_set distances.old byte (max (slice_index distances.old byte) at) }
 {
     let distance = distances[byte as usize];
     distances[byte as usize] = distance.max(at);

@@ -163,6 +163,30 @@ fn rare_start_bytes_before_packed(rt: HostRuntime) -> Result<(), Fail> {
 }
 
 #[test]
+fn packed_before_start_bytes_that_are_less_rare(rt: HostRuntime) -> Result<(), Fail> {
+    let alloc = rt.alloc();
+    let patterns: [&[u8]; 2] = [b"Foo", b"Far"];
+    let packed = built(alloc, MatchKind::LeftmostFirst, Pairing::none(), &patterns)?.ok_or(
+        "none built",
+    )?;
+    assert_eq!(rt; matched(candidate(&packed, b"xxFxFar")), Some((1, 4, 7)));
+    let scan = built(alloc, MatchKind::Standard, Pairing::none(), &patterns)?.ok_or("none built")?;
+    assert_eq!(rt; possible(candidate(&scan, b"xxFxFar")), Some(2));
+    Ok(())
+}
+
+#[test]
+fn a_scan_where_packed_takes_no_more(rt: HostRuntime) -> Result<(), Fail> {
+    let mut builder = PrefilterBuilder::new(rt.alloc(), MatchKind::LeftmostFirst);
+    for i in 0..129u8 {
+        builder.add(&[b'F', i])?;
+    }
+    let scan = builder.build()?.ok_or("none built")?;
+    assert_eq!(rt; possible(candidate(&scan, b"xxF")), Some(2));
+    Ok(())
+}
+
+#[test]
 fn common_start_bytes_where_nothing_else_serves(rt: HostRuntime) -> Result<(), Fail> {
     let patterns: [&[u8]; 3] = [b"foo", b"bar", b"quux"];
     let prefilter = built(rt.alloc(), MatchKind::Standard, Pairing::none(), &patterns)?.ok_or(

@@ -36,7 +36,8 @@ fn targets(trie: &Trie, numbering: &Numbering, of: StateID, other: StateID) -> [
 
 /// A byte leads where the lesser of it and its partner leads.
 fn for_both(trie: &Trie, targets: &[StateID; 256]) -> [StateID; 256]
-    ensures { (b : ℕ) → b < 256 → slice_index result b ≡ slice_index targets.now (canonical trie.now.pairing b) }
+    ensures { (b : ℕ) → b < 256 → slice_index result b ≡
+        slice_index targets.now (canonical trie.now.pairing b) }
 {
     let mut edges = filled(StateID::ZERO);
     for byte in 0..256usize {

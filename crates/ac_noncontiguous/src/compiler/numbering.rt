@@ -52,8 +52,10 @@ fn push_chosen(
     matching: bool,
     at: &mut Vec<StateID>,
 ) -> Result<(), AllocError>
-    requires { EachIndex states.now (λ k. slice_index states.now k < length links.now.ranges.items) }
-    ensures { IfOk result (λ _. at.new.items ≡ at.old.items ++ filter (is_chosen links.now.ranges.items matching) states.now) }
+    requires { EachIndex states.now
+        (λ k. slice_index states.now k < length links.now.ranges.items) }
+    ensures { IfOk result (λ _. at.new.items ≡ at.old.items ++ filter
+        (is_chosen links.now.ranges.items matching) states.now) }
 {
     for id in states {
         if is_chosen(links, *id, matching) {
@@ -65,7 +67,8 @@ fn push_chosen(
 
 /// The trie states in the order of their numbers, where these are all but the start.
 fn list(alloc: Global, states: &[StateID], links: &Links) -> Result<Places, AllocError>
-    requires within { EachIndex states.now (λ k. slice_index states.now k < length links.now.ranges.items) }
+    requires within { EachIndex states.now
+        (λ k. slice_index states.now k < length links.now.ranges.items) }
     requires few { length states.now + 4 ≤ greatest + 1 }
     ensures { IfOk result (AreListed links.now.ranges.items states.now) }
 {
@@ -121,7 +124,8 @@ impl Numbering {
         requires order { IsBreadthFirst trie.now.states.items order.now }
         requires links { FitsTrie (length trie.now.states.items) links.now }
         ensures made { IfOk result (IsNumbering (length trie.now.states.items)) }
-        ensures matches { IfOk result (λ it. IsLastMatch links.now.ranges.items it.at.items it.start it.max_match) }
+        ensures matches { IfOk result
+            (λ it. IsLastMatch links.now.ranges.items it.at.items it.start it.max_match) }
     {
         let Places { at, start } = list(alloc, &order[1..], links)?;
         let of = inverse(alloc, &at, trie.len())?;

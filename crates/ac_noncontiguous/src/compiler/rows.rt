@@ -40,7 +40,8 @@ pub(super) fn classes(trie: &Trie) -> ByteClasses
 
 /// Puts a number for each class after the others.
 fn push_blank(rows: &mut Vec<StateID>, classes: &ByteClasses) -> Result<(), AllocError>
-    ensures { IfOk result (λ _. KeepsRows rows.old.items rows.new.items × (length rows.new.items ≡ length rows.old.items + alphabet_len classes.now)) }
+    ensures { IfOk result (λ _. KeepsRows rows.old.items rows.new.items ×
+        (length rows.new.items ≡ length rows.old.items + alphabet_len classes.now)) }
 {
     for _ in 0..classes.alphabet_len() {
         rows.push(StateID::ZERO)?;
@@ -55,7 +56,8 @@ fn push_row(
     edges: &[StateID; 256],
 ) -> Result<(), AllocError>
     requires { LeadAlike classes.now edges.now }
-    ensures { IfOk result (λ _. IsRowAppended classes.now edges.now 256 rows.old.items rows.new.items) }
+    ensures { IfOk result
+        (λ _. IsRowAppended classes.now edges.now 256 rows.old.items rows.new.items) }
 {
     let row = rows.len();
     push_blank(rows, classes)?;
@@ -87,7 +89,8 @@ fn push_state(
     requires within { state < length numbering.now.at.items }
     requires back { back < length numbering.now.at.items }
     requires classes { AreAlone trie.now classes.now }
-    ensures { IfOk result (λ row. IsRowOf trie.now numbering.now back classes.now state row rows.old.items rows.new.items) }
+    ensures { IfOk result (λ row.
+        IsRowOf trie.now numbering.now back classes.now state row rows.old.items rows.new.items) }
 {
     let depth = trie.state(numbering.at[state]).depth as usize;
     let row = rows.len();
@@ -113,7 +116,8 @@ impl Rows {
         requires numbering { IsNumbering (length trie.now.states.items) numbering.now }
         requires back { back < length numbering.now.at.items }
         requires classes { AreAlone trie.now classes.now }
-        ensures { IfOk result (λ it. (length it.offsets.items ≡ length numbering.now.at.items) × AreRowsOf trie.now numbering.now back classes.now it.offsets.items it.rows.items) }
+        ensures { IfOk result (λ it. (length it.offsets.items ≡ length numbering.now.at.items) ×
+            AreRowsOf trie.now numbering.now back classes.now it.offsets.items it.rows.items) }
     {
         let states = numbering.at.len();
         let mut offsets = Vec::with_capacity(alloc, states)?;

@@ -71,7 +71,8 @@ pub(super) fn states(
     requires links { FitsTrie (length trie.now.states.items) links.now }
     requires transitions { length transitions.now ≡ length numbering.now.at.items + 1 }
     requires rows { length rows.now ≡ length numbering.now.at.items }
-    ensures { IfOk result (λ states. AreKept trie.now numbering.now links.now transitions.now rows.now states.items) }
+    ensures { IfOk result
+        (λ states. AreKept trie.now numbering.now links.now transitions.now rows.now states.items) }
 {
     let len = numbering.at.len();
     let mut states = Vec::with_capacity(alloc, len + 1)?;

@@ -2,14 +2,18 @@
 //!
 //! A state keeps the transitions that lead somewhere, and none for the other bytes, at which its failure is asked. The dead state
 //! and both starts keep all 256: they are asked last or most often, and have no failure to ask.
-ghost use Rattle.std.specs.Prelude.{◌≡◌, ◌+◌, ◌<◌, length, true, false, IfOk};
+//!
+//! Most states have one child or none, and then need no look at each of the 256 bytes.
+ghost use Rattle.std.specs.Prelude.{◌≡◌, ◌+◌, ◌<◌, ◌++◌, length, true, false, IsTrue, IfOk};
 ghost use Rattle.ac_noncontiguous.specs.Numbering.{IsNumbering};
+ghost use Rattle.ac_noncontiguous.specs.Only.{HasOneAtMost, to_only};
 ghost use Rattle.ac_noncontiguous.specs.Layout.{AreAppended, HasAll, IsAppended, AreLaidOut};
 
 use crate::compiler::edges::edges;
 use crate::compiler::numbering::Numbering;
 use crate::nfa::tables::Transition;
 use crate::trie::Trie;
+use ac_input::live_laws::pairing_is_own_inverse;
 use ac_input::primitives::StateID;
 use std::alloc::{AllocError, Global};
 
@@ -27,7 +31,8 @@ fn push_edges(
     all: bool,
     transitions: &mut Vec<Transition>,
 ) -> Result<(), AllocError>
-    ensures { IfOk result (λ _. AreAppended edges.now all 256 transitions.old.items transitions.new.items) }
+    ensures { IfOk result
+        (λ _. AreAppended edges.now all 256 transitions.old.items transitions.new.items) }
 {
     for byte in 0..256usize {
         let next = edges[byte];
@@ -47,6 +52,45 @@ fn has_all(numbering: &Numbering, state: usize) -> bool
     state == 0 || state == numbering.start.as_usize() || state == numbering.start.one_more()
 }
 
+/// Whether the trie state has no child, or one alone, for a byte that stands for itself and its partner.
+fn has_one_at_most(trie: &Trie, of: StateID) -> bool
+    requires { of < length trie.now.states.items }
+    ensures { IsTrue result → HasOneAtMost trie.now of }
+{
+    let first = trie.state(of).child;
+    if first == StateID::ZERO {
+        return true;
+    }
+    let child = trie.state(first);
+    child.sibling == StateID::ZERO && trie.canonical(child.byte) == child.byte
+}
+
+/// Puts the transitions to the first child of the trie state after the others, if it has one.
+fn push_only(
+    trie: &Trie,
+    numbering: &Numbering,
+    of: StateID,
+    transitions: &mut Vec<Transition>,
+) -> Result<(), AllocError>
+    requires numbering { IsNumbering (length trie.now.states.items) numbering.now }
+    requires within { of < length trie.now.states.items }
+    ensures { IfOk result
+        (λ _. transitions.new.items ≡ transitions.old.items ++ to_only trie.now numbering.now of) }
+{
+    let child = trie.state(of).child;
+    if child == StateID::ZERO {
+        return Ok(());
+    }
+    let byte = trie.state(child).byte;
+    let next = numbering.of[child.as_usize()];
+    transitions.push(Transition { byte, next })?;
+    let other = trie.other(byte);
+    if other != byte {
+        transitions.push(Transition { byte: other, next })?;
+    }
+    Ok(())
+}
+
 /// Puts the transitions of the state after those of the others.
 fn push_state(
     trie: &Trie,
@@ -58,13 +102,20 @@ fn push_state(
     requires numbering { IsNumbering (length trie.now.states.items) numbering.now }
     requires within { state < length numbering.now.at.items }
     requires back { back < length numbering.now.at.items }
-    ensures { IfOk result (λ _. IsAppended trie.now numbering.now back state transitions.old.items transitions.new.items) }
+    ensures { IfOk result (λ _.
+        IsAppended trie.now numbering.now back state transitions.old.items transitions.new.items) }
 {
     if state == 1 {
         return Ok(());
     }
+    pairing_is_own_inverse();
+    let all = has_all(numbering, state);
+    let of = numbering.at[state];
+    if !all && has_one_at_most(trie, of) {
+        return push_only(trie, numbering, of, transitions);
+    }
     let edges = edges(trie, numbering, back, state);
-    push_edges(&edges, has_all(numbering, state), transitions)
+    push_edges(&edges, all, transitions)
 }
 
 impl Transitions {
@@ -77,7 +128,8 @@ impl Transitions {
     ) -> Result<Transitions, AllocError>
         requires numbering { IsNumbering (length trie.now.states.items) numbering.now }
         requires back { back < length numbering.now.at.items }
-        ensures { IfOk result (λ it. AreLaidOut trie.now numbering.now back (length numbering.now.at.items) it.offsets.items it.transitions.items) }
+        ensures { IfOk result (λ it. AreLaidOut trie.now numbering.now back
+            (length numbering.now.at.items) it.offsets.items it.transitions.items) }
     {
         let states = numbering.at.len();
         let mut offsets = Vec::with_capacity(alloc, states + 1)?;

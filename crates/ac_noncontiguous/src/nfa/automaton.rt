@@ -1,4 +1,9 @@
 //! Searching with the automaton.
+ghost use Rattle.std.specs.Prelude.{◌≡◌, ◌<◌, take, length, IsTrue};
+ghost use Rattle.ac_automaton.specs.Automaton.{IsReached, Leads, IsReadCost, TakesSome, PassesPlain, is_matching};
+ghost use Rattle.ac_noncontiguous.specs.Reads.{built_as, matches_at, IsRead};
+ghost use Rattle.ac_noncontiguous.specs.Idle.{PassesIdle};
+
 use crate::nfa::NFA;
 use crate::nfa::tables::FAIL;
 use ac_automaton::automaton::{Advance, Automaton};
@@ -7,6 +12,60 @@ use ac_input::primitives::{PatternID, StateID};
 use ac_input::search::{Anchored, MatchKind};
 use ac_input::steps::Steps;
 use ac_literal::prefilter::Prefilter;
+
+impl NFA {
+    /// How many bytes at the front lead from the state to itself, where it is the start; it counts a look for each.
+    #[inline]
+    fn pass_idle(&self, sid: StateID, bytes: &[u8], steps: &mut Steps) -> usize
+        ensures { PassesIdle self.now sid bytes.now result steps.old steps.new }
+    {
+        if sid.as_u32() != self.tables.start.as_u32() {
+            return 0;
+        }
+        let idle = self.starters.idle(bytes);
+        steps.looks(idle);
+        idle
+    }
+
+    /// Reads on as `advance_to_match`, and passes quickly over the bytes that leave it in the start.
+    fn skip_to_match(
+        &self,
+        anchored: Anchored,
+        sid: StateID,
+        bytes: &[u8],
+        steps: &mut Steps,
+    ) -> Advance
+        requires { IsReached (IsRead self.now anchored) sid }
+        ensures taken { TakesSome bytes.now result.taken }
+        ensures reads { Leads (IsRead self.now anchored) sid
+            (take result.taken bytes.now) result.sid }
+        ensures plain { PassesPlain (IsRead self.now anchored)
+            (is_matching (matches_at self.now)) sid bytes.now result.taken }
+        ensures stops { result.taken < length bytes.now
+            → IsTrue (is_matching (matches_at self.now) result.sid) }
+        ensures cost { IsReadCost (built_as self.now) (IsRead self.now) anchored sid
+            (take result.taken bytes.now) steps.old steps.new }
+    {
+        let last_match = self.tables.max_match.as_u32();
+        let mut current = sid;
+        let mut read = self.pass_idle(current, bytes, steps);
+        while read < bytes.len() {
+            current = self.next_state_counted(anchored, current, bytes[read], steps);
+            read += 1;
+            if current.as_u32() <= last_match && self.is_match(current) {
+                return Advance {
+                    sid: current,
+                    taken: read,
+                };
+            }
+            read += self.pass_idle(current, &bytes[read..], steps);
+        }
+        Advance {
+            sid: current,
+            taken: read,
+        }
+    }
+}
 
 impl Automaton for NFA {
     ghost use Rattle.ac_noncontiguous.specs.Reads.{built_as, IsRead, matches_at, is_start_at, is_special_at};
@@ -61,6 +120,33 @@ impl Automaton for NFA {
         for (read, byte) in bytes.iter().enumerate() {
             current = self.next_state_counted(anchored, current, *byte, steps);
             if current.as_u32() <= last_special {
+                return Advance {
+                    sid: current,
+                    taken: read + 1,
+                };
+            }
+        }
+        Advance {
+            sid: current,
+            taken: bytes.len(),
+        }
+    }
+
+    fn advance_to_match(
+        &self,
+        anchored: Anchored,
+        sid: StateID,
+        bytes: &[u8],
+        steps: &mut Steps,
+    ) -> Advance {
+        if self.starters.are_few() {
+            return self.skip_to_match(anchored, sid, bytes, steps);
+        }
+        let last_match = self.tables.max_match.as_u32();
+        let mut current = sid;
+        for (read, byte) in bytes.iter().enumerate() {
+            current = self.next_state_counted(anchored, current, *byte, steps);
+            if current.as_u32() <= last_match && self.is_match(current) {
                 return Advance {
                     sid: current,
                     taken: read + 1,

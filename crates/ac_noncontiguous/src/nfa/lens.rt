@@ -35,7 +35,8 @@ impl Lens {
     /// Of one pattern more.
     pub(crate) fn add(&mut self, pattern: &[u8]) -> Result<(), AllocError>
         requires { length pattern.now ≤ greatest }
-        ensures { OnOk result (self.new.patterns.items ≡ self.old.patterns.items ++ pattern.now ∷ []) }
+        ensures { OnOk result (self.new.patterns.items ≡
+            self.old.patterns.items ++ pattern.now ∷ []) }
     {
         self.each.push(pattern.len() as u32)?;
         self.least = self.least.min(pattern.len());

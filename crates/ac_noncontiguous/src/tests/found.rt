@@ -22,6 +22,38 @@ fn one_inside_another(rt: HostRuntime) -> Result<(), Fail> {
 }
 
 #[test]
+fn behind_other_bytes(rt: HostRuntime) -> Result<(), Fail> {
+    let patterns: [&[u8]; 3] = [b"b", b"abc", b"abcd"];
+    for (kind, want) in [
+        (MatchKind::Standard, Match::must(0, 3..4)),
+        (MatchKind::LeftmostFirst, Match::must(1, 2..5)),
+        (MatchKind::LeftmostLongest, Match::must(2, 2..6)),
+    ] {
+        let asked = unpaired(&patterns, kind);
+        finds(&rt, rt.alloc(), &asked, &Input::new(b"xxabcd"), Some(want))?;
+        let first = Input::new(b"xxabcd").earliest(true);
+        let least = Some(Match::must(0, 3..4));
+        finds(&rt, rt.alloc(), &asked, &first, least)?;
+    }
+    Ok(())
+}
+
+/// A prefilter is asked again wherever the search is back at the start.
+#[test]
+fn asks_again(rt: HostRuntime) -> Result<(), Fail> {
+    let patterns: [&[u8]; 1] = [b"FOO"];
+    let asked = folded(&patterns, MatchKind::Standard);
+    let input = Input::new(b"fo fob ba f BAR Foo");
+    let want = Some(Match::must(0, 16..19));
+    finds(&rt, rt.alloc(), &asked, &input, want)?;
+    let nothing = Input::new(b"fo fob ba f BA fo");
+    finds(&rt, rt.alloc(), &asked, &nothing, None)?;
+    let anchored = Input::new(b"foo").anchored(Anchored::Yes);
+    let want = Some(Match::must(0, 0..3));
+    finds(&rt, rt.alloc(), &asked, &anchored, want)
+}
+
+#[test]
 fn anchored(rt: HostRuntime) -> Result<(), Fail> {
     let patterns: [&[u8]; 2] = [b"abcd", b"bc"];
     let asked = unpaired(&patterns, MatchKind::LeftmostFirst);
@@ -29,7 +61,9 @@ fn anchored(rt: HostRuntime) -> Result<(), Fail> {
     finds(&rt, rt.alloc(), &asked, &cut, None)?;
     let whole = Input::new(b"abcd").anchored(Anchored::Yes);
     let want = Some(Match::must(0, 0..4));
-    finds(&rt, rt.alloc(), &asked, &whole, want)
+    finds(&rt, rt.alloc(), &asked, &whole, want)?;
+    let want = Some(Match::must(1, 1..3));
+    finds(&rt, rt.alloc(), &asked, &Input::new(b"abcx"), want)
 }
 
 #[test]
@@ -92,6 +126,17 @@ fn no_pattern(rt: HostRuntime) -> Result<(), Fail> {
 }
 
 #[test]
+fn folded_where_asked(rt: HostRuntime) -> Result<(), Fail> {
+    let patterns: [&[u8]; 2] = [b"FOO", b"bAr"];
+    let input = Input::new(b"a Bar");
+    let folds = folded(&patterns, MatchKind::LeftmostFirst);
+    let want = Some(Match::must(1, 2..5));
+    finds(&rt, rt.alloc(), &folds, &input, want)?;
+    let keeps = unpaired(&patterns, MatchKind::LeftmostFirst);
+    finds(&rt, rt.alloc(), &keeps, &input, None)
+}
+
+#[test]
 fn folded_letters_and_brackets(rt: HostRuntime) -> Result<(), Fail> {
     let patterns: [&[u8]; 2] = [b"FOO", b"["];
     let asked = folded(&patterns, MatchKind::Standard);
@@ -126,6 +171,27 @@ fn other_pairs(rt: HostRuntime) -> Result<(), Fail> {
         };
         let want = Some(Match::must(0, 2..5));
         finds(&rt, rt.alloc(), &asked, &Input::new(b"x\xe9x\xe9y"), want)?;
+    }
+    Ok(())
+}
+
+/// The partners of all bytes that have one, and of no ASCII letter.
+#[test]
+fn partners_alone(rt: HostRuntime) -> Result<(), Fail> {
+    let pairing = Pairing::new(&[(0x30, 0x31), (0xc9, 0xe9)])?;
+    let patterns: [&[u8]; 2] = [b"1a\xe9", b"0"];
+    let asked = Asked {
+        patterns: &patterns,
+        kind: MatchKind::LeftmostFirst,
+        pairing,
+    };
+    for (haystack, want) in [
+        (b"x0a\xc9", Some(Match::must(0, 1..4))),
+        (b"x1a\xe9", Some(Match::must(0, 1..4))),
+        (b"x0A\xc9", Some(Match::must(1, 1..2))),
+        (b"x2a\xc9", None),
+    ] {
+        finds(&rt, rt.alloc(), &asked, &Input::new(haystack), want)?;
     }
     Ok(())
 }

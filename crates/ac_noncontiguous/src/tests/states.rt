@@ -156,3 +156,38 @@ fn a_copy_is_alike(rt: HostRuntime) -> Result<(), Fail> {
         &[(0, 1, 2), (0, 4, 5)],
     )
 }
+
+/// What the calls of an automaton say of its states. The start is special where there is a prefilter to ask.
+fn states_say(rt: &impl Abort, nfa: &NFA, prefilter: bool) -> Result<(), Fail> {
+    let start = nfa.start_state(Anchored::No)?;
+    let b = nfa.next_state(Anchored::No, start, b'b');
+    let bc = nfa.next_state(Anchored::No, b, b'c');
+    assert!(rt; nfa.is_start(start));
+    assert_eq!(rt; nfa.is_special(start), prefilter);
+    assert!(rt; !nfa.is_start(b));
+    assert!(rt; nfa.is_special(bc));
+    assert!(rt; !nfa.is_dead(bc));
+    assert!(rt; nfa.is_match(bc));
+    assert_eq!(rt; nfa.match_len(bc), 3);
+    Ok(())
+}
+
+#[test]
+fn on_the_way(rt: HostRuntime) -> Result<(), Fail> {
+    let patterns: [&[u8]; 4] = [b"c", b"bc", b"c", b"bcd"];
+    let asked = unpaired(&patterns, MatchKind::Standard);
+    states_say(&rt, &build(rt.alloc(), &asked, true, 3)?, true)?;
+    states_say(&rt, &build(rt.alloc(), &asked, false, 3)?, false)
+}
+
+#[test]
+fn dead(rt: HostRuntime) -> Result<(), Fail> {
+    let patterns: [&[u8]; 1] = [b"ab"];
+    let asked = unpaired(&patterns, MatchKind::LeftmostFirst);
+    let nfa = build(rt.alloc(), &asked, true, 3)?;
+    let start = nfa.start_state(Anchored::Yes)?;
+    let b = nfa.next_state(Anchored::Yes, start, b'b');
+    assert!(rt; nfa.is_dead(b));
+    assert!(rt; !nfa.is_match(b));
+    Ok(())
+}

@@ -1,8 +1,8 @@
 //! What a walk gives, and an overlapping one.
 use super::{build, folded, overlaps, unpaired, walks};
 use ac_automaton::automaton::Automaton;
-use ac_automaton::overlapping::OverlappingState;
 use ac_input::search::{Anchored, Input, Match, MatchKind};
+use ac_input::steps::Steps;
 use std::test::Fail;
 
 #[test]
@@ -35,7 +35,27 @@ fn empty_pattern(rt: HostRuntime) -> Result<(), Fail> {
     let last: [&[u8]; 2] = [b"ab", b""];
     let asked = unpaired(&last, MatchKind::LeftmostFirst);
     let walk = [(1, 0, 0), (0, 1, 3)];
-    walks(&rt, rt.alloc(), &asked, &Input::new(b"aab"), &walk)
+    walks(&rt, rt.alloc(), &asked, &Input::new(b"aab"), &walk)?;
+    let alone: [&[u8]; 1] = [b""];
+    let asked = unpaired(&alone, MatchKind::Standard);
+    let walk = [(0, 0, 0), (0, 1, 1), (0, 2, 2)];
+    walks(&rt, rt.alloc(), &asked, &Input::new(b"ab"), &walk)?;
+    walks(&rt, rt.alloc(), &asked, &Input::new(b""), &[(0, 0, 0)])
+}
+
+#[test]
+fn counted(rt: HostRuntime) -> Result<(), Fail> {
+    let patterns: [&[u8]; 1] = [b"aa"];
+    let asked = unpaired(&patterns, MatchKind::Standard);
+    let nfa = build(rt.alloc(), &asked, true, 3)?;
+    let mut picks = nfa.try_find_iter(Input::new(b"aaaaa"))?;
+    let mut steps = Steps::new();
+    for want in [Match::must(0, 0..2), Match::must(0, 2..4)] {
+        assert_eq!(rt; picks.next_counted(&mut steps), Some(want));
+    }
+    assert!(rt; picks.next_counted(&mut steps).is_none());
+    assert!(rt; picks.next().is_none());
+    Ok(())
 }
 
 #[test]
@@ -71,22 +91,6 @@ fn one_begins_another(rt: HostRuntime) -> Result<(), Fail> {
         (1, 22, 31),
     ];
     overlaps(&rt, rt.alloc(), &asked, &input, &all)
-}
-
-#[test]
-fn anchored_overlapping(rt: HostRuntime) -> Result<(), Fail> {
-    let patterns: [&[u8]; 3] = [b"append", b"appendage", b"app"];
-    let asked = unpaired(&patterns, MatchKind::Standard);
-    let nfa = build(rt.alloc(), &asked, true, 3)?;
-    let input = Input::new(b"append the app").anchored(Anchored::Yes);
-    let mut state = OverlappingState::start();
-    nfa.try_find_overlapping(&input, &mut state)?;
-    assert_eq!(rt; state.get_match(), Some(Match::must(2, 0..3)));
-    nfa.try_find_overlapping(&input, &mut state)?;
-    assert_eq!(rt; state.get_match(), Some(Match::must(0, 0..6)));
-    nfa.try_find_overlapping(&input, &mut state)?;
-    assert_eq!(rt; state.get_match(), None);
-    Ok(())
 }
 
 #[test]

@@ -11,6 +11,9 @@ use super::Trie;
 use ac_input::primitives::StateID;
 use std::alloc::{AllocError, Global};
 
+/// Up to how many children are looked through without asking a hint first.
+const FEW: usize = 16;
+
 /// Where the children of each state begin, in rising order of state; the children; and the byte of each.
 #[derive(Drop)]
 pub(super) struct Children {
@@ -29,8 +32,10 @@ impl Trie {
     ) -> Result<(), AllocError>
         requires within { of < length self.now.states.items }
         requires before { bytes.old.items ≡ map (byte_of self.now.states.items) ids.old.items }
-        ensures children { IfOk result (λ _. AppendsChildren self.now.states.items of ids.old.items ids.new.items) }
-        ensures bytes { IfOk result (λ _. bytes.new.items ≡ map (byte_of self.now.states.items) ids.new.items) }
+        ensures children { IfOk result
+            (λ _. AppendsChildren self.now.states.items of ids.old.items ids.new.items) }
+        ensures bytes { IfOk result
+            (λ _. bytes.new.items ≡ map (byte_of self.now.states.items) ids.new.items) }
     {
         let mut at = self.state(of).child;
         while at != StateID::ZERO {
@@ -58,8 +63,24 @@ impl Trie {
         Ok(Children { firsts, ids, bytes })
     }
 
+    /// The child of the state for the byte. Where there are many, a hint is asked first.
+    pub(super) fn child_of(&self, children: &Children, of: StateID, byte: u8) -> Option<StateID>
+        requires within { of < length self.now.states.items }
+        requires children { AreChildrenOfAll self.now.states.items children.now }
+        ensures { IsChildOf self.now.states.items of byte result }
+    {
+        let from = children.firsts[of.as_usize()];
+        let end = children.firsts[of.as_usize() + 1];
+        if end.saturating_sub(from) > FEW {
+            if let Some(id) = self.known(of, byte) {
+                return Some(id);
+            }
+        }
+        self.child_among(children, of, byte)
+    }
+
     /// The child of the state for the byte, as they are put side by side.
-    pub(super) fn child_among(&self, children: &Children, of: StateID, byte: u8) -> Option<StateID>
+    fn child_among(&self, children: &Children, of: StateID, byte: u8) -> Option<StateID>
         requires within { of < length self.now.states.items }
         requires children { AreChildrenOfAll self.now.states.items children.now }
         ensures { IsChildOf self.now.states.items of byte result }

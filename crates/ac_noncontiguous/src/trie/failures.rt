@@ -6,16 +6,14 @@
 //!
 //! Each step from a failure to the next one is paid by a byte of the pattern by which the states were added: the time is in
 //! proportion to the bytes of the patterns.
-ghost use Rattle.std.specs.Prelude.{◌≡◌, ℕ, ◌+◌, ◌∷◌, ◌++◌, ◌<◌, ◌≤◌, [], false, length, Some, option_map, IfOk};
+ghost use Rattle.std.specs.Prelude.{◌≡◌, ℕ, ◌+◌, ◌∷◌, ◌++◌, ◌<◌, ◌≤◌, [], false, length, Some, IfOk};
 ghost use Rattle.ac_input.specs.Dictionary.{Dictionary};
-ghost use Rattle.ac_input.specs.LiveLaws.{canonical};
-ghost use Rattle.ac_input.specs.States.{LeadsTo, FailsTo};
-ghost use Rattle.ac_noncontiguous.specs.Tree.{depth, text};
+ghost use Rattle.ac_noncontiguous.specs.Tree.{depth};
 ghost use Rattle.ac_noncontiguous.specs.Kept.{IsTrieOf};
 ghost use Rattle.ac_noncontiguous.specs.Links.{AreFails};
 ghost use Rattle.ac_noncontiguous.specs.Order.{IsBreadthFirst};
 ghost use Rattle.ac_noncontiguous.specs.Children.{AreChildrenOfAll};
-ghost use Rattle.ac_noncontiguous.specs.Failures.{IsChildOf, IsToldBy, AreShallower, AreFailsAbove, IsWithinDepth, GoesOnFromStart, NextOf, IsFinalIn};
+ghost use Rattle.ac_noncontiguous.specs.Failures.{IsChildOf, IsToldBy, AreShallower, IsWithinDepth, IsNextByFails, IsFailureByFails, IsFinalIn};
 
 use super::Trie;
 use super::children::Children;
@@ -52,7 +50,7 @@ impl Trie {
         requires children { AreChildrenOfAll self.now.states.items children.now }
         ensures { IsToldBy self.now.states.items of byte result }
     {
-        let child = self.child_among(children, of, byte);
+        let child = self.child_of(children, of, byte);
         if child.is_none() && of == StateID::ZERO {
             return Some(of);
         }
@@ -70,8 +68,9 @@ impl Trie {
         requires within { from < length self.now.states.items }
         requires children { AreChildrenOfAll self.now.states.items children.now }
         requires shallower { AreShallower self.now.states.items fails.now }
-        ensures shallow { IsWithinDepth self.now.states.items (depth self.now.states.items from + 1) result }
-        ensures leads { (m : Dictionary) → IsTrieOf m self.now → GoesOnFromStart m → canonical m.pairing byte ≡ byte → AreFailsAbove m self.now.states.items fails.now (depth self.now.states.items from + 1) → NextOf m self.now.states.items from byte result }
+        ensures shallow { IsWithinDepth self.now.states.items
+            (depth self.now.states.items from + 1) result }
+        ensures leads { IsNextByFails self.now fails.now from byte result }
     {
         canonical_bytes_tell_texts();
         canonical_bytes_are_the_same();
@@ -110,8 +109,9 @@ impl Trie {
         requires within { id < length self.now.states.items }
         requires children { AreChildrenOfAll self.now.states.items children.now }
         requires shallower { AreShallower self.now.states.items fails.now }
-        ensures shallower { (f : ℕ) → result ≡ Some f → (f < length self.now.states.items) × (depth self.now.states.items f < depth self.now.states.items id) }
-        ensures fails { (m : Dictionary) → IsTrieOf m self.now → AreFailsAbove m self.now.states.items fails.now (depth self.now.states.items id) → FailsTo m (text self.now.states.items id) (option_map (text self.now.states.items) result) }
+        ensures shallower { (f : ℕ) → result ≡ Some f → (f < length self.now.states.items) ×
+            (depth self.now.states.items f < depth self.now.states.items id) }
+        ensures fails { IsFailureByFails self.now fails.now id result }
     {
         canonical_bytes_tell_texts();
         canonical_bytes_are_the_same();
@@ -144,7 +144,8 @@ impl Trie {
     ) -> Result<Vec<Option<StateID>>, AllocError>
         requires { IsBreadthFirst self.now.states.items order.now }
         ensures shallower { IfOk result (λ fails. AreShallower self.now.states.items fails.items) }
-        ensures fails { IfOk result (λ fails. (m : Dictionary) → IsTrieOf m self.now → AreFails m self.now.states.items fails.items) }
+        ensures fails { IfOk result (λ fails. (m : Dictionary) → IsTrieOf m self.now →
+            AreFails m self.now.states.items fails.items) }
     {
         let children = self.children(alloc)?;
         let mut fails = vec![in alloc; None; self.states.len()]?;

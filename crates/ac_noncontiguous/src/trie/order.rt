@@ -21,7 +21,8 @@ struct Levels {
 impl Trie {
     /// The states of each depth.
     fn levels(&self, alloc: Global) -> Result<Levels, AllocError>
-        ensures { IfOk result (λ it. AreLevels self.now.states.items 0 it.first.items it.next.items) }
+        ensures { IfOk result
+            (λ it. AreLevels self.now.states.items 0 it.first.items it.next.items) }
     {
         let len = self.states.len();
         let mut first = vec![in alloc; len as u32; len]?;
@@ -43,10 +44,12 @@ impl Trie {
         depth: usize,
         order: &mut Vec<StateID>,
     ) -> Result<(), AllocError>
-        requires levels { AreLevels self.now.states.items 0 levels.now.first.items levels.now.next.items }
+        requires levels { AreLevels self.now.states.items 0
+            levels.now.first.items levels.now.next.items }
         requires depth_in { depth < length self.now.states.items }
         requires before { AreInOrder self.now.states.items depth 0 order.old.items }
-        ensures { IfOk result (λ _. AreInOrder self.now.states.items (depth + 1) 0 order.new.items) }
+        ensures { IfOk result
+            (λ _. AreInOrder self.now.states.items (depth + 1) 0 order.new.items) }
     {
         let mut at = levels.first[depth] as usize;
         while at < self.states.len() {

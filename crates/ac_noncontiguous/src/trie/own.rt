@@ -20,7 +20,8 @@ pub(crate) struct OwnPatterns {
 impl Trie {
     /// The patterns that end in each state.
     pub(crate) fn own_patterns(&self, alloc: Global) -> Result<OwnPatterns, AllocError>
-        ensures { IfOk result (λ own. AreOwn (length self.now.states.items) self.now.ends.items 0 own.first.items own.next.items) }
+        ensures { IfOk result (λ own. AreOwn (length self.now.states.items) self.now.ends.items 0
+            own.first.items own.next.items) }
     {
         let len = self.ends.len();
         let mut first = vec![in alloc; len as u32; self.states.len()]?;
@@ -44,9 +45,11 @@ impl Trie {
         id: StateID,
         list: &mut Vec<PatternID>,
     ) -> Result<(), AllocError>
-        requires own { AreOwn (length self.now.states.items) self.now.ends.items 0 own.now.first.items own.now.next.items }
+        requires own { AreOwn (length self.now.states.items) self.now.ends.items 0
+            own.now.first.items own.now.next.items }
         requires within { id < length self.now.states.items }
-        ensures { IfOk result (λ _. AppendsOwn self.now.ends.items id list.old.items list.new.items) }
+        ensures { IfOk result
+            (λ _. AppendsOwn self.now.ends.items id list.old.items list.new.items) }
     {
         let mut at = own.first[id.as_usize()] as usize;
         while at < self.ends.len() {

@@ -54,6 +54,20 @@ fn keeps_children_in_order_of_byte(rt: HostRuntime) -> Result<(), Fail> {
 }
 
 #[test]
+fn adds_no_child_twice(rt: HostRuntime) -> Result<(), Fail> {
+    let mut trie = Trie::new(rt.alloc(), MatchKind::Standard, Pairing::none())?;
+    for _ in 0..2 {
+        for first in 0..30u8 {
+            for second in 0..30u8 {
+                trie.add(&[first, second])?;
+            }
+        }
+    }
+    assert_eq!(rt; trie.states.len(), 931);
+    Ok(())
+}
+
+#[test]
 fn joins_equal_patterns(rt: HostRuntime) -> Result<(), Fail> {
     let patterns: [&[u8]; 4] = [b"a", b"a", b"aa", b"a"];
     for kind in [MatchKind::Standard, MatchKind::LeftmostLongest] {

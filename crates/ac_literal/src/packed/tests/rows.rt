@@ -52,9 +52,15 @@ fn agree_at_places(rt: &impl Abort, alloc: Global, patterns: &[&[u8]]) -> Result
 #[test]
 fn short_and_long(rt: HostRuntime) -> Result<(), Fail> {
     let alloc = rt.alloc();
+    let three_blocks = letters(alloc, 66, 4)?;
     let long = letters(alloc, 300, 4)?;
-    let long = long.as_slice();
-    let alone: [&[u8]; 4] = [b"d", b"dX", b"dXe", long];
+    let alone: [&[u8]; 5] = [
+        b"d",
+        b"dX",
+        b"dXe",
+        three_blocks.as_slice(),
+        long.as_slice(),
+    ];
     for pattern in &alone {
         agree_at_places(&rt, alloc, &[*pattern])?;
         agree_at_places(&rt, alloc, &[*pattern, *pattern])?;
@@ -97,7 +103,33 @@ fn how_many_patterns(rt: HostRuntime) -> Result<(), Fail> {
 #[test]
 fn the_same_first_bytes(rt: HostRuntime) -> Result<(), Fail> {
     let patterns: [&[u8]; 6] = [b"abcd", b"abca", b"ab", b"abab", b"abcdX", b"abX"];
-    agree_at_places(&rt, rt.alloc(), &patterns)
+    agree_at_places(&rt, rt.alloc(), &patterns)?;
+    let longer: [&[u8]; 3] = [b"dbcab", b"dbc", b"dbcbc"];
+    agree_at_places(&rt, rt.alloc(), &longer)?;
+    let nine: [&[u8]; 9] = [
+        b"dbcab", b"dbc", b"dbcbc", b"dbX", b"dbab", b"dbXc", b"dbbbbb", b"dbca", b"dbcX",
+    ];
+    agree_at_places(&rt, rt.alloc(), &nine)
+}
+
+/// The low halves of `a` and `q` are the same, so where one is looked for by its low half the other is marked.
+#[test]
+fn marks_in_every_block(rt: HostRuntime) -> Result<(), Fail> {
+    let alloc = rt.alloc();
+    let patterns: [&[u8]; 3] = [b"bqb", b"bqbq", b"qqb"];
+    let mut some = letters(alloc, 3000, 1)?;
+    for k in 0..110 {
+        put(&mut some, k * 27 + 5, b"bab");
+    }
+    let mut all = letters(alloc, 3000, 1)?;
+    for place in [31, 63, 64, 95, 1500, 2995] {
+        put(&mut some, place, b"bqbq");
+        put(&mut all, place, b"aqa");
+    }
+    agree(&rt, alloc, &patterns, &some)?;
+    let like_all: [&[u8]; 2] = [b"aqa", b"aaq"];
+    agree(&rt, alloc, &like_all, &all)?;
+    agree(&rt, alloc, &[b"aqa"], &all)
 }
 
 #[test]

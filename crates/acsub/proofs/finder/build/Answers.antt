@@ -1,7 +1,6 @@
 -- Settings that ask packed search are accepted with rules that it serves.
 use Rattle.std.proofs.Common.{ap, sym, ◌∙◌, subst}
-use Rattle.ac_literal.specs.Packed.{AreServed}
-use Rattle.acsub.specs.Sides.{bytes_of}
+use Rattle.ac_literal.specs.Packed.{AreServed, bytes_of}
 use Rattle.acsub.proofs.FinderLemmas.{packed-kind, packed-served, packed-unpaired}
 use Rattle.acsub.proofs.finder.build.Goals as goal
 

@@ -2,17 +2,18 @@
 use Rattle.std.proofs.Common.{◌≡◌, ◌+◌, ◌-◌, ◌≤◌, [], ◌∷◌, ◌++◌, length, take, length-take, length-drop, refl, sym, ap, ◌∙◌, arith}
 use Rattle.std.specs.List.{concat}
 use Rattle.std.proofs.lemmas.List.{append-nil}
-use Rattle.acsub.proofs.InputLemmas.{filled-more, filled-same, AreFilled-push, piece_filled, concat-push, Gave-push, Gave-failed, Gave-none, open_after}
+use Rattle.ac_automaton.proofs.StreamReplaceLemmas.{AreFilled-push, given-none}
+use Rattle.acsub.proofs.InputLemmas.{filled-more, filled-same, piece_filled, concat-push, given-push, given-failed, open_after}
 use Rattle.acsub.proofs.input.read_whole.Goals as goal
 
 pub loop-input-init : goal.loop-input-init
 loop-input-init g c =
-    record { gained = []; gave = Gave-none g.R.Read.remaining c.args.reader.now; filled = tt; is = refl; within = omega arith; open_still = c.requires }
+    record { gained = []; gave = given-none g.R.Read.remaining c.args.reader.now; filled = tt; is = refl; within = omega arith; open_still = c.requires }
 
 pub returns-in-Err : goal.returns-in-Err
 returns-in-Err g c =
     let before = c.loop-input.invariant in
-    (before.gained ++ [] ∷ [], Gave-failed g.R.Read.remaining c.args.reader.now c.loop-input.reader c.read.new.self before.gained before.gave c.in-Err.ensures.failed.pieces c.in-Err.ensures.failed.failures c.in-Err.ensures.device)
+    (before.gained ++ [] ∷ [], given-failed g.R.Read.remaining c.args.reader.now c.loop-input.reader c.read.new.self before.gained before.gave c.in-Err.ensures.failed.pieces c.in-Err.ensures.failed.failures c.in-Err.ensures.device)
 
 pub returns-then-n-eq0 : goal.returns-then-n-eq0
 returns-then-n-eq0 g c =
@@ -23,7 +24,7 @@ returns-then-n-eq0 g c =
     let len : length buffer ≡ c.make_room.new.input.len = omega (arith, c.deref_mut.ensures.len) in
     let room = c.in_ok-make_room.ensures.room in
     let rest : length c.read.new.buf ≡ length buffer - filled = c.read.auto.buf ∙ simp (length-take, length-drop) (omega arith) in
-    let gave = Gave-push g.R.Read.remaining c.args.reader.now c.loop-input.reader c.read.new.self before.gained _ before.gave c.in-Ok.ensures.gave.pieces c.in-Ok.ensures.gave.failures c.in-Ok.ensures.device.0 in (
+    let gave = given-push g.R.Read.remaining c.args.reader.now c.loop-input.reader c.read.new.self before.gained _ before.gave c.in-Ok.ensures.gave.pieces c.in-Ok.ensures.gave.failures c.in-Ok.ensures.device.0 (λ _. c.in-Ok.ensures.device.1 c.if-n-eq0.true (omega arith)) in (
       before.gained ++ take c.in-Ok.n c.read.new.buf ∷ [],
       gave,
       (before.gained, before.filled, ap (λ piece. before.gained ++ piece ∷ []) none),
@@ -31,7 +32,6 @@ returns-then-n-eq0 g c =
           ∙ filled-same buffer _ _ c.make_room.new.input.len filled (omega arith) (omega arith)
           ∙ ap (take filled) c.deref_mut.ensures.value ∙ c.make_room.ensures.kept ∙ before.is
           ∙ sym (concat-push before.gained (take c.in-Ok.n c.read.new.buf) ∙ ap (λ piece. concat before.gained ++ piece) none ∙ append-nil (concat before.gained)),
-      c.in-Ok.ensures.device.1 c.if-n-eq0.true (omega arith),
     )
 
 pub loop-input-preserved : goal.loop-input-preserved
@@ -47,7 +47,7 @@ loop-input-preserved g c =
     let fits : filled + c.in-Ok.n ≤ c.make_room.new.input.len = omega arith in
     record {
       gained = before.gained ++ piece ∷ [];
-      gave = Gave-push g.R.Read.remaining c.args.reader.now c.loop-input.reader c.read.new.self before.gained piece before.gave c.in-Ok.ensures.gave.pieces c.in-Ok.ensures.gave.failures c.in-Ok.ensures.device.0;
+      gave = given-push g.R.Read.remaining c.args.reader.now c.loop-input.reader c.read.new.self before.gained piece before.gave c.in-Ok.ensures.gave.pieces c.in-Ok.ensures.gave.failures c.in-Ok.ensures.device.0 (λ none. absurd (piece_filled c.read.new.buf c.in-Ok.n c.if-n-eq0.false within none));
       filled = AreFilled-push before.gained piece before.filled (piece_filled c.read.new.buf c.in-Ok.n c.if-n-eq0.false within);
       is = filled-more buffer c.read.new.buf _ _ c.make_room.new.input.len filled c.in-Ok.n fits (omega arith) within
           ∙ ap (λ front. front ++ piece) (ap (take filled) c.deref_mut.ensures.value ∙ c.make_room.ensures.kept ∙ before.is)

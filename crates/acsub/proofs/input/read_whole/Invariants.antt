@@ -1,13 +1,13 @@
 use Rattle.std.proofs.Common.{◌≡◌, ℕ, ◌-◌, ◌≤◌, ◌^◌, List, false, take, vec_len}
 use Rattle.std.specs.List.{concat}
 use Rattle.ac_automaton.specs.Watched.{has_ended}
-use Rattle.acsub.specs.Input.{Gave, AreFilled}
+use Rattle.ac_automaton.specs.Moved.{AreFilled, HasGiven}
 use Rattle.acsub.proofs.input.read_whole.Given as goal
 
 abbrev pub invariant-loop-input : goal.invariant-loop-input
 invariant-loop-input g l = record {
   gained : List (List ℕ);
-  gave : Gave g.R.Read.remaining l.fn.reader l.reader gained 0;
+  gave : HasGiven g.R.Read.remaining l.fn.reader l.reader gained 0;
   filled : AreFilled gained;
   is : take l.filled l.input.items ≡ concat gained;
   within : l.filled ≤ vec_len l.input;

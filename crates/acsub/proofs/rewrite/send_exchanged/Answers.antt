@@ -1,6 +1,6 @@
 -- The second sending follows the first.
 use Rattle.std.proofs.lemmas.Result.{err_from_is_err_and, on_err_weaker}
-use Rattle.acsub.proofs.OutputLemmas.{Stopped-more, Stopped-then}
+use Rattle.ac_automaton.proofs.OutputLemmas.{Stopped-more, Stopped-then}
 use Rattle.acsub.proofs.rewrite.send_exchanged.Goals as goal
 
 pub returns-in_err-send-clause-stopped : goal.returns-in_err-send-clause-stopped

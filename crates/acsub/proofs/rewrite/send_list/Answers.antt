@@ -2,8 +2,8 @@
 use Rattle.std.proofs.Common.{◌++◌, [], refl}
 use Rattle.std.proofs.lemmas.Result.{err_from_is_err_and}
 use Rattle.ac_input.specs.Text.{line, listed}
-use Rattle.acsub.proofs.OutputLemmas.{Sent-then}
-use Rattle.acsub.proofs.RewriteLemmas.{Sent-none, Stopped-within, listed-step}
+use Rattle.ac_automaton.proofs.OutputLemmas.{Sent-none, Sent-then}
+use Rattle.acsub.proofs.RewriteLemmas.{Stopped-within, listed-step}
 use Rattle.acsub.proofs.rewrite.send_list.Goals as goal
 
 pub loop-found-init : goal.loop-found-init

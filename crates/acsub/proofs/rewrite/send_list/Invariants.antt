@@ -1,6 +1,6 @@
 use Rattle.std.proofs.Common.{◌≡◌, ℕ, List, ◌++◌, length}
 use Rattle.ac_input.specs.Text.{listed}
-use Rattle.acsub.specs.Output.{Sent}
+use Rattle.ac_automaton.specs.Output.{Sent}
 use Rattle.acsub.proofs.rewrite.send_list.Given as goal
 
 abbrev pub invariant-loop-found : goal.invariant-loop-found

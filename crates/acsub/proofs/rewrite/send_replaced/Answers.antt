@@ -5,8 +5,8 @@ use Rattle.std.proofs.lemmas.Result.{err_from_is_err_and, on_err_weaker, on_ok_w
 use Rattle.std.proofs.lemmas.List.{take_rest}
 use Rattle.acsub.specs.Lines.{rule_at}
 use Rattle.acsub.specs.Sides.{replacements_of}
-use Rattle.acsub.proofs.OutputLemmas.{Sent-then}
-use Rattle.acsub.proofs.RewriteLemmas.{Sent-none, Sent-last, Stopped-last, Stopped-within, replaced-step, replaced-end, replacement_of_rule, lies-first}
+use Rattle.ac_automaton.proofs.OutputLemmas.{Sent-none, Sent-then}
+use Rattle.acsub.proofs.RewriteLemmas.{Sent-last, Stopped-last, Stopped-within, replaced-step, replaced-end, replacement_of_rule, lies-first}
 use Rattle.acsub.proofs.rewrite.send_replaced.Goals as goal
 
 pub loop-found-init : goal.loop-found-init

@@ -1,6 +1,6 @@
 use Rattle.std.proofs.Common.{◌≡◌, ℕ, ◌≤◌, List, ◌++◌, length}
 use Rattle.ac_input.specs.Text.{replaced_from}
-use Rattle.acsub.specs.Output.{Sent}
+use Rattle.ac_automaton.specs.Output.{Sent}
 use Rattle.ac_automaton.specs.Replace.{LieInOrder}
 use Rattle.acsub.specs.Sides.{replacements_of}
 use Rattle.acsub.proofs.rewrite.send_replaced.Given as goal

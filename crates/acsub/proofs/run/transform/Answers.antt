@@ -1,23 +1,9 @@
--- Nothing was moved before the input was read, and only then something was written.
-use Rattle.std.proofs.Common.{◌∙◌}
-use Rattle.std.proofs.lemmas.Result.{err_from_is_err_and}
-use Rattle.acsub.proofs.RunLemmas.{memory_ran, read_answer, write_answer}
+-- A run that writes while it reads answers as its road does.
+use Rattle.std.proofs.Common.{refl}
+use Rattle.acsub.proofs.StreamedLemmas.{streamed_answer}
 use Rattle.acsub.proofs.run.transform.Goals as goal
 
-pub returns-in_err-output : goal.returns-in_err-output
-returns-in_err-output g c =
-    let p = err_from_is_err_and c.from_residual.result c.from_residual.ensures.1 in
+pub returns-in-Some-clause-ran : goal.returns-in-Some-clause-ran
+returns-in-Some-clause-ran g c =
     let plan = c.args.prepared.now in
-    rw (p.1, p.2) (memory_ran g.R.Read.remaining g.W.Write.contents plan.settings plan.rules c.args.reader.now c.args.writer.now)
-
-pub returns-in_err-input : goal.returns-in_err-input
-returns-in_err-input g c =
-    let p = err_from_is_err_and c.from_residual-in_err-input.result c.from_residual-in_err-input.ensures.1 in
-    let plan = c.args.prepared.now in
-    rw (p.1, p.2) (read_answer g.R.Read.remaining g.W.Write.contents plan.settings plan.rules c.args.reader.now c.read_whole.new.reader c.args.writer.now c.in_err-input.field-0.0 c.requires.accepted c.in_err-input.ensures)
-
-pub returns : goal.returns
-returns g c =
-    let read = c.in_ok-input.ensures in
-    let plan = c.args.prepared.now in
-    write_answer g.R.Read.remaining g.W.Write.contents plan.settings plan.rules c.args.reader.now c.read_whole.new.reader c.args.writer.now c.write_text.new.writer read.0 _ c.write_text.result c.requires.accepted read.1 read.2 (c.as_slice.ensures.value ∙ read.3) read.4 c.write_text.ensures.sent c.write_text.ensures.stopped c.write_text.ensures.kind
+    streamed_answer g.R.Read.remaining g.W.Write.contents plan.settings plan.rules c.args.reader.now c.stream_text.new.reader c.args.writer.now c.stream_text.new.writer c.stream_text.result c.requires.accepted (c.in-Some.ensures.some.0 refl) c.stream_text.ensures.streams

@@ -12,15 +12,53 @@ fn failing(input: &[u8], most: usize) -> Source<'_> {
     source
 }
 
+/// Asserts what is written of the beginning of a text, behind which a read fails: the first text at least, and of the second a
+/// beginning.
+fn writes_early(rt: &impl Abort, alloc: Global, mode: Mode, input: &str, least: &str, most: &str) {
+    let settings = settings_for(mode, MatchKind::Standard);
+    for piece in [1usize, 3, 64] {
+        let source = failing(input.as_bytes(), piece);
+        let did = try_run(alloc, &settings, SLOTH, source, ample(alloc));
+        assert_eq!(rt; did.answer, Answer::Read, "after {input:?}");
+        assert_eq!(rt; did.reads, input.len().div_ceil(piece).saturating_add(1));
+        let taken = did.taken.as_slice();
+        assert!(rt; taken.starts_with(least.as_bytes()), "after {input:?}");
+        assert!(rt; most.as_bytes().starts_with(taken), "after {input:?}");
+    }
+}
+
+/// Of "The fox ran" no more than three bytes are held back, and a fox not at all.
 #[test]
-fn stops_where_a_read_fails(rt: HostRuntime) {
-    let settings = settings_for(Mode::Replace, MatchKind::Standard);
-    for (input, most, reads) in [("The fox r", 4, 4), ("The fox r", 9, 2), ("", 1, 1)] {
-        let source = failing(input.as_bytes(), most);
-        let did = try_run(rt.alloc(), &settings, SLOTH, source, ample(rt.alloc()));
-        assert_eq!(rt; did.answer, Answer::Read);
-        assert_eq!(rt; did.reads, reads);
-        assert_eq!(rt; did.writes, 0);
+fn writes_what_is_decided(rt: HostRuntime) {
+    for (input, least, most) in [
+        ("", "", ""),
+        ("T", "", "T"),
+        ("Th", "", "Th"),
+        ("The", "", "The"),
+        ("The ", "T", "The "),
+        ("The f", "Th", "The f"),
+        ("The fo", "The", "The fo"),
+        ("The fox", "The ", "The sloth"),
+        ("The fox ", "The sloth", "The sloth "),
+        ("The fox r", "The sloth", "The sloth r"),
+        ("The fox ra", "The sloth", "The sloth ra"),
+        ("The fox ran", "The sloth ", "The sloth ran"),
+    ] {
+        writes_early(&rt, rt.alloc(), Mode::Replace, input, least, most);
+    }
+}
+
+#[test]
+fn lists_what_is_decided(rt: HostRuntime) {
+    let line = "0 4 7\n";
+    for (input, least, most) in [
+        ("", "", ""),
+        ("The fo", "", ""),
+        ("The fox", "", line),
+        ("The fox ", line, line),
+        ("The fox ran", line, line),
+    ] {
+        writes_early(&rt, rt.alloc(), Mode::List, input, least, most);
     }
 }
 
@@ -56,25 +94,43 @@ fn ends_at_an_empty_read(rt: HostRuntime) {
     }
 }
 
+/// Whether the text is written while the input is read or behind its end, a writer is handed no byte after one that it didn't take.
 #[test]
 fn stops_where_a_write_fails(rt: HostRuntime) {
-    let settings = settings_for(Mode::Replace, MatchKind::Standard);
     let text = b"The sloth ran".as_slice();
-    for (fails, want) in [(false, Answer::WriteZero), (true, Answer::Write)] {
-        for room in 0..text.len() {
-            for most in [1usize, 5, 64] {
-                let sink = room_for(rt.alloc(), room, most, fails);
-                let did = try_run(rt.alloc(), &settings, SLOTH, whole(b"The fox ran", 3), sink);
-                assert_eq!(rt; did.answer, want, "with room for {room}");
-                assert_eq!(rt; did.taken.as_slice(), &text[..room]);
-                assert_eq!(rt; did.writes, room.div_ceil(most).saturating_add(1));
+    for kind in [MatchKind::Standard, MatchKind::LeftmostFirst] {
+        let settings = settings_for(Mode::Replace, kind);
+        for (fails, want) in [(false, Answer::WriteZero), (true, Answer::Write)] {
+            for room in 0..text.len() {
+                for most in [1usize, 5, 64] {
+                    let sink = room_for(rt.alloc(), room, most, fails);
+                    let did = try_run(rt.alloc(), &settings, SLOTH, whole(b"The fox ran", 3), sink);
+                    assert_eq!(rt; did.answer, want, "with room for {room}");
+                    assert_eq!(rt; did.taken.as_slice(), &text[..room]);
+                }
             }
+            let sink = room_for(rt.alloc(), text.len(), 1, fails);
+            let did = try_run(rt.alloc(), &settings, SLOTH, whole(b"The fox ran", 3), sink);
+            assert_eq!(rt; did.answer, Answer::Done);
+            assert_eq!(rt; did.taken.as_slice(), text);
+            assert_eq!(rt; did.writes, 13);
         }
-        let sink = room_for(rt.alloc(), text.len(), 1, fails);
-        let did = try_run(rt.alloc(), &settings, SLOTH, whole(b"The fox ran", 3), sink);
-        assert_eq!(rt; did.answer, Answer::Done);
-        assert_eq!(rt; did.taken.as_slice(), text);
-        assert_eq!(rt; did.writes, 13);
+    }
+}
+
+/// A writer that takes nothing stops the run once there is something to write, and nothing is read behind that.
+#[test]
+fn stops_reading_where_a_write_fails(rt: HostRuntime) {
+    for (kind, fewest, most) in [
+        (MatchKind::Standard, 1, 4),
+        (MatchKind::LeftmostFirst, 12, 12),
+    ] {
+        let settings = settings_for(Mode::Replace, kind);
+        let sink = room_for(rt.alloc(), 0, 64, true);
+        let did = try_run(rt.alloc(), &settings, SLOTH, whole(b"The fox ran", 1), sink);
+        assert_eq!(rt; did.answer, Answer::Write);
+        assert_eq!(rt; did.writes, 1);
+        assert!(rt; fewest <= did.reads && did.reads <= most, "{kind:?}");
     }
 }
 
@@ -82,10 +138,17 @@ fn stops_where_a_write_fails(rt: HostRuntime) {
 /// `rt try --test --fail-alloc N` refuses this run its Nth allocation: then it says that, and this test ends there.
 #[test]
 fn is_done_where_memory_is_ample(rt: HostRuntime) {
-    let settings = settings_for(Mode::Replace, MatchKind::Standard);
-    let source = whole(b"The fox ran", 3);
-    let did = try_run(rt.alloc(), &settings, SLOTH, source, ample(rt.alloc()));
-    assert_eq!(rt; did.answer, Answer::Done);
-    assert_eq!(rt; (did.reads, did.writes), (5, 1));
-    assert_eq!(rt; did.taken.as_slice(), b"The sloth ran".as_slice());
+    for mode in [Mode::Replace, Mode::List] {
+        let settings = settings_for(mode, MatchKind::Standard);
+        let source = whole(b"The fox ran", 3);
+        let did = try_run(rt.alloc(), &settings, SLOTH, source, ample(rt.alloc()));
+        assert_eq!(rt; did.answer, Answer::Done);
+        assert_eq!(rt; did.reads, 5);
+        let want = if mode == Mode::Replace {
+            "The sloth ran"
+        } else {
+            "0 4 7\n"
+        };
+        assert_eq!(rt; did.taken.as_slice(), want.as_bytes());
+    }
 }

@@ -1,28 +1,49 @@
 -- A search over what is held goes on to the next match, or to the end.
-use Rattle.std.proofs.Common.{◌≡◌, ℕ, List, rules}
+use Rattle.std.proofs.Common.{◌≡◌, ℕ, ◌-◌, true, false, List, drop, sym, ◌∙◌, rules}
+use Rattle.std.proofs.lemmas.Bool.{false≢true}
 use Rattle.std.proofs.lemmas.List.{take_rest}
 use Rattle.ac_input.specs.declared.primitives.state_id.StateID.{StateID}
 use Rattle.ac_input.specs.declared.search.Anchored.TheVariants.{No}
+use Rattle.ac_automaton.proofs.CursorLemmas.{list-none}
+use Rattle.ac_automaton.proofs.PassLemmas.{StopsAtMatch, stops-none, stops-there}
 use Rattle.ac_automaton.proofs.SearchLemmas.{searches-none, searches-some, reached-text}
 use Rattle.ac_automaton.proofs.stream.scan.search.Goals as goal
 
 pub first_match-requires-clause-reads : goal.first_match-requires-clause-reads
 first_match-requires-clause-reads g c =
     let a = c.args.automaton.now in
-    reached-text (g.A.Automaton.built a) c.requires.0 (g.A.Automaton.Reads a) (g.A.Automaton.matches a) c.args.start c.args.progress.now c.args.held.now c.read_to_match-stop.result _ _ c.requires.1 (rw take_rest at c.read_to_match-stop.ensures)
+    let b = g.A.Automaton.built a in
+    let bytes : List ℕ = drop (c.args.progress.now.at - c.args.progress.now.from) c.args.held.now in
+    let rest = take_rest c.args.held.now (c.args.progress.now.at - c.args.progress.now.from) in
+    let matched : c.is_match.result ≡ true = search rules in
+    let there : StopsAtMatch b (g.A.Automaton.Reads a) (g.A.Automaton.matches a) c.args.progress.now.sid bytes c.advance_to_match-stop.result true c.args.steps.now c.advance_to_match-stop.new.steps =
+    stops-there b (g.A.Automaton.Reads a) (g.A.Automaton.matches a) c.args.progress.now.sid bytes c.advance_to_match-stop.result _ _ (rw rest at c.advance_to_match-stop.ensures.taken) (rw rest at c.advance_to_match-stop.ensures.reads) (rw rest at c.advance_to_match-stop.ensures.plain) (rw rest at c.advance_to_match-stop.ensures.cost) (c.is_match.ensures.0 matched) in
+    reached-text b c.requires.0 (g.A.Automaton.Reads a) (g.A.Automaton.matches a) c.args.start c.args.progress.now c.args.held.now c.advance_to_match-stop.result _ _ c.requires.1 there
 
-pub returns-then-not-stop : goal.returns-then-not-stop
-returns-then-not-stop g c = λ s is.
+pub returns-then-not-is_match : goal.returns-then-not-is_match
+returns-then-not-is_match g c = λ s is.
     let a = c.args.automaton.now in
-    searches-none (g.A.Automaton.built a) s (g.A.Automaton.Reads a) (g.A.Automaton.matches a) c.args.start c.args.progress.now c.args.held.now c.read_to_match-stop.result _ _
+    let b = g.A.Automaton.built a in
+    let bytes : List ℕ = drop (c.args.progress.now.at - c.args.progress.now.from) c.args.held.now in
+    let rest = take_rest c.args.held.now (c.args.progress.now.at - c.args.progress.now.from) in
+    let unmatched : c.is_match.result ≡ false = search rules in
+    let none = list-none (g.A.Automaton.matches a c.advance_to_match-stop.result.sid) (λ some. false≢true (sym unmatched ∙ c.is_match.ensures.1 some)) in
+    searches-none b s (g.A.Automaton.Reads a) (g.A.Automaton.matches a) c.args.start c.args.progress.now c.args.held.now c.advance_to_match-stop.result _ _
     (λ (text : List ℕ) (state : StateID) (reads : g.A.Automaton.Reads a No text state). g.met.A.Automaton.tells a No text state reads)
     (λ (text : List ℕ) (state : StateID) (reads : g.A.Automaton.Reads a No text state). g.met.A.Automaton.lives a No text state reads)
-    is (rw take_rest at c.read_to_match-stop.ensures) (search rules)
+    is
+    (stops-none b (g.A.Automaton.Reads a) (g.A.Automaton.matches a) c.args.progress.now.sid bytes c.advance_to_match-stop.result _ _ (rw rest at c.advance_to_match-stop.ensures.taken) (rw rest at c.advance_to_match-stop.ensures.reads) (rw rest at c.advance_to_match-stop.ensures.plain) (rw rest at c.advance_to_match-stop.ensures.stops) (rw rest at c.advance_to_match-stop.ensures.cost) none)
 
 pub returns : goal.returns
 returns g c = λ s is.
     let a = c.args.automaton.now in
-    searches-some (g.A.Automaton.built a) s (g.A.Automaton.Reads a) (g.A.Automaton.matches a) c.args.start c.args.progress.now c.args.held.now c.read_to_match-stop.result c.first_match.result _ _
+    let b = g.A.Automaton.built a in
+    let bytes : List ℕ = drop (c.args.progress.now.at - c.args.progress.now.from) c.args.held.now in
+    let rest = take_rest c.args.held.now (c.args.progress.now.at - c.args.progress.now.from) in
+    let matched : c.is_match.result ≡ true = search rules in
+    let there : StopsAtMatch b (g.A.Automaton.Reads a) (g.A.Automaton.matches a) c.args.progress.now.sid bytes c.advance_to_match-stop.result true c.args.steps.now c.advance_to_match-stop.new.steps =
+    stops-there b (g.A.Automaton.Reads a) (g.A.Automaton.matches a) c.args.progress.now.sid bytes c.advance_to_match-stop.result _ _ (rw rest at c.advance_to_match-stop.ensures.taken) (rw rest at c.advance_to_match-stop.ensures.reads) (rw rest at c.advance_to_match-stop.ensures.plain) (rw rest at c.advance_to_match-stop.ensures.cost) (c.is_match.ensures.0 matched) in
+    searches-some b s (g.A.Automaton.Reads a) (g.A.Automaton.matches a) c.args.start c.args.progress.now c.args.held.now c.advance_to_match-stop.result c.first_match.result _ _
     (λ (text : List ℕ) (state : StateID) (reads : g.A.Automaton.Reads a No text state). g.met.A.Automaton.tells a No text state reads)
     (λ (text : List ℕ) (state : StateID) (reads : g.A.Automaton.Reads a No text state). g.met.A.Automaton.lives a No text state reads)
-    is (rw take_rest at c.read_to_match-stop.ensures) (search rules) c.first_match.ensures
+    is there c.first_match.ensures

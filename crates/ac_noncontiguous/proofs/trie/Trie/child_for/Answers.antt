@@ -1,10 +1,6 @@
-use Rattle.std.proofs.Common.{◌<◌, ap, ◌∙◌, sym, arith}
-use Rattle.std.proofs.lemmas.Bool.Decides.{nat_tests}
-use Rattle.ac_noncontiguous.specs.declared.trie.State.{State}
-use Rattle.ac_noncontiguous.proofs.StepLemmas.{step-found}
+-- What is known to be a child needs no walk.
+use Rattle.ac_noncontiguous.proofs.StepLemmas.{step-known}
 use Rattle.ac_noncontiguous.proofs.trie.Trie.child_for.Goals as goal
 
-pub returns-then-state-byte-clause-step : goal.returns-then-state-byte-clause-step
-returns-then-state-byte-clause-step c =
-    let some : 0 < c.place-place.result.at = grind (arith, nat_tests) in
-    step-found _ _ _ _ _ c.args.self.now.tree c.requires c.place-place.ensures some (sym (ap (λ (s : State). s.byte) c.state.ensures) ∙ c.if-state-byte.true)
+pub returns-in-Some-clause-step : goal.returns-in-Some-clause-step
+returns-in-Some-clause-step c = step-known _ _ _ _ (c.known.ensures _ c.in-Some.is)

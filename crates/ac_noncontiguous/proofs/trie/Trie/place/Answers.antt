@@ -10,20 +10,20 @@ state-requires c =
     let some : 0 < c.loop-at.at = grind (arith, nat_tests) in
     (way-at _ _ _ _ _ c.args.self.now.tree c.requires c.loop-at.invariant some).0
 
-pub state-at-requires-in-loop-at : goal.state-at-requires-in-loop-at
-state-at-requires-in-loop-at c =
+pub state-at-requires : goal.state-at-requires
+state-at-requires c =
     let some : 0 < c.loop-at.at = grind (arith, nat_tests) in
     (way-at _ _ _ _ _ c.args.self.now.tree c.requires c.loop-at.invariant some).0
 
 pub loop-at-preserved : goal.loop-at-preserved
 loop-at-preserved c =
     let some : 0 < c.loop-at.at = grind (arith, nat_tests) in
-    rw c.state-at-in-loop-at.ensures (way-more _ _ _ _ _ c.args.self.now.tree c.requires c.loop-at.invariant some (rw c.state.ensures at c.if-state-byte.true))
+    rw c.state-at.ensures (way-more _ _ _ _ _ c.args.self.now.tree c.requires c.loop-at.invariant some (rw c.state.ensures at c.if-state-byte.true))
 
 pub loop-at-smaller : goal.loop-at-smaller
 loop-at-smaller c =
     let some : 0 < c.loop-at.at = grind (arith, nat_tests) in
-    rw c.state-at-in-loop-at.ensures (byte-rises _ _ _ _ _ c.args.self.now.tree c.requires c.loop-at.invariant some (rw c.state.ensures at c.if-state-byte.true) (omega (arith, c.ranges.byte)))
+    rw c.state-at.ensures (byte-rises _ _ _ _ _ c.args.self.now.tree c.requires c.loop-at.invariant some (rw c.state.ensures at c.if-state-byte.true) (omega (arith, c.ranges.byte)))
 
 pub returns : goal.returns
 returns c =

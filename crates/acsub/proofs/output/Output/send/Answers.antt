@@ -1,7 +1,7 @@
 -- Where the held bytes could not be written, the others were not either.
 use Rattle.std.proofs.Common.{[]}
 use Rattle.std.proofs.lemmas.Result.{err_from_is_err_and, on_err_weaker, on_ok_weaker}
-use Rattle.acsub.proofs.OutputLemmas.{Sent-then, Stopped-more, Stopped-then}
+use Rattle.ac_automaton.proofs.OutputLemmas.{Sent-then, Stopped-more, Stopped-then}
 use Rattle.acsub.proofs.output.Output.send.Goals as goal
 
 pub returns-in_err-send_held-clause-stopped : goal.returns-in_err-send_held-clause-stopped

@@ -1,5 +1,5 @@
 -- What was held back is written as it is.
-use Rattle.acsub.proofs.OutputLemmas.{Sent-held}
+use Rattle.ac_automaton.proofs.OutputLemmas.{Sent-held}
 use Rattle.acsub.proofs.output.Output.send_held.Goals as goal
 
 pub returns-clause-sent : goal.returns-clause-sent

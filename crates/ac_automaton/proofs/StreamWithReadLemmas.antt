@@ -1,0 +1,152 @@
+-- What a closure's replacement has made of a stream, from one read to the next, and at its end.
+use Rattle.std.proofs.Common.{◌≡◌, ◌≢◌, ◌⊎◌, inl, inr, ℕ, ◌+◌, ◌≤◌, List, [], ◌∷◌, ◌++◌, length, drop, Option, Result, Ok, Err, refl, sym, ap, ◌∙◌, subst, arith, ⊎_elim}
+use Rattle.std.specs.List.{concat}
+use Rattle.std.specs.Prelude.{IfErr, OnErr, OnOk}
+use Rattle.std.specs.Io.KnownBytes.{Appends}
+use Rattle.std.proofs.lemmas.List.{append-nil, length-append, take_rest}
+use Rattle.std.proofs.lemmas.List.Elements.{All-from_recursion}
+use Rattle.ac_input.specs.declared.search.Anchored.{Anchored}
+use Rattle.ac_input.specs.Occurrence.{Occurrence}
+use Rattle.ac_input.proofs.BeginningLemmas.{slice_range-append}
+use Rattle.ac_automaton.specs.Automaton.{Built}
+use Rattle.ac_automaton.specs.Moved.{AreFilled, HasGiven, HasTaken, but_last}
+use Rattle.ac_automaton.specs.Replace.{IsForMatches, matches_in}
+use Rattle.ac_automaton.specs.Stream.{CanBeCounted, CanStream, HasRead, IsOnCourse, ReadsMore, Scanned, cut_of, fresh_scan, keep_of, read_by}
+use Rattle.ac_automaton.specs.StreamReplace.{IsAtCut}
+use Rattle.ac_automaton.specs.StreamReplaceWith.{GoesOn, HasCome, HasReplacedWith, IsStreamFault, IsWriterChain, ReadsAndReplaces, RefusedByClosure, ReplacesStreamWith, StopsChain, StreamReplacer}
+use Rattle.ac_automaton.specs.Watched.{IsOfWrite, TookAll, TookFront, inner_of}
+use Rattle.ac_automaton.specs.declared.error.StreamError.{StreamError}
+use Rattle.ac_automaton.specs.declared.error.StreamError.TheVariants.{Config, Read, Write, WriteZero, Memory, Position}
+use Rattle.ac_automaton.specs.declared.watched.Watched.{Watched}
+use Rattle.ac_automaton.proofs.StreamReplaceLemmas.{AreFilled-push, before-last, given-all, given-more, given-none, place-within, placed-after, read-more, replaced-fresh, same-cut, same-lies}
+use Rattle.ac_automaton.proofs.StreamWithLemmas.{all-later, come-to, rest-left, write-stopped}
+use Rattle.ac_automaton.proofs.WriterChainLemmas.{HasTaken-from_all, HasTaken-none, chain-grows, chain-same}
+
+module _ {F W : Type 0} (contents : W → Option (List ℕ)) (g : StreamReplacer F W) {R : Type 0} (remaining : R → Option (List ℕ)) (b : Built) where
+  -- before the first read
+  pub replaced-with-fresh : (reader : Watched R) (writer : Watched W) (f : F) → IsOnCourse (fresh_scan b) → IsForMatches g (length b.dictionary.patterns) f → HasReplacedWith contents g remaining b (fresh_scan b) 0 reader reader f f writer writer
+  replaced-with-fresh reader writer f course ready = record {
+    built = refl;
+    place = (replaced-fresh remaining contents [] b reader writer course).place;
+    filled = tt;
+    read = given-none remaining reader;
+    chain = (refl, HasTaken-none contents writer);
+    ready = ready;
+  }
+
+  module _ (s t : Scanned) (at : ℕ) (r0 r r1 : Watched R) (first f : F) (w0 w : Watched W) (piece : List ℕ) (failed : ℕ) (h : HasReplacedWith contents g remaining b s at r0 r first f w0 w) (read : HasRead remaining s t r r1 piece failed) where
+    -- and within all of it
+    within-all : at ≤ length (read_by t)
+    within-all = let le = place-within remaining s t at r r1 piece failed h.place read in let more = ap length (read-more remaining s t at r r1 piece failed h.place read) in omega (arith, length-append (read_by s) piece)
+
+    -- no more is left of what was read before than may be kept
+    near-stays : length (concat (but_last t.pieces)) ≤ at + keep_of t.built
+    near-stays =
+        let is : at ≡ cut_of s = h.place.cut in
+        let searched : s.at ≡ length (read_by s) = h.place.searched in
+        let keep : keep_of t.built ≡ keep_of s.built = ap keep_of read.built in
+        let before : length (concat (but_last t.pieces)) ≡ length (read_by s) = ap length (before-last remaining s t at r r1 piece failed h.place read) in
+        omega arith
+
+    -- the chain stays
+    chain-stays : IsWriterChain contents g (read_by t) 0 t.given at first w0 f w
+    chain-stays =
+        let same = λ (a c : ℕ) (le : a ≤ c) (to : c ≤ at). sym (slice_range-append (read_by s) piece a c le (let in_read = place-within remaining s t at r r1 piece failed h.place read in omega arith)) in
+        let longer = chain-same contents g (read_by s) (read_by s ++ piece) (length s.built.dictionary.patterns) 0 s.given at first f w0 w same h.place.placed.lies (omega arith) h.chain in
+        subst (λ (x : List ℕ). IsWriterChain contents g x 0 t.given at first w0 f w) (sym (read-more remaining s t at r r1 piece failed h.place read)) (subst (λ (os : List Occurrence). IsWriterChain contents g (read_by s ++ piece) 0 os at first w0 f w) (sym read.given) longer)
+
+    pub built-read : t.built ≡ b
+    built-read = read.built ∙ h.built
+
+    given-read : HasGiven remaining r0 r1 t.pieces failed
+    given-read = given-more remaining s t r0 r r1 piece failed h.read read
+
+    -- how far the chain has come
+    has-come : IsOnCourse t → HasCome contents g b t.pieces first w0 w
+    has-come course =
+        let left = rest-left t course in
+        subst (λ (c : Built). HasCome contents g c t.pieces first w0 w) built-read (at, left.0, f, come-to contents g t at left.0 first f w0 w within-all (same-lies remaining s t at r r1 piece failed h.place read) left.1 (all-later at (cut_of t) left.0 (same-cut remaining s t at r r1 piece failed h.place read) left.2) near-stays chain-stays)
+
+    -- what was read goes on to be replaced
+    pub goes-on-with : (u : Scanned) (to : ℕ) (after : F) (w1 : Watched W) → failed ≡ 0 → piece ≢ [] → GoesOn contents g t u at to f after w w1 → IsAtCut u to → HasReplacedWith contents g remaining b u to r0 r1 first after w0 w1
+    goes-on-with u to after w1 fine some goes place =
+        let same = goes.same in
+        let built : u.built ≡ b = same.built ∙ built-read in
+        let filled = subst AreFilled (sym read.pieces) (AreFilled-push s.pieces piece h.filled some) in
+        record {
+          built = built;
+          place = place;
+          filled = subst AreFilled (sym same.pieces) filled;
+          read = subst (λ (ps : List (List ℕ)). HasGiven remaining r0 r1 ps 0) (sym same.pieces) (subst (HasGiven remaining r0 r1 t.pieces) fine given-read);
+          chain = goes.chain first w0 chain-stays;
+          ready = subst (λ (c : Built). IsForMatches g (length c.dictionary.patterns) after) built goes.ready;
+        }
+
+    -- the chain stopped
+    pub stops-with : (w1 : Watched W) (error : StreamError) → failed ≡ 0 → StopsChain contents g t at f w w1 error → ReadsAndReplaces contents g remaining b first r0 r1 w0 w1 (Err error)
+    stops-with w1 error fine stop =
+        let stopped = subst (λ (c : Built). RefusedByClosure contents g c t.pieces first w0 w1 error ⊎ IsStreamFault contents g c t.pieces 0 first w0 w1 error) built-read (stop.stops first w0 near-stays chain-stays) in (
+          t.pieces,
+          0,
+          subst (HasGiven remaining r0 r1 t.pieces) fine given-read,
+          ⊎_elim (λ (refused : RefusedByClosure contents g b t.pieces first w0 w1 error). inl (refl, refused)) (λ (fault : IsStreamFault contents g b t.pieces 0 first w0 w1 error). inr fault) stopped,
+        )
+
+    -- the read failed
+    pub read-failed : (error : _) → IsOnCourse t → failed ≡ 1 → ReadsAndReplaces contents g remaining b first r0 r1 w0 w (Err (Read error))
+    read-failed error course fails = (t.pieces, failed, given-read, inr (fails, has-come course))
+
+    -- the input is too long
+    pub read-too_long : IsOnCourse t → failed ≡ 0 → ¬ CanBeCounted (read_by t) → ReadsAndReplaces contents g remaining b first r0 r1 w0 w (Err Position)
+    read-too_long course fine long = (t.pieces, failed, given-read, inr (fine, long, has-come course))
+
+    -- nothing was read, and what is left was written
+    rest-passed : (w1 : Watched W) → failed ≡ 0 → piece ≡ [] → HasTaken contents w w1 (drop at (read_by t)) 0 0 → ReadsAndReplaces contents g remaining b first r0 r1 w0 w1 (Ok tt)
+    rest-passed w1 fine none taken =
+        let x = read_by t in
+        let more = chain-grows contents g x (length t.built.dictionary.patterns) 0 t.given at (length x) first f w0 w w1 (same-lies remaining s t at r r1 piece failed h.place read) (omega arith) within-all chain-stays
+        (subst (λ (bytes : List ℕ). HasTaken contents w w1 bytes 0 0) (sym (take_rest x at)) taken) in (
+          t.pieces,
+          failed,
+          given-read,
+          (
+            fine,
+            record {
+              whole = (s.pieces, h.filled, read.pieces ∙ ap (λ (bytes : List ℕ). s.pieces ++ bytes ∷ []) none);
+              last = f;
+              chain = subst (λ (c : Built). IsWriterChain contents g x 0 (matches_in c x) (length x) first w0 f w1) built-read (subst (λ (os : List Occurrence). IsWriterChain contents g x 0 os (length x) first w0 f w1) (given-all remaining s t at r r1 piece failed h.place read none) more);
+            },
+          ),
+        )
+
+    -- nothing was read, and the write of what is left stopped
+    rest-failed : (w1 : Watched W) (bytes : List ℕ) (error : StreamError) → IsOnCourse t → CanBeCounted (read_by t) → failed ≡ 0 → piece ≡ [] → bytes ≡ drop at (read_by t) → TookFront contents w w1 bytes → IsOfWrite w w1 error
+        → ReadsAndReplaces contents g remaining b first r0 r1 w0 w1 (Err error)
+    rest-failed w1 bytes error course countable fine none is took kind =
+        let x = read_by t in
+        let fault = write-stopped contents g t at (length x) [] first f w0 w w1 bytes error (placed-after remaining s t at r r1 piece failed h.place read course countable) within-all (omega arith) (sym (given-all remaining s t at r r1 piece failed h.place read none) ∙ sym (append-nil t.given))
+        (All-from_recursion (λ (o : Occurrence). length x ≤ o.start) [] tt) near-stays chain-stays (is ∙ sym (take_rest x at)) took kind in
+        (t.pieces, 0, subst (HasGiven remaining r0 r1 t.pieces) fine given-read, inr (subst (λ (c : Built). IsStreamFault contents g c t.pieces 0 first w0 w1 error) built-read fault))
+
+    -- the same by the answer
+    pub rest-answered : (w1 : Watched W) (bytes : List ℕ) (result : Result (Unit {0}) StreamError) → IsOnCourse t → CanBeCounted (read_by t) → failed ≡ 0 → piece ≡ [] → bytes ≡ drop at (read_by t)
+        → OnOk result (TookAll w w1 bytes) → OnErr result (TookFront contents w w1 bytes) → IfErr result (IsOfWrite w w1) → OnOk result (Appends (contents (inner_of w)) (contents (inner_of w1)) bytes) → ReadsAndReplaces contents g remaining b first r0 r1 w0 w1 result
+    rest-answered w1 bytes (Ok done) course countable fine none is all took kind device =
+        rest-passed w1 fine none (subst (λ (t : List ℕ). HasTaken contents w w1 t 0 0) is (HasTaken-from_all contents w w1 bytes all device))
+    rest-answered w1 bytes (Err error) course countable fine none is all took kind device = rest-failed w1 bytes error course countable fine none is took kind
+
+  -- a read that failed, or with which there are more bytes than places
+  pub read-stopped-with : (s t : Scanned) (at : ℕ) (r0 r r1 : Watched R) (first f : F) (w0 w : Watched W) (error : StreamError) → HasReplacedWith contents g remaining b s at r0 r first f w0 w → IsOnCourse t → ReadsMore remaining s t r r1 (Err error)
+      → ReadsAndReplaces contents g remaining b first r0 r1 w0 w (Err error)
+  read-stopped-with s t at r0 r r1 first f w0 w (Config error) h course read = absurd read
+  read-stopped-with s t at r0 r r1 first f w0 w (Read error) h course read = read-failed s t at r0 r r1 first f w0 w [] 1 h read error course refl
+  read-stopped-with s t at r0 r r1 first f w0 w (Write error) h course read = absurd read
+  read-stopped-with s t at r0 r r1 first f w0 w WriteZero h course read = absurd read
+  read-stopped-with s t at r0 r r1 first f w0 w Memory h course read = absurd read
+  read-stopped-with s t at r0 r r1 first f w0 w Position h course read = read-too_long s t at r0 r r1 first f w0 w read.0 0 h read.1 course refl read.2
+
+  -- the same of a replacement that was accepted
+  pub accepted-with : (supports : Anchored → Type 0) (f : F) (r0 r1 : Watched R) (w0 w1 : Watched W) (result : Result (Unit {0}) StreamError) → CanStream b supports → ReadsAndReplaces contents g remaining b f r0 r1 w0 w1 result
+      → ReplacesStreamWith contents g remaining b supports f r0 r1 w0 w1 result
+  accepted-with supports f r0 r1 w0 w1 (Ok done) can replaced = (can, replaced)
+  accepted-with supports f r0 r1 w0 w1 (Err error) can replaced = inr (can, replaced)

@@ -1,0 +1,133 @@
+-- Replacement over streams by a closure: the values of the writer, one after another, and what each answer says of them.
+use Rattle.std.specs.Prelude.{◌≡◌, ◌⊎◌, ℕ, ◌+◌, ◌<◌, ◌≤◌, List, [], ◌∷◌, ◌++◌, length, slice_range, Option, Some, None, Result, Ok, Err}
+use Rattle.std.specs.List.{All, concat}
+use Rattle.ac_input.specs.declared.search.Anchored.{Anchored}
+use Rattle.ac_input.specs.Cut.{IsCut}
+use Rattle.ac_input.specs.Occurrence.{Occurrence}
+use Rattle.ac_automaton.specs.Automaton.{Built}
+use Rattle.ac_automaton.specs.Moved.{AreFilled, AreWhole, HasGiven, HasTaken, NoneTouched, but_last}
+use Rattle.ac_automaton.specs.Replace.{IsForMatches, Replacer, RepliesAt, matches_in}
+use Rattle.ac_automaton.specs.Stream.{CanBeCounted, CanStream, IsSearched, IsStreamRefusal, ReadsNothing, Scanned, keep_of, matches_read, read_by}
+use Rattle.ac_automaton.specs.StreamReplace.{IsAtCut, IsPlaced}
+use Rattle.ac_automaton.specs.declared.error.StreamError.{StreamError}
+use Rattle.ac_automaton.specs.declared.error.StreamError.TheVariants.{Config, Read, Write, WriteZero, Memory, Position}
+use Rattle.ac_automaton.specs.declared.watched.Watched.{Watched}
+
+-- the closure of a replacement over a stream: its destination is the writer, and it answers that it wrote, or a refusal
+abbrev pub StreamReplacer : Type 0 → Type 0 → Type 1
+StreamReplacer F W = Replacer F (Watched W) (Result (Unit {0}) StreamError)
+
+module _ {F W : Type 0} (contents : W → Option (List ℕ)) (g : StreamReplacer F W) where
+  -- ---- the chain
+
+  -- The closure and the writer, from one place of a text to another, over the occurrences in between: before each the writer takes
+  -- the bytes up to it, then the closure is called. At the end the writer takes the bytes that are left.
+  abbrev pub IsWriterChain : List ℕ → ℕ → List Occurrence → ℕ → F → Watched W → F → Watched W → Type 0
+  IsWriterChain x at [] to f old last new = (last ≡ f) × HasTaken contents old new (slice_range x at to) 0 0
+  IsWriterChain x at (o ∷ os) to f old last new =
+      (before after : Watched W) × (mid : F)
+      × HasTaken contents old before (slice_range x at o.start) 0 0
+      × RepliesAt g f o (slice_range x o.start o.end) before (Ok tt) mid after
+      × IsWriterChain x o.end os to mid after last new
+
+  -- The chain came to a place of what was read, with these matches left. The place is a cut, and of what was read before the last
+  -- read no more lies behind it than the longest pattern has bytes, or one byte.
+  pub record HasComeTo (b : Built) (pieces : List (List ℕ)) (place : ℕ) (rest : List Occurrence) (f : F) (old : Watched W) (last : F) (new : Watched W) : Type 0 where
+    pub done : List Occurrence
+    pub all : matches_in b (concat pieces) ≡ done ++ rest
+    pub later : All (λ o. place ≤ o.start) rest
+    pub cut : IsCut b.dictionary (concat pieces) place
+    pub near : length (concat (but_last pieces)) ≤ place + keep_of b
+    pub chain : IsWriterChain (concat pieces) 0 done place f old last new
+
+  -- ---- what an answer says
+
+  -- The input was read to its end, and the chain is that of all of it.
+  pub record ReplacedWholeWith (b : Built) (pieces : List (List ℕ)) (f : F) (old new : Watched W) : Type 0 where
+    pub whole : AreWhole pieces
+    pub last : F
+    pub chain : IsWriterChain (concat pieces) 0 (matches_in b (concat pieces)) (length (concat pieces)) f old last new
+
+  -- The closure refused the next match: the chain came to it, and is left as the closure left it.
+  pub record RefusedByClosure (b : Built) (pieces : List (List ℕ)) (f : F) (old new : Watched W) (error : StreamError) : Type 0 where
+    pub found : Occurrence
+    pub rest : List Occurrence
+    pub mid : F
+    pub before : Watched W
+    pub came : HasComeTo b pieces found.start (found ∷ rest) f old mid before
+    pub last : F
+    pub refused : RepliesAt g mid found (slice_range (concat pieces) found.start found.end) before (Err error) last new
+
+  -- A write failed, and so many stalled: the chain came to a place, and of what stands before the next match, or before the end,
+  -- a beginning was taken.
+  pub record StoppedAtWrite (b : Built) (pieces : List (List ℕ)) (f : F) (old new : Watched W) (stalls : ℕ) : Type 0 where
+    pub from : ℕ
+    pub to : ℕ
+    pub rest : List Occurrence
+    pub mid : F
+    pub before : Watched W
+    pub came : HasComeTo b pieces from rest f old mid before
+    pub order : (from ≤ to) × (to < length (concat pieces))
+    pub later : All (λ o. to < o.start) rest
+    pub stopped : HasTaken contents before new (slice_range (concat pieces) from to) 1 stalls
+
+  -- the chain came to a place, and nothing else happened to the writer
+  abbrev pub HasCome : Built → List (List ℕ) → F → Watched W → Watched W → Type 0
+  HasCome b pieces f old new = (place : ℕ) × (rest : List Occurrence) × (last : F) × HasComeTo b pieces place rest f old last new
+
+  -- a fault that is not the closure's: how many reads failed, and how far the chain came
+  abbrev pub IsStreamFault : Built → List (List ℕ) → ℕ → F → Watched W → Watched W → StreamError → Type 0
+  IsStreamFault b pieces failed f old new (Config error) = ⊥
+  IsStreamFault b pieces failed f old new (Read error) = (failed ≡ 1) × HasCome b pieces f old new
+  IsStreamFault b pieces failed f old new (Write error) = (failed ≡ 0) × StoppedAtWrite b pieces f old new 0
+  IsStreamFault b pieces failed f old new WriteZero = (failed ≡ 0) × StoppedAtWrite b pieces f old new 1
+  IsStreamFault b pieces failed f old new Memory = ⊥
+  IsStreamFault b pieces failed f old new Position = (failed ≡ 0) × (¬ CanBeCounted (concat pieces)) × HasCome b pieces f old new
+
+  -- what an answer after the first read says of the pieces that were read, and of how many reads failed
+  abbrev pub AnswersReplaceWith : Built → List (List ℕ) → ℕ → F → Watched W → Watched W → Result (Unit {0}) StreamError → Type 0
+  AnswersReplaceWith b pieces failed f old new (Ok done) = (failed ≡ 0) × ReplacedWholeWith b pieces f old new
+  AnswersReplaceWith b pieces failed f old new (Err error) = ((failed ≡ 0) × RefusedByClosure b pieces f old new error) ⊎ IsStreamFault b pieces failed f old new error
+
+  module _ {R : Type 0} (remaining : R → Option (List ℕ)) where
+    -- what was read of a stream, and what the closure made of it
+    abbrev pub ReadsAndReplaces : Built → F → Watched R → Watched R → Watched W → Watched W → Result (Unit {0}) StreamError → Type 0
+    ReadsAndReplaces b f reader_before reader_after writer_before writer_after result =
+        (pieces : List (List ℕ)) × (failed : ℕ) × HasGiven remaining reader_before reader_after pieces failed × AnswersReplaceWith b pieces failed f writer_before writer_after result
+
+    -- The answer of a replacement: it was refused before anything happened; or it was accepted, and the chain says how far it came.
+    abbrev pub ReplacesStreamWith : Built → (Anchored → Type 0) → F → Watched R → Watched R → Watched W → Watched W → Result (Unit {0}) StreamError → Type 0
+    ReplacesStreamWith b supports f reader_before reader_after writer_before writer_after (Ok done) = CanStream b supports × ReadsAndReplaces b f reader_before reader_after writer_before writer_after (Ok done)
+    ReplacesStreamWith b supports f reader_before reader_after writer_before writer_after (Err error) =
+        (IsStreamRefusal b supports error × NoneTouched reader_before reader_after writer_before writer_after)
+        ⊎ (CanStream b supports × ReadsAndReplaces b f reader_before reader_after writer_before writer_after (Err error))
+
+    -- ---- what stands at each point of it
+
+    -- A replacement between two reads: the chain has come to the cut.
+    pub record HasReplacedWith (b : Built) (s : Scanned) (at : ℕ) (reader_before reader_after : Watched R) (first f : F) (writer_before writer_after : Watched W) : Type 0 where
+      pub built : s.built ≡ b
+      pub place : IsAtCut s at
+      pub filled : AreFilled s.pieces
+      pub read : HasGiven remaining reader_before reader_after s.pieces 0
+      pub chain : IsWriterChain (read_by s) 0 s.given at first writer_before f writer_after
+      pub ready : IsForMatches g (length b.dictionary.patterns) f
+
+  -- In between nothing was read, and the chain went on from one place to another.
+  pub record GoesOn (s t : Scanned) (from to : ℕ) (f after : F) (old new : Watched W) : Type 0 where
+    pub same : ReadsNothing s t
+    pub placed : IsPlaced t to
+    pub on : from ≤ to
+    pub chain : (first : F) (begun : Watched W) → IsWriterChain (read_by s) 0 s.given from first begun f old → IsWriterChain (read_by t) 0 t.given to first begun after new
+    pub ready : IsForMatches g (length t.built.dictionary.patterns) after
+
+  -- The next match was found, and the chain went on to its end; or there is no further match of what was read.
+  abbrev pub PassesMatch : Scanned → Scanned → ℕ → F → F → Watched W → Watched W → Option ℕ → Type 0
+  PassesMatch s t from f after old new None = GoesOn s t from from f after old new × IsSearched t × (t.given ≡ matches_read t)
+  PassesMatch s t from f after old new (Some to) = GoesOn s t from to f after old new × (s.at < t.at)
+
+  -- In between nothing was read, and the chain, which had come to a place, stopped at it or behind it: the closure refused, or a
+  -- write failed.
+  pub record StopsChain (s : Scanned) (from : ℕ) (f : F) (old new : Watched W) (error : StreamError) : Type 0 where
+    pub stops : (first : F) (begun : Watched W) → length (concat (but_last s.pieces)) ≤ from + keep_of s.built → IsWriterChain (read_by s) 0 s.given from first begun f old
+        → RefusedByClosure s.built s.pieces first begun new error ⊎ IsStreamFault s.built s.pieces 0 first begun new error

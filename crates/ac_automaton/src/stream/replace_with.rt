@@ -1,0 +1,149 @@
+//! Replacement over a stream, where a closure writes what stands in place of each match.
+//!
+//! The closure is called with the match, its bytes and the writer, and may write to it what it likes. So that it finds there all that
+//! comes before the match, nothing is gathered: what stands before a match is written at once, then the closure is called. What the
+//! closure refuses ends the replacement, and is answered as it is.
+//!
+//! As in [`replace`](super::replace), everything before the cut is written before the next read, nothing is tried again, and nothing
+//! is flushed. The one buffer is taken before the first read, and no memory after that.
+ghost use Rattle.std.specs.Prelude.{◌≡◌, ◌+◌, false, length, IfErr, IfOk};
+ghost use Rattle.ac_automaton.specs.Replace.{IsForMatches, RepliesAt, TakesMatches};
+ghost use Rattle.ac_automaton.specs.Stream.{IsOnCourse, fresh_scan};
+ghost use Rattle.ac_automaton.specs.StreamReplace.{IsAtCut, IsPlaced};
+ghost use Rattle.ac_automaton.specs.StreamReplaceWith.{GoesOn, PassesMatch, ReadsAndReplaces, ReplacesStreamWith, StopsChain};
+ghost use Rattle.ac_automaton.specs.Watched.{has_ended};
+
+use super::replace::{part, rest};
+use super::scan::Scan;
+use crate::automaton::Automaton;
+use crate::error::StreamError;
+use crate::watched::{Watched, write_whole};
+use ac_input::search::Match;
+use ac_input::steps::Steps;
+use std::alloc::Global;
+use std::io::{Read, Write};
+
+/// Calls the closure at a match of a stream.
+fn call<W, F>(
+    replace_with: &mut F,
+    found: &Match,
+    matched: &[u8],
+    writer: &mut Watched<W>,
+) -> Result<(), StreamError>
+where
+    F: FnMut(&Match, &[u8], &mut Watched<W>) -> Result<(), StreamError>,
+    requires { TakesMatches F.FnMut (found.now.pattern + 1) replace_with.old }
+    ensures { RepliesAt F.FnMut replace_with.old found.now matched.now writer.old result
+        replace_with.new writer.new }
+{
+    replace_with(found, matched, writer)
+}
+
+/// Finds the next match of what was read, writes the text from a place to its start, and calls the closure. It answers where the
+/// match ends, or none where there is no further match.
+fn replace_match<A: Automaton, W: Write, F>(
+    scan: &mut Scan<'_, A>,
+    at: usize,
+    writer: &mut Watched<W>,
+    replace_with: &mut F,
+    steps: &mut Steps,
+) -> Result<Option<usize>, StreamError>
+where
+    F: FnMut(&Match, &[u8], &mut Watched<W>) -> Result<(), StreamError>,
+    requires placed { IsPlaced scan.old at }
+    requires ready { IsForMatches F.FnMut (length scan.old.built.dictionary.patterns)
+        replace_with.old }
+    ensures passes { IfOk result (PassesMatch W.contents F.FnMut scan.old scan.new at
+        replace_with.old replace_with.new writer.old writer.new) }
+    ensures stops { IfErr result (StopsChain W.contents F.FnMut scan.old at
+        replace_with.old writer.old writer.new) }
+    ensures kept { IsOnCourse scan.new }
+{
+    let Some(found) = scan.next_held(steps) else {
+        return Ok(None);
+    };
+    let from = scan.from();
+    let held = scan.held();
+    let before = part(held, from, at, found.start());
+    let matched = part(held, from, found.start(), found.end());
+    write_whole(writer, before)?;
+    call(replace_with, &found, matched, writer)?;
+    Ok(Some(found.end()))
+}
+
+/// Replaces one match after another, and writes the text up to the cut. It answers where the cut is.
+fn replace_decided<A: Automaton, W: Write, F>(
+    scan: &mut Scan<'_, A>,
+    at: usize,
+    writer: &mut Watched<W>,
+    replace_with: &mut F,
+    steps: &mut Steps,
+) -> Result<usize, StreamError>
+where
+    F: FnMut(&Match, &[u8], &mut Watched<W>) -> Result<(), StreamError>,
+    requires placed { IsPlaced scan.old at }
+    requires ready { IsForMatches F.FnMut (length scan.old.built.dictionary.patterns)
+        replace_with.old }
+    ensures goes_on { IfOk result (λ to. GoesOn W.contents F.FnMut scan.old scan.new at to
+        replace_with.old replace_with.new writer.old writer.new) }
+    ensures at_cut { IfOk result (IsAtCut scan.new) }
+    ensures stops { IfErr result (StopsChain W.contents F.FnMut scan.old at
+        replace_with.old writer.old writer.new) }
+    ensures kept { IsOnCourse scan.new }
+{
+    let mut written = at;
+    while let Some(end) = replace_match(scan, written, writer, replace_with, steps)? {
+        written = end;
+    }
+    let cut = scan.cut();
+    let from = scan.from();
+    write_whole(writer, part(scan.held(), from, written, cut))?;
+    Ok(cut)
+}
+
+/// Reads on to the end of the input. Before each read all that is decided is written, and at the end what is left.
+fn replace_read<A: Automaton, R: Read, W: Write, F>(
+    scan: &mut Scan<'_, A>,
+    reader: &mut Watched<R>,
+    writer: &mut Watched<W>,
+    replace_with: &mut F,
+) -> Result<(), StreamError>
+where
+    F: FnMut(&Match, &[u8], &mut Watched<W>) -> Result<(), StreamError>,
+    requires fresh { scan.old ≡ fresh_scan scan.old.built }
+    requires course { IsOnCourse scan.old }
+    requires open { has_ended reader.old ≡ false }
+    requires ready { IsForMatches F.FnMut (length scan.old.built.dictionary.patterns)
+        replace_with.old }
+    ensures { ReadsAndReplaces W.contents F.FnMut R.remaining scan.old.built replace_with.old
+        reader.old reader.new writer.old writer.new result }
+{
+    let mut steps = Steps::new();
+    let mut at = 0;
+    while scan.read_more(reader, &mut steps)? > 0 {
+        at = replace_decided(scan, at, writer, replace_with, &mut steps)?;
+    }
+    let from = scan.from();
+    write_whole(writer, rest(scan.held(), from, at))
+}
+
+/// Writes what is read, and in place of each match what the closure writes.
+pub fn replace_all_with<A: Automaton, R: Read, W: Write, F>(
+    automaton: &A,
+    alloc: Global,
+    reader: &mut Watched<R>,
+    writer: &mut Watched<W>,
+    mut replace_with: F,
+) -> Result<(), StreamError>
+where
+    F: FnMut(&Match, &[u8], &mut Watched<W>) -> Result<(), StreamError>,
+    requires open { has_ended reader.old ≡ false }
+    requires ready { IsForMatches F.FnMut (length (A.built automaton.now).dictionary.patterns)
+        replace_with }
+    ensures { ReplacesStreamWith W.contents F.FnMut R.remaining (A.built automaton.now)
+        (A.supports automaton.now) replace_with reader.old reader.new writer.old writer.new
+        result }
+{
+    let mut scan = Scan::new(automaton, alloc)?;
+    replace_read(&mut scan, reader, writer, &mut replace_with)
+}

@@ -1,0 +1,86 @@
+//! The bytes that lead from the start to another state, where they are few.
+//!
+//! Over every other byte a search that stands in the start stays there. So where no more than three bytes lead on, it finds the next
+//! of them by `memchr`, many bytes at a time, and passes over all before it. Where there are more, or where the start matches, it
+//! goes from byte to byte.
+ghost use Rattle.std.specs.Prelude.{ℕ};
+ghost use Rattle.memchr.specs.Find.{IsFirstByte};
+ghost use Rattle.ac_noncontiguous.specs.Lookups.{IsKept};
+ghost use Rattle.ac_noncontiguous.specs.Starters.{is_starter, AddsStarter, SkipsIdle, IsIdleFront};
+
+use crate::nfa::tables::Tables;
+use memchr::{memchr, memchr2, memchr3};
+
+/// The bytes that lead from the start to another state.
+#[derive(Clone, Copy, Debug)]
+pub(crate) enum Starters {
+    /// No byte does.
+    None,
+    One(u8),
+    Two(u8, u8),
+    Three(u8, u8, u8),
+    /// More than three do, or the start matches: which ones isn't kept.
+    Many,
+}
+
+impl Starters {
+    /// These and one more.
+    fn with(self, byte: u8) -> Starters
+        ensures { AddsStarter self byte result }
+    {
+        match self {
+            Starters::None => Starters::One(byte),
+            Starters::One(a) => Starters::Two(a, byte),
+            Starters::Two(a, b) => Starters::Three(a, b, byte),
+            Starters::Three(..) => Starters::Many,
+            Starters::Many => Starters::Many,
+        }
+    }
+
+    /// Those of the tables. It makes one look-up for each byte.
+    pub(crate) fn of(tables: &Tables) -> Starters
+        requires { IsKept tables.now tables.now.start }
+        ensures { SkipsIdle tables.now result }
+    {
+        let start = tables.start.as_u32();
+        if start <= tables.max_match.as_u32() {
+            return Starters::Many;
+        }
+        let mut starters = Starters::None;
+        for byte in 0..256usize {
+            if tables.step(tables.start, byte as u8).as_u32() != start {
+                starters = starters.with(byte as u8);
+            }
+        }
+        starters
+    }
+
+    /// Whether they are few enough to be looked for.
+    #[inline]
+    pub(crate) fn are_few(&self) -> bool {
+        !matches!(self, Starters::Many)
+    }
+
+    /// The first place of the bytes that holds one of them.
+    fn find(&self, bytes: &[u8]) -> Option<usize>
+        ensures { IsFirstByte (is_starter self.now) bytes.now result }
+    {
+        match *self {
+            Starters::None => None,
+            Starters::One(a) => memchr(a, bytes),
+            Starters::Two(a, b) => memchr2(a, b, bytes),
+            Starters::Three(a, b, c) => memchr3(a, b, c, bytes),
+            Starters::Many => bytes.first().map(|_| 0),
+        }
+    }
+
+    /// How many bytes at the front are none of them.
+    pub(crate) fn idle(&self, bytes: &[u8]) -> usize
+        ensures { IsIdleFront self.now bytes.now result }
+    {
+        match self.find(bytes) {
+            Some(at) => at,
+            None => bytes.len(),
+        }
+    }
+}

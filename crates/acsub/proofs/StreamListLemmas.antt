@@ -1,0 +1,561 @@
+-- What a list over a stream has read and written, from one read to the next, and at its end.
+use Rattle.std.proofs.Common.{◌≡◌, ◌≢◌, ◌⊎◌, ⊎_elim, inl, inr, ℕ, suc, ◌+◌, ◌-◌, ◌<◌, ◌≤◌, true, false, List, [], ◌∷◌, ◌++◌, length, take, Option, Some, None, Result, Ok, Err, refl, sym, ap, ◌∙◌, subst, arith, append_assoc, add-zero}
+use Rattle.std.specs.List.{concat}
+use Rattle.std.specs.Prelude.{IfErr, OnOk}
+use Rattle.std.specs.Io.KnownBytes.{Consumes, IsAtEnd}
+use Rattle.std.proofs.KnownBytes.{Consumes-trans}
+use Rattle.std.proofs.lemmas.Bool.{cases_lt, false≢true}
+use Rattle.std.proofs.lemmas.List.{append-nil, append_cancel_left, take_all}
+use Rattle.std.proofs.lemmas.List.Folds.{concat-append}
+use Rattle.ac_input.specs.declared.search.Anchored.{Anchored}
+use Rattle.ac_input.specs.declared.search.Anchored.TheVariants.{No}
+use Rattle.ac_input.specs.declared.search.MatchKind.{MatchKind}
+use Rattle.ac_input.specs.declared.search.MatchKind.TheVariants.{Standard}
+use Rattle.ac_input.specs.declared.steps.Steps.{Steps}
+use Rattle.ac_input.specs.BeginningLaws.{IsBeginning}
+use Rattle.ac_input.specs.Computed.{walk_of}
+use Rattle.ac_input.specs.Cut.{IsCut}
+use Rattle.ac_input.specs.Dictionary.{Dictionary, whole}
+use Rattle.ac_input.specs.Occurrence.{Occurrence}
+use Rattle.ac_input.specs.Rules.{Rule}
+use Rattle.ac_input.specs.Text.{line, listed}
+use Rattle.ac_input.specs.Work.{shortest}
+use Rattle.ac_input.proofs.BeginningLemmas.{listed-beginning, whole-walk_begins}
+use Rattle.ac_input.proofs.TextLemmas.{listed-append}
+use Rattle.ac_automaton.specs.Automaton.{Built}
+use Rattle.ac_automaton.specs.Moved.{AreFilled, AreWhole, HasGiven, HasMoved, HasTaken, Moved, but_last}
+use Rattle.ac_automaton.specs.Output.{Sent, Stopped}
+use Rattle.ac_automaton.specs.Replace.{LieInOrder, matches_in}
+use Rattle.ac_automaton.specs.Stream.{CanBeCounted, CanStream, FindsHeld, IsConfigRefusal, IsOnCourse, IsSearched, IsStreamRefusal, ReadsNothing, Scanned, fresh_scan, matches_read, read_by}
+use Rattle.ac_automaton.specs.StreamIter.{AreAllGiven, HasGained, NextGives}
+use Rattle.ac_automaton.specs.Watched.{has_ended, inner_of, pieces_of, stalls_of}
+use Rattle.ac_automaton.specs.declared.watched.Watched.{Watched}
+use Rattle.ac_automaton.proofs.OutputLemmas.{Sent-none, Sent-then, Stopped-then}
+use Rattle.ac_automaton.proofs.ReplaceLemmas.{matches-lie}
+use Rattle.ac_automaton.proofs.StreamReplaceLemmas.{given-none, nothing-matches, taken-none, taken-sent, taken-stopped}
+use Rattle.ac_automaton.proofs.StreamCutLemmas.{matches-cut, matches-walk}
+use Rattle.ac_automaton.proofs.StreamSendLemmas.{ReadsNothing-then}
+use Rattle.ac_automaton.specs.StreamReplace.{CostsStream}
+use Rattle.ac_automaton.specs.declared.error.MatchErrorKind.{MatchErrorKind}
+use Rattle.ac_automaton.specs.declared.error.StreamError.{StreamError}
+use Rattle.ac_automaton.specs.declared.error.StreamError.TheVariants as reads
+use Rattle.ac_automaton.proofs.StreamAnswerLemmas.{cost-none, cost-read}
+use Rattle.acsub.specs.Finder.{dictionary_for, whole_search}
+use Rattle.acsub.specs.Output.{IsWriteFault}
+use Rattle.acsub.specs.Sides.{patterns_of, replacements_of}
+use Rattle.acsub.specs.Stream.{AnswersStream, CostsToStream, IsToldAs, StreamedToFailedWrite, Streams}
+use Rattle.acsub.specs.Transformed.{IsOutputFront, IsStreamed, output_of, text_in}
+use Rattle.acsub.specs.declared.settings.Mode.{Mode}
+use Rattle.acsub.specs.declared.settings.Mode.TheVariants as modes
+use Rattle.acsub.specs.declared.settings.Settings.{Settings}
+use Rattle.acsub.proofs.StreamedLemmas.{filled-shortest}
+use Rattle.acsub.specs.StreamList.{AnswersList, GivesMatch, HasListed, HasSearchedAll, ListedToFailedWrite, ListsStream, SendsLines, StopsLines, StopsWriting, WritesLines, listed_in}
+use Rattle.acsub.specs.declared.error.RunError.{RunError}
+use Rattle.acsub.specs.declared.error.RunError.TheVariants as errors
+
+-- ---- lines
+
+-- the line of one match
+listed-one : (o : Occurrence) → listed (o ∷ []) ≡ line o
+listed-one o = append-nil (line o)
+
+-- a further match of what is held
+module _ {W : Type 0} (contents : W → Option (List ℕ)) (s t u : Scanned) (o : Occurrence) (old mid new : Watched W) (held between after : List ℕ) (before : SendsLines contents s t old mid held between) (finds : FindsHeld t (Some o) u) where
+  -- the matches that were given, with it
+  more-given : u.given ≡ s.given ++ (before.more ++ o ∷ [])
+  more-given = finds.1 ∙ ap (λ (os : List Occurrence). os ++ o ∷ []) before.given ∙ append_assoc s.given before.more (o ∷ [])
+
+  -- their lines
+  more-lines : listed before.more ++ line o ≡ listed (before.more ++ o ∷ [])
+  more-lines = ap (λ (text : List ℕ). listed before.more ++ text) (sym (listed-one o)) ∙ sym (listed-append before.more (o ∷ []))
+
+  -- its line was sent
+  pub lines-more : Sent contents mid new between after (line o) → SendsLines contents s u old new held after
+  lines-more sent = record {
+    same = ReadsNothing-then s t u before.same finds.0;
+    more = before.more ++ o ∷ [];
+    given = more-given;
+    sent = subst (Sent contents old new held after) more-lines (Sent-then contents old mid new held between after (listed before.more) (line o) before.sent sent);
+  }
+
+  -- the sending of it stopped
+  pub lines-stopped : Stopped contents mid new between (line o) → StopsLines contents s u old new held
+  lines-stopped stopped = record {
+    same = ReadsNothing-then s t u before.same finds.0;
+    more = before.more ++ o ∷ [];
+    given = more-given;
+    stopped = subst (Stopped contents old new held) more-lines (Stopped-then contents old mid new held between (listed before.more) (line o) before.sent stopped);
+  }
+
+-- there is no further match
+module _ {W : Type 0} (contents : W → Option (List ℕ)) (s t u : Scanned) (old mid new : Watched W) (held between after : List ℕ) (before : SendsLines contents s t old mid held between) (finds : FindsHeld t None u) where
+  pub lines-last : Sent contents mid new between after [] → SendsLines contents s u old new held after
+  lines-last sent = record {
+    same = ReadsNothing-then s t u before.same finds.0;
+    more = before.more;
+    given = finds.1 ∙ before.given;
+    sent = subst (Sent contents old new held after) (append-nil (listed before.more)) (Sent-then contents old mid new held between after (listed before.more) [] before.sent sent);
+  }
+
+  pub last-stopped : Stopped contents mid new between [] → StopsLines contents s u old new held
+  last-stopped stopped = record {
+    same = ReadsNothing-then s t u before.same finds.0;
+    more = before.more;
+    given = finds.1 ∙ before.given;
+    stopped = subst (Stopped contents old new held) (append-nil (listed before.more)) (Stopped-then contents old mid new held between (listed before.more) [] before.sent stopped);
+  }
+
+  -- all were given
+  pub last-all : CanBeCounted (read_by s) → AreAllGiven u
+  last-all countable = finds.3 (subst (λ (pieces : List (List ℕ)). CanBeCounted (concat pieces)) (sym before.same.pieces) countable)
+
+-- nothing was sent yet
+pub lines-none : {W : Type 0} (contents : W → Option (List ℕ)) (s : Scanned) (writer : Watched W) (held : List ℕ) → SendsLines contents s s writer writer held held
+lines-none contents s writer held = record {
+  same = record { on = omega arith; built = refl; pieces = refl; from = refl };
+  more = [];
+  given = sym (append-nil s.given);
+  sent = Sent-none contents writer held;
+}
+
+-- less is left to search after a match
+pub less-held : (s t u : Scanned) (o : Occurrence) → t.pieces ≡ s.pieces → FindsHeld t (Some o) u → length (read_by u) - u.at < length (read_by t) - t.at
+less-held s t u o same finds =
+    let kept : length (read_by u) ≡ length (read_by t) = ap (λ (ps : List (List ℕ)). length (concat ps)) finds.0.pieces in
+    let at : u.at ≡ o.end = finds.3 in
+    let new : t.at < o.end = finds.4.new in
+    let within : o.end ≤ length (read_by t) = finds.4.within in
+    omega arith
+
+-- the line of a match, and those of all that are held
+pub written-all : {W : Type 0} (contents : W → Option (List ℕ)) (o : Occurrence) (s t : Scanned) (old mid new : Watched W) (held : List ℕ) → Sent contents old mid [] held (line o) → SendsLines contents s t mid new held [] → AreAllGiven t → WritesLines contents o s t old new
+written-all contents o s t old mid new held first more all = record {
+  same = more.same;
+  more = more.more;
+  given = more.given;
+  sent = Sent-then contents old mid new [] held [] (line o) (listed more.more) first more.sent;
+  all = all;
+}
+
+pub writing-stopped : {W : Type 0} (contents : W → Option (List ℕ)) (o : Occurrence) (s t : Scanned) (old mid new : Watched W) (held : List ℕ) → Sent contents old mid [] held (line o) → StopsLines contents s t mid new held → StopsWriting contents o s t old new
+writing-stopped contents o s t old mid new held first more = record {
+  same = more.same;
+  more = more.more;
+  given = more.given;
+  stopped = Stopped-then contents old mid new [] held (line o) (listed more.more) first more.stopped;
+}
+
+-- the first line stopped
+pub first-stopped : {W : Type 0} (contents : W → Option (List ℕ)) (o : Occurrence) (s : Scanned) (old new : Watched W) → Stopped contents old new [] (line o) → StopsWriting contents o s s old new
+first-stopped contents o s old new stopped = record {
+  same = record { on = omega arith; built = refl; pieces = refl; from = refl };
+  more = [];
+  given = sym (append-nil s.given);
+  stopped = subst (Stopped contents old new []) (sym (listed-one o)) stopped;
+}
+
+-- three things that hold where the answer is a value
+pub on-ok_three : {P Q S T : Type 0} (result : Result (Unit {0}) RunError) → (P → Q → S → T) → OnOk result P → OnOk result Q → OnOk result S → OnOk result T
+on-ok_three (Ok done) f p q s = f p q s
+on-ok_three (Err error) f p q s = tt
+
+-- ---- pieces
+
+-- filled pieces, one list behind another
+filled-append : (one other : List (List ℕ)) → AreFilled one → AreFilled other → AreFilled (one ++ other)
+filled-append [] other f g = g
+filled-append (p ∷ ps) other f g = (f.0, filled-append ps other f.1 g)
+
+-- pieces that end with an empty one are not filled
+filled-no_end : (pieces : List (List ℕ)) → AreFilled (pieces ++ [] ∷ []) → ⊥
+filled-no_end [] f = f.0 refl
+filled-no_end (p ∷ ps) f = filled-no_end ps f.1
+
+filled-not_whole : (pieces : List (List ℕ)) → AreFilled pieces → AreWhole pieces → ⊥
+filled-not_whole pieces f w = filled-no_end w.0 (subst AreFilled w.2 f)
+
+-- the last of all pieces is the last that was gained
+but_last-gained : (before : List (List ℕ)) (g : List ℕ) (gs : List (List ℕ)) → but_last (before ++ g ∷ gs) ≡ before ++ but_last (g ∷ gs)
+but_last-gained [] g gs = refl
+but_last-gained (p ∷ []) g gs = refl
+but_last-gained (p ∷ (q ∷ ps)) g gs = ap (λ (l : List (List ℕ)). p ∷ l) (but_last-gained (q ∷ ps) g gs)
+
+-- all pieces but the last are taken from the front
+but_last-take : (pieces : List (List ℕ)) → take (length pieces - 1) pieces ≡ but_last pieces
+but_last-take [] = refl
+but_last-take (p ∷ []) = refl
+but_last-take (p ∷ (q ∷ ps)) =
+    let n : length (p ∷ (q ∷ ps)) - 1 ≡ suc (length (q ∷ ps) - 1) = omega arith in
+    ap (λ (k : ℕ). take k (p ∷ (q ∷ ps))) n ∙ ap (λ (l : List (List ℕ)). p ∷ l) (but_last-take (q ∷ ps))
+
+-- pieces begin with all but the last of them
+but_last-begins : (p : List ℕ) (ps : List (List ℕ)) → (last : List (List ℕ)) × (p ∷ ps ≡ but_last (p ∷ ps) ++ last)
+but_last-begins p [] = (p ∷ [], refl)
+but_last-begins p (q ∷ ps) = let r = but_last-begins q ps in (r.0, ap (λ (l : List (List ℕ)). p ∷ l) r.1)
+
+-- ---- matches
+
+-- the matches of a beginning of a text are the first of the text's
+beginning-matches : (b : Built) (x more : List ℕ) → b.dictionary.kind ≡ Standard → IsBeginning (matches_in b x) (matches_in b (x ++ more))
+beginning-matches b x more standard =
+    subst (λ (kind : MatchKind). IsBeginning (walk_of kind (whole b.dictionary x false)) (walk_of kind (whole b.dictionary (x ++ more) false))) (sym standard) (whole-walk_begins b.dictionary x more false)
+
+-- matches that lie in order within a text end there
+lies-end : (patterns len at : ℕ) (os rest : List Occurrence) (o : Occurrence) → LieInOrder patterns len at (os ++ o ∷ rest) → o.end ≤ len
+lies-end patterns len at [] rest o lies = lies.3
+lies-end patterns len at (q ∷ os) rest o lies = lies-end patterns len q.end os rest o lies.4
+
+-- One list goes on from a front with an occurrence that ends behind a place, and another from the same front with none that does.
+-- Where both begin one list, the other is the front.
+begins-same : (given more rest others : List Occurrence) (o : Occurrence) (patterns len : ℕ) → LieInOrder patterns len 0 (given ++ more) → len < o.end → (given ++ more) ++ rest ≡ (given ++ o ∷ []) ++ others → given ++ more ≡ given
+begins-same given [] rest others o patterns len lies late same = append-nil given
+begins-same given (q ∷ more) rest others o patterns len lies late same =
+    let one : (q ∷ more) ++ rest ≡ o ∷ others = append_cancel_left given ((q ∷ more) ++ rest) (o ∷ others) (sym (append_assoc given (q ∷ more) rest) ∙ same ∙ append_assoc given (o ∷ []) others) in
+    let first : q ≡ o = cc in
+    let early = lies-end patterns len 0 given more q lies in
+    let ends : q.end ≡ o.end = ap (λ (p : Occurrence). p.end) first in
+    absurd (omega arith)
+
+-- Where the next match ends behind a longer part of the text, that part has no more matches than a shorter one.
+matches-between : (b : Built) (part mid more : List ℕ) (others : List Occurrence) (o : Occurrence) → b.dictionary.kind ≡ Standard → length (part ++ mid) < o.end → matches_in b ((part ++ mid) ++ more) ≡ (matches_in b part ++ o ∷ []) ++ others → matches_in b (part ++ mid) ≡ matches_in b part
+matches-between b part mid more others o standard late is =
+    let first = beginning-matches b part mid standard in
+    let all = beginning-matches b (part ++ mid) more standard in
+    let lies = subst (LieInOrder (length b.dictionary.patterns) (length (part ++ mid)) 0) first.1 (matches-lie b (part ++ mid)) in
+    first.1 ∙ begins-same (matches_in b part) first.0 all.0 others o (length b.dictionary.patterns) (length (part ++ mid)) lies late (ap (λ (os : List Occurrence). os ++ all.0) (sym first.1) ∙ sym all.1 ∙ is)
+
+-- Where what was read before was given, and the next match ends in the last piece, the matches of all other pieces are those that
+-- were given.
+front-given : (b : Built) (before gained pieces : List (List ℕ)) (given others : List Occurrence) (o : Occurrence) → b.dictionary.kind ≡ Standard → gained ≢ [] → pieces ≡ before ++ gained → given ≡ matches_in b (concat before)
+    → length (concat (take (length pieces - 1) pieces)) < o.end → matches_in b (concat pieces) ≡ (given ++ o ∷ []) ++ others → matches_in b (concat (but_last pieces)) ≡ given
+front-given b before [] pieces given others o standard some is all late whole_text = absurd (some refl)
+front-given b before (g ∷ gs) pieces given others o standard some is all late whole_text =
+    let mid = concat (but_last (g ∷ gs)) in
+    let last = but_last-begins g gs in
+    let between : concat (but_last pieces) ≡ concat before ++ mid = ap (λ (ps : List (List ℕ)). concat (but_last ps)) is ∙ ap concat (but_last-gained before g gs) ∙ concat-append before (but_last (g ∷ gs)) in
+    let text : concat pieces ≡ (concat before ++ mid) ++ concat last.0 =
+    ap concat is
+    ∙ concat-append before (g ∷ gs)
+    ∙ ap (λ (x : List ℕ). concat before ++ x) (ap concat last.1 ∙ concat-append (but_last (g ∷ gs)) last.0)
+    ∙ sym (append_assoc (concat before) mid (concat last.0)) in
+    let long : length (concat before ++ mid) ≡ length (concat (take (length pieces - 1) pieces)) = ap length (sym between) ∙ ap (λ (ps : List (List ℕ)). length (concat ps)) (sym (but_last-take pieces)) in
+    ap (matches_in b) between
+    ∙ matches-between b (concat before) mid (concat last.0) others o standard (omega arith) (ap (matches_in b) (sym text) ∙ whole_text ∙ ap (λ (os : List Occurrence). (os ++ o ∷ []) ++ others) all)
+    ∙ sym all
+
+-- ---- from one read to the next
+
+-- more pieces were read
+given-gained : {R : Type 0} (remaining : R → Option (List ℕ)) (s t : Scanned) (old mid new : Watched R) (gained : List (List ℕ)) (failed : ℕ) → HasGiven remaining old mid s.pieces 0 → HasGained remaining s t mid new gained failed → (failed ≡ 0 → AreWhole (s.pieces ++ gained) → IsAtEnd (remaining (inner_of new))) → HasGiven remaining old new t.pieces failed
+given-gained remaining s t old mid new gained failed g h at_end =
+    let more : HasGiven remaining old new (s.pieces ++ gained) failed = record {
+      pieces = h.reader ∙ ap (λ (ps : List (List ℕ)). ps ++ gained) g.pieces ∙ append_assoc (pieces_of old) s.pieces gained;
+      failures = h.failures ∙ ap (λ (n : ℕ). n + failed) (g.failures ∙ add-zero _);
+      device = subst (Consumes (remaining (inner_of old)) (remaining (inner_of new))) (sym (concat-append s.pieces gained)) (Consumes-trans _ _ _ (concat s.pieces) (concat gained) g.device h.device);
+      at_end = at_end;
+    } in
+    subst (λ (ps : List (List ℕ)). HasGiven remaining old new ps failed) (sym h.pieces) more
+
+-- the bytes of more pieces
+read-gained : {R : Type 0} (remaining : R → Option (List ℕ)) (s t : Scanned) (mid new : Watched R) (gained : List (List ℕ)) (failed : ℕ) → HasGained remaining s t mid new gained failed → read_by t ≡ read_by s ++ concat gained
+read-gained remaining s t mid new gained failed h = ap concat h.pieces ∙ concat-append s.pieces gained
+
+-- more than can be counted
+too-long : (n : ℕ) → ¬ (n ≤ 18446744073709551615) → 18446744073709551615 < n
+too-long n many = ⊎_elim (λ (more : 18446744073709551615 < n). more) (λ (few : n ≤ 18446744073709551615). absurd (many few)) (cases_lt 18446744073709551615 n)
+
+module _ {R W : Type 0} (remaining : R → Option (List ℕ)) (contents : W → Option (List ℕ)) (b : Built) where
+  -- before the first read
+  pub listed-fresh : (reader : Watched R) (writer : Watched W) → b.dictionary.kind ≡ Standard → 1 ≤ shortest b.dictionary.patterns → has_ended reader ≡ false → HasListed remaining contents b (fresh_scan b) reader reader writer writer
+  listed-fresh reader writer standard filled unended = record {
+    built = refl;
+    countable = omega arith;
+    all = (refl, nothing-matches b (matches_in b []) filled (matches-walk b [] standard));
+    filled = tt;
+    unended = unended;
+    read = given-none remaining reader;
+    written = taken-none contents writer;
+  }
+
+  module _ (s t : Scanned) (r0 r r1 : Watched R) (w0 w : Watched W) (h : HasListed remaining contents b s r0 r w0 w) (course : IsOnCourse t) where
+    -- where all is given, and nothing new was, the lines that were written are those of all that was read
+    lines-same : (t.built ≡ s.built) → (t.given ≡ s.given) → AreAllGiven t → listed s.given ≡ listed_in b (read_by t)
+    lines-same built given all = ap listed (sym given ∙ all.1 ∙ ap (λ (c : Built). matches_in c (read_by t)) (built ∙ h.built))
+
+    -- in any case they are a beginning of these
+    lines-begin : (t.built ≡ s.built) → (t.given ≡ s.given) → IsBeginning (listed s.given) (listed_in b (read_by t))
+    lines-begin built given =
+        let begins = subst (λ (os : List Occurrence). IsBeginning os (matches_read t)) given course.begun in
+        listed-beginning s.given (matches_in b (read_by t)) (subst (λ (c : Built). IsBeginning s.given (matches_in c (read_by t))) (built ∙ h.built) begins)
+
+    -- the input has ended
+    pub ends-whole : NextGives remaining s t r r1 None → ListsStream remaining contents b r0 r1 w0 w (Ok tt) × IsSearched t
+    ends-whole (gained, has, (inl none), given, stopped) =
+        let unread : read_by t ≡ read_by s = read-gained remaining s t r r1 gained 0 has ∙ ap (λ (ps : List (List ℕ)). read_by s ++ concat ps) none ∙ append-nil (read_by s) in
+        let still : has_ended r1 ≡ has_ended r = has.ended (subst AreFilled (sym none) tt) in
+        absurd (⊎_elim
+        (λ (ended : (has_ended r1 ≡ true) × AreAllGiven t). false≢true (sym h.unended ∙ sym still ∙ ended.0))
+        (λ (many : ¬ CanBeCounted (read_by t)). many (subst CanBeCounted (sym unread) h.countable))
+        stopped)
+    ends-whole (gained, has, (inr whole), given, stopped) = (
+      (
+        record { pieces = t.pieces; failed_reads = 0; taken = listed s.given; failed_writes = 0; stalled_writes = 0 },
+        record { reader = given-gained remaining s t r0 r r1 gained 0 h.read has (λ fine all. whole.2); writer = h.written },
+        (
+          (s.pieces ++ whole.0.0, filled-append s.pieces whole.0.0 h.filled whole.0.1, has.pieces ∙ ap (λ (ps : List (List ℕ)). s.pieces ++ ps) whole.0.2 ∙ sym (append_assoc s.pieces whole.0.0 ([] ∷ []))),
+          lines-same has.built given whole.1,
+          (refl, refl, refl),
+        ),
+      ),
+      whole.1.0,
+    )
+
+    -- a read failed
+    pub ends-failed_read : (error : _) (filled : List (List ℕ)) → HasGained remaining s t r r1 (filled ++ [] ∷ []) 1 → t.given ≡ s.given → AreAllGiven t → ListsStream remaining contents b r0 r1 w0 w (Err (errors.Read error))
+    ends-failed_read error filled has given all = (
+      record { pieces = t.pieces; failed_reads = 1; taken = listed s.given; failed_writes = 0; stalled_writes = 0 },
+      record { reader = given-gained remaining s t r0 r r1 (filled ++ [] ∷ []) 1 h.read has (λ fine whole. absurd (omega arith)); writer = h.written },
+      (lines-same has.built given all, (refl, refl, refl)),
+    )
+
+    -- the input is too long
+    pub ends-too_long : (gained : List (List ℕ)) → HasGained remaining s t r r1 gained 0 → AreFilled gained → t.given ≡ s.given → ¬ CanBeCounted (read_by t) → ListsStream remaining contents b r0 r1 w0 w (Err errors.Position)
+    ends-too_long gained has filled given many = (
+      record { pieces = t.pieces; failed_reads = 0; taken = listed s.given; failed_writes = 0; stalled_writes = 0 },
+      record { reader = given-gained remaining s t r0 r r1 gained 0 h.read has (λ fine whole. absurd (filled-not_whole (s.pieces ++ gained) (filled-append s.pieces gained h.filled filled) whole)); writer = h.written },
+      (too-long (length (read_by t)) many, lines-begin has.built given, (refl, refl, refl)),
+    )
+
+    -- what was read until the next match
+    module _ (o : Occurrence) (next : NextGives remaining s t r r1 (Some (Ok o))) where
+      -- something was read
+      read-longer : length (read_by s) < length (read_by t)
+      read-longer =
+          let searched : s.at ≡ length (read_by s) = h.all.0 in
+          let new : s.at < o.end = next.5.new in
+          let within : o.end ≤ length (read_by t) = next.5.within in
+          omega arith
+
+      gained-some : next.0 ≢ []
+      gained-some none =
+          let same : length (read_by t) ≡ length (read_by s) = ap length (read-gained remaining s t r r1 next.0 0 next.1 ∙ ap (λ (ps : List (List ℕ)). read_by s ++ concat ps) none ∙ append-nil (read_by s)) in
+          let longer = read-longer in
+          absurd (omega arith)
+
+      -- less is left to read, where places can be counted
+      pub less-left : (u : Scanned) → u.pieces ≡ t.pieces → 18446744073709551616 - length (read_by u) < 18446744073709551616 - length (read_by s)
+      less-left u same =
+          let kept : length (read_by u) ≡ length (read_by t) = ap (λ (ps : List (List ℕ)). length (concat ps)) same in
+          let few : length (read_by t) ≤ 18446744073709551615 = next.5.countable in
+          let longer = read-longer in
+          omega arith
+
+      now-filled : AreFilled (s.pieces ++ next.0)
+      now-filled = filled-append s.pieces next.0 h.filled next.2
+
+      now-given : HasGiven remaining r0 r1 t.pieces 0
+      now-given = given-gained remaining s t r0 r r1 next.0 0 h.read next.1 (λ fine whole_input. absurd (filled-not_whole (s.pieces ++ next.0) now-filled whole_input))
+
+      now-built : t.built ≡ b
+      now-built = next.1.built ∙ h.built
+
+      -- what was written are the lines of all that matches before the last piece
+      written-front : listed_in b (concat (but_last t.pieces)) ≡ listed s.given
+      written-front =
+          let begun = course.begun in
+          let all : s.given ≡ matches_in b (read_by s) = h.all.1 ∙ ap (λ (c : Built). matches_in c (read_by s)) h.built in
+          let others : matches_in b (read_by t) ≡ (s.given ++ o ∷ []) ++ begun.0 = ap (λ (c : Built). matches_in c (read_by t)) (sym now-built) ∙ begun.1 ∙ ap (λ (os : List Occurrence). os ++ begun.0) next.3 in
+          let standard = subst (λ (c : Built). c.dictionary.kind ≡ Standard) now-built course.standard in
+          ap listed (front-given b s.pieces next.0 t.pieces s.given begun.0 o standard gained-some next.1.pieces all (next.6 gained-some) others)
+
+      -- the lines of what was given since, and of all before
+      lines-since : (u : Scanned) (more : List Occurrence) → u.given ≡ t.given ++ more → listed u.given ≡ listed s.given ++ listed (o ∷ more)
+      lines-since u more given = ap listed (given ∙ ap (λ (os : List Occurrence). os ++ more) next.3 ∙ append_assoc s.given (o ∷ []) more) ∙ listed-append s.given (o ∷ more)
+
+      -- all that can be listed was written
+      pub listed-more : (u : Scanned) (w1 : Watched W) → WritesLines contents o t u w w1 → HasListed remaining contents b u r0 r1 w0 w1
+      listed-more u w1 lines = record {
+        built = lines.same.built ∙ now-built;
+        countable = subst (λ (ps : List (List ℕ)). CanBeCounted (concat ps)) (sym lines.same.pieces) next.5.countable;
+        all = lines.all;
+        filled = subst AreFilled (sym (lines.same.pieces ∙ next.1.pieces)) now-filled;
+        unended = next.1.ended next.2 ∙ h.unended;
+        read = subst (λ (ps : List (List ℕ)). HasGiven remaining r0 r1 ps 0) (sym lines.same.pieces) now-given;
+        written = subst (λ (x : List ℕ). HasTaken contents w0 w1 x 0 0) (sym (lines-since u lines.more lines.given)) (taken-sent contents w0 w w1 (listed s.given) (listed (o ∷ lines.more)) h.written lines.sent);
+      }
+
+      -- what is said of a write that failed
+      failed-write : (u : Scanned) (w1 : Watched W) (stalls : ℕ) → StopsWriting contents o t u w w1 → IsOnCourse u → stalls_of w1 ≡ stalls_of w + stalls
+          → (m : Moved) × HasMoved remaining contents r0 r1 w0 w1 m × ListedToFailedWrite b m stalls
+      failed-write u w1 stalls stops on stalled =
+          let before = listed s.given in
+          let gained = stops.stopped.gained in
+          let lost = stops.stopped.lost in
+          let order : gained ++ lost ≡ listed (o ∷ stops.more) = stops.stopped.order in
+          let begun = listed-beginning u.given (matches_read u) on.begun in
+          let same : listed_in b (read_by t) ≡ listed (matches_read u) =
+          ap (λ (c : Built). listed_in c (read_by t)) (sym (stops.same.built ∙ now-built)) ∙ ap (λ (ps : List (List ℕ)). listed_in u.built (concat ps)) (sym stops.same.pieces) in
+          let split : listed_in b (read_by t) ≡ (before ++ gained) ++ (lost ++ begun.0) =
+          same
+          ∙ begun.1
+          ∙ ap (λ (x : List ℕ). x ++ begun.0) (lines-since u stops.more stops.given ∙ ap (λ (x : List ℕ). before ++ x) (sym order) ∙ sym (append_assoc before gained lost))
+          ∙ append_assoc (before ++ gained) lost begun.0 in (
+            record { pieces = t.pieces; failed_reads = 0; taken = before ++ gained; failed_writes = 1; stalled_writes = stalls },
+            record { reader = now-given; writer = taken-stopped contents w0 w w1 before (listed (o ∷ stops.more)) stalls stops.stopped h.written stalled },
+            record { at_least = (gained, ap (λ (x : List ℕ). x ++ gained) (sym written-front)); at_most = (lost ++ begun.0, split); failed = (refl, refl, refl) },
+          )
+
+      -- a write failed
+      pub ends-failed_write : (u : Scanned) (w1 : Watched W) (error : RunError) → StopsWriting contents o t u w w1 → IsOnCourse u → IsWriteFault w w1 error → ListsStream remaining contents b r0 r1 w0 w1 (Err error)
+      ends-failed_write u w1 (errors.Rule error) stops on kind = absurd kind
+      ends-failed_write u w1 (errors.Setting error) stops on kind = absurd kind
+      ends-failed_write u w1 (errors.Build error) stops on kind = absurd kind
+      ends-failed_write u w1 (errors.Read error) stops on kind = absurd kind
+      ends-failed_write u w1 (errors.Write error) stops on kind = failed-write u w1 0 stops on (kind ∙ sym (add-zero _))
+      ends-failed_write u w1 errors.WriteZero stops on kind = failed-write u w1 1 stops on kind
+      ends-failed_write u w1 errors.Memory stops on kind = absurd kind
+      ends-failed_write u w1 errors.Position stops on kind = absurd kind
+
+      -- what was read, all in all
+      pub found-read : (u : Scanned) → ReadsNothing t u → (u.built ≡ b) × (pieces_of r1 ≡ pieces_of r0 ++ u.pieces)
+      found-read u same = (same.built ∙ now-built, now-given.pieces ∙ ap (λ (ps : List (List ℕ)). pieces_of r0 ++ ps) (sym same.pieces))
+
+    -- a read failed, or there are more bytes than places
+    pub next-stopped : (error : RunError) → GivesMatch remaining s t r r1 (Err error) → ListsStream remaining contents b r0 r1 w0 w (Err error)
+    next-stopped (errors.Rule error) gives = absurd gives
+    next-stopped (errors.Setting error) gives = absurd gives
+    next-stopped (errors.Build error) gives = absurd gives
+    next-stopped (errors.Read error) gives = ends-failed_read error gives.0 gives.1 gives.3 gives.5
+    next-stopped (errors.Write error) gives = absurd gives
+    next-stopped errors.WriteZero gives = absurd gives
+    next-stopped errors.Memory gives = absurd gives
+    next-stopped errors.Position gives = ends-too_long gives.0 gives.1 gives.2 gives.3 gives.4
+
+    -- what was read, all in all
+    gained-read : (gained : List (List ℕ)) (failed : ℕ) → HasGained remaining s t r r1 gained failed → (t.built ≡ b) × (pieces_of r1 ≡ pieces_of r0 ++ t.pieces)
+    gained-read gained failed has = (
+      has.built ∙ h.built,
+      has.reader ∙ ap (λ (ps : List (List ℕ)). ps ++ gained) h.read.pieces ∙ append_assoc (pieces_of r0) s.pieces gained ∙ ap (λ (ps : List (List ℕ)). pieces_of r0 ++ ps) (sym has.pieces),
+    )
+
+    pub stopped-read : (error : RunError) → GivesMatch remaining s t r r1 (Err error) → (t.built ≡ b) × (pieces_of r1 ≡ pieces_of r0 ++ t.pieces)
+    stopped-read (errors.Rule error) gives = absurd gives
+    stopped-read (errors.Setting error) gives = absurd gives
+    stopped-read (errors.Build error) gives = absurd gives
+    stopped-read (errors.Read error) gives = gained-read (gives.0 ++ [] ∷ []) 1 gives.1
+    stopped-read (errors.Write error) gives = absurd gives
+    stopped-read errors.WriteZero gives = absurd gives
+    stopped-read errors.Memory gives = absurd gives
+    stopped-read errors.Position gives = gained-read gives.0 0 gives.1
+
+    pub ended-read : NextGives remaining s t r r1 None → (t.built ≡ b) × (pieces_of r1 ≡ pieces_of r0 ++ t.pieces)
+    ended-read gives = gained-read gives.0 0 gives.1
+
+-- ---- what settings and rules say
+
+-- a text's own end is a cut
+end-cut : (b : Built) (x : List ℕ) → IsCut b.dictionary x (length x)
+end-cut b x = matches-cut b x (length x) (length b.dictionary.patterns) (matches_in b x) [] (omega arith) (sym (append-nil _)) (matches-lie b x) (λ k d lt. absurd (omega arith))
+
+module _ (settings : Settings) (rules : List Rule) (b : Built) (built : b.dictionary ≡ dictionary_for settings (patterns_of rules)) (mode : settings.mode ≡ modes.List) where
+  -- the lines of an input are its text
+  lines-output : (x : List ℕ) → listed_in b x ≡ output_of settings rules x
+  lines-output x =
+      ap (λ (m : Dictionary). listed (walk_of m.kind (whole m x false))) built
+      ∙ ap (λ (asked : Mode). text_in asked settings.kind (replacements_of rules) (whole_search settings (patterns_of rules) x)) (sym mode)
+
+  -- they are the front of it that ends where it ends
+  lines-front : (x text : List ℕ) → text ≡ listed_in b x → IsOutputFront settings rules x text
+  lines-front x text is = record {
+    cut = length x;
+    is_cut = subst (λ (m : Dictionary). IsCut m x (length x)) built (end-cut b x);
+    near = omega arith;
+    front = is ∙ lines-output x ∙ ap (output_of settings rules) (sym (take_all (length x) x (omega arith)));
+  }
+
+  -- what a list answers is what a run answers that writes while it reads
+  failed-streams : (m : Moved) (stalls : ℕ) → ListedToFailedWrite b m stalls → StreamedToFailedWrite settings rules m stalls
+  failed-streams m stalls h = record {
+    front = listed_in b (concat (but_last m.pieces));
+    before = lines-front (concat (but_last m.pieces)) _ refl;
+    at_least = h.at_least;
+    at_most = subst (IsBeginning m.taken) (lines-output (concat m.pieces)) h.at_most;
+    failed = h.failed;
+  }
+
+  answers-stream : (m : Moved) (result : Result (Unit {0}) RunError) → AnswersList b m result → AnswersStream settings rules m result
+  answers-stream m (Ok done) h = (h.0, h.1 ∙ lines-output (concat m.pieces), h.2)
+  answers-stream m (Err (errors.Rule error)) h = h
+  answers-stream m (Err (errors.Setting error)) h = h
+  answers-stream m (Err (errors.Build kind)) h = h
+  answers-stream m (Err (errors.Read error)) h = (lines-front (concat m.pieces) m.taken h.0, h.1)
+  answers-stream m (Err (errors.Write error)) h = failed-streams m 0 h
+  answers-stream m (Err errors.WriteZero) h = failed-streams m 1 h
+  answers-stream m (Err errors.Memory) h = h
+  answers-stream m (Err errors.Position) h = (h.0, subst (IsBeginning m.taken) (lines-output (concat m.pieces)) h.1, h.2)
+
+  pub lists-streams : {R W : Type 0} (remaining : R → Option (List ℕ)) (contents : W → Option (List ℕ)) (r0 r1 : Watched R) (w0 w1 : Watched W) (result : Result (Unit {0}) RunError)
+      → ListsStream remaining contents b r0 r1 w0 w1 result → Streams remaining contents r0 r1 w0 w1 settings rules result
+  lists-streams remaining contents r0 r1 w0 w1 result h = (h.0, h.1, answers-stream h.0 result h.2)
+
+-- nothing was moved, where there was no memory
+pub nothing-listed : {R W : Type 0} (remaining : R → Option (List ℕ)) (contents : W → Option (List ℕ)) (b : Built) (reader : Watched R) (writer : Watched W) → ListsStream remaining contents b reader reader writer writer (Err errors.Memory)
+nothing-listed remaining contents b reader writer = (
+  record { pieces = []; failed_reads = 0; taken = []; failed_writes = 0; stalled_writes = 0 },
+  record { reader = given-none remaining reader; writer = taken-none contents writer },
+  record { pieces = refl; taken = refl; failed = (refl, refl, refl) },
+)
+
+-- ---- what it costs
+
+-- the cost of a search of a stream goes by what was read, whichever error ended it
+searched-costs : {R : Type 0} (b : Built) (s t : Scanned) (r0 r1 : Watched R) (before after : Steps) (result : Result (Unit {0}) RunError) (outcome : Result (Unit {0}) StreamError) → s ≡ fresh_scan b → HasSearchedAll s t r0 r1 before after result → OnOk outcome (IsSearched t) → CostsStream b r0 r1 before after outcome
+searched-costs b s t r0 r1 before after result outcome fresh h searched = cost-read b s t r0 r1 before after outcome fresh (record { built = h.built; read = h.read; counts = h.counts; course = h.course; searched = searched })
+
+pub list-costs : {R : Type 0} (b : Built) (s t : Scanned) (r0 r1 : Watched R) (before after : Steps) (result : Result (Unit {0}) RunError) → s ≡ fresh_scan b → HasSearchedAll s t r0 r1 before after result → CostsToStream b r0 r1 before after result
+list-costs b s t r0 r1 before after (Ok done) fresh h = searched-costs b s t r0 r1 before after (Ok done) (Ok tt) fresh h h.searched
+list-costs b s t r0 r1 before after (Err error) fresh h = searched-costs b s t r0 r1 before after (Err error) (Err reads.Memory) fresh h tt
+
+-- nothing was searched
+pub list-costs_nothing : {R : Type 0} (b : Built) (reader : Watched R) (steps : Steps) (error : RunError) → CostsToStream b reader reader steps steps (Err error)
+list-costs_nothing b reader steps error = cost-none b reader steps reads.Memory
+
+-- ---- where it did not begin
+
+-- a search of a stream that was refused, and not for what it is, was refused for want of memory
+pub refused-memory : (b : Built) (supports : Anchored → Type 0) (error : StreamError) (told : RunError) → IsStreamRefusal b supports error → IsToldAs error told → told ≡ errors.Memory
+refused-memory b supports (reads.Config error) told refused is = absurd is
+refused-memory b supports (reads.Read error) told refused is = absurd refused
+refused-memory b supports (reads.Write error) told refused is = absurd refused
+refused-memory b supports reads.WriteZero told refused is = absurd refused
+refused-memory b supports reads.Memory told refused is = is
+refused-memory b supports reads.Position told refused is = absurd refused
+
+-- memory is never the reason later on
+pub gives-begun : {R : Type 0} (remaining : R → Option (List ℕ)) (s t : Scanned) (before after : Watched R) (error : RunError) → GivesMatch remaining s t before after (Err error) → error ≢ errors.Memory
+gives-begun remaining s t before after error gives e = subst (λ (told : RunError). GivesMatch remaining s t before after (Err told)) e gives
+
+pub fault-begun : {W : Type 0} (old new : Watched W) (error : RunError) → IsWriteFault old new error → error ≢ errors.Memory
+fault-begun old new error kind e = subst (IsWriteFault old new) e kind
+
+-- what is said of an answer that never comes
+pub never-memory : (P : Type 0) (result : Result (Unit {0}) RunError) → IfErr result (λ error. error ≢ errors.Memory) → IfErr result (λ error. error ≡ errors.Memory → P)
+never-memory P (Ok done) never = tt
+never-memory P (Err error) never = λ e. absurd (never e)
+
+-- a search of a stream that can be made is refused for want of memory alone
+pub can-config : (b : Built) (supports : Anchored → Type 0) (error : StreamError) (refusal : MatchErrorKind) → CanStream b supports → IsStreamRefusal b supports error → error ≢ reads.Config refusal
+can-config b supports error refusal can refused e = none (subst (IsStreamRefusal b supports) e refused)
+  where
+    none : IsConfigRefusal b supports refusal → ⊥
+    none (inl h) = h.0 can.0
+    none (inr (inl h)) = h.1 can.1
+    none (inr (inr h)) = let some = can.2 in let zero = h.2 in absurd (omega arith)
+
+-- where the text is written while the input is read, the search can be made
+pub streamed-can : (b : Built) (supports : Anchored → Type 0) (settings : Settings) (rules : List Rule) → b.dictionary ≡ dictionary_for settings (patterns_of rules) → supports No → IsStreamed settings rules → CanStream b supports
+streamed-can b supports settings rules is can streamed = (
+  can,
+  ap (λ (m : Dictionary). m.kind) is ∙ streamed.0,
+  subst (λ (m : Dictionary). 1 ≤ shortest m.patterns) (sym is) (filled-shortest rules streamed.2),
+)

@@ -1,0 +1,167 @@
+-- What a run that writes while it reads has written, from what the automaton's replacement over a stream has.
+use Rattle.std.proofs.Common.{◌≡◌, ◌≢◌, ℕ, ◌+◌, ◌≤◌, List, [], ◌∷◌, length, take, Option, Result, Ok, Err, inl, inr, suc, refl, sym, ap, ◌∙◌, subst, arith}
+use Rattle.std.specs.List.{concat}
+use Rattle.std.proofs.lemmas.List.{append-nil, nil_from_length}
+use Rattle.ac_input.specs.declared.search.Anchored.{Anchored}
+use Rattle.ac_input.specs.declared.search.Anchored.TheVariants.{No}
+use Rattle.ac_input.specs.declared.steps.Steps.{Steps}
+use Rattle.ac_input.specs.BeginningLaws.{IsBeginning}
+use Rattle.ac_input.specs.Computed.{walk_of}
+use Rattle.ac_input.specs.Cut.{IsCut}
+use Rattle.ac_input.specs.Dictionary.{Dictionary}
+use Rattle.ac_input.specs.Input.{search_in, whole_of}
+use Rattle.ac_input.specs.Rules.{Rule, IsRuleFile}
+use Rattle.ac_input.specs.Text.{replaced_from}
+use Rattle.ac_input.specs.Work.{longest, shortest}
+use Rattle.ac_input.proofs.CutLemmas.{cut-final}
+use Rattle.ac_input.proofs.RuleLemmas.{IsRuleFile-one}
+use Rattle.ac_automaton.specs.Automaton.{Built}
+use Rattle.ac_automaton.specs.Buffer.{kept_for}
+use Rattle.ac_automaton.specs.Moved.{AreFilled, Moved}
+use Rattle.ac_automaton.specs.Stream.{IsConfigRefusal}
+use Rattle.ac_automaton.specs.StreamReplace.{AnswersReplace, IsReplaceStreamError, IsReplacedFront, ReplacedToFailedWrite, ReplacesStream, replaced_in}
+use Rattle.ac_automaton.specs.Watched.{pieces_of}
+use Rattle.ac_automaton.specs.declared.error.MatchErrorKind.{MatchErrorKind}
+use Rattle.ac_automaton.specs.declared.error.StreamError.{StreamError}
+use Rattle.ac_automaton.specs.declared.error.StreamError.TheVariants as stream
+use Rattle.ac_automaton.specs.declared.watched.Watched.{Watched}
+use Rattle.acsub.specs.declared.error.RunError.{RunError}
+use Rattle.acsub.specs.declared.error.RunError.TheVariants as errors
+use Rattle.acsub.specs.declared.settings.Mode.{Mode}
+use Rattle.acsub.specs.declared.settings.Mode.TheVariants as modes
+use Rattle.acsub.specs.declared.settings.Settings.{Settings}
+use Rattle.acsub.specs.Finder.{dictionary_for, whole_search}
+use Rattle.acsub.specs.Run.{CostsFile, CostsRun, RanRules, RanToFailedWrite}
+use Rattle.acsub.specs.Plan.{Plan}
+use Rattle.acsub.specs.Settings.{HasEmptyPattern, IsAccepted}
+use Rattle.acsub.specs.Sides.{patterns_of, replacements_of}
+use Rattle.acsub.specs.Stream.{AnswersStream, IsToldAs, StreamedToFailedWrite, Streams}
+use Rattle.acsub.proofs.RunLemmas.{HasMoved-nothing, nothing}
+use Rattle.acsub.specs.Transformed.{IsOutputFront, IsStreamed, output_of, text_in}
+
+-- ---- that a stream can be searched
+
+-- where no pattern is empty the shortest has a byte
+pub filled-shortest : (rules : List Rule) → ¬ HasEmptyPattern rules → 1 ≤ shortest (patterns_of rules)
+filled-shortest [] filled = omega arith
+filled-shortest (rule ∷ rules) filled =
+    let rest = filled-shortest rules (λ empty. let within = empty.1 in filled (suc empty.0, omega (arith, within), empty.2)) in
+    let some : length rule.0 ≢ 0 = λ none. filled (0, omega arith, nil_from_length rule.0 none) in
+    omega (arith, rest, some)
+
+-- none of the reasons stands against the search of a stream
+config-none : (b : Built) (supports : Anchored → Type 0) (settings : Settings) (rules : List Rule) (refusal : MatchErrorKind) → b.dictionary ≡ dictionary_for settings (patterns_of rules) → supports No → IsStreamed settings rules → ¬ IsConfigRefusal b supports refusal
+config-none b supports settings rules refusal is can streamed (inl none) = none.0 can
+config-none b supports settings rules refusal is can streamed (inr (inl other)) = other.1 (ap (λ (m : Dictionary). m.kind) is ∙ streamed.0)
+config-none b supports settings rules refusal is can streamed (inr (inr empty)) =
+    let some = filled-shortest rules streamed.2 in
+    let same : shortest b.dictionary.patterns ≡ shortest (patterns_of rules) = ap (λ (m : Dictionary). shortest m.patterns) is in
+    let none = empty.2 in
+    omega (arith, none, some, same)
+
+-- the search of a stream is not refused
+pub not-refused : {R W : Type 0} (b : Built) (supports : Anchored → Type 0) (settings : Settings) (rules : List Rule) (r r' : Watched R) (w w' : Watched W) (error : StreamError) (refusal : MatchErrorKind) → b.dictionary ≡ dictionary_for settings (patterns_of rules) → supports No → IsStreamed settings rules
+    → IsReplaceStreamError b supports r r' w w' error → error ≢ stream.Config refusal
+not-refused b supports settings rules r r' w w' error refusal is can streamed refused e =
+    let g = subst (IsReplaceStreamError b supports r r' w w') e refused in
+    config-none b supports settings rules refusal is can streamed g.0
+
+-- ---- the text
+
+-- the text that a run makes is that of the automaton, where matches are replaced
+replaced-output : (b : Built) (settings : Settings) (rules : List Rule) (x : List ℕ) → b.dictionary ≡ dictionary_for settings (patterns_of rules) → settings.mode ≡ modes.Replace → replaced_in b (replacements_of rules) x ≡ output_of settings rules x
+replaced-output b settings rules x is mode =
+    ap (λ (m : Dictionary). replaced_from 0 x (replacements_of rules) (walk_of m.kind (search_in m (whole_of x)))) is
+    ∙ ap (λ (k : Mode). text_in k settings.kind (replacements_of rules) (whole_search settings (patterns_of rules) x)) (sym mode)
+
+-- the front of it too
+replaced-front : (b : Built) (settings : Settings) (rules : List Rule) (x text : List ℕ) → b.dictionary ≡ dictionary_for settings (patterns_of rules) → settings.mode ≡ modes.Replace → IsReplacedFront b (replacements_of rules) x text → IsOutputFront settings rules x text
+replaced-front b settings rules x text is mode f =
+    record {
+      cut = f.cut;
+      is_cut = subst (λ (m : Dictionary). IsCut m x f.cut) is f.is_cut;
+      near = subst (λ (m : Dictionary). length x ≤ f.cut + kept_for (longest m.patterns)) is f.near;
+      front = f.front ∙ replaced-output b settings rules (take f.cut x) is mode;
+    }
+
+-- the front of a text is a beginning of it, whichever mode makes it
+front-begins : (settings : Settings) (rules : List Rule) (x text : List ℕ) (mode : Mode) → settings.mode ≡ mode → IsStreamed settings rules → IsOutputFront settings rules x text → IsBeginning text (output_of settings rules x)
+front-begins settings rules x text modes.Replace is streamed f =
+    let final = cut-final (dictionary_for settings (patterns_of rules)) x f.cut (replacements_of rules) streamed.0 f.is_cut in
+    subst (λ (t : List ℕ). IsBeginning t (output_of settings rules x)) (sym f.front)
+    (subst (λ (k : Mode). IsBeginning (text_in k settings.kind (replacements_of rules) (whole_search settings (patterns_of rules) (take f.cut x))) (text_in k settings.kind (replacements_of rules) (whole_search settings (patterns_of rules) x))) (sym is) final.0)
+front-begins settings rules x text modes.List is streamed f =
+    let final = cut-final (dictionary_for settings (patterns_of rules)) x f.cut (replacements_of rules) streamed.0 f.is_cut in
+    subst (λ (t : List ℕ). IsBeginning t (output_of settings rules x)) (sym f.front)
+    (subst (λ (k : Mode). IsBeginning (text_in k settings.kind (replacements_of rules) (whole_search settings (patterns_of rules) (take f.cut x))) (text_in k settings.kind (replacements_of rules) (whole_search settings (patterns_of rules) x))) (sym is) final.1)
+front-begins settings rules x text modes.Overlap is streamed f = absurd (streamed.1 is)
+
+-- ---- what the answers say
+
+-- a write that stopped
+replaced-stopped : (b : Built) (settings : Settings) (rules : List Rule) (m : Moved) (stalls : ℕ) → b.dictionary ≡ dictionary_for settings (patterns_of rules) → settings.mode ≡ modes.Replace → ReplacedToFailedWrite b (replacements_of rules) m stalls → StreamedToFailedWrite settings rules m stalls
+replaced-stopped b settings rules m stalls is mode h =
+    record {
+      front = h.front;
+      before = replaced-front b settings rules _ h.front is mode h.before;
+      at_least = h.at_least;
+      at_most = subst (IsBeginning m.taken) (replaced-output b settings rules (concat m.pieces) is mode) h.at_most;
+      failed = h.failed;
+    }
+
+-- where the replacement stopped
+replaced-told : (b : Built) (settings : Settings) (rules : List Rule) (m : Moved) (error : StreamError) (told : RunError) → b.dictionary ≡ dictionary_for settings (patterns_of rules) → settings.mode ≡ modes.Replace → IsToldAs error told → AnswersReplace b (replacements_of rules) m (Err error) → AnswersStream settings rules m (Err told)
+replaced-told b settings rules m (stream.Config error) told is mode t a = absurd t
+replaced-told b settings rules m (stream.Read error) told is mode t a = subst (λ (e : RunError). AnswersStream settings rules m (Err e)) (sym t) (replaced-front b settings rules (concat m.pieces) m.taken is mode a.written, a.failed)
+replaced-told b settings rules m (stream.Write error) told is mode t a = subst (λ (e : RunError). AnswersStream settings rules m (Err e)) (sym t) (replaced-stopped b settings rules m 0 is mode a)
+replaced-told b settings rules m stream.WriteZero told is mode t a = subst (λ (e : RunError). AnswersStream settings rules m (Err e)) (sym t) (replaced-stopped b settings rules m 1 is mode a)
+replaced-told b settings rules m stream.Memory told is mode t a = subst (λ (e : RunError). AnswersStream settings rules m (Err e)) (sym t) a
+replaced-told b settings rules m stream.Position told is mode t a = subst (λ (e : RunError). AnswersStream settings rules m (Err e)) (sym t) (a.long, subst (IsBeginning m.taken) (replaced-output b settings rules (concat m.pieces) is mode) a.written, a.failed)
+
+-- what was replaced over a stream, where that stopped
+pub streams-told : {R W : Type 0} (remaining : R → Option (List ℕ)) (contents : W → Option (List ℕ)) (b : Built) (settings : Settings) (rules : List Rule) (texts : List (List ℕ)) (r r' : Watched R) (w w' : Watched W) (error : StreamError) (told : RunError) → b.dictionary ≡ dictionary_for settings (patterns_of rules) → settings.mode ≡ modes.Replace → texts ≡ replacements_of rules → IsToldAs error told
+    → ReplacesStream remaining contents b texts r r' w w' (Err error) → Streams remaining contents r r' w w' settings rules (Err told)
+streams-told remaining contents b settings rules texts r r' w w' error told is mode same t (m, moved, a) = (m, moved, replaced-told b settings rules m error told is mode t (subst (λ (ts : List (List ℕ)). AnswersReplace b ts m (Err error)) same a))
+
+-- there was no memory before anything was read
+pub streams-nothing : {R W : Type 0} (remaining : R → Option (List ℕ)) (contents : W → Option (List ℕ)) (settings : Settings) (rules : List Rule) (r : Watched R) (w : Watched W) → Streams remaining contents r r w w settings rules (Err errors.Memory)
+streams-nothing remaining contents settings rules r w = (nothing, HasMoved-nothing remaining contents r w, record { pieces = refl; taken = refl; failed = (refl, refl, refl) })
+
+-- ---- what a run says of it
+
+-- a write that stopped
+streamed_failed : (settings : Settings) (rules : List Rule) (m : Moved) (stalls : ℕ) → IsAccepted settings rules → IsStreamed settings rules → StreamedToFailedWrite settings rules m stalls → (file : List ℕ) → IsRuleFile file rules → RanToFailedWrite settings file m stalls
+streamed_failed settings rules m stalls accepted streamed h file grammar =
+    record { rules = rules; grammar = grammar; accepted = accepted; streamed = λ _. (h.front, h.before, h.at_least); whole_input = λ held. absurd (held streamed); written = h.at_most; failed = h.failed }
+
+-- the answer of a run that writes while it reads
+pub streamed_answer : {R W : Type 0} (remaining : R → Option (List ℕ)) (contents : W → Option (List ℕ)) (settings : Settings) (rules : List Rule) (r r' : Watched R) (w w' : Watched W) (result : Result (Unit {0}) RunError) → IsAccepted settings rules → IsStreamed settings rules
+    → Streams remaining contents r r' w w' settings rules result → RanRules remaining contents r r' w w' settings rules result
+streamed_answer remaining contents settings rules r r' w w' (Ok done) accepted streamed (m, moved, (whole, written, failed)) = (m, moved, λ refusal. refusal, λ file grammar. record { rules = rules; grammar = grammar; accepted = accepted; whole = whole; written = written; failed = failed })
+streamed_answer remaining contents settings rules r r' w w' (Err (errors.Rule e)) accepted streamed (m, moved, a) = absurd a
+streamed_answer remaining contents settings rules r r' w w' (Err (errors.Setting e)) accepted streamed (m, moved, a) = absurd a
+streamed_answer remaining contents settings rules r r' w w' (Err (errors.Build kind)) accepted streamed (m, moved, a) = absurd a
+streamed_answer remaining contents settings rules r r' w w' (Err (errors.Read e)) accepted streamed (m, moved, (front, failed)) = (m, moved, λ refusal. refusal, λ file grammar. record { rules = rules; grammar = grammar; accepted = accepted; streamed = λ _. front; whole_input = λ held. absurd (held streamed); written = front-begins settings rules (concat m.pieces) m.taken settings.mode refl streamed front; failed = failed })
+streamed_answer remaining contents settings rules r r' w w' (Err (errors.Write e)) accepted streamed (m, moved, a) = (m, moved, λ refusal. refusal, streamed_failed settings rules m 0 accepted streamed a)
+streamed_answer remaining contents settings rules r r' w w' (Err errors.WriteZero) accepted streamed (m, moved, a) = (m, moved, λ refusal. refusal, streamed_failed settings rules m 1 accepted streamed a)
+streamed_answer remaining contents settings rules r r' w w' (Err errors.Memory) accepted streamed (m, moved, a) = (m, moved, λ refusal. refusal, λ file grammar. record { rules = rules; grammar = grammar; accepted = λ some. absurd (some a.pieces); streamed = λ _. a.pieces; filled = subst AreFilled (sym a.pieces) tt; written = a.taken; failed = a.failed })
+streamed_answer remaining contents settings rules r r' w w' (Err errors.Position) accepted streamed (m, moved, (long, written, failed)) = (m, moved, λ refusal. refusal, λ file grammar. record { rules = rules; grammar = grammar; accepted = accepted; long = long; written = written; failed = failed })
+
+-- ---- what it costs
+
+-- nothing was read, and nothing counted
+pub nothing_cost : {R : Type 0} (settings : Settings) (rules : List Rule) (r : Watched R) (steps : Steps) (error : RunError) → CostsRun settings rules r r steps steps (Err error)
+nothing_cost settings rules r steps error =
+    record { gained = []; read = sym (append-nil (pieces_of r)); streamed = λ _. record { looked = omega arith; scanned = refl; moved = omega arith }; whole = λ _. tt; whole_input = λ _. refl }
+
+-- ---- the rules of a file
+
+-- what is streamed for the rules of a file is streamed for those that were prepared of it
+pub streamed_prepared : (settings : Settings) (file : List ℕ) (plan : Plan) (rules : List Rule) → plan.settings ≡ settings → IsRuleFile file plan.rules → IsRuleFile file rules → IsStreamed settings rules → IsStreamed plan.settings plan.rules
+streamed_prepared settings file plan rules same prepared grammar streamed =
+    subst (λ (s : Settings). IsStreamed s plan.rules) (sym same) (subst (IsStreamed settings) (IsRuleFile-one file rules plan.rules grammar prepared) streamed)
+
+-- the cost of what was prepared is the cost of a run
+pub cost_prepared : {R : Type 0} (settings : Settings) (file : List ℕ) (plan : Plan) (r r' : Watched R) (before after : Steps) (result : Result (Unit {0}) RunError) → plan.settings ≡ settings → IsRuleFile file plan.rules → CostsRun plan.settings plan.rules r r' before after result → CostsFile settings file r r' before after result
+cost_prepared settings file plan r r' before after result same prepared cost rules grammar =
+    subst (λ (s : Settings). CostsRun s rules r r' before after result) same (subst (λ (rs : List Rule). CostsRun plan.settings rs r r' before after result) (IsRuleFile-one file plan.rules rules prepared grammar) cost)

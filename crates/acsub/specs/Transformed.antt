@@ -1,0 +1,39 @@
+-- The text that a run makes of its input, the front of it that is decided early, and when a run may write it early.
+use Rattle.std.specs.Prelude.{◌≡◌, ◌≢◌, ℕ, ◌+◌, ◌≤◌, List, length, take}
+use Rattle.ac_input.specs.declared.search.MatchKind.{MatchKind}
+use Rattle.ac_input.specs.declared.search.MatchKind.TheVariants.{Standard}
+use Rattle.ac_input.specs.Computed.{walk_of, listing_of}
+use Rattle.ac_input.specs.Cut.{IsCut}
+use Rattle.ac_input.specs.Occurrence.{Search}
+use Rattle.ac_input.specs.Rules.{Rule}
+use Rattle.ac_input.specs.Text.{replaced_from, listed}
+use Rattle.ac_input.specs.Work.{longest}
+use Rattle.ac_automaton.specs.Buffer.{kept_for}
+use Rattle.acsub.specs.declared.settings.Mode.{Mode}
+use Rattle.acsub.specs.declared.settings.Mode.TheVariants as modes
+use Rattle.acsub.specs.declared.settings.Settings.{Settings}
+use Rattle.acsub.specs.Finder.{dictionary_for, whole_search}
+use Rattle.acsub.specs.Settings.{HasEmptyPattern}
+use Rattle.acsub.specs.Sides.{patterns_of, replacements_of}
+
+-- the text that a mode makes of a search
+abbrev pub text_in : Mode → MatchKind → List (List ℕ) → Search → List ℕ
+text_in modes.Replace kind replacements s = replaced_from 0 s.haystack replacements (walk_of kind s)
+text_in modes.List kind replacements s = listed (walk_of kind s)
+text_in modes.Overlap kind replacements s = listed (listing_of s)
+
+-- The text that settings and rules make of an input. The engine, its prefilter, dense depth and byte classes are not in it.
+abbrev pub output_of : Settings → List Rule → List ℕ → List ℕ
+output_of settings rules input = text_in settings.mode settings.kind (replacements_of rules) (whole_search settings (patterns_of rules) input)
+
+-- The text is written while the input is still read: the matches are those of the standard kind, which no later byte can change,
+-- no pattern is empty, and all that overlap were not asked for. All else is written when the whole input was read.
+abbrev pub IsStreamed : Settings → List Rule → Type 0
+IsStreamed settings rules = (settings.kind ≡ Standard) × (settings.mode ≢ modes.Overlap) × ¬ HasEmptyPattern rules
+
+-- The text of the front of an input, up to a cut: no more of the input is left than its longest pattern has bytes, or one byte.
+pub record IsOutputFront (settings : Settings) (rules : List Rule) (x text : List ℕ) : Type 0 where
+  pub cut : ℕ
+  pub is_cut : IsCut (dictionary_for settings (patterns_of rules)) x cut
+  pub near : length x ≤ cut + kept_for (longest (patterns_of rules))
+  pub front : text ≡ output_of settings rules (take cut x)

@@ -1,0 +1,192 @@
+//! A list over a stream.
+//!
+//! A line for each match is written as soon as the match can be known: under the standard kind no later byte can change it, so all
+//! matches of what was read are listed before the next read. A reader that waits keeps no line back. The lines are gathered into
+//! one buffer, which is written before each read, so that a stream over a file makes about one write a read.
+//!
+//! Both buffers are taken before the first read, and no memory after that. Nothing is tried again, and nothing is flushed.
+ghost use Rattle.std.specs.Prelude.{◌≡◌, ◌≢◌, ◌≤◌, [], false, IfErr, OnErr, OnOk};
+ghost use Rattle.ac_input.specs.declared.search.Anchored.TheVariants.{No};
+ghost use Rattle.ac_input.specs.declared.search.MatchKind.TheVariants.{Standard};
+ghost use Rattle.ac_input.specs.Work.{shortest};
+ghost use Rattle.ac_automaton.specs.Moved.{NoneTouched};
+ghost use Rattle.ac_automaton.specs.Stream.{CanBeCounted, CanStream, IsOnCourse, ScanCounts, fresh_scan, read_by};
+ghost use Rattle.ac_automaton.specs.StreamIter.{AreAllGiven, progress_of, reader_name, reader_of};
+ghost use Rattle.ac_automaton.specs.Watched.{has_ended};
+ghost use Rattle.acsub.specs.Finder.{dictionary_for};
+ghost use Rattle.acsub.specs.Output.{IsWriteFault};
+ghost use Rattle.acsub.specs.Sides.{patterns_of};
+ghost use Rattle.acsub.specs.Stream.{CostsToStream, Streams};
+ghost use Rattle.acsub.specs.StreamList.{GivesMatch, ListsStream, SendsLines, StopsLines, StopsWriting, WritesLines};
+ghost use Rattle.acsub.specs.Transformed.{IsStreamed};
+ghost use Rattle.acsub.specs.declared.error.RunError.TheVariants.{Memory};
+ghost use Rattle.acsub.specs.declared.settings.Mode.TheVariants.{List};
+
+use crate::error::RunError;
+use crate::line::Line;
+use crate::output::Output;
+use crate::prepared::Prepared;
+use crate::stream::told;
+use ac_automaton::automaton::Automaton;
+use ac_automaton::stream::{StreamFindIter, stream_find_iter};
+use ac_automaton::watched::Watched;
+use ac_input::search::Match;
+use ac_input::steps::Steps;
+use std::alloc::Global;
+use std::io::{Read, Write};
+
+/// Sends a line for each match of what was read that was not given yet, and holds nothing back.
+fn send_held_lines<A: Automaton, R: Read, W: Write>(
+    matches: &mut StreamFindIter<'_, A, R>,
+    output: &mut Output,
+    writer: &mut Watched<W>,
+    steps: &mut Steps,
+) -> Result<(), RunError>
+    requires countable { CanBeCounted (read_by (progress_of matches.old)) }
+    ensures sent { OnOk result (SendsLines W.contents (progress_of matches.old)
+        (progress_of matches.new) writer.old writer.new output.old output.new) }
+    ensures all { OnOk result (AreAllGiven (progress_of matches.new)) }
+    ensures none { OnOk result (output.new ≡ []) }
+    ensures stopped { OnErr result (StopsLines W.contents (progress_of matches.old)
+        (progress_of matches.new) writer.old writer.new output.old) }
+    ensures kind { IfErr result (IsWriteFault writer.old writer.new) }
+    ensures reader { reader_of matches.new ≡ reader_of matches.old }
+    ensures same_reference { reader_name matches.new ≡ reader_name matches.old }
+    ensures counts { ScanCounts (progress_of matches.old) (progress_of matches.new)
+        steps.old steps.new }
+    ensures kept { IsOnCourse (progress_of matches.new) }
+{
+    while let Some(found) = matches.next_held_counted(steps) {
+        output.send(writer, Line::new(&found).as_bytes())?;
+    }
+    output.send_held(writer)
+}
+
+/// Writes a line for a match, and one for each further match of what was read.
+fn write_lines<A: Automaton, R: Read, W: Write>(
+    found: &Match,
+    matches: &mut StreamFindIter<'_, A, R>,
+    output: &mut Output,
+    writer: &mut Watched<W>,
+    steps: &mut Steps,
+) -> Result<(), RunError>
+    requires countable { CanBeCounted (read_by (progress_of matches.old)) }
+    requires course { IsOnCourse (progress_of matches.old) }
+    requires empty { output.old ≡ [] }
+    ensures written { OnOk result (WritesLines W.contents found.now (progress_of matches.old)
+        (progress_of matches.new) writer.old writer.new) }
+    ensures none { OnOk result (output.new ≡ []) }
+    ensures stopped { OnErr result (StopsWriting W.contents found.now (progress_of matches.old)
+        (progress_of matches.new) writer.old writer.new) }
+    ensures kind { IfErr result (IsWriteFault writer.old writer.new) }
+    ensures reader { reader_of matches.new ≡ reader_of matches.old }
+    ensures same_reference { reader_name matches.new ≡ reader_name matches.old }
+    ensures counts { ScanCounts (progress_of matches.old) (progress_of matches.new)
+        steps.old steps.new }
+    ensures kept { IsOnCourse (progress_of matches.new) }
+{
+    output.send(writer, Line::new(found).as_bytes())?;
+    send_held_lines(matches, output, writer, steps)
+}
+
+/// The next match, by as many reads as it takes to find one.
+fn next_match<A: Automaton, R: Read>(
+    matches: &mut StreamFindIter<'_, A, R>,
+    steps: &mut Steps,
+) -> Result<Option<Match>, RunError>
+    ensures gives { GivesMatch R.remaining (progress_of matches.old) (progress_of matches.new)
+        (reader_of matches.old) (reader_of matches.new) result }
+    ensures same_reference { reader_name matches.new ≡ reader_name matches.old }
+    ensures counts { ScanCounts (progress_of matches.old) (progress_of matches.new)
+        steps.old steps.new }
+    ensures kept { IsOnCourse (progress_of matches.new) }
+{
+    match matches.next_counted(steps) {
+        None => Ok(None),
+        Some(Ok(found)) => Ok(Some(found)),
+        Some(Err(error)) => Err(told(error)),
+    }
+}
+
+/// Reads on to the end of the input. Before each read all that can be listed is written.
+fn list_read<A: Automaton, R: Read, W: Write>(
+    matches: &mut StreamFindIter<'_, A, R>,
+    output: &mut Output,
+    writer: &mut Watched<W>,
+    steps: &mut Steps,
+) -> Result<(), RunError>
+    requires fresh { progress_of matches.old ≡ fresh_scan (progress_of matches.old).built }
+    requires standard { (progress_of matches.old).built.dictionary.kind ≡ Standard }
+    requires filled { 1 ≤ shortest (progress_of matches.old).built.dictionary.patterns }
+    requires empty { output.old ≡ [] }
+    requires unended { has_ended (reader_of matches.old) ≡ false }
+    ensures lists { ListsStream R.remaining W.contents (progress_of matches.old).built
+        (reader_of matches.old) (reader_of matches.new) writer.old writer.new result }
+    ensures costs { CostsToStream (progress_of matches.old).built (reader_of matches.old)
+        (reader_of matches.new) steps.old steps.new result }
+    ensures begun { IfErr result (λ error. error ≢ Memory) }
+    ensures same_reference { reader_name matches.new ≡ reader_name matches.old }
+{
+    while let Some(found) = next_match(matches, steps)? {
+        write_lines(&found, matches, output, writer, steps)?;
+    }
+    Ok(())
+}
+
+/// Takes both buffers, and writes a line for each match of what is read.
+fn list_stream<A: Automaton, R: Read, W: Write>(
+    alloc: Global,
+    automaton: &A,
+    reader: &mut Watched<R>,
+    writer: &mut Watched<W>,
+    steps: &mut Steps,
+) -> Result<(), RunError>
+    requires open { has_ended reader.old ≡ false }
+    requires can { CanStream (A.built automaton.now) (A.supports automaton.now) }
+    // All lines of what was read before a read that failed, and no less than those of all pieces but the last before a write that
+    // failed.
+    ensures lists { ListsStream R.remaining W.contents (A.built automaton.now)
+        reader.old reader.new writer.old writer.new result }
+    ensures costs { CostsToStream (A.built automaton.now) reader.old reader.new
+        steps.old steps.new result }
+    ensures memory { IfErr result (λ error. error ≡ Memory
+        → NoneTouched reader.old reader.new writer.old writer.new) }
+{
+    let mut output = Output::new(alloc)?;
+    match stream_find_iter(reader, automaton, alloc) {
+        Ok(mut matches) => {
+            let outcome = list_read(&mut matches, &mut output, writer, steps);
+            let _reader = matches.into_reader();
+            outcome
+        }
+        Err(error) => Err(told(error)),
+    }
+}
+
+/// Writes a line for each match of what is read, by the automaton that was prepared.
+pub(crate) fn stream_list<A: Automaton, R: Read, W: Write>(
+    alloc: Global,
+    prepared: &Prepared<A>,
+    automaton: &A,
+    reader: &mut Watched<R>,
+    writer: &mut Watched<W>,
+    steps: &mut Steps,
+) -> Result<(), RunError>
+    requires open { has_ended reader.old ≡ false }
+    requires built { (A.built automaton.now).dictionary
+        ≡ dictionary_for prepared.now.settings (patterns_of prepared.now.rules) }
+    requires supports { A.supports automaton.now No }
+    requires streamed { IsStreamed prepared.now.settings prepared.now.rules }
+    requires mode { prepared.now.settings.mode ≡ List }
+    ensures streams { Streams R.remaining W.contents reader.old reader.new writer.old writer.new
+        prepared.now.settings prepared.now.rules result }
+    ensures costs { CostsToStream (A.built automaton.now) reader.old reader.new
+        steps.old steps.new result }
+    ensures memory { IfErr result (λ error. error ≡ Memory
+        → NoneTouched reader.old reader.new writer.old writer.new) }
+{
+    list_stream(alloc, automaton, reader, writer, steps)
+}
+
+#[cfg(test)]
+mod tests;

@@ -1,12 +1,10 @@
 -- How sendings follow one another.
-use Rattle.std.proofs.Common.{◌≡◌, ℕ, ◌+◌, Option, List, [], ◌++◌, refl, sym, ap, ◌∙◌, subst, append_assoc}
+use Rattle.std.proofs.Common.{ℕ, ◌+◌, Option, List, [], ◌++◌, refl, sym, ap, ◌∙◌, subst, append_assoc}
 use Rattle.std.proofs.lemmas.List.{append-nil}
 use Rattle.std.specs.Io.KnownBytes.{Appends}
 use Rattle.std.proofs.KnownBytes.{Appends-nil, Appends-trans}
 use Rattle.ac_automaton.specs.declared.watched.Watched.{Watched}
-use Rattle.ac_automaton.specs.declared.error.StreamError.{StreamError}
-use Rattle.ac_automaton.specs.declared.error.StreamError.TheVariants.{Config, Read, Write, WriteZero, Memory, Position}
-use Rattle.ac_automaton.specs.Watched.{inner_of, NoneFailed, TookAll, TookFront, IsOfWrite}
+use Rattle.ac_automaton.specs.Watched.{inner_of, TookAll, TookFront}
 use Rattle.ac_automaton.specs.Output.{Sent, Stopped}
 
 -- sending nothing
@@ -48,15 +46,6 @@ Sent-and_held contents old mid new held between after bytes a b = subst (Sent co
 -- the same, where the second stopped
 pub Stopped-and_held : {W : Type 0} (contents : W → Option (List ℕ)) (old mid new : Watched W) (held between bytes : List ℕ) → Sent contents old mid held between bytes → Stopped contents mid new between [] → Stopped contents old new held bytes
 Stopped-and_held contents old mid new held between bytes a b = subst (Stopped contents old new held) (append-nil bytes) (Stopped-then contents old mid new held between bytes [] a b)
-
--- the answer of a sending that stopped after one that did not
-pub IsOfWrite-then : {W : Type 0} (old mid new : Watched W) (error : StreamError) → NoneFailed old mid → IsOfWrite mid new error → IsOfWrite old new error
-IsOfWrite-then old mid new (Config error) fine is = is
-IsOfWrite-then old mid new (Read error) fine is = is
-IsOfWrite-then old mid new (Write error) fine is = is ∙ fine.stalls
-IsOfWrite-then old mid new WriteZero fine is = is ∙ ap (λ (n : ℕ). n + 1) fine.stalls
-IsOfWrite-then old mid new Memory fine is = is
-IsOfWrite-then old mid new Position fine is = is
 
 -- a write of all bytes, where nothing was held back
 pub Sent-from_all : {W : Type 0} (contents : W → Option (List ℕ)) (old new : Watched W) (bytes : List ℕ) → TookAll old new bytes → Appends (contents (inner_of old)) (contents (inner_of new)) bytes → Sent contents old new [] [] bytes

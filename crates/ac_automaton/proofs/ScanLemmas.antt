@@ -5,6 +5,7 @@ use Rattle.std.specs.Io.KnownBytes.{Consumes, Keeps}
 use Rattle.std.proofs.Math.Seq.{drop-append_seam, take-append_seam}
 use Rattle.std.proofs.lemmas.Bool.{false≢true, ltb-false, ltb-true}
 use Rattle.std.proofs.lemmas.List.{drop-append-le}
+use Rattle.std.proofs.lemmas.List.Elements.{All-push}
 use Rattle.std.proofs.lemmas.List.Folds.{concat-append}
 use Rattle.ac_input.specs.declared.primitives.state_id.StateID.{StateID}
 use Rattle.ac_input.specs.declared.steps.Steps.{Steps}
@@ -105,7 +106,7 @@ next-counts s r looks fresh taken before after none done added = (looks, 0, 0, a
 -- a search that has read nothing stands in the start state
 fresh-stands : (b : Built) (Reads : List ℕ → StateID → Type 0) (start : StateID) → b.dictionary.kind ≡ Standard → 1 ≤ shortest b.dictionary.patterns → Reads [] start → ((live : Option ℕ) × IsLive b.dictionary false [] live) → StandsInState Reads (fresh_scan b) start start
 fresh-stands b Reads start standard filled begins live =
-    stands-from Reads (fresh_scan b) start start standard filled (omega arith) (omega arith) (omega arith) (omega arith) (omega arith) refl (omega arith) begins begins
+    stands-from Reads (fresh_scan b) start start standard filled (omega arith) (omega arith) (omega arith) (omega arith) (omega arith) (λ k d lt. absurd (omega arith)) refl (omega arith) begins begins
     (λ o h. let w = h.within in let lt = occurs-not_empty (whole b.dictionary [] false) o (omega arith) filled h in absurd (omega arith))
     (λ more rest walk. walk-any Standard (whole b.dictionary more false) 0 (Some 0) None rest (omega arith) filled walk)
     (λ one is. let none = live-empty [] 0 one in (omega arith, omega arith, λ d. refl))
@@ -166,8 +167,8 @@ read-on : (s : Scanned) (piece more : List ℕ) → read_by (after_read s piece)
 read-on s piece more = ap (λ (l : List ℕ). l ++ more) (read-more s piece) ∙ append_assoc (read_by s) piece more
 
 -- it stands where it stood
-read-stands : (Reads : List ℕ → StateID → Type 0) (s : Scanned) (start sid : StateID) (piece : List ℕ) → StandsInState Reads s start sid → ((live : Option ℕ) × IsLive s.built.dictionary false (since_last s) live) → length (read_by s ++ piece) ≤ s.from + room_of s.built → StandsInState Reads (after_read s piece) start sid
-read-stands Reads s start sid piece is live fits =
+read-stands : (Reads : List ℕ → StateID → Type 0) (s : Scanned) (start sid : StateID) (piece : List ℕ) → StandsInState Reads s start sid → ((live : Option ℕ) × IsLive s.built.dictionary false (since_last s) live) → length (read_by s ++ piece) ≤ s.from + room_of s.built → length piece ≤ room_of s.built → StandsInState Reads (after_read s piece) start sid
+read-stands Reads s start sid piece is live fits short =
     let m = s.built.dictionary in
     let t = after_read s piece in
     let more = read-more s piece in
@@ -178,7 +179,7 @@ read-stands Reads s start sid piece is live fits =
     let moved = course.paid.moved in
     let kept = course.kept in
     let same : since_last t ≡ since_last s = ap (λ (l : List ℕ). slice_range l s.last s.at) more ∙ slice_range-append (read_by s) piece s.last s.at ordered.0 ordered.1 in
-    stands-from Reads t start sid course.standard course.filled ordered.0 (omega (arith, ordered.1)) kept.0 kept.1 (omega arith) course.paid.scanned (omega arith) is.begins
+    stands-from Reads t start sid course.standard course.filled ordered.0 (omega (arith, ordered.1)) kept.0 kept.1 (omega arith) (All-push (λ l. length l ≤ room_of s.built) s.pieces piece course.short short) course.paid.scanned (omega arith) is.begins
     (subst (λ (l : List ℕ). Reads l sid) (sym same) is.reads)
     (subst (λ (l : List ℕ). IsBest Standard (whole m l false) None) (sym same) is.quiet)
     (λ after rest walk.
@@ -210,6 +211,15 @@ grown-fits s old new piece course holds grown =
     let room : new.room ≡ room_of s.built = grown.paid.room ∙ ap room_for (grown.keep ∙ holds.keep) in
     omega arith
 
+-- no piece is longer than the buffer
+pub piece-short : (s : Scanned) (old new : Held) (piece : List ℕ) → IsOnCourse s → HoldsRead s old → IsGrown old new piece → length piece ≤ room_of s.built
+piece-short s old new piece course holds grown =
+    let within = grown.paid.within in
+    let room : new.room ≡ room_of s.built = grown.paid.room ∙ ap room_for (grown.keep ∙ holds.keep) in
+    let bytes = ap length grown.bytes in
+    let joined = length-append old.bytes piece in
+    omega arith
+
 -- What a search keeps after a read is right; over says whether there are more bytes than places.
 pub read-right : (Reads : List ℕ → StateID → Type 0) (s : Scanned) (start sid : StateID) (count : ℕ) (old new : Held) (was over : Bool) (piece : List ℕ)
     → IsScan Reads s start sid count old was → IsGrown old new piece
@@ -223,7 +233,7 @@ read-right Reads s start sid count old new was over piece is grown live few many
     let inside = course.ordered.1 in
     let le : s.from ≤ length (read_by s) = omega arith in
     record {
-      stands = read-stands Reads s start sid piece is.stands live (grown-fits s old new piece course is.holds grown);
+      stands = read-stands Reads s start sid piece is.stands live (grown-fits s old new piece course is.holds grown) (piece-short s old new piece course is.holds grown);
       number = is.number;
       holds = record {
         bytes = grown.bytes ∙ ap (λ (l : List ℕ). l ++ piece) is.holds.bytes ∙ sym (drop-append-le s.from (read_by s) piece le) ∙ ap (drop s.from) (sym more);
@@ -259,15 +269,6 @@ read-view b pieces after count p old new sums piece number decided grown is =
       scanned = scanned_of sums;
       moved = grown.moved i;
     }
-
--- no piece is longer than the buffer
-pub piece-short : (s : Scanned) (old new : Held) (piece : List ℕ) → IsOnCourse s → HoldsRead s old → IsGrown old new piece → length piece ≤ room_of s.built
-piece-short s old new piece course holds grown =
-    let within = grown.paid.within in
-    let room : new.room ≡ room_of s.built = grown.paid.room ∙ ap room_for (grown.keep ∙ holds.keep) in
-    let bytes = ap length grown.bytes in
-    let joined = length-append old.bytes piece in
-    omega arith
 
 -- the test of the places
 pub over-test : (from held all : ℕ) → from ≤ 18446744073709551615 → held + from ≡ all → (nat_lt (18446744073709551615 - from) held ≡ false → all ≤ 18446744073709551615) × (nat_lt (18446744073709551615 - from) held ≡ true → ¬ (all ≤ 18446744073709551615))

@@ -22,6 +22,7 @@ use Rattle.ac_input.proofs.OrderLemmas.{occurrence_from_parts, slice_range-lengt
 use Rattle.ac_input.specs.declared.search.MatchKind.{MatchKind}
 use Rattle.ac_automaton.specs.Automaton.{Built}
 use Rattle.ac_automaton.specs.Cursor.{ending_at}
+use Rattle.ac_automaton.specs.Moved.{AllFit}
 use Rattle.ac_automaton.specs.Replace.{matches_in}
 use Rattle.ac_automaton.specs.Scan.{GoesOn, IsHeldAt, IsScanPaid, SearchesOn, StandsInState, after_search, since_last}
 use Rattle.ac_automaton.specs.Stream.{CanBeCounted, IsHeldMatch, IsOnCourse, Scanned, cut_of, read_by, room_of}
@@ -71,6 +72,7 @@ pub stands-from : (Reads : List ℕ → StateID → Type 0) (t : Scanned) (start
     → t.from ≤ cut_of t
     → t.from ≤ t.at
     → length (read_by t) ≤ t.from + room_of t.built
+    → AllFit (room_of t.built) t.pieces
     → t.scanned ≡ 0
     → 7 * t.moved ≤ length (read_by t)
     → Reads [] start
@@ -81,7 +83,7 @@ pub stands-from : (Reads : List ℕ → StateID → Type 0) (t : Scanned) (start
     → (live : Option ℕ)
     → IsLive t.built.dictionary false (since_last t) live
     → StandsInState Reads t start sid
-stands-from Reads t start sid standard filled ordered inside kept behind room scanned moved begins reads quiet goes paid live is =
+stands-from Reads t start sid standard filled ordered inside kept behind room short scanned moved begins reads quiet goes paid live is =
     let here = paid live is in
     let decided = decided-from t standard ordered inside quiet goes in
     let rest = decided [] in
@@ -91,6 +93,7 @@ stands-from Reads t start sid standard filled ordered inside kept behind room sc
         filled = filled;
         ordered = (ordered, inside);
         kept = (kept, behind, room);
+        short = short;
         begun = (rest.0, ap (matches_in t.built) (sym (append-nil (read_by t))) ∙ rest.1);
         decided = decided;
         paid = record {
@@ -225,7 +228,7 @@ search-none s Reads matches start sid stop y z tells lives stands stops =
         refl,
         λ countable. (all, same ∙ all-given s course.standard (omega arith) (subst (λ (n : ℕ). IsBest Standard (whole m (slice_range x s.last n) false) None) all quiet) stands.goes),
       );
-      stands = stands-from (Reads No) t start stop.sid course.standard course.filled (omega arith) (omega arith) (omega arith) (omega arith) kept.2 course.paid.scanned course.paid.moved stands.begins reads quiet goes
+      stands = stands-from (Reads No) t start stop.sid course.standard course.filled (omega arith) (omega arith) (omega arith) (omega arith) kept.2 course.short course.paid.scanned course.paid.moved stands.begins reads quiet goes
           (λ live is. paid-on s.built.deterministic s.looked (live_len (since_last s) before.0) s.at stop.taken (live_len (slice_range x s.last to) live) y z paid.0 paid.1 paid.2 (cost-on s Reads matches sid stop false y z before.0 live ordered stands.reads stops before.1 is))
           after.0 after.1;
     }
@@ -335,7 +338,7 @@ search-some s Reads matches start sid stop o y z tells lives stands stops counta
         found-held s best.0 o to course (omega arith) (omega arith) ends (omega arith) best.1.0 best.2,
         countable,
       );
-      stands = stands-from (Reads No) t start start course.standard course.filled (omega arith) (omega arith) (omega arith) (omega arith) kept.2 course.paid.scanned course.paid.moved stands.begins begins
+      stands = stands-from (Reads No) t start start course.standard course.filled (omega arith) (omega arith) (omega arith) (omega arith) kept.2 course.short course.paid.scanned course.paid.moved stands.begins begins
           (λ q h. let w = h.within in let lt = occurs-not_empty (whole m (slice_range x to to) false) q (omega arith) course.filled h in absurd (omega (arith, ap length empty)))
           goes
           (λ one alive. let none = live-empty x to one in (omega arith, more.1, more.2))

@@ -22,12 +22,12 @@ use Rattle.ac_automaton.proofs.StreamReplaceLemmas.{given-none, taken-none}
 pub nothing-moved : {R W : Type 0} (remaining : R → Option (List ℕ)) (contents : W → Option (List ℕ)) (b : Built) (supports : Anchored → Type 0) (replacements : List (List ℕ)) (reader : Watched R) (writer : Watched W) (error : StreamError)
     → IsStreamRefusal b supports error → ReplacesStream remaining contents b replacements reader reader writer writer (Err error)
 nothing-moved remaining contents b supports replacements reader writer (Config error) refused =
-    (record { pieces = []; failed_reads = 0; taken = []; failed_writes = 0; stalled_writes = 0 }, record { reader = given-none remaining reader; writer = taken-none contents writer }, record { pieces = refl; taken = refl; failed = (refl, refl, refl) })
+    (record { pieces = []; failed_reads = 0; taken = []; failed_writes = 0; stalled_writes = 0 }, record { reader = given-none remaining reader; writer = taken-none contents writer }, λ k d lt. absurd (omega arith), record { pieces = refl; taken = refl; failed = (refl, refl, refl) })
 nothing-moved remaining contents b supports replacements reader writer (Read error) refused = absurd refused
 nothing-moved remaining contents b supports replacements reader writer (Write error) refused = absurd refused
 nothing-moved remaining contents b supports replacements reader writer WriteZero refused = absurd refused
 nothing-moved remaining contents b supports replacements reader writer Memory refused =
-    (record { pieces = []; failed_reads = 0; taken = []; failed_writes = 0; stalled_writes = 0 }, record { reader = given-none remaining reader; writer = taken-none contents writer }, record { pieces = refl; taken = refl; failed = (refl, refl, refl) })
+    (record { pieces = []; failed_reads = 0; taken = []; failed_writes = 0; stalled_writes = 0 }, record { reader = given-none remaining reader; writer = taken-none contents writer }, λ k d lt. absurd (omega arith), record { pieces = refl; taken = refl; failed = (refl, refl, refl) })
 nothing-moved remaining contents b supports replacements reader writer Position refused = absurd refused
 
 -- why it did not begin

@@ -1,12 +1,11 @@
 -- What a replacement over a stream has read and written, from one read to the next, and at its end.
-use Rattle.std.proofs.Common.{◌≡◌, ◌≢◌, ◌↔◌, ℕ, ◌+◌, ◌-◌, ◌<◌, ◌≤◌, Bool, true, false, IsTrue, List, [], ◌∷◌, ◌++◌, length, take, drop, Option, None, Result, Ok, Err, refl, sym, ap, ◌∙◌, subst, arith, append_assoc, add-zero, ⊎_elim}
+use Rattle.std.proofs.Common.{◌≡◌, ◌≢◌, ◌↔◌, ℕ, ◌+◌, ◌-◌, ◌<◌, ◌≤◌, Bool, true, false, IsTrue, List, [], ◌∷◌, ◌++◌, length, take, drop, Option, None, Result, Ok, Err, refl, sym, ap, ◌∙◌, subst, arith, append_assoc, add-zero}
 use Rattle.std.specs.List.{concat}
 use Rattle.std.specs.Prelude.{slice_index_or, IfErr, OnErr, OnOk}
 use Rattle.std.specs.Io.KnownBytes.{Appends, Consumes}
 use Rattle.std.proofs.KnownBytes.{Appends-nil, Appends-trans, Consumes-nil, Consumes-trans}
 use Rattle.std.proofs.lemmas.List.{append-nil, drop-drop, length-append, same_from_push, take-append-le, take_all, take_rest}
 use Rattle.std.proofs.lemmas.List.Folds.{concat-append}
-use Rattle.std.proofs.lemmas.Bool.{cases_lt}
 use Rattle.ac_input.specs.declared.search.MatchKind.TheVariants.{Standard}
 use Rattle.ac_input.specs.BeginningLaws.{IsBeginning}
 use Rattle.ac_input.specs.Dictionary.{whole}
@@ -17,10 +16,10 @@ use Rattle.ac_input.specs.Work.{shortest}
 use Rattle.ac_input.proofs.TextLemmas.{pick-occurs}
 use Rattle.ac_input.proofs.WalkLemmas.{pick-within}
 use Rattle.ac_automaton.specs.Automaton.{Built}
-use Rattle.ac_automaton.specs.Moved.{AreFilled, AreWhole, HasGiven, HasMoved, HasTaken, Moved, but_last}
+use Rattle.ac_automaton.specs.Moved.{AllFit, AreFilled, AreWhole, HasGiven, HasMoved, HasTaken, Moved, but_last}
 use Rattle.ac_automaton.specs.Output.{Sent, Stopped}
 use Rattle.ac_automaton.specs.Replace.{LieInOrder, matches_in}
-use Rattle.ac_automaton.specs.Stream.{CanBeCounted, HasRead, IsOnCourse, IsSearched, ReadsMore, Scanned, cut_of, fresh_scan, held_by, keep_of, matches_read, read_by}
+use Rattle.ac_automaton.specs.Stream.{CanBeCounted, HasRead, IsOnCourse, IsSearched, ReadsMore, Scanned, cut_of, fresh_scan, held_by, keep_of, matches_read, read_by, room_of}
 use Rattle.ac_automaton.specs.StreamReplace.{HasReplaced, IsAtCut, IsPlaced, IsReading, IsBegun, IsReplacedFront, ReplacedToFailedWrite, ReplacesStream, SendsTo, StopsSending, replaced_in, text_to}
 use Rattle.ac_automaton.specs.Watched.{IsOfWrite, inner_of, pieces_of, stalls_of, taken_of}
 use Rattle.ac_automaton.specs.declared.error.StreamError.{StreamError}
@@ -180,6 +179,10 @@ module _ {R : Type 0} (remaining : R → Option (List ℕ)) (s t : Scanned) (at 
 
 -- ---- from one read to the next
 
+-- no piece that was read is longer than the buffer
+pub pieces-fit : (b : Built) (t : Scanned) → t.built ≡ b → IsOnCourse t → AllFit (room_of b) t.pieces
+pieces-fit b t built course = subst (λ (c : Built). AllFit (room_of c) t.pieces) built course.short
+
 module _ {R W : Type 0} (remaining : R → Option (List ℕ)) (contents : W → Option (List ℕ)) (replacements : List (List ℕ)) (b : Built) where
   -- before the first read
   pub replaced-fresh : (reader : Watched R) (writer : Watched W) → IsOnCourse (fresh_scan b) → HasReplaced remaining contents replacements b (fresh_scan b) 0 reader reader writer writer
@@ -232,11 +235,12 @@ module _ {R W : Type 0} (remaining : R → Option (List ℕ)) (contents : W → 
         read.at ∙ h.place.searched ∙ ap length (sym same)
 
     -- the read failed
-    pub ends-failed_read : (error : _) → failed ≡ 1 → piece ≡ [] → ReplacesStream remaining contents b replacements r0 r1 w0 w (Err (Read error))
-    ends-failed_read error fails none =
+    pub ends-failed_read : (error : _) → IsOnCourse t → failed ≡ 1 → piece ≡ [] → ReplacesStream remaining contents b replacements r0 r1 w0 w (Err (Read error))
+    ends-failed_read error course fails none =
         let same : read_by t ≡ read_by s = read-same remaining s t at r r1 piece failed h.place read none in (
           record { pieces = t.pieces; failed_reads = failed; taken = text_to s replacements at; failed_writes = 0; stalled_writes = 0 },
           record { reader = given-more remaining s t r0 r r1 piece failed h.read read; writer = h.written },
+          pieces-fit b t (read.built ∙ h.built) course,
           record {
             written = subst (λ (x : List ℕ). IsReplacedFront b replacements x (text_to s replacements at)) (sym same) (front-at_cut b replacements s at h.built h.place);
             failed = (fails, refl, refl);
@@ -250,8 +254,9 @@ module _ {R W : Type 0} (remaining : R → Option (List ℕ)) (contents : W → 
         let of_built = subst (λ (c : Built). IsBeginning (text_to t replacements at) (replaced_in c replacements (read_by t))) (read.built ∙ h.built) begins_all in (
           record { pieces = t.pieces; failed_reads = failed; taken = text_to s replacements at; failed_writes = 0; stalled_writes = 0 },
           record { reader = given-more remaining s t r0 r r1 piece failed h.read read; writer = h.written },
+          pieces-fit b t (read.built ∙ h.built) course,
           record {
-            long = ⊎_elim (λ (more : 18446744073709551615 < length (read_by t)). more) (λ (few : length (read_by t) ≤ 18446744073709551615). absurd (long few)) (cases_lt 18446744073709551615 (length (read_by t)));
+            long = long;
             written = subst (λ (x : List ℕ). IsBeginning x (replaced_in b replacements (read_by t))) same-text of_built;
             failed = (fails, refl, refl);
           },
@@ -273,7 +278,7 @@ module _ {R W : Type 0} (remaining : R → Option (List ℕ)) (contents : W → 
 
     -- what is said of a write that failed
     failed-write : (bytes : List ℕ) (stalls : ℕ) → IsBeginning (text_to t replacements at ++ bytes) (replaced_in t.built replacements (read_by t)) → (stopped : Stopped contents w w1 [] bytes) → stalls_of w1 ≡ stalls_of w + stalls
-        → (m : Moved) × HasMoved remaining contents r0 r1 w0 w1 m × ReplacedToFailedWrite b replacements m stalls
+        → (m : Moved) × HasMoved remaining contents r0 r1 w0 w1 m × AllFit (room_of b) m.pieces × ReplacedToFailedWrite b replacements m stalls
     failed-write bytes stalls begin stopped stalled =
         let front = text_to t replacements at in
         let order : stopped.gained ++ stopped.lost ≡ bytes = stopped.order in
@@ -285,6 +290,7 @@ module _ {R W : Type 0} (remaining : R → Option (List ℕ)) (contents : W → 
         ∙ append_assoc (front ++ stopped.gained) stopped.lost begin.0 in (
           record { pieces = t.pieces; failed_reads = 0; taken = front ++ stopped.gained; failed_writes = 1; stalled_writes = stalls },
           record { reader = given; writer = taken-stopped contents w0 w w1 front bytes stalls stopped h.written stalled },
+          pieces-fit b t h.built h.placed.course,
           record { front = front; before = h.front; at_least = (stopped.gained, refl); at_most = (stopped.lost ++ begin.0, split); failed = (refl, refl, refl) },
         )
 
@@ -314,6 +320,7 @@ module _ {R W : Type 0} (remaining : R → Option (List ℕ)) (contents : W → 
         let text = text_to t replacements at ++ drop at (read_by t) in (
           record { pieces = t.pieces; failed_reads = 0; taken = text; failed_writes = 0; stalled_writes = 0 },
           record { reader = given; writer = taken-sent contents w0 w w1 (text_to t replacements at) (drop at (read_by t)) h.written sent },
+          pieces-fit b t h.built h.placed.course,
           record {
             whole = whole_input;
             written = rest-text all ∙ ap (λ (c : Built). replaced_in c replacements (read_by t)) h.built;
@@ -373,7 +380,7 @@ module _ {R W : Type 0} (remaining : R → Option (List ℕ)) (contents : W → 
   -- a read that failed, or with which there are more bytes than places
   pub read-stopped : (error : StreamError) → IsOnCourse t → ReadsMore remaining s t r r1 (Err error) → ReplacesStream remaining contents b replacements r0 r1 w0 w (Err error)
   read-stopped (Config error) course read = absurd read
-  read-stopped (Read error) course read = ends-failed_read remaining contents replacements b s t at r0 r r1 w0 w [] 1 h read error refl refl
+  read-stopped (Read error) course read = ends-failed_read remaining contents replacements b s t at r0 r r1 w0 w [] 1 h read error course refl refl
   read-stopped (Write error) course read = absurd read
   read-stopped WriteZero course read = absurd read
   read-stopped Memory course read = absurd read

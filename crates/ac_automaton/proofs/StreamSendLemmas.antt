@@ -1,21 +1,18 @@
 -- How the text of a stream is sent: a match after another, and then up to the cut.
-use Rattle.std.proofs.Common.{◌≡◌, ℕ, ◌+◌, ◌-◌, ◌<◌, ◌≤◌, max, List, [], ◌∷◌, ◌++◌, length, take, drop, get_or, Option, Some, None, slice_range, refl, sym, ap, ◌∙◌, subst, arith, append_assoc, Bor, map}
+use Rattle.std.proofs.Common.{◌≡◌, ℕ, ◌+◌, ◌-◌, ◌<◌, ◌≤◌, List, [], ◌∷◌, ◌++◌, length, take, drop, get_or, Option, Some, None, slice_range, refl, sym, ap, ◌∙◌, subst, arith, append_assoc, Bor, map}
 use Rattle.std.specs.List.{All, AllByRecursion, concat}
 use Rattle.std.proofs.lemmas.List.{append-nil, append_cancel_left, drop-drop, get_or-map}
 use Rattle.std.proofs.lemmas.List.Elements.{recursion_from_All}
 use Rattle.ac_input.specs.Occurrence.{Occurrence}
 use Rattle.ac_input.specs.BeginningLaws.{IsBeginning}
 use Rattle.ac_input.specs.Text.{replaced_from}
-use Rattle.ac_input.specs.declared.steps.Steps.{Steps}
 use Rattle.ac_automaton.specs.Automaton.{Built}
 use Rattle.ac_automaton.specs.Output.{Sent, Stopped}
 use Rattle.ac_automaton.specs.Replace.{LieInOrder, matches_in}
-use Rattle.ac_automaton.specs.Stream.{CanBeCounted, FindsHeld, IsDecided, IsHeldMatch, IsOnCourse, IsSearched, ReadsNothing, ScanCounts, Scanned, cut_of, held_by, keep_of, matches_read, read_by}
-use Rattle.ac_automaton.specs.StreamReplace.{IsAtCut, IsPlaced, SendsDecided, SendsTo, StopsSending, replaced_in, text_to}
-use Rattle.ac_automaton.specs.Watched.{IsOfWrite}
-use Rattle.ac_automaton.specs.declared.error.StreamError.{StreamError}
+use Rattle.ac_automaton.specs.Stream.{CanBeCounted, FindsHeld, IsDecided, IsOnCourse, IsSearched, ReadsNothing, Scanned, cut_of, held_by, keep_of, matches_read, read_by}
+use Rattle.ac_automaton.specs.StreamReplace.{IsPlaced, SendsDecided, SendsTo, StopsSending, replaced_in, text_to}
 use Rattle.ac_automaton.specs.declared.watched.Watched.{Watched}
-use Rattle.ac_automaton.proofs.OutputLemmas.{IsOfWrite-then, Sent-none, Sent-then, Stopped-then}
+use Rattle.ac_automaton.proofs.OutputLemmas.{Sent-none, Sent-then, Stopped-then}
 use Rattle.ac_automaton.proofs.ReplaceLemmas.{matches-lie}
 use Rattle.ac_automaton.proofs.StreamTextLemmas.{replaced-grows, replaced-push, replaced-split}
 
@@ -288,7 +285,3 @@ module _ {W : Type 0} (contents : W → Option (List ℕ)) (replacements : List 
         text = subst (λ (front : List ℕ). IsBeginning front (replaced_in s.built replacements (read_by s))) (plain-text s replacements at cut placed is ∙ ap (λ (t : List ℕ). text_to s replacements at ++ t) (sym plain)) begins_all;
         stopped = stopped;
       }
-
--- a sending that stopped after others is one that stopped, of a write
-pub kind-then : {W : Type 0} (contents : W → Option (List ℕ)) (old between new : Watched W) (held kept bytes : List ℕ) (error : StreamError) → Sent contents old between held kept bytes → IsOfWrite between new error → IsOfWrite old new error
-kind-then contents old between new held kept bytes error sent is = IsOfWrite-then old between new error sent.fine is

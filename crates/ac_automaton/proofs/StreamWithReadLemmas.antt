@@ -9,16 +9,16 @@ use Rattle.ac_input.specs.declared.search.Anchored.{Anchored}
 use Rattle.ac_input.specs.Occurrence.{Occurrence}
 use Rattle.ac_input.proofs.BeginningLemmas.{slice_range-append}
 use Rattle.ac_automaton.specs.Automaton.{Built}
-use Rattle.ac_automaton.specs.Moved.{AreFilled, HasGiven, HasTaken, but_last}
+use Rattle.ac_automaton.specs.Moved.{AllFit, AreFilled, HasGiven, HasTaken, but_last}
 use Rattle.ac_automaton.specs.Replace.{IsForMatches, matches_in}
-use Rattle.ac_automaton.specs.Stream.{CanBeCounted, CanStream, HasRead, IsOnCourse, ReadsMore, Scanned, cut_of, fresh_scan, keep_of, read_by}
+use Rattle.ac_automaton.specs.Stream.{CanBeCounted, CanStream, HasRead, IsOnCourse, ReadsMore, Scanned, cut_of, fresh_scan, keep_of, read_by, room_of}
 use Rattle.ac_automaton.specs.StreamReplace.{IsAtCut}
 use Rattle.ac_automaton.specs.StreamReplaceWith.{GoesOn, HasCome, HasReplacedWith, IsStreamFault, IsWriterChain, ReadsAndReplaces, RefusedByClosure, ReplacesStreamWith, StopsChain, StreamReplacer}
 use Rattle.ac_automaton.specs.Watched.{IsOfWrite, TookAll, TookFront, inner_of}
 use Rattle.ac_automaton.specs.declared.error.StreamError.{StreamError}
 use Rattle.ac_automaton.specs.declared.error.StreamError.TheVariants.{Config, Read, Write, WriteZero, Memory, Position}
 use Rattle.ac_automaton.specs.declared.watched.Watched.{Watched}
-use Rattle.ac_automaton.proofs.StreamReplaceLemmas.{AreFilled-push, before-last, given-all, given-more, given-none, place-within, placed-after, read-more, replaced-fresh, same-cut, same-lies}
+use Rattle.ac_automaton.proofs.StreamReplaceLemmas.{AreFilled-push, before-last, given-all, given-more, given-none, pieces-fit, place-within, placed-after, read-more, replaced-fresh, same-cut, same-lies}
 use Rattle.ac_automaton.proofs.StreamWithLemmas.{all-later, come-to, rest-left, write-stopped}
 use Rattle.ac_automaton.proofs.WriterChainLemmas.{HasTaken-from_all, HasTaken-none, chain-grows, chain-same}
 
@@ -61,6 +61,9 @@ module _ {F W : Type 0} (contents : W → Option (List ℕ)) (g : StreamReplacer
     given-read : HasGiven remaining r0 r1 t.pieces failed
     given-read = given-more remaining s t r0 r r1 piece failed h.read read
 
+    fit-read : IsOnCourse t → AllFit (room_of b) t.pieces
+    fit-read course = pieces-fit b t built-read course
+
     -- how far the chain has come
     has-come : IsOnCourse t → HasCome contents g b t.pieces first w0 w
     has-come course =
@@ -83,32 +86,34 @@ module _ {F W : Type 0} (contents : W → Option (List ℕ)) (g : StreamReplacer
         }
 
     -- the chain stopped
-    pub stops-with : (w1 : Watched W) (error : StreamError) → failed ≡ 0 → StopsChain contents g t at f w w1 error → ReadsAndReplaces contents g remaining b first r0 r1 w0 w1 (Err error)
-    stops-with w1 error fine stop =
+    pub stops-with : (w1 : Watched W) (error : StreamError) → IsOnCourse t → failed ≡ 0 → StopsChain contents g t at f w w1 error → ReadsAndReplaces contents g remaining b first r0 r1 w0 w1 (Err error)
+    stops-with w1 error course fine stop =
         let stopped = subst (λ (c : Built). RefusedByClosure contents g c t.pieces first w0 w1 error ⊎ IsStreamFault contents g c t.pieces 0 first w0 w1 error) built-read (stop.stops first w0 near-stays chain-stays) in (
           t.pieces,
           0,
           subst (HasGiven remaining r0 r1 t.pieces) fine given-read,
+          fit-read course,
           ⊎_elim (λ (refused : RefusedByClosure contents g b t.pieces first w0 w1 error). inl (refl, refused)) (λ (fault : IsStreamFault contents g b t.pieces 0 first w0 w1 error). inr fault) stopped,
         )
 
     -- the read failed
-    pub read-failed : (error : _) → IsOnCourse t → failed ≡ 1 → ReadsAndReplaces contents g remaining b first r0 r1 w0 w (Err (Read error))
-    read-failed error course fails = (t.pieces, failed, given-read, inr (fails, has-come course))
+    pub read-failed : (error : _) → IsOnCourse t → failed ≡ 1 → piece ≡ [] → ReadsAndReplaces contents g remaining b first r0 r1 w0 w (Err (Read error))
+    read-failed error course fails none = (t.pieces, failed, given-read, fit-read course, inr (fails, (s.pieces, h.filled, read.pieces ∙ ap (λ (bytes : List ℕ). s.pieces ++ bytes ∷ []) none), has-come course))
 
     -- the input is too long
     pub read-too_long : IsOnCourse t → failed ≡ 0 → ¬ CanBeCounted (read_by t) → ReadsAndReplaces contents g remaining b first r0 r1 w0 w (Err Position)
-    read-too_long course fine long = (t.pieces, failed, given-read, inr (fine, long, has-come course))
+    read-too_long course fine long = (t.pieces, failed, given-read, fit-read course, inr (fine, long, has-come course))
 
     -- nothing was read, and what is left was written
-    rest-passed : (w1 : Watched W) → failed ≡ 0 → piece ≡ [] → HasTaken contents w w1 (drop at (read_by t)) 0 0 → ReadsAndReplaces contents g remaining b first r0 r1 w0 w1 (Ok tt)
-    rest-passed w1 fine none taken =
+    rest-passed : (w1 : Watched W) → IsOnCourse t → failed ≡ 0 → piece ≡ [] → HasTaken contents w w1 (drop at (read_by t)) 0 0 → ReadsAndReplaces contents g remaining b first r0 r1 w0 w1 (Ok tt)
+    rest-passed w1 course fine none taken =
         let x = read_by t in
         let more = chain-grows contents g x (length t.built.dictionary.patterns) 0 t.given at (length x) first f w0 w w1 (same-lies remaining s t at r r1 piece failed h.place read) (omega arith) within-all chain-stays
         (subst (λ (bytes : List ℕ). HasTaken contents w w1 bytes 0 0) (sym (take_rest x at)) taken) in (
           t.pieces,
           failed,
           given-read,
+          fit-read course,
           (
             fine,
             record {
@@ -126,20 +131,20 @@ module _ {F W : Type 0} (contents : W → Option (List ℕ)) (g : StreamReplacer
         let x = read_by t in
         let fault = write-stopped contents g t at (length x) [] first f w0 w w1 bytes error (placed-after remaining s t at r r1 piece failed h.place read course countable) within-all (omega arith) (sym (given-all remaining s t at r r1 piece failed h.place read none) ∙ sym (append-nil t.given))
         (All-from_recursion (λ (o : Occurrence). length x ≤ o.start) [] tt) near-stays chain-stays (is ∙ sym (take_rest x at)) took kind in
-        (t.pieces, 0, subst (HasGiven remaining r0 r1 t.pieces) fine given-read, inr (subst (λ (c : Built). IsStreamFault contents g c t.pieces 0 first w0 w1 error) built-read fault))
+        (t.pieces, 0, subst (HasGiven remaining r0 r1 t.pieces) fine given-read, fit-read course, inr (subst (λ (c : Built). IsStreamFault contents g c t.pieces 0 first w0 w1 error) built-read fault))
 
     -- the same by the answer
     pub rest-answered : (w1 : Watched W) (bytes : List ℕ) (result : Result (Unit {0}) StreamError) → IsOnCourse t → CanBeCounted (read_by t) → failed ≡ 0 → piece ≡ [] → bytes ≡ drop at (read_by t)
         → OnOk result (TookAll w w1 bytes) → OnErr result (TookFront contents w w1 bytes) → IfErr result (IsOfWrite w w1) → OnOk result (Appends (contents (inner_of w)) (contents (inner_of w1)) bytes) → ReadsAndReplaces contents g remaining b first r0 r1 w0 w1 result
     rest-answered w1 bytes (Ok done) course countable fine none is all took kind device =
-        rest-passed w1 fine none (subst (λ (t : List ℕ). HasTaken contents w w1 t 0 0) is (HasTaken-from_all contents w w1 bytes all device))
+        rest-passed w1 course fine none (subst (λ (t : List ℕ). HasTaken contents w w1 t 0 0) is (HasTaken-from_all contents w w1 bytes all device))
     rest-answered w1 bytes (Err error) course countable fine none is all took kind device = rest-failed w1 bytes error course countable fine none is took kind
 
   -- a read that failed, or with which there are more bytes than places
   pub read-stopped-with : (s t : Scanned) (at : ℕ) (r0 r r1 : Watched R) (first f : F) (w0 w : Watched W) (error : StreamError) → HasReplacedWith contents g remaining b s at r0 r first f w0 w → IsOnCourse t → ReadsMore remaining s t r r1 (Err error)
       → ReadsAndReplaces contents g remaining b first r0 r1 w0 w (Err error)
   read-stopped-with s t at r0 r r1 first f w0 w (Config error) h course read = absurd read
-  read-stopped-with s t at r0 r r1 first f w0 w (Read error) h course read = read-failed s t at r0 r r1 first f w0 w [] 1 h read error course refl
+  read-stopped-with s t at r0 r r1 first f w0 w (Read error) h course read = read-failed s t at r0 r r1 first f w0 w [] 1 h read error course refl refl
   read-stopped-with s t at r0 r r1 first f w0 w (Write error) h course read = absurd read
   read-stopped-with s t at r0 r r1 first f w0 w WriteZero h course read = absurd read
   read-stopped-with s t at r0 r r1 first f w0 w Memory h course read = absurd read

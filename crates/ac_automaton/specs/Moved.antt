@@ -1,7 +1,7 @@
 -- What a call moved between two devices: what it read, what it wrote, and how often that failed.
-use Rattle.std.specs.Prelude.{◌≡◌, ◌≢◌, ℕ, ◌+◌, List, [], ◌∷◌, ◌++◌, Option}
+use Rattle.std.specs.Prelude.{◌≡◌, ◌≢◌, ℕ, ◌+◌, ◌≤◌, List, [], ◌∷◌, ◌++◌, length, Option}
 use Rattle.std.specs.Io.KnownBytes.{Appends, Consumes, IsAtEnd}
-use Rattle.std.specs.List.{concat}
+use Rattle.std.specs.List.{All, concat}
 use Rattle.ac_automaton.specs.Watched.{failures_of, stalls_of, pieces_of, taken_of, inner_of}
 use Rattle.ac_automaton.specs.declared.watched.Watched.{Watched}
 
@@ -13,6 +13,10 @@ AreFilled (piece ∷ pieces) = (piece ≢ []) × AreFilled pieces
 -- The pieces are those of an input that was read to its end: the last one is empty, and no other.
 abbrev pub AreWhole : List (List ℕ) → Type 0
 AreWhole pieces = (filled : List (List ℕ)) × AreFilled filled × (pieces ≡ filled ++ [] ∷ [])
+
+-- no piece is longer than there is room for
+abbrev pub AllFit : ℕ → List (List ℕ) → Type 0
+AllFit room pieces = All (λ piece. length piece ≤ room) pieces
 
 -- all pieces but the last
 abbrev pub but_last : List (List ℕ) → List (List ℕ)

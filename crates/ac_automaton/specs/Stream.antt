@@ -12,6 +12,7 @@ use Rattle.ac_input.specs.Steps.{Done}
 use Rattle.ac_input.specs.Work.{longest, shortest, lookups_per_byte}
 use Rattle.ac_automaton.specs.Automaton.{Built, refusal_of}
 use Rattle.ac_automaton.specs.Buffer.{kept_for, room_for}
+use Rattle.ac_automaton.specs.Moved.{AllFit}
 use Rattle.ac_automaton.specs.Replace.{matches_in}
 use Rattle.ac_automaton.specs.Watched.{pieces_of, has_ended, failures_of, inner_of, NoneTaken}
 use Rattle.ac_automaton.specs.declared.error.MatchErrorKind.{MatchErrorKind}
@@ -107,12 +108,14 @@ pub record IsWithinStreamBudget (s : Scanned) : Type 0 where
   pub scanned : s.scanned ≡ 0
   pub moved : 7 * s.moved ≤ length (read_by s)
 
--- What holds of a search wherever it stands. The matches that it gave are the first of those of what was read.
+-- What holds of a search wherever it stands. No read gave more than the buffer has room for. The matches that it gave are the
+-- first of those of what was read.
 pub record IsOnCourse (s : Scanned) : Type 0 where
   pub standard : s.built.dictionary.kind ≡ Standard
   pub filled : 1 ≤ shortest s.built.dictionary.patterns
   pub ordered : (s.last ≤ s.at) × (s.at ≤ length (read_by s))
   pub kept : (s.from ≤ cut_of s) × (s.from ≤ s.at) × (length (read_by s) ≤ s.from + room_of s.built)
+  pub short : AllFit (room_of s.built) s.pieces
   pub begun : IsBeginning s.given (matches_read s)
   pub decided : IsDecided s
   pub paid : IsWithinStreamBudget s

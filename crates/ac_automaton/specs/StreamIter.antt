@@ -2,9 +2,9 @@
 use Rattle.std.specs.Prelude.{◌≡◌, ◌≢◌, ◌⊎◌, ℕ, ◌+◌, ◌-◌, ◌<◌, ◌≤◌, true, false, List, [], ◌∷◌, ◌++◌, length, take, Option, None, Some, Result, Ok, Err}
 use Rattle.std.specs.Borrow.{Fml, GName, MutBor, RattleType, RestsIfErr}
 use Rattle.std.specs.Io.KnownBytes.{Consumes, IsAtEnd}
-use Rattle.std.specs.List.{All, concat}
+use Rattle.std.specs.List.{concat}
 use Rattle.ac_input.specs.Occurrence.{Occurrence}
-use Rattle.ac_automaton.specs.Moved.{AreFilled, AreWhole}
+use Rattle.ac_automaton.specs.Moved.{AllFit, AreFilled, AreWhole}
 use Rattle.ac_automaton.specs.Stream.{CanBeCounted, FindsHeld, HasRead, IsSearched, ReadsNothing, Scanned, matches_read, read_by, room_of}
 use Rattle.ac_automaton.specs.Watched.{pieces_of, has_ended, failures_of, inner_of, NoneTaken}
 use Rattle.ac_automaton.specs.contracts.watched.Watched.{the_row}
@@ -22,7 +22,7 @@ use Rattle.ac_automaton.specs.declared.watched.Watched.{Watched}
 pub record HasGained {R : Type 0} (remaining : R → Option (List ℕ)) (s t : Scanned) (before after : Watched R) (gained : List (List ℕ)) (failed : ℕ) : Type 0 where
   pub built : t.built ≡ s.built
   pub pieces : t.pieces ≡ s.pieces ++ gained
-  pub short : All (λ piece. length piece ≤ room_of s.built) gained
+  pub short : AllFit (room_of s.built) gained
   pub reader : pieces_of after ≡ pieces_of before ++ gained
   pub ended : AreFilled gained → has_ended after ≡ has_ended before
   pub failures : failures_of after ≡ failures_of before + failed

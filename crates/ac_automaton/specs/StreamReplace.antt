@@ -10,10 +10,10 @@ use Rattle.ac_input.specs.Steps.{looked_of, scanned_of, moved_of}
 use Rattle.ac_input.specs.Text.{replaced_from}
 use Rattle.ac_input.specs.Work.{lookups_per_byte}
 use Rattle.ac_automaton.specs.Automaton.{Built}
-use Rattle.ac_automaton.specs.Moved.{AreFilled, AreWhole, Failed, HasGiven, HasMoved, HasTaken, Moved, NoneTouched, but_last}
+use Rattle.ac_automaton.specs.Moved.{AllFit, AreFilled, AreWhole, Failed, HasGiven, HasMoved, HasTaken, Moved, NoneTouched, but_last}
 use Rattle.ac_automaton.specs.Output.{Sent, Stopped}
 use Rattle.ac_automaton.specs.Replace.{LieInOrder, matches_in, with_replaced}
-use Rattle.ac_automaton.specs.Stream.{CanBeCounted, CanStream, IsConfigRefusal, IsOnCourse, IsSearched, ReadsNothing, ScanCounts, Scanned, cut_of, keep_of, matches_read, read_by}
+use Rattle.ac_automaton.specs.Stream.{CanBeCounted, CanStream, IsConfigRefusal, IsOnCourse, IsSearched, ReadsNothing, ScanCounts, Scanned, cut_of, keep_of, matches_read, read_by, room_of}
 use Rattle.ac_automaton.specs.Watched.{IsOfWrite, has_ended, pieces_of}
 use Rattle.ac_automaton.specs.declared.error.StreamError.{StreamError}
 use Rattle.ac_automaton.specs.declared.error.StreamError.TheVariants.{Config, Read, Write, WriteZero, Memory, Position}
@@ -54,7 +54,7 @@ pub record ReplacedToFailedWrite (b : Built) (replacements : List (List ℕ)) (m
 
 -- The input is longer than places can be counted; a beginning of its text was written.
 pub record ReplacedOutOfPlaces (b : Built) (replacements : List (List ℕ)) (m : Moved) : Type 0 where
-  pub long : 18446744073709551615 < length (concat m.pieces)
+  pub long : ¬ CanBeCounted (concat m.pieces)
   pub written : IsBeginning m.taken (replaced_in b replacements (concat m.pieces))
   pub failed : Failed m 0 0 0
 
@@ -74,10 +74,10 @@ AnswersReplace b replacements m (Err WriteZero) = ReplacedToFailedWrite b replac
 AnswersReplace b replacements m (Err Memory) = MovedNothing m
 AnswersReplace b replacements m (Err Position) = ReplacedOutOfPlaces b replacements m
 
--- What a replacement over a stream read and wrote, and what it answered.
+-- What a replacement over a stream read, no piece longer than the buffer, and wrote, and what it answered.
 abbrev pub ReplacesStream : {R W : Type 0} → (R → Option (List ℕ)) → (W → Option (List ℕ)) → Built → List (List ℕ) → Watched R → Watched R → Watched W → Watched W → Result (Unit {0}) StreamError → Type 0
 ReplacesStream remaining contents b replacements reader_before reader_after writer_before writer_after result =
-    (m : Moved) × HasMoved remaining contents reader_before reader_after writer_before writer_after m × AnswersReplace b replacements m result
+    (m : Moved) × HasMoved remaining contents reader_before reader_after writer_before writer_after m × AllFit (room_of b) m.pieces × AnswersReplace b replacements m result
 
 -- An error that is of no device says why the replacement did not begin, and both devices are as they were; with any other the
 -- search was accepted.

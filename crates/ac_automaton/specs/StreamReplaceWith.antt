@@ -5,9 +5,9 @@ use Rattle.ac_input.specs.declared.search.Anchored.{Anchored}
 use Rattle.ac_input.specs.Cut.{IsCut}
 use Rattle.ac_input.specs.Occurrence.{Occurrence}
 use Rattle.ac_automaton.specs.Automaton.{Built}
-use Rattle.ac_automaton.specs.Moved.{AreFilled, AreWhole, HasGiven, HasTaken, NoneTouched, but_last}
+use Rattle.ac_automaton.specs.Moved.{AllFit, AreFilled, AreWhole, HasGiven, HasTaken, NoneTouched, but_last}
 use Rattle.ac_automaton.specs.Replace.{IsForMatches, Replacer, RepliesAt, matches_in}
-use Rattle.ac_automaton.specs.Stream.{CanBeCounted, CanStream, IsSearched, IsStreamRefusal, ReadsNothing, Scanned, keep_of, matches_read, read_by}
+use Rattle.ac_automaton.specs.Stream.{CanBeCounted, CanStream, IsSearched, IsStreamRefusal, ReadsNothing, Scanned, keep_of, matches_read, read_by, room_of}
 use Rattle.ac_automaton.specs.StreamReplace.{IsAtCut, IsPlaced}
 use Rattle.ac_automaton.specs.declared.error.StreamError.{StreamError}
 use Rattle.ac_automaton.specs.declared.error.StreamError.TheVariants.{Config, Read, Write, WriteZero, Memory, Position}
@@ -78,7 +78,7 @@ module _ {F W : Type 0} (contents : W → Option (List ℕ)) (g : StreamReplacer
   -- a fault that is not the closure's: how many reads failed, and how far the chain came
   abbrev pub IsStreamFault : Built → List (List ℕ) → ℕ → F → Watched W → Watched W → StreamError → Type 0
   IsStreamFault b pieces failed f old new (Config error) = ⊥
-  IsStreamFault b pieces failed f old new (Read error) = (failed ≡ 1) × HasCome b pieces f old new
+  IsStreamFault b pieces failed f old new (Read error) = (failed ≡ 1) × AreWhole pieces × HasCome b pieces f old new
   IsStreamFault b pieces failed f old new (Write error) = (failed ≡ 0) × StoppedAtWrite b pieces f old new 0
   IsStreamFault b pieces failed f old new WriteZero = (failed ≡ 0) × StoppedAtWrite b pieces f old new 1
   IsStreamFault b pieces failed f old new Memory = ⊥
@@ -90,10 +90,10 @@ module _ {F W : Type 0} (contents : W → Option (List ℕ)) (g : StreamReplacer
   AnswersReplaceWith b pieces failed f old new (Err error) = ((failed ≡ 0) × RefusedByClosure b pieces f old new error) ⊎ IsStreamFault b pieces failed f old new error
 
   module _ {R : Type 0} (remaining : R → Option (List ℕ)) where
-    -- what was read of a stream, and what the closure made of it
+    -- what was read of a stream, no piece longer than the buffer, and what the closure made of it
     abbrev pub ReadsAndReplaces : Built → F → Watched R → Watched R → Watched W → Watched W → Result (Unit {0}) StreamError → Type 0
     ReadsAndReplaces b f reader_before reader_after writer_before writer_after result =
-        (pieces : List (List ℕ)) × (failed : ℕ) × HasGiven remaining reader_before reader_after pieces failed × AnswersReplaceWith b pieces failed f writer_before writer_after result
+        (pieces : List (List ℕ)) × (failed : ℕ) × HasGiven remaining reader_before reader_after pieces failed × AllFit (room_of b) pieces × AnswersReplaceWith b pieces failed f writer_before writer_after result
 
     -- The answer of a replacement: it was refused before anything happened; or it was accepted, and the chain says how far it came.
     abbrev pub ReplacesStreamWith : Built → (Anchored → Type 0) → F → Watched R → Watched R → Watched W → Watched W → Result (Unit {0}) StreamError → Type 0

@@ -29,10 +29,6 @@ has_ended watched = watched.ended
 abbrev pub inner_of : {T : Type 0} → Watched T → T
 inner_of watched = watched.inner
 
--- nothing happened in between
-abbrev pub IsUntouched : {T : Type 0} → Watched T → Watched T → Type 0
-IsUntouched old new = new ≡ old
-
 -- nothing happened yet
 pub record IsFresh {T : Type 0} (watched : Watched T) : Type 0 where
   pub failures : failures_of watched ≡ 0

@@ -458,8 +458,8 @@ pub trait Automaton {
     }
 
     /// Writes what is read with each match exchanged for the replacement of its pattern, of which there is one for each pattern. The
-    /// input ends at its first empty read. Before each read everything is written that no later byte can change, so at most as many
-    /// bytes are kept back as the longest pattern has, and one at least. The writer isn't flushed.
+    /// input ends at its first empty read. Before each read all is written but the last bytes, of which at most as many are kept back
+    /// as the longest pattern has, or one where there is no pattern. The writer isn't flushed.
     ///
     /// It is refused where a stream can't be searched, and where there is no memory for its two buffers; the reader and the writer
     /// are then as they were, and no memory is asked for after that. Where a read or a write fails, nothing is tried again.
@@ -483,8 +483,8 @@ pub trait Automaton {
         self.try_stream_replace_all_counted(alloc, reader, writer, replacements, &mut steps)
     }
 
-    /// The same, and counts what it does: it looks at least at one state for each byte, and at two at most on the whole, and moves a
-    /// seventh of the bytes at most within its buffer.
+    /// The same, and counts what it does. On the whole it looks at two states at most for each byte that it reads, and moves a seventh
+    /// of the bytes at most within its buffer; where it comes to the end it has looked at one state at least for each.
     final fn try_stream_replace_all_counted<R: Read, W: Write>(
         &self,
         alloc: Global,

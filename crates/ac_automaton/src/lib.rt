@@ -7,6 +7,7 @@ mod cursor;
 pub mod error;
 mod find;
 pub mod iter;
+pub mod output;
 pub mod overlapping;
 mod replace;
 pub mod stream;

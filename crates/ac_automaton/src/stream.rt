@@ -16,7 +16,6 @@ ghost use Rattle.ac_automaton.specs.Stream.{CanStream, FindsHeld, IsOnCourse, Is
 ghost use Rattle.ac_automaton.specs.StreamIter.{NextGives, RestsIfRefused, StaysStopped, TurnGives, progress_of, reader_name, reader_of};
 ghost use Rattle.ac_automaton.specs.Watched.{has_ended};
 
-mod output;
 pub(crate) mod replace;
 pub(crate) mod replace_with;
 mod scan;

@@ -1,10 +1,10 @@
 -- The numbers of the states of the automaton.
 use Rattle.std.proofs.Common.{◌≡◌, ◌≢◌, ℕ, ◌+◌, ◌<◌, ◌≤◌, List, length, sym, ap, subst, ◌∙◌, ⊎_elim, arith, slice_index, slice_set, get_or-set_same, get_or-set_other}
 use Rattle.std.proofs.lemmas.Bool.{cases_eq}
-use Rattle.ac_noncontiguous.specs.Numbering.{AreFirst}
+use Rattle.ac_noncontiguous.specs.Numbering.{AreFirstNumbers}
 
 -- past the last state there is none
-pub first-none : (at of : List ℕ) (from : ℕ) → length at ≤ from → AreFirst at from of
+pub first-none : (at of : List ℕ) (from : ℕ) → length at ≤ from → AreFirstNumbers at from of
 first-none at of from past =
     record {
       back = λ j after within. absurd (omega arith);
@@ -12,7 +12,7 @@ first-none at of from past =
     }
 
 -- one state more
-pub first-more : (at of : List ℕ) (from : ℕ) → from < length at → slice_index at from < length of → AreFirst at (from + 1) of → AreFirst at from (slice_set of (slice_index at from) from)
+pub first-more : (at of : List ℕ) (from : ℕ) → from < length at → slice_index at from < length of → AreFirstNumbers at (from + 1) of → AreFirstNumbers at from (slice_set of (slice_index at from) from)
 first-more at of from within room f =
     let i = slice_index at from in
     let new = slice_set of i from in
@@ -41,7 +41,7 @@ first-more at of from within room f =
     }
 
 -- so it is written
-pub first-set : (at of : List ℕ) (from i number : ℕ) → from < length at → i < length of → i ≡ slice_index at from → number ≡ from → AreFirst at (from + 1) of → AreFirst at from (slice_set of i number)
+pub first-set : (at of : List ℕ) (from i number : ℕ) → from < length at → i < length of → i ≡ slice_index at from → number ≡ from → AreFirstNumbers at (from + 1) of → AreFirstNumbers at from (slice_set of i number)
 first-set at of from i number within room read is f =
     let h = first-more at of from within (omega arith) f in
-    subst (λ (k : ℕ). AreFirst at from (slice_set of k number)) (sym read) (subst (λ (n : ℕ). AreFirst at from (slice_set of (slice_index at from) n)) (sym is) h)
+    subst (λ (k : ℕ). AreFirstNumbers at from (slice_set of k number)) (sym read) (subst (λ (n : ℕ). AreFirstNumbers at from (slice_set of (slice_index at from) n)) (sym is) h)

@@ -16,7 +16,7 @@ use Rattle.ac_noncontiguous.specs.declared.trie.State.{State}
 use Rattle.ac_noncontiguous.specs.declared.compiler.numbering.Places.{Places}
 use Rattle.ac_noncontiguous.specs.Tree.{IsTree, depth}
 use Rattle.ac_noncontiguous.specs.Order.{ComesBefore, IsBreadthFirst}
-use Rattle.ac_noncontiguous.specs.Numbering.{range_len, is_chosen, chosen, numbered, AreListed, ArePlaces, AreFirst, AreNumbers, IsLastMatch}
+use Rattle.ac_noncontiguous.specs.Numbering.{range_len, is_chosen, chosen, numbered, AreListed, ArePlaces, AreFirstNumbers, AreNumbers, IsLastMatch}
 use Rattle.ac_noncontiguous.proofs.OrderLemmas.{index-last}
 
 -- ---- the order
@@ -45,6 +45,23 @@ order-short states order b =
     let here : slice_index order c.0 ≡ x = get_or_default order c.0 0 x c.1 ∙ c.2 in
     let small : x < n = omega (arith, b.within c.0 c.1) in
     (x, omega (arith, length-range_with_len 0 n), get_or-range_with_len 0 n x x small ∙ omega arith)) in
+    omega (arith, length-range_with_len 0 n)
+
+-- the numbers below one are all different
+range-distinct : (n : ℕ) → IsDistinct (range_with_len 0 n)
+range-distinct n =
+    let at : (k : ℕ) → k < n → slice_index (range_with_len 0 n) k ≡ k = λ k lt. get_or-range_with_len 0 n k 0 lt ∙ omega arith in
+    distinct-from (range_with_len 0 n) (λ j k lt within same. let a = at j (omega (arith, length-range_with_len 0 n)) in let b = at k (omega (arith, length-range_with_len 0 n)) in omega arith)
+
+-- all states are in order
+pub order-long : (states : List State) (order : List ℕ) → IsBreadthFirst states order → length states ≤ length order
+order-long states order b =
+    let n = length states in
+    let h = distinct-shorter (range_with_len 0 n) order (range-distinct n)
+    (λ x c.
+    let small : c.0 < n = omega (arith, c.1, length-range_with_len 0 n) in
+    let here : x ≡ c.0 = sym c.2 ∙ (get_or-range_with_len 0 n c.0 x small ∙ omega arith) in
+    b.all x (omega arith)) in
     omega (arith, length-range_with_len 0 n)
 
 -- the start comes first, and it is no other place
@@ -207,7 +224,7 @@ places-listed states ranges order places tree b listed =
     let in_first : (x : ℕ) → Contains first x → (0 < x) × (x < length states) = λ x c. (among x).0 (Contains-from_filter (is_chosen ranges true) rest x c).0 in
     let in_second : (x : ℕ) → Contains second x → (0 < x) × (x < length states) = λ x c. (among x).0 (Contains-from_filter (is_chosen ranges false) rest x c).0 in
     let made : ArePlaces (length states) at (length first + 2) = record {
-      few = omega (arith, length-drop 1 order, order-short states order b, (order-start states order tree b).0);
+      counted = omega (arith, length-drop 1 order, order-short states order b, order-long states order b, (order-start states order tree b).0);
       starts = (omega arith, omega arith, (numbered-starts first second).0, let e : length first + 2 + 1 ≡ length first + 3 = omega arith in ap (slice_index at) e ∙ (numbered-starts first second).1);
       others = λ j past within none.
           numbered-each first second (λ k x. 1 < k → x ≡ 0 → (k ≡ length first + 2) ⊎ (k ≡ length first + 2 + 1))
@@ -276,7 +293,7 @@ last-listed ranges order places max listed matching none_there =
     }
 
 -- the numbers of the trie states
-pub numbers-first : (states : ℕ) (at of : List ℕ) (start : ℕ) → 0 < states → ArePlaces states at start → length of ≡ states → AreFirst at 2 of → AreNumbers states at of start
+pub numbers-first : (states : ℕ) (at of : List ℕ) (start : ℕ) → 0 < states → ArePlaces states at start → length of ≡ states → AreFirstNumbers at 2 of → AreNumbers states at of start
 numbers-first states at of start some p counted f =
     record {
       counted = counted;

@@ -1,19 +1,20 @@
 -- What the read calls take from the tables.
-use Rattle.std.proofs.Common.{◌≡◌, ℕ, ◌+◌, ◌-◌, ◌<◌, ◌≤◌, map, List, length, take, drop, get_or, slice_get, Some, sym, ap, subst, ◌∙◌, arith, length-drop}
+use Rattle.std.proofs.Common.{◌≡◌, ℕ, zero, suc, ◌+◌, ◌-◌, ◌<◌, ◌≤◌, map, List, [], ◌∷◌, ◌++◌, length, take, drop, get_or, slice_get, Some, refl, sym, ap, subst, ◌∙◌, inl, inr, ⊎_elim, arith, length-drop}
 use Rattle.std.specs.Coded.{le_prop}
 use Rattle.std.proofs.Math.Logic.{∥∥₁_elim, ∥∥₁_map}
-use Rattle.std.proofs.lemmas.List.{length-take-le, get_or-take, get_or-drop, length-map}
+use Rattle.std.proofs.lemmas.List.{nil_from_length, length-take-le, get_or-take, get_or-drop, length-map}
 use Rattle.std.proofs.lemmas.Option.{slice_get_within, slice_get-get_or, slice_get-map, same_Some}
 use Rattle.std.specs.Prelude.{option_map}
-use Rattle.ac_input.specs.Dictionary.{Dictionary}
+use Rattle.ac_input.specs.Dictionary.{Dictionary, BeginsEntered}
+use Rattle.ac_input.specs.Limits.{HasStates}
 use Rattle.ac_noncontiguous.specs.declared.nfa.NFA.{NFA}
 use Rattle.ac_noncontiguous.specs.declared.nfa.tables.State.{State}
 use Rattle.ac_noncontiguous.specs.declared.nfa.tables.Transition.{Transition}
 use Rattle.ac_noncontiguous.specs.declared.nfa.tables.Tables.{Tables}
-use Rattle.ac_noncontiguous.specs.Nfa.{transitions_from, matches_from, matches_len, no_transition, byte_at, next_at, edge_of, IsEdge, AreTexts, AreTransitions, AreRows, AreFailures, AreLists, AreTablesOf}
+use Rattle.ac_noncontiguous.specs.Nfa.{transitions_from, matches_from, matches_len, no_transition, byte_at, next_at, edge_of, IsEdge, AreTexts, AreTransitions, AreRows, AreFailures, AreLists, AreTablesOf, last_special}
 use Rattle.ac_noncontiguous.specs.Lookups.{IsKept, AreSame}
-use Rattle.ac_noncontiguous.specs.Reads.{dictionary}
-use Rattle.ac_noncontiguous.specs.ReadCalls.{state_len, edges_in, StandFor, AreEdges, EdgesLeadIn}
+use Rattle.ac_noncontiguous.specs.Reads.{dictionary, matches_at}
+use Rattle.ac_noncontiguous.specs.ReadCalls.{state_len, fail_in, edges_in, special_in, CountsIn, StandFor, TextsBegin, FailsIn, AreEdges, EdgesLeadIn, SpecialIn}
 use Rattle.ac_noncontiguous.proofs.LookupLemmas.{range-within}
 
 -- a number below the count of states is that of one
@@ -75,10 +76,87 @@ edges-tables nfa text sid t below =
           let less = t.transitions.rising sid (from + j) (from + k) sid_in (omega arith, omega (arith, e.0, up)) (omega arith, omega (arith, f.0, up)) (omega (arith, lt)) in
           omega (arith, less, e.1, f.1);
       all = λ whole. let every = t.transitions.all sid whole in let long = edges-long ts from n within in omega (arith, every, long);
+      none = λ is_fail.
+          let none : transitions_from states (sid + 1) ≡ transitions_from states sid = ap (λ (i : ℕ). transitions_from states (i + 1)) is_fail ∙ (t.transitions.none ∙ ap (transitions_from states) (sym is_fail)) in
+          nil_from_length (edges_in nfa sid) (edges-long ts from n within ∙ omega (arith, none));
+      longer = λ k byte next past not_full is.
+          let e = edge-is ts from n k byte next within is in
+          let place : (from ≤ from + k) × (from + k < transitions_from states (sid + 1)) = (omega arith, omega (arith, e.0, up)) in
+          let begins = t.transitions.longer sid (from + k) past sid_in (λ is_start. not_full (inr (inl is_start))) (λ is_next. not_full (inr (inr is_next))) place in
+          let edge = t.transitions.edges sid (from + k) sid_in place in
+          let child = edge.1.child past begins in
+          (omega (arith, child.0, e.2), subst (λ (b : ℕ). BeginsEntered (dictionary nfa) (text sid ++ b ∷ [])) e.1 begins);
     }
 
 pub edges-lead : (nfa : NFA) (sid : ℕ) → sid < state_len nfa → EdgesLeadIn nfa sid
 edges-lead nfa sid below = λ text t. edges-tables nfa text sid t below
+
+-- ---- texts
+
+pub texts-begin : (nfa : NFA) → TextsBegin nfa
+texts-begin nfa text t sid past below = t.texts.begin sid past (omega (arith, t.counted, below))
+
+-- ---- failures
+
+-- two numbers are below two
+below-two : (P : ℕ → Type 0) (sid : ℕ) → P 0 → P 1 → sid < 2 → P sid
+below-two P zero zeroth one small = zeroth
+below-two P (suc zero) zeroth one small = one
+below-two P (suc (suc i)) zeroth one small = absurd (omega arith)
+
+-- the state to which one fails
+pub fails-in : (nfa : NFA) (sid : ℕ) → sid < state_len nfa → FailsIn nfa sid (fail_in nfa sid)
+fails-in nfa sid below text t =
+    let within : sid < t.len = omega (arith, t.counted, below) in
+    let w = t.failures.within sid within in
+    record {
+      within = omega (arith, w.0, t.counted);
+      stands = w.1;
+      unanchored = w.2;
+      dead = below-two (λ i. fail_in nfa i ≡ 0) sid t.failures.none.0 t.failures.none.1;
+      fails = λ past. t.failures.fails sid past within;
+    }
+
+-- ---- how many states there are
+
+pub counts-in : (nfa : NFA) (states : ℕ) → states ≡ state_len nfa → CountsIn nfa states
+counts-in nfa states is =
+    ∥∥₁_map nfa.stands (λ w.
+    let counted : w.1.len ≡ states = omega (arith, w.1.counted, is) in
+    subst (HasStates (dictionary nfa)) counted w.1.has)
+
+-- ---- the numbers between the parts of the states
+
+-- how many patterns match at a state
+matches-long : (nfa : NFA) (text : ℕ → List ℕ) (sid : ℕ) → (t : StandFor nfa text) → sid < t.len → length (matches_at nfa sid) ≡ matches_len nfa.tables.states.items sid
+matches-long nfa text sid t within =
+    let all = nfa.tables.matches.items in
+    let from = matches_from nfa.tables.states.items sid in
+    let len = matches_len nfa.tables.states.items sid in
+    length-take-le len (drop from all) (omega (arith, t.lists.ranges sid within, length-drop from all))
+
+pub special-in : (nfa : NFA) → SpecialIn nfa (special_in nfa)
+special-in nfa text t =
+    let start = nfa.tables.start in
+    let p = t.texts.starts in
+    let counted = t.counted in
+    let kept : (sid : ℕ) → sid < state_len nfa → sid < t.len = λ sid below. omega (arith, counted) in
+    record {
+      past = p.0;
+      next = refl;
+      within = omega (arith, p.1, counted);
+      empty = λ sid past below. (
+        (λ none. t.texts.others sid past (kept sid below) none),
+        (λ start. ⊎_elim (λ one. ap text one ∙ p.2) (λ next. ap text next ∙ p.3) start),
+      );
+      matching = λ sid past below.
+          let long = matches-long nfa text sid t (kept sid below) in
+          let some = t.lists.some sid past (kept sid below) in
+          ((λ has. some.0 (omega (arith, long))), (λ low. omega (arith, long, some.1 low)));
+      last_match = t.lists.greatest;
+      without_prefilter = λ none. nfa.special ∙ ap (last_special nfa.tables) none;
+      with_prefilter = λ f held. nfa.special ∙ ap (last_special nfa.tables) held;
+    }
 
 -- ---- copies
 
@@ -93,6 +171,7 @@ same-tables m old new e h =
         len = t.len;
         counted = ap length e.states ∙ t.counted;
         few = t.few;
+        has = t.has;
         texts = subst (λ (s : ℕ). AreTexts m t.len s text) (sym e.start) t.texts;
         transitions =
             subst (λ (s : ℕ). AreTransitions m t.len s text new.states.items new.transitions.items) (sym e.start)

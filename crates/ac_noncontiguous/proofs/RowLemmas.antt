@@ -8,7 +8,7 @@ use Rattle.ac_noncontiguous.specs.declared.trie.Trie.{Trie}
 use Rattle.ac_noncontiguous.specs.declared.compiler.numbering.Numbering.{Numbering}
 use Rattle.ac_noncontiguous.specs.Tree.{byte}
 use Rattle.ac_noncontiguous.specs.Entering.{HasNoChild}
-use Rattle.ac_noncontiguous.specs.Edges.{IsEdgeTo, AreEdges}
+use Rattle.ac_noncontiguous.specs.Edges.{IsEdgeTo, AreEdgesTo}
 use Rattle.ac_noncontiguous.specs.Layout.{IsParted, IsAlone, AreParted, AreAlone, LeadAlike, KeepsRows, IsRowAppended, IsRowAt, IsRowOf, AreRowsOf}
 use Rattle.ac_noncontiguous.proofs.OrderLemmas.{index-kept, index-last}
 
@@ -99,7 +99,7 @@ alike-none trie classes of x y alone ne small y_small same c some within above i
     (cases_lt x (other trie.pairing x + 1))
 
 -- bytes of one class lead to one state
-pub lead-alike : (trie : Trie) (numbering : Numbering) (back i : ℕ) (classes edges : List ℕ) → AreAlone trie classes → i ≢ 1 → AreEdges trie numbering back i edges → LeadAlike classes edges
+pub lead-alike : (trie : Trie) (numbering : Numbering) (back i : ℕ) (classes edges : List ℕ) → AreAlone trie classes → i ≢ 1 → AreEdgesTo trie numbering back i edges → LeadAlike classes edges
 lead-alike trie numbering back i classes edges alone not_fail e b c b_small c_small same =
     ⊎_elim
     (λ (equal : b ≡ c). ap (slice_index edges) equal)
@@ -150,7 +150,7 @@ row-more classes edges old new b at next alike small is_at is_next room h =
     }
 
 -- the row of a state
-pub row-of : (trie : Trie) (numbering : Numbering) (back i row : ℕ) (classes edges old new : List ℕ) → row ≡ length old → AreEdges trie numbering back i edges → IsRowAppended classes edges 256 old new → IsRowOf trie numbering back classes i row old new
+pub row-of : (trie : Trie) (numbering : Numbering) (back i row : ℕ) (classes edges old new : List ℕ) → row ≡ length old → AreEdgesTo trie numbering back i edges → IsRowAppended classes edges 256 old new → IsRowOf trie numbering back classes i row old new
 row-of trie numbering back i row classes edges old new is e h =
     subst (λ (n : ℕ). IsRowOf trie numbering back classes i n old new) (sym is)
     (record {

@@ -49,8 +49,8 @@ abbrev pub IsBack : MatchKind → List Range → ℕ → ℕ → Type 0
 IsBack kind ranges start back = ((kind ≢ Standard) × (0 < range_len ranges 0) × (back ≡ 0)) ⊎ ((kind ≢ Standard → range_len ranges 0 ≡ 0) × (back ≡ start))
 
 -- The tables are those of the automaton of any dictionary for which the trie and the links stand.
-abbrev pub StandFor : Trie → Links → Tables → Type 0
-StandFor trie links tables = (m : Dictionary) → IsTrieOf m trie → AreLinks m trie.states.items links → (text : ℕ → List ℕ) × AreTables m text tables
+abbrev pub AreTablesFor : Trie → Links → Tables → Type 0
+AreTablesFor trie links tables = (m : Dictionary) → IsTrieOf m trie → AreLinks m trie.states.items links → (text : ℕ → List ℕ) × AreTables m text tables
 
 -- The classes of the tables are those of the bytes of any dictionary for which the trie stands.
 abbrev pub AreClassedFor : Trie → Tables → Type 0

@@ -36,5 +36,5 @@ pub record IsEdgeTo (trie : Trie) (numbering : Numbering) (back i b next : ℕ) 
   pub cases : 1 < i → (next ≡ missing numbering.start back i) ⊎ ((c : ℕ) × IsChildFor trie.states.items (slice_index numbering.at.items i) (canonical trie.pairing b) c)
 
 -- where each byte leads from a state
-abbrev pub AreEdges : Trie → Numbering → ℕ → ℕ → List ℕ → Type 0
-AreEdges trie numbering back i edges = (b : ℕ) → b < 256 → IsEdgeTo trie numbering back i b (slice_index edges b)
+abbrev pub AreEdgesTo : Trie → Numbering → ℕ → ℕ → List ℕ → Type 0
+AreEdgesTo trie numbering back i edges = (b : ℕ) → b < 256 → IsEdgeTo trie numbering back i b (slice_index edges b)

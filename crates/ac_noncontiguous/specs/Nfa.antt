@@ -6,7 +6,7 @@ use Rattle.ac_input.specs.Candidate.{Filter}
 use Rattle.ac_input.specs.Dictionary.{Dictionary, IsEntered, BeginsEntered}
 use Rattle.ac_input.specs.Same.{same}
 use Rattle.ac_input.specs.Failure.{IsList}
-use Rattle.ac_input.specs.Limits.{greatest}
+use Rattle.ac_input.specs.Limits.{greatest, HasStates}
 use Rattle.ac_input.specs.LiveLaws.{canonical}
 use Rattle.ac_input.specs.States.{LeadsTo, FailsTo}
 use Rattle.ac_noncontiguous.specs.declared.nfa.tables.State.{State}
@@ -139,6 +139,7 @@ pub record AreTables (m : Dictionary) (text : ℕ → List ℕ) (tables : Tables
   pub len : ℕ
   pub counted : length tables.states.items ≡ len + 1
   pub few : len ≤ 2147483647
+  pub has : HasStates m len
   pub texts : AreTexts m len tables.start text
   pub transitions : AreTransitions m len tables.start text tables.states.items tables.transitions.items
   pub rows : AreRows m len tables.start text tables.states.items tables.classes tables.rows.items

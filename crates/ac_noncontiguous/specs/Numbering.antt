@@ -37,14 +37,14 @@ pub record AreListed (ranges : List Range) (states : List ℕ) (places : Places)
 
 -- Each state but the first two stands for a trie state: both starts for the trie's start, and no other one does.
 pub record ArePlaces (states : ℕ) (at : List ℕ) (start : ℕ) : Type 0 where
-  pub few : length at ≤ states + 3
+  pub counted : length at ≡ states + 3
   pub starts : (1 < start) × (start + 1 < length at) × (slice_index at start ≡ 0) × (slice_index at (start + 1) ≡ 0)
   pub others : (j : ℕ) → 1 < j → j < length at → slice_index at j ≡ 0 → (j ≡ start) ⊎ (j ≡ start + 1)
   pub within : (j : ℕ) → j < length at → slice_index at j < states
   pub all : (i : ℕ) → i < states → (j : ℕ) × (1 < j) × (j < length at) × (slice_index at j ≡ i)
 
 -- each trie state for which a state stands, from a state on, has the first number of those that stand for it
-pub record AreFirst (at : List ℕ) (from : ℕ) (of : List ℕ) : Type 0 where
+pub record AreFirstNumbers (at : List ℕ) (from : ℕ) (of : List ℕ) : Type 0 where
   pub back : (j : ℕ) → from ≤ j → j < length at → slice_index at (slice_index of (slice_index at j)) ≡ slice_index at j
   pub least : (j : ℕ) → from ≤ j → j < length at → (from ≤ slice_index of (slice_index at j)) × (slice_index of (slice_index at j) ≤ j)
 

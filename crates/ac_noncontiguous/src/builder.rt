@@ -169,8 +169,9 @@ impl Builder {
     /// The automaton of the patterns, which are numbered from 0 in this order.
     ///
     /// It is refused where there are more than 2147483647 patterns, where one has more than 2147483646 bytes, where more than
-    /// 2147483647 states would be wanted (four, and one for each different beginning of a pattern), and where memory ends; and
-    /// only then. Where several limits are passed, the first pattern that passes one decides.
+    /// 2147483647 states would be wanted (four, and one for each different beginning, of a byte or more, of the patterns that are
+    /// entered; a byte and its partner count as one), and where memory ends; and only then. Where several limits are passed, the
+    /// first pattern that passes one decides.
     pub fn build(&self, alloc: Global, patterns: &[&[u8]]) -> Result<NFA, BuildError>
         ensures built { IfOk result (λ nfa. IsBuiltBy self.now
             (dictionary_by self.now patterns.now) (built_as nfa)) }

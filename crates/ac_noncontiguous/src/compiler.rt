@@ -6,7 +6,7 @@
 ghost use Rattle.std.specs.Prelude.{◌≡◌, ◌<◌, length, IfOk};
 ghost use Rattle.ac_noncontiguous.specs.Order.{IsBreadthFirst};
 ghost use Rattle.ac_noncontiguous.specs.Numbering.{FitsTrie};
-ghost use Rattle.ac_noncontiguous.specs.Assembly.{IsBack, StandFor, AreClassedFor};
+ghost use Rattle.ac_noncontiguous.specs.Assembly.{IsBack, AreTablesFor, AreClassedFor};
 
 mod edges;
 mod numbering;
@@ -51,7 +51,7 @@ impl Tables {
     ) -> Result<Tables, AllocError>
         requires order { IsBreadthFirst trie.now.states.items order.now }
         requires links { FitsTrie (length trie.now.states.items) links }
-        ensures stands { IfOk result (StandFor trie.now links) }
+        ensures stands { IfOk result (AreTablesFor trie.now links) }
         ensures classed { IfOk result (AreClassedFor trie.now) }
     {
         canonical_bytes_tell_texts();

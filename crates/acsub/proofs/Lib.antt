@@ -1,6 +1,5 @@
 pub mod SpellingLemmas
 pub mod LineLemmas
-pub mod OutputLemmas
 pub mod InputLemmas
 pub mod RewriteLemmas
 pub mod RunLemmas

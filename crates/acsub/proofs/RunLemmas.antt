@@ -1,12 +1,15 @@
 -- What was moved, and which answers go with it.
-use Rattle.std.proofs.Common.{◌≡◌, ◌↔◌, ℕ, ◌+◌, Option, List, [], Result, Ok, Err, OnOk, OnErr, IfErr, refl, sym, ap, ◌∙◌, subst, add-zero}
+use Rattle.std.proofs.Common.{◌≡◌, ◌≢◌, ◌↔◌, ℕ, ◌+◌, Option, List, [], Result, Ok, Err, refl, sym, ap, ◌∙◌, subst, add-zero}
 use Rattle.std.specs.List.{concat}
 use Rattle.std.proofs.lemmas.List.{append-nil}
 use Rattle.ac_input.specs.Rules.{Rule, IsRuleFile, FirstBadLine}
-use Rattle.ac_input.proofs.RuleLemmas.{FirstBadLine-one, FirstBadLine-none}
+use Rattle.ac_input.proofs.RuleLemmas.{FirstBadLine-one, FirstBadLine-none, IsRuleFile-one}
 use Rattle.ac_automaton.specs.Moved.{AreWhole, HasGiven, HasMoved, HasTaken, Moved}
 use Rattle.ac_automaton.specs.Output.{Sent, Stopped}
-use Rattle.ac_automaton.specs.Watched.{stalls_of}
+use Rattle.ac_automaton.specs.Watched.{IsOfWrite, stalls_of}
+use Rattle.ac_automaton.specs.declared.error.MatchErrorKind.{MatchErrorKind}
+use Rattle.ac_automaton.specs.declared.error.StreamError.{StreamError}
+use Rattle.ac_automaton.specs.declared.error.StreamError.TheVariants as stream
 use Rattle.ac_automaton.specs.declared.watched.Watched.{Watched}
 use Rattle.ac_automaton.proofs.StreamReplaceLemmas.{given-none, taken-none}
 use Rattle.acsub.specs.declared.rules.RuleError.TheVariants as rule_errors
@@ -14,11 +17,11 @@ use Rattle.acsub.specs.declared.error.RunError.{RunError}
 use Rattle.acsub.specs.declared.error.RunError.TheVariants as errors
 use Rattle.acsub.specs.declared.settings.Settings.{Settings}
 use Rattle.acsub.specs.Input.{ReadsWhole}
-use Rattle.acsub.specs.Output.{IsWriteFault}
 use Rattle.acsub.specs.Settings.{IsAccepted}
+use Rattle.acsub.specs.Stream.{IsToldAs}
 use Rattle.acsub.specs.Transformed.{IsStreamed, output_of}
-use Rattle.acsub.specs.Run.{AnswersRun, Ran, RanRules, RanToFailedWrite, Accepts, Prepares}
-use Rattle.acsub.specs.Finder.{Builds}
+use Rattle.acsub.specs.Run.{AnswersRun, HasBegun, IsFileBuildable, Ran, RanRules, RanToFailedWrite, Accepts, Prepares}
+use Rattle.acsub.specs.Finder.{Builds, IsBuildable}
 use Rattle.acsub.specs.Plan.{Plan}
 
 -- nothing was moved
@@ -68,34 +71,38 @@ write_failed : {W : Type 0} (contents : W → Option (List ℕ)) (settings : Set
 write_failed contents settings rules w w' pieces input stalls s accepted held whole is file grammar =
     record { rules = rules; grammar = grammar; accepted = accepted; streamed = λ streamed. absurd (held streamed); whole_input = λ _. whole; written = (s.lost, ap (output_of settings rules) (sym is) ∙ sym s.order); failed = (refl, refl, refl) }
 
--- the answer once the input was read to its end
-pub write_answer : {R W : Type 0} (remaining : R → Option (List ℕ)) (contents : W → Option (List ℕ)) (settings : Settings) (rules : List Rule) (r r' : Watched R) (w w' : Watched W) (pieces : List (List ℕ)) (input : List ℕ) (result : Result (Unit {0}) RunError) → IsAccepted settings rules → ¬ IsStreamed settings rules → HasGiven remaining r r' pieces 0 → AreWhole pieces → input ≡ concat pieces
-    → OnOk result (Sent contents w w' [] [] (output_of settings rules input)) → OnErr result (Stopped contents w w' [] (output_of settings rules input)) → IfErr result (IsWriteFault w w')
-    → RanRules remaining contents r r' w w' settings rules result
-write_answer remaining contents settings rules r r' w w' pieces input (Ok done) accepted held gave whole is sent stopped kind = (
-  record { pieces = pieces; failed_reads = 0; taken = sent.gained; failed_writes = 0; stalled_writes = 0 },
-  record { reader = gave; writer = taken-from_sent contents w w' _ sent },
-  λ refusal. refusal,
-  λ file grammar. record { rules = rules; grammar = grammar; accepted = accepted; whole = whole; written = sym (append-nil sent.gained) ∙ sent.order ∙ ap (output_of settings rules) is; failed = (refl, refl, refl) },
-)
-write_answer remaining contents settings rules r r' w w' pieces input (Err (errors.Rule e)) accepted held gave whole is sent stopped kind = absurd kind
-write_answer remaining contents settings rules r r' w w' pieces input (Err (errors.Setting e)) accepted held gave whole is sent stopped kind = absurd kind
-write_answer remaining contents settings rules r r' w w' pieces input (Err (errors.Build limit)) accepted held gave whole is sent stopped kind = absurd kind
-write_answer remaining contents settings rules r r' w w' pieces input (Err (errors.Read e)) accepted held gave whole is sent stopped kind = absurd kind
-write_answer remaining contents settings rules r r' w w' pieces input (Err (errors.Write e)) accepted held gave whole is sent stopped kind = (
-  record { pieces = pieces; failed_reads = 0; taken = stopped.gained; failed_writes = 1; stalled_writes = 0 },
-  record { reader = gave; writer = taken-from_stopped contents w w' _ 0 stopped (kind ∙ sym (add-zero _)) },
-  λ refusal. refusal,
-  write_failed contents settings rules w w' pieces input 0 stopped accepted held whole is,
-)
-write_answer remaining contents settings rules r r' w w' pieces input (Err errors.WriteZero) accepted held gave whole is sent stopped kind = (
-  record { pieces = pieces; failed_reads = 0; taken = stopped.gained; failed_writes = 1; stalled_writes = 1 },
-  record { reader = gave; writer = taken-from_stopped contents w w' _ 1 stopped kind },
-  λ refusal. refusal,
-  write_failed contents settings rules w w' pieces input 1 stopped accepted held whole is,
-)
-write_answer remaining contents settings rules r r' w w' pieces input (Err errors.Memory) accepted held gave whole is sent stopped kind = absurd kind
-write_answer remaining contents settings rules r r' w w' pieces input (Err errors.Position) accepted held gave whole is sent stopped kind = absurd kind
+module _ {R W : Type 0} (remaining : R → Option (List ℕ)) (contents : W → Option (List ℕ)) (settings : Settings) (rules : List Rule) (r r' : Watched R) (w w' : Watched W) (pieces : List (List ℕ)) (input : List ℕ) (accepted : IsAccepted settings rules) (held : ¬ IsStreamed settings rules) (gave : HasGiven remaining r r' pieces 0) (whole : AreWhole pieces) (is : input ≡ concat pieces) where
+  -- the answer once the input was read to its end, and its text was written
+  pub written_answer : Sent contents w w' [] [] (output_of settings rules input) → RanRules remaining contents r r' w w' settings rules (Ok tt)
+  written_answer sent = (
+    record { pieces = pieces; failed_reads = 0; taken = sent.gained; failed_writes = 0; stalled_writes = 0 },
+    record { reader = gave; writer = taken-from_sent contents w w' _ sent },
+    λ refusal. refusal,
+    λ file grammar. record { rules = rules; grammar = grammar; accepted = accepted; whole = whole; written = sym (append-nil sent.gained) ∙ sent.order ∙ ap (output_of settings rules) is; failed = (refl, refl, refl) },
+  )
+
+  -- the same, where a write stopped
+  pub write_answer : (error : StreamError) (told : RunError) → IsToldAs error told → Stopped contents w w' [] (output_of settings rules input) → IsOfWrite w w' error → RanRules remaining contents r r' w w' settings rules (Err told)
+  write_answer (stream.Config error) told t stopped kind = absurd kind
+  write_answer (stream.Read error) told t stopped kind = absurd kind
+  write_answer (stream.Write error) told t stopped kind = subst (λ (e : RunError). RanRules remaining contents r r' w w' settings rules (Err e)) (sym t) (
+    record { pieces = pieces; failed_reads = 0; taken = stopped.gained; failed_writes = 1; stalled_writes = 0 },
+    record { reader = gave; writer = taken-from_stopped contents w w' _ 0 stopped (kind ∙ sym (add-zero _)) },
+    λ refusal. refusal,
+    write_failed contents settings rules w w' pieces input 0 stopped accepted held whole is,
+  )
+  write_answer stream.WriteZero told t stopped kind = subst (λ (e : RunError). RanRules remaining contents r r' w w' settings rules (Err e)) (sym t) (
+    record { pieces = pieces; failed_reads = 0; taken = stopped.gained; failed_writes = 1; stalled_writes = 1 },
+    record { reader = gave; writer = taken-from_stopped contents w w' _ 1 stopped kind },
+    λ refusal. refusal,
+    write_failed contents settings rules w w' pieces input 1 stopped accepted held whole is,
+  )
+  write_answer stream.Memory told t stopped kind = absurd kind
+  write_answer stream.Position told t stopped kind = absurd kind
+
+-- the error of a write is never that a search is refused
+pub write-config : {W : Type 0} (old new : Watched W) (error : StreamError) (refusal : MatchErrorKind) → IsOfWrite old new error → error ≢ stream.Config refusal
+write-config old new error refusal kind e = subst (IsOfWrite old new) e kind
 
 -- why there are no rules is the answer
 pub prepared_answer : (settings : Settings) (file : List ℕ) (e : RunError) → Prepares settings file (Err e) → AnswersRun settings file nothing (Err e)
@@ -112,6 +119,21 @@ prepared_answer settings file errors.Position h = absurd h
 -- what was run with what was prepared for the settings was run with them
 pub ran_prepared : {R W : Type 0} (remaining : R → Option (List ℕ)) (contents : W → Option (List ℕ)) (r r' : Watched R) (w w' : Watched W) (settings : Settings) (file : List ℕ) (plan : Plan) (result : Result (Unit {0}) RunError) → plan.settings ≡ settings → IsRuleFile file plan.rules → RanRules remaining contents r r' w w' plan.settings plan.rules result → Ran remaining contents r r' w w' settings file result
 ran_prepared remaining contents r r' w w' settings file plan result same grammar ran = (ran.0, ran.1, subst (λ (s : Settings). AnswersRun s file ran.0 result) same (ran.3 file grammar))
+
+-- what was prepared of a file passes no limit of a build, and the file has no other rules
+pub buildable_prepared : (settings : Settings) (file : List ℕ) (plan : Plan) → IsRuleFile file plan.rules → IsBuildable settings plan.rules → IsFileBuildable settings file
+buildable_prepared settings file plan prepared buildable rules grammar = subst (IsBuildable settings) (IsRuleFile-one file plan.rules rules prepared grammar) buildable
+
+-- where nothing was prepared no run has begun
+pub unprepared_begun : (settings : Settings) (file : List ℕ) (e : RunError) → Prepares settings file (Err e) → ¬ HasBegun (Err e)
+unprepared_begun settings file (errors.Rule e) h begun = begun
+unprepared_begun settings file (errors.Setting e) h begun = begun
+unprepared_begun settings file (errors.Build kind) h begun = begun
+unprepared_begun settings file (errors.Read e) h begun = absurd h
+unprepared_begun settings file (errors.Write e) h begun = absurd h
+unprepared_begun settings file errors.WriteZero h begun = absurd h
+unprepared_begun settings file errors.Memory h begun = begun
+unprepared_begun settings file errors.Position h begun = absurd h
 
 -- another answer than that of a bad line goes with a rule file
 other_answer : (file : List ℕ) (rules : List Rule) (result : Result (Unit {0}) RunError) (n : ℕ) → IsRuleFile file rules → ¬ (result ≡ Err (errors.Rule (rule_errors.Line n))) → (result ≡ Err (errors.Rule (rule_errors.Line n))) ↔ FirstBadLine file n

@@ -4,14 +4,13 @@ use Rattle.std.specs.List.{concat}
 use Rattle.std.specs.Prelude.{IfErr, OnOk}
 use Rattle.std.specs.Io.KnownBytes.{Consumes, IsAtEnd}
 use Rattle.std.proofs.KnownBytes.{Consumes-trans}
-use Rattle.std.proofs.lemmas.Bool.{cases_lt, false≢true}
+use Rattle.std.proofs.lemmas.Bool.{false≢true}
 use Rattle.std.proofs.lemmas.List.{append-nil, append_cancel_left, take_all}
 use Rattle.std.proofs.lemmas.List.Folds.{concat-append}
 use Rattle.ac_input.specs.declared.search.Anchored.{Anchored}
 use Rattle.ac_input.specs.declared.search.Anchored.TheVariants.{No}
 use Rattle.ac_input.specs.declared.search.MatchKind.{MatchKind}
 use Rattle.ac_input.specs.declared.search.MatchKind.TheVariants.{Standard}
-use Rattle.ac_input.specs.declared.steps.Steps.{Steps}
 use Rattle.ac_input.specs.BeginningLaws.{IsBeginning}
 use Rattle.ac_input.specs.Computed.{walk_of}
 use Rattle.ac_input.specs.Cut.{IsCut}
@@ -23,35 +22,32 @@ use Rattle.ac_input.specs.Work.{shortest}
 use Rattle.ac_input.proofs.BeginningLemmas.{listed-beginning, whole-walk_begins}
 use Rattle.ac_input.proofs.TextLemmas.{listed-append}
 use Rattle.ac_automaton.specs.Automaton.{Built}
-use Rattle.ac_automaton.specs.Moved.{AreFilled, AreWhole, HasGiven, HasMoved, HasTaken, Moved, but_last}
+use Rattle.ac_automaton.specs.Moved.{AllFit, AreFilled, AreWhole, HasGiven, HasMoved, HasTaken, Moved, but_last}
 use Rattle.ac_automaton.specs.Output.{Sent, Stopped}
 use Rattle.ac_automaton.specs.Replace.{LieInOrder, matches_in}
-use Rattle.ac_automaton.specs.Stream.{CanBeCounted, CanStream, FindsHeld, IsConfigRefusal, IsOnCourse, IsSearched, IsStreamRefusal, ReadsNothing, Scanned, fresh_scan, matches_read, read_by}
+use Rattle.ac_automaton.specs.Stream.{CanBeCounted, CanStream, FindsHeld, IsConfigRefusal, IsOnCourse, IsSearched, IsStreamRefusal, ReadsNothing, Scanned, fresh_scan, matches_read, read_by, room_of}
 use Rattle.ac_automaton.specs.StreamIter.{AreAllGiven, HasGained, NextGives}
-use Rattle.ac_automaton.specs.Watched.{has_ended, inner_of, pieces_of, stalls_of}
+use Rattle.ac_automaton.specs.Watched.{IsOfWrite, has_ended, inner_of, pieces_of, stalls_of}
 use Rattle.ac_automaton.specs.declared.watched.Watched.{Watched}
 use Rattle.ac_automaton.proofs.OutputLemmas.{Sent-none, Sent-then, Stopped-then}
 use Rattle.ac_automaton.proofs.ReplaceLemmas.{matches-lie}
-use Rattle.ac_automaton.proofs.StreamReplaceLemmas.{given-none, nothing-matches, taken-none, taken-sent, taken-stopped}
+use Rattle.ac_automaton.proofs.StreamReplaceLemmas.{given-none, nothing-matches, pieces-fit, taken-none, taken-sent, taken-stopped}
 use Rattle.ac_automaton.proofs.StreamCutLemmas.{matches-cut, matches-walk}
 use Rattle.ac_automaton.proofs.StreamSendLemmas.{ReadsNothing-then}
-use Rattle.ac_automaton.specs.StreamReplace.{CostsStream}
+use Rattle.ac_automaton.specs.StreamReplace.{IsBegun}
 use Rattle.ac_automaton.specs.declared.error.MatchErrorKind.{MatchErrorKind}
 use Rattle.ac_automaton.specs.declared.error.StreamError.{StreamError}
 use Rattle.ac_automaton.specs.declared.error.StreamError.TheVariants as reads
-use Rattle.ac_automaton.proofs.StreamAnswerLemmas.{cost-none, cost-read}
 use Rattle.acsub.specs.Finder.{dictionary_for, whole_search}
-use Rattle.acsub.specs.Output.{IsWriteFault}
 use Rattle.acsub.specs.Sides.{patterns_of, replacements_of}
-use Rattle.acsub.specs.Stream.{AnswersStream, CostsToStream, IsToldAs, StreamedToFailedWrite, Streams}
+use Rattle.acsub.specs.Stream.{AnswersStream, IsToldAs, StreamedToFailedWrite, Streams}
 use Rattle.acsub.specs.Transformed.{IsOutputFront, IsStreamed, output_of, text_in}
 use Rattle.acsub.specs.declared.settings.Mode.{Mode}
 use Rattle.acsub.specs.declared.settings.Mode.TheVariants as modes
 use Rattle.acsub.specs.declared.settings.Settings.{Settings}
-use Rattle.acsub.proofs.StreamedLemmas.{filled-shortest}
-use Rattle.acsub.specs.StreamList.{AnswersList, GivesMatch, HasListed, HasSearchedAll, ListedToFailedWrite, ListsStream, SendsLines, StopsLines, StopsWriting, WritesLines, listed_in}
+use Rattle.acsub.proofs.StreamedLemmas.{filled-shortest, pieces-within}
+use Rattle.acsub.specs.StreamList.{AnswersList, HasListed, ListedToFailedWrite, ListsStream, SendsLines, StopsLines, StopsWriting, WritesLines, listed_in}
 use Rattle.acsub.specs.declared.error.RunError.{RunError}
-use Rattle.acsub.specs.declared.error.RunError.TheVariants as errors
 
 -- ---- lines
 
@@ -155,7 +151,7 @@ first-stopped contents o s old new stopped = record {
 }
 
 -- three things that hold where the answer is a value
-pub on-ok_three : {P Q S T : Type 0} (result : Result (Unit {0}) RunError) → (P → Q → S → T) → OnOk result P → OnOk result Q → OnOk result S → OnOk result T
+pub on-ok_three : {P Q S T : Type 0} (result : Result (Unit {0}) StreamError) → (P → Q → S → T) → OnOk result P → OnOk result Q → OnOk result S → OnOk result T
 on-ok_three (Ok done) f p q s = f p q s
 on-ok_three (Err error) f p q s = tt
 
@@ -260,10 +256,6 @@ given-gained remaining s t old mid new gained failed g h at_end =
 read-gained : {R : Type 0} (remaining : R → Option (List ℕ)) (s t : Scanned) (mid new : Watched R) (gained : List (List ℕ)) (failed : ℕ) → HasGained remaining s t mid new gained failed → read_by t ≡ read_by s ++ concat gained
 read-gained remaining s t mid new gained failed h = ap concat h.pieces ∙ concat-append s.pieces gained
 
--- more than can be counted
-too-long : (n : ℕ) → ¬ (n ≤ 18446744073709551615) → 18446744073709551615 < n
-too-long n many = ⊎_elim (λ (more : 18446744073709551615 < n). more) (λ (few : n ≤ 18446744073709551615). absurd (many few)) (cases_lt 18446744073709551615 n)
-
 module _ {R W : Type 0} (remaining : R → Option (List ℕ)) (contents : W → Option (List ℕ)) (b : Built) where
   -- before the first read
   pub listed-fresh : (reader : Watched R) (writer : Watched W) → b.dictionary.kind ≡ Standard → 1 ≤ shortest b.dictionary.patterns → has_ended reader ≡ false → HasListed remaining contents b (fresh_scan b) reader reader writer writer
@@ -301,6 +293,7 @@ module _ {R W : Type 0} (remaining : R → Option (List ℕ)) (contents : W → 
       (
         record { pieces = t.pieces; failed_reads = 0; taken = listed s.given; failed_writes = 0; stalled_writes = 0 },
         record { reader = given-gained remaining s t r0 r r1 gained 0 h.read has (λ fine all. whole.2); writer = h.written },
+        pieces-fit b t (has.built ∙ h.built) course,
         (
           (s.pieces ++ whole.0.0, filled-append s.pieces whole.0.0 h.filled whole.0.1, has.pieces ∙ ap (λ (ps : List (List ℕ)). s.pieces ++ ps) whole.0.2 ∙ sym (append_assoc s.pieces whole.0.0 ([] ∷ []))),
           lines-same has.built given whole.1,
@@ -311,19 +304,21 @@ module _ {R W : Type 0} (remaining : R → Option (List ℕ)) (contents : W → 
     )
 
     -- a read failed
-    pub ends-failed_read : (error : _) (filled : List (List ℕ)) → HasGained remaining s t r r1 (filled ++ [] ∷ []) 1 → t.given ≡ s.given → AreAllGiven t → ListsStream remaining contents b r0 r1 w0 w (Err (errors.Read error))
+    pub ends-failed_read : (error : _) (filled : List (List ℕ)) → HasGained remaining s t r r1 (filled ++ [] ∷ []) 1 → t.given ≡ s.given → AreAllGiven t → ListsStream remaining contents b r0 r1 w0 w (Err (reads.Read error))
     ends-failed_read error filled has given all = (
       record { pieces = t.pieces; failed_reads = 1; taken = listed s.given; failed_writes = 0; stalled_writes = 0 },
       record { reader = given-gained remaining s t r0 r r1 (filled ++ [] ∷ []) 1 h.read has (λ fine whole. absurd (omega arith)); writer = h.written },
+      pieces-fit b t (has.built ∙ h.built) course,
       (lines-same has.built given all, (refl, refl, refl)),
     )
 
     -- the input is too long
-    pub ends-too_long : (gained : List (List ℕ)) → HasGained remaining s t r r1 gained 0 → AreFilled gained → t.given ≡ s.given → ¬ CanBeCounted (read_by t) → ListsStream remaining contents b r0 r1 w0 w (Err errors.Position)
+    pub ends-too_long : (gained : List (List ℕ)) → HasGained remaining s t r r1 gained 0 → AreFilled gained → t.given ≡ s.given → ¬ CanBeCounted (read_by t) → ListsStream remaining contents b r0 r1 w0 w (Err reads.Position)
     ends-too_long gained has filled given many = (
       record { pieces = t.pieces; failed_reads = 0; taken = listed s.given; failed_writes = 0; stalled_writes = 0 },
       record { reader = given-gained remaining s t r0 r r1 gained 0 h.read has (λ fine whole. absurd (filled-not_whole (s.pieces ++ gained) (filled-append s.pieces gained h.filled filled) whole)); writer = h.written },
-      (too-long (length (read_by t)) many, lines-begin has.built given, (refl, refl, refl)),
+      pieces-fit b t (has.built ∙ h.built) course,
+      (many, lines-begin has.built given, (refl, refl, refl)),
     )
 
     -- what was read until the next match
@@ -386,7 +381,7 @@ module _ {R W : Type 0} (remaining : R → Option (List ℕ)) (contents : W → 
 
       -- what is said of a write that failed
       failed-write : (u : Scanned) (w1 : Watched W) (stalls : ℕ) → StopsWriting contents o t u w w1 → IsOnCourse u → stalls_of w1 ≡ stalls_of w + stalls
-          → (m : Moved) × HasMoved remaining contents r0 r1 w0 w1 m × ListedToFailedWrite b m stalls
+          → (m : Moved) × HasMoved remaining contents r0 r1 w0 w1 m × AllFit (room_of b) m.pieces × ListedToFailedWrite b m stalls
       failed-write u w1 stalls stops on stalled =
           let before = listed s.given in
           let gained = stops.stopped.gained in
@@ -402,34 +397,31 @@ module _ {R W : Type 0} (remaining : R → Option (List ℕ)) (contents : W → 
           ∙ append_assoc (before ++ gained) lost begun.0 in (
             record { pieces = t.pieces; failed_reads = 0; taken = before ++ gained; failed_writes = 1; stalled_writes = stalls },
             record { reader = now-given; writer = taken-stopped contents w0 w w1 before (listed (o ∷ stops.more)) stalls stops.stopped h.written stalled },
+            pieces-fit b t now-built course,
             record { at_least = (gained, ap (λ (x : List ℕ). x ++ gained) (sym written-front)); at_most = (lost ++ begun.0, split); failed = (refl, refl, refl) },
           )
 
       -- a write failed
-      pub ends-failed_write : (u : Scanned) (w1 : Watched W) (error : RunError) → StopsWriting contents o t u w w1 → IsOnCourse u → IsWriteFault w w1 error → ListsStream remaining contents b r0 r1 w0 w1 (Err error)
-      ends-failed_write u w1 (errors.Rule error) stops on kind = absurd kind
-      ends-failed_write u w1 (errors.Setting error) stops on kind = absurd kind
-      ends-failed_write u w1 (errors.Build error) stops on kind = absurd kind
-      ends-failed_write u w1 (errors.Read error) stops on kind = absurd kind
-      ends-failed_write u w1 (errors.Write error) stops on kind = failed-write u w1 0 stops on (kind ∙ sym (add-zero _))
-      ends-failed_write u w1 errors.WriteZero stops on kind = failed-write u w1 1 stops on kind
-      ends-failed_write u w1 errors.Memory stops on kind = absurd kind
-      ends-failed_write u w1 errors.Position stops on kind = absurd kind
+      pub ends-failed_write : (u : Scanned) (w1 : Watched W) (error : StreamError) → StopsWriting contents o t u w w1 → IsOnCourse u → IsOfWrite w w1 error → ListsStream remaining contents b r0 r1 w0 w1 (Err error)
+      ends-failed_write u w1 (reads.Config error) stops on kind = absurd kind
+      ends-failed_write u w1 (reads.Read error) stops on kind = absurd kind
+      ends-failed_write u w1 (reads.Write error) stops on kind = failed-write u w1 0 stops on (kind ∙ sym (add-zero _))
+      ends-failed_write u w1 reads.WriteZero stops on kind = failed-write u w1 1 stops on kind
+      ends-failed_write u w1 reads.Memory stops on kind = absurd kind
+      ends-failed_write u w1 reads.Position stops on kind = absurd kind
 
       -- what was read, all in all
       pub found-read : (u : Scanned) → ReadsNothing t u → (u.built ≡ b) × (pieces_of r1 ≡ pieces_of r0 ++ u.pieces)
       found-read u same = (same.built ∙ now-built, now-given.pieces ∙ ap (λ (ps : List (List ℕ)). pieces_of r0 ++ ps) (sym same.pieces))
 
     -- a read failed, or there are more bytes than places
-    pub next-stopped : (error : RunError) → GivesMatch remaining s t r r1 (Err error) → ListsStream remaining contents b r0 r1 w0 w (Err error)
-    next-stopped (errors.Rule error) gives = absurd gives
-    next-stopped (errors.Setting error) gives = absurd gives
-    next-stopped (errors.Build error) gives = absurd gives
-    next-stopped (errors.Read error) gives = ends-failed_read error gives.0 gives.1 gives.3 gives.5
-    next-stopped (errors.Write error) gives = absurd gives
-    next-stopped errors.WriteZero gives = absurd gives
-    next-stopped errors.Memory gives = absurd gives
-    next-stopped errors.Position gives = ends-too_long gives.0 gives.1 gives.2 gives.3 gives.4
+    pub next-stopped : (error : StreamError) → NextGives remaining s t r r1 (Some (Err error)) → ListsStream remaining contents b r0 r1 w0 w (Err error)
+    next-stopped (reads.Config error) gives = absurd gives
+    next-stopped (reads.Read error) gives = ends-failed_read error gives.0 gives.1 gives.3 gives.5
+    next-stopped (reads.Write error) gives = absurd gives
+    next-stopped reads.WriteZero gives = absurd gives
+    next-stopped reads.Memory gives = absurd gives
+    next-stopped reads.Position gives = ends-too_long gives.0 gives.1 gives.2 gives.3 gives.4
 
     -- what was read, all in all
     gained-read : (gained : List (List ℕ)) (failed : ℕ) → HasGained remaining s t r r1 gained failed → (t.built ≡ b) × (pieces_of r1 ≡ pieces_of r0 ++ t.pieces)
@@ -438,15 +430,13 @@ module _ {R W : Type 0} (remaining : R → Option (List ℕ)) (contents : W → 
       has.reader ∙ ap (λ (ps : List (List ℕ)). ps ++ gained) h.read.pieces ∙ append_assoc (pieces_of r0) s.pieces gained ∙ ap (λ (ps : List (List ℕ)). pieces_of r0 ++ ps) (sym has.pieces),
     )
 
-    pub stopped-read : (error : RunError) → GivesMatch remaining s t r r1 (Err error) → (t.built ≡ b) × (pieces_of r1 ≡ pieces_of r0 ++ t.pieces)
-    stopped-read (errors.Rule error) gives = absurd gives
-    stopped-read (errors.Setting error) gives = absurd gives
-    stopped-read (errors.Build error) gives = absurd gives
-    stopped-read (errors.Read error) gives = gained-read (gives.0 ++ [] ∷ []) 1 gives.1
-    stopped-read (errors.Write error) gives = absurd gives
-    stopped-read errors.WriteZero gives = absurd gives
-    stopped-read errors.Memory gives = absurd gives
-    stopped-read errors.Position gives = gained-read gives.0 0 gives.1
+    pub stopped-read : (error : StreamError) → NextGives remaining s t r r1 (Some (Err error)) → (t.built ≡ b) × (pieces_of r1 ≡ pieces_of r0 ++ t.pieces)
+    stopped-read (reads.Config error) gives = absurd gives
+    stopped-read (reads.Read error) gives = gained-read (gives.0 ++ [] ∷ []) 1 gives.1
+    stopped-read (reads.Write error) gives = absurd gives
+    stopped-read reads.WriteZero gives = absurd gives
+    stopped-read reads.Memory gives = absurd gives
+    stopped-read reads.Position gives = gained-read gives.0 0 gives.1
 
     pub ended-read : NextGives remaining s t r r1 None → (t.built ≡ b) × (pieces_of r1 ≡ pieces_of r0 ++ t.pieces)
     ended-read gives = gained-read gives.0 0 gives.1
@@ -476,81 +466,69 @@ module _ (settings : Settings) (rules : List Rule) (b : Built) (built : b.dictio
   -- what a list answers is what a run answers that writes while it reads
   failed-streams : (m : Moved) (stalls : ℕ) → ListedToFailedWrite b m stalls → StreamedToFailedWrite settings rules m stalls
   failed-streams m stalls h = record {
-    front = listed_in b (concat (but_last m.pieces));
-    before = lines-front (concat (but_last m.pieces)) _ refl;
-    at_least = h.at_least;
+    at_least = (listed_in b (concat (but_last m.pieces)), lines-front (concat (but_last m.pieces)) _ refl, h.at_least);
     at_most = subst (IsBeginning m.taken) (lines-output (concat m.pieces)) h.at_most;
     failed = h.failed;
   }
 
-  answers-stream : (m : Moved) (result : Result (Unit {0}) RunError) → AnswersList b m result → AnswersStream settings rules m result
-  answers-stream m (Ok done) h = (h.0, h.1 ∙ lines-output (concat m.pieces), h.2)
-  answers-stream m (Err (errors.Rule error)) h = h
-  answers-stream m (Err (errors.Setting error)) h = h
-  answers-stream m (Err (errors.Build kind)) h = h
-  answers-stream m (Err (errors.Read error)) h = (lines-front (concat m.pieces) m.taken h.0, h.1)
-  answers-stream m (Err (errors.Write error)) h = failed-streams m 0 h
-  answers-stream m (Err errors.WriteZero) h = failed-streams m 1 h
-  answers-stream m (Err errors.Memory) h = h
-  answers-stream m (Err errors.Position) h = (h.0, subst (IsBeginning m.taken) (lines-output (concat m.pieces)) h.1, h.2)
+  answers-told : (m : Moved) (error : StreamError) (told : RunError) → IsToldAs error told → AnswersList b m (Err error) → AnswersStream settings rules m (Err told)
+  answers-told m (reads.Config error) told t h = absurd h
+  answers-told m (reads.Read error) told t h = subst (λ (e : RunError). AnswersStream settings rules m (Err e)) (sym t) (lines-front (concat m.pieces) m.taken h.0, h.1)
+  answers-told m (reads.Write error) told t h = subst (λ (e : RunError). AnswersStream settings rules m (Err e)) (sym t) (failed-streams m 0 h)
+  answers-told m reads.WriteZero told t h = subst (λ (e : RunError). AnswersStream settings rules m (Err e)) (sym t) (failed-streams m 1 h)
+  answers-told m reads.Memory told t h = subst (λ (e : RunError). AnswersStream settings rules m (Err e)) (sym t) h
+  answers-told m reads.Position told t h = subst (λ (e : RunError). AnswersStream settings rules m (Err e)) (sym t) (h.0, subst (IsBeginning m.taken) (lines-output (concat m.pieces)) h.1, h.2)
 
-  pub lists-streams : {R W : Type 0} (remaining : R → Option (List ℕ)) (contents : W → Option (List ℕ)) (r0 r1 : Watched R) (w0 w1 : Watched W) (result : Result (Unit {0}) RunError)
-      → ListsStream remaining contents b r0 r1 w0 w1 result → Streams remaining contents r0 r1 w0 w1 settings rules result
-  lists-streams remaining contents r0 r1 w0 w1 result h = (h.0, h.1, answers-stream h.0 result h.2)
+  module _ {R W : Type 0} (remaining : R → Option (List ℕ)) (contents : W → Option (List ℕ)) (r0 r1 : Watched R) (w0 w1 : Watched W) where
+    pub lists-streams : ListsStream remaining contents b r0 r1 w0 w1 (Ok tt) → Streams remaining contents r0 r1 w0 w1 settings rules (Ok tt)
+    lists-streams h = (h.0, h.1, pieces-within b settings rules h.0 built h.2, (h.3.0, h.3.1 ∙ lines-output (concat h.0.pieces), h.3.2))
+
+    pub lists-told : (error : StreamError) (told : RunError) → IsToldAs error told → ListsStream remaining contents b r0 r1 w0 w1 (Err error) → Streams remaining contents r0 r1 w0 w1 settings rules (Err told)
+    lists-told error told t h = (h.0, h.1, pieces-within b settings rules h.0 built h.2, answers-told h.0 error told t h.3)
 
 -- nothing was moved, where there was no memory
-pub nothing-listed : {R W : Type 0} (remaining : R → Option (List ℕ)) (contents : W → Option (List ℕ)) (b : Built) (reader : Watched R) (writer : Watched W) → ListsStream remaining contents b reader reader writer writer (Err errors.Memory)
+pub nothing-listed : {R W : Type 0} (remaining : R → Option (List ℕ)) (contents : W → Option (List ℕ)) (b : Built) (reader : Watched R) (writer : Watched W) → ListsStream remaining contents b reader reader writer writer (Err reads.Memory)
 nothing-listed remaining contents b reader writer = (
   record { pieces = []; failed_reads = 0; taken = []; failed_writes = 0; stalled_writes = 0 },
   record { reader = given-none remaining reader; writer = taken-none contents writer },
+  λ k d lt. absurd (omega arith),
   record { pieces = refl; taken = refl; failed = (refl, refl, refl) },
 )
 
--- ---- what it costs
-
--- the cost of a search of a stream goes by what was read, whichever error ended it
-searched-costs : {R : Type 0} (b : Built) (s t : Scanned) (r0 r1 : Watched R) (before after : Steps) (result : Result (Unit {0}) RunError) (outcome : Result (Unit {0}) StreamError) → s ≡ fresh_scan b → HasSearchedAll s t r0 r1 before after result → OnOk outcome (IsSearched t) → CostsStream b r0 r1 before after outcome
-searched-costs b s t r0 r1 before after result outcome fresh h searched = cost-read b s t r0 r1 before after outcome fresh (record { built = h.built; read = h.read; counts = h.counts; course = h.course; searched = searched })
-
-pub list-costs : {R : Type 0} (b : Built) (s t : Scanned) (r0 r1 : Watched R) (before after : Steps) (result : Result (Unit {0}) RunError) → s ≡ fresh_scan b → HasSearchedAll s t r0 r1 before after result → CostsToStream b r0 r1 before after result
-list-costs b s t r0 r1 before after (Ok done) fresh h = searched-costs b s t r0 r1 before after (Ok done) (Ok tt) fresh h h.searched
-list-costs b s t r0 r1 before after (Err error) fresh h = searched-costs b s t r0 r1 before after (Err error) (Err reads.Memory) fresh h tt
-
--- nothing was searched
-pub list-costs_nothing : {R : Type 0} (b : Built) (reader : Watched R) (steps : Steps) (error : RunError) → CostsToStream b reader reader steps steps (Err error)
-list-costs_nothing b reader steps error = cost-none b reader steps reads.Memory
-
 -- ---- where it did not begin
 
--- a search of a stream that was refused, and not for what it is, was refused for want of memory
-pub refused-memory : (b : Built) (supports : Anchored → Type 0) (error : StreamError) (told : RunError) → IsStreamRefusal b supports error → IsToldAs error told → told ≡ errors.Memory
-refused-memory b supports (reads.Config error) told refused is = absurd is
-refused-memory b supports (reads.Read error) told refused is = absurd refused
-refused-memory b supports (reads.Write error) told refused is = absurd refused
-refused-memory b supports reads.WriteZero told refused is = absurd refused
-refused-memory b supports reads.Memory told refused is = is
-refused-memory b supports reads.Position told refused is = absurd refused
+-- a search of a stream that can be made is not refused for what it is
+can-config : (b : Built) (supports : Anchored → Type 0) (refusal : MatchErrorKind) → CanStream b supports → IsConfigRefusal b supports refusal → ⊥
+can-config b supports refusal can (inl h) = h.0 can.0
+can-config b supports refusal can (inr (inl h)) = h.1 can.1
+can-config b supports refusal can (inr (inr h)) = let some = can.2 in let zero = h.2 in absurd (omega arith)
 
--- memory is never the reason later on
-pub gives-begun : {R : Type 0} (remaining : R → Option (List ℕ)) (s t : Scanned) (before after : Watched R) (error : RunError) → GivesMatch remaining s t before after (Err error) → error ≢ errors.Memory
-gives-begun remaining s t before after error gives e = subst (λ (told : RunError). GivesMatch remaining s t before after (Err told)) e gives
+-- where it is refused, that is for want of memory
+pub refused-memory : (b : Built) (supports : Anchored → Type 0) (error : StreamError) → CanStream b supports → IsStreamRefusal b supports error → error ≡ reads.Memory
+refused-memory b supports (reads.Config refusal) can refused = absurd (can-config b supports refusal can refused)
+refused-memory b supports (reads.Read error) can refused = absurd refused
+refused-memory b supports (reads.Write error) can refused = absurd refused
+refused-memory b supports reads.WriteZero can refused = absurd refused
+refused-memory b supports reads.Memory can refused = refl
+refused-memory b supports reads.Position can refused = absurd refused
 
-pub fault-begun : {W : Type 0} (old new : Watched W) (error : RunError) → IsWriteFault old new error → error ≢ errors.Memory
-fault-begun old new error kind e = subst (IsWriteFault old new) e kind
+-- what is answered for the search of a stream is never that it is refused
+pub lists-config : {R W : Type 0} (remaining : R → Option (List ℕ)) (contents : W → Option (List ℕ)) (b : Built) (r0 r1 : Watched R) (w0 w1 : Watched W) (error : StreamError) (refusal : MatchErrorKind) → ListsStream remaining contents b r0 r1 w0 w1 (Err error) → error ≢ reads.Config refusal
+lists-config remaining contents b r0 r1 w0 w1 error refusal h e = (subst (λ (other : StreamError). ListsStream remaining contents b r0 r1 w0 w1 (Err other)) e h).3
+
+-- an error of the next item comes after the first read
+pub gives-begun : {R : Type 0} (remaining : R → Option (List ℕ)) (s t : Scanned) (before after : Watched R) (error : StreamError) → NextGives remaining s t before after (Some (Err error)) → IsBegun error
+gives-begun remaining s t before after (reads.Config error) gives = gives
+gives-begun remaining s t before after (reads.Read error) gives = tt
+gives-begun remaining s t before after (reads.Write error) gives = tt
+gives-begun remaining s t before after reads.WriteZero gives = tt
+gives-begun remaining s t before after reads.Memory gives = gives
+gives-begun remaining s t before after reads.Position gives = tt
 
 -- what is said of an answer that never comes
-pub never-memory : (P : Type 0) (result : Result (Unit {0}) RunError) → IfErr result (λ error. error ≢ errors.Memory) → IfErr result (λ error. error ≡ errors.Memory → P)
-never-memory P (Ok done) never = tt
-never-memory P (Err error) never = λ e. absurd (never e)
-
--- a search of a stream that can be made is refused for want of memory alone
-pub can-config : (b : Built) (supports : Anchored → Type 0) (error : StreamError) (refusal : MatchErrorKind) → CanStream b supports → IsStreamRefusal b supports error → error ≢ reads.Config refusal
-can-config b supports error refusal can refused e = none (subst (IsStreamRefusal b supports) e refused)
-  where
-    none : IsConfigRefusal b supports refusal → ⊥
-    none (inl h) = h.0 can.0
-    none (inr (inl h)) = h.1 can.1
-    none (inr (inr h)) = let some = can.2 in let zero = h.2 in absurd (omega arith)
+pub never-memory : (P : Type 0) (result : Result (Unit {0}) StreamError) → IfErr result IsBegun → IfErr result (λ error. error ≡ reads.Memory → P)
+never-memory P (Ok done) begun = tt
+never-memory P (Err error) begun = λ e. absurd (subst IsBegun e begun)
 
 -- where the text is written while the input is read, the search can be made
 pub streamed-can : (b : Built) (supports : Anchored → Type 0) (settings : Settings) (rules : List Rule) → b.dictionary ≡ dictionary_for settings (patterns_of rules) → supports No → IsStreamed settings rules → CanStream b supports

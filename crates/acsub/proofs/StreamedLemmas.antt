@@ -16,9 +16,9 @@ use Rattle.ac_input.specs.Work.{longest, shortest}
 use Rattle.ac_input.proofs.CutLemmas.{cut-final}
 use Rattle.ac_input.proofs.RuleLemmas.{IsRuleFile-one}
 use Rattle.ac_automaton.specs.Automaton.{Built}
-use Rattle.ac_automaton.specs.Buffer.{kept_for}
-use Rattle.ac_automaton.specs.Moved.{AreFilled, Moved}
-use Rattle.ac_automaton.specs.Stream.{IsConfigRefusal}
+use Rattle.ac_automaton.specs.Buffer.{kept_for, room_for}
+use Rattle.ac_automaton.specs.Moved.{AllFit, AreFilled, Moved}
+use Rattle.ac_automaton.specs.Stream.{IsConfigRefusal, room_of}
 use Rattle.ac_automaton.specs.StreamReplace.{AnswersReplace, IsReplaceStreamError, IsReplacedFront, ReplacedToFailedWrite, ReplacesStream, replaced_in}
 use Rattle.ac_automaton.specs.Watched.{pieces_of}
 use Rattle.ac_automaton.specs.declared.error.MatchErrorKind.{MatchErrorKind}
@@ -31,13 +31,13 @@ use Rattle.acsub.specs.declared.settings.Mode.{Mode}
 use Rattle.acsub.specs.declared.settings.Mode.TheVariants as modes
 use Rattle.acsub.specs.declared.settings.Settings.{Settings}
 use Rattle.acsub.specs.Finder.{dictionary_for, whole_search}
-use Rattle.acsub.specs.Run.{CostsFile, CostsRun, RanRules, RanToFailedWrite}
+use Rattle.acsub.specs.Run.{CostsFile, CostsRun, IsReadByBuffer, RanRules, RanToFailedWrite, ReadsWithin}
 use Rattle.acsub.specs.Plan.{Plan}
 use Rattle.acsub.specs.Settings.{HasEmptyPattern, IsAccepted}
 use Rattle.acsub.specs.Sides.{patterns_of, replacements_of}
 use Rattle.acsub.specs.Stream.{AnswersStream, IsToldAs, StreamedToFailedWrite, Streams}
 use Rattle.acsub.proofs.RunLemmas.{HasMoved-nothing, nothing}
-use Rattle.acsub.specs.Transformed.{IsOutputFront, IsStreamed, output_of, text_in}
+use Rattle.acsub.specs.Transformed.{IsOutputFront, IsStreamed, output_of, stream_room, text_in}
 
 -- ---- that a stream can be searched
 
@@ -102,9 +102,7 @@ front-begins settings rules x text modes.Overlap is streamed f = absurd (streame
 replaced-stopped : (b : Built) (settings : Settings) (rules : List Rule) (m : Moved) (stalls : ℕ) → b.dictionary ≡ dictionary_for settings (patterns_of rules) → settings.mode ≡ modes.Replace → ReplacedToFailedWrite b (replacements_of rules) m stalls → StreamedToFailedWrite settings rules m stalls
 replaced-stopped b settings rules m stalls is mode h =
     record {
-      front = h.front;
-      before = replaced-front b settings rules _ h.front is mode h.before;
-      at_least = h.at_least;
+      at_least = (h.front, replaced-front b settings rules _ h.front is mode h.before, h.at_least);
       at_most = subst (IsBeginning m.taken) (replaced-output b settings rules (concat m.pieces) is mode) h.at_most;
       failed = h.failed;
     }
@@ -118,34 +116,53 @@ replaced-told b settings rules m stream.WriteZero told is mode t a = subst (λ (
 replaced-told b settings rules m stream.Memory told is mode t a = subst (λ (e : RunError). AnswersStream settings rules m (Err e)) (sym t) a
 replaced-told b settings rules m stream.Position told is mode t a = subst (λ (e : RunError). AnswersStream settings rules m (Err e)) (sym t) (a.long, subst (IsBeginning m.taken) (replaced-output b settings rules (concat m.pieces) is mode) a.written, a.failed)
 
+-- the room goes by the longest of the rules' patterns
+pub pieces-within : (b : Built) (settings : Settings) (rules : List Rule) (m : Moved) → b.dictionary ≡ dictionary_for settings (patterns_of rules) → AllFit (room_of b) m.pieces → AllFit (stream_room rules) m.pieces
+pieces-within b settings rules m is short = subst (λ (d : Dictionary). AllFit (room_for (kept_for (longest d.patterns))) m.pieces) is short
+
 -- what was replaced over a stream, where that stopped
 pub streams-told : {R W : Type 0} (remaining : R → Option (List ℕ)) (contents : W → Option (List ℕ)) (b : Built) (settings : Settings) (rules : List Rule) (texts : List (List ℕ)) (r r' : Watched R) (w w' : Watched W) (error : StreamError) (told : RunError) → b.dictionary ≡ dictionary_for settings (patterns_of rules) → settings.mode ≡ modes.Replace → texts ≡ replacements_of rules → IsToldAs error told
     → ReplacesStream remaining contents b texts r r' w w' (Err error) → Streams remaining contents r r' w w' settings rules (Err told)
-streams-told remaining contents b settings rules texts r r' w w' error told is mode same t (m, moved, a) = (m, moved, replaced-told b settings rules m error told is mode t (subst (λ (ts : List (List ℕ)). AnswersReplace b ts m (Err error)) same a))
+streams-told remaining contents b settings rules texts r r' w w' error told is mode same t (m, moved, short, a) = (m, moved, pieces-within b settings rules m is short, replaced-told b settings rules m error told is mode t (subst (λ (ts : List (List ℕ)). AnswersReplace b ts m (Err error)) same a))
 
 -- there was no memory before anything was read
 pub streams-nothing : {R W : Type 0} (remaining : R → Option (List ℕ)) (contents : W → Option (List ℕ)) (settings : Settings) (rules : List Rule) (r : Watched R) (w : Watched W) → Streams remaining contents r r w w settings rules (Err errors.Memory)
-streams-nothing remaining contents settings rules r w = (nothing, HasMoved-nothing remaining contents r w, record { pieces = refl; taken = refl; failed = (refl, refl, refl) })
+streams-nothing remaining contents settings rules r w = (nothing, HasMoved-nothing remaining contents r w, λ k d lt. absurd (omega arith), record { pieces = refl; taken = refl; failed = (refl, refl, refl) })
 
 -- ---- what a run says of it
 
 -- a write that stopped
 streamed_failed : (settings : Settings) (rules : List Rule) (m : Moved) (stalls : ℕ) → IsAccepted settings rules → IsStreamed settings rules → StreamedToFailedWrite settings rules m stalls → (file : List ℕ) → IsRuleFile file rules → RanToFailedWrite settings file m stalls
 streamed_failed settings rules m stalls accepted streamed h file grammar =
-    record { rules = rules; grammar = grammar; accepted = accepted; streamed = λ _. (h.front, h.before, h.at_least); whole_input = λ held. absurd (held streamed); written = h.at_most; failed = h.failed }
+    record { rules = rules; grammar = grammar; accepted = accepted; streamed = λ _. h.at_least; whole_input = λ held. absurd (held streamed); written = h.at_most; failed = h.failed }
 
 -- the answer of a run that writes while it reads
 pub streamed_answer : {R W : Type 0} (remaining : R → Option (List ℕ)) (contents : W → Option (List ℕ)) (settings : Settings) (rules : List Rule) (r r' : Watched R) (w w' : Watched W) (result : Result (Unit {0}) RunError) → IsAccepted settings rules → IsStreamed settings rules
     → Streams remaining contents r r' w w' settings rules result → RanRules remaining contents r r' w w' settings rules result
-streamed_answer remaining contents settings rules r r' w w' (Ok done) accepted streamed (m, moved, (whole, written, failed)) = (m, moved, λ refusal. refusal, λ file grammar. record { rules = rules; grammar = grammar; accepted = accepted; whole = whole; written = written; failed = failed })
-streamed_answer remaining contents settings rules r r' w w' (Err (errors.Rule e)) accepted streamed (m, moved, a) = absurd a
-streamed_answer remaining contents settings rules r r' w w' (Err (errors.Setting e)) accepted streamed (m, moved, a) = absurd a
-streamed_answer remaining contents settings rules r r' w w' (Err (errors.Build kind)) accepted streamed (m, moved, a) = absurd a
-streamed_answer remaining contents settings rules r r' w w' (Err (errors.Read e)) accepted streamed (m, moved, (front, failed)) = (m, moved, λ refusal. refusal, λ file grammar. record { rules = rules; grammar = grammar; accepted = accepted; streamed = λ _. front; whole_input = λ held. absurd (held streamed); written = front-begins settings rules (concat m.pieces) m.taken settings.mode refl streamed front; failed = failed })
-streamed_answer remaining contents settings rules r r' w w' (Err (errors.Write e)) accepted streamed (m, moved, a) = (m, moved, λ refusal. refusal, streamed_failed settings rules m 0 accepted streamed a)
-streamed_answer remaining contents settings rules r r' w w' (Err errors.WriteZero) accepted streamed (m, moved, a) = (m, moved, λ refusal. refusal, streamed_failed settings rules m 1 accepted streamed a)
-streamed_answer remaining contents settings rules r r' w w' (Err errors.Memory) accepted streamed (m, moved, a) = (m, moved, λ refusal. refusal, λ file grammar. record { rules = rules; grammar = grammar; accepted = λ some. absurd (some a.pieces); streamed = λ _. a.pieces; filled = subst AreFilled (sym a.pieces) tt; written = a.taken; failed = a.failed })
-streamed_answer remaining contents settings rules r r' w w' (Err errors.Position) accepted streamed (m, moved, (long, written, failed)) = (m, moved, λ refusal. refusal, λ file grammar. record { rules = rules; grammar = grammar; accepted = accepted; long = long; written = written; failed = failed })
+streamed_answer remaining contents settings rules r r' w w' (Ok done) accepted streamed (m, moved, short, (whole, written, failed)) = (m, moved, λ refusal. refusal, λ file grammar. record { rules = rules; grammar = grammar; accepted = accepted; whole = whole; written = written; failed = failed })
+streamed_answer remaining contents settings rules r r' w w' (Err (errors.Rule e)) accepted streamed (m, moved, short, a) = absurd a
+streamed_answer remaining contents settings rules r r' w w' (Err (errors.Setting e)) accepted streamed (m, moved, short, a) = absurd a
+streamed_answer remaining contents settings rules r r' w w' (Err (errors.Build kind)) accepted streamed (m, moved, short, a) = absurd a
+streamed_answer remaining contents settings rules r r' w w' (Err (errors.Read e)) accepted streamed (m, moved, short, (front, failed)) = (m, moved, λ refusal. refusal, λ file grammar. record { rules = rules; grammar = grammar; accepted = accepted; streamed = λ _. front; whole_input = λ held. absurd (held streamed); written = front-begins settings rules (concat m.pieces) m.taken settings.mode refl streamed front; failed = failed })
+streamed_answer remaining contents settings rules r r' w w' (Err (errors.Write e)) accepted streamed (m, moved, short, a) = (m, moved, λ refusal. refusal, streamed_failed settings rules m 0 accepted streamed a)
+streamed_answer remaining contents settings rules r r' w w' (Err errors.WriteZero) accepted streamed (m, moved, short, a) = (m, moved, λ refusal. refusal, streamed_failed settings rules m 1 accepted streamed a)
+streamed_answer remaining contents settings rules r r' w w' (Err errors.Memory) accepted streamed (m, moved, short, a) = (m, moved, λ refusal. refusal, λ file grammar. record { rules = rules; grammar = grammar; accepted = λ some. absurd (some a.pieces); streamed = λ _. a.pieces; filled = subst AreFilled (sym a.pieces) tt; written = a.taken; failed = a.failed })
+streamed_answer remaining contents settings rules r r' w w' (Err errors.Position) accepted streamed (m, moved, short, (long, written, failed)) = (m, moved, λ refusal. refusal, λ file grammar. record { rules = rules; grammar = grammar; accepted = accepted; long = long; written = written; failed = failed })
+
+-- no read gave more than the buffer has room for
+pub streamed_short : {R W : Type 0} (remaining : R → Option (List ℕ)) (contents : W → Option (List ℕ)) (settings : Settings) (rules : List Rule) (r r' : Watched R) (w w' : Watched W) (result : Result (Unit {0}) RunError)
+    → Streams remaining contents r r' w w' settings rules result → ReadsWithin (stream_room rules) r r'
+streamed_short remaining contents settings rules r r' w w' result (m, moved, short, a) = (m.pieces, moved.reader.pieces, short)
+
+-- the same, where the rules are those of a file of which that was prepared
+pub short_prepared : {R : Type 0} (settings : Settings) (file : List ℕ) (plan : Plan) (r r' : Watched R) → plan.settings ≡ settings → IsRuleFile file plan.rules → (IsStreamed plan.settings plan.rules → ReadsWithin (stream_room plan.rules) r r') → IsReadByBuffer settings file r r'
+short_prepared settings file plan r r' same prepared short rules grammar streamed =
+    let one = IsRuleFile-one file plan.rules rules prepared grammar in
+    subst (λ (rs : List Rule). ReadsWithin (stream_room rs) r r') one (short (subst (λ (s : Settings). IsStreamed s plan.rules) (sym same) (subst (IsStreamed settings) (sym one) streamed)))
+
+-- nothing was read
+pub nothing_short : {R : Type 0} (settings : Settings) (file : List ℕ) (r : Watched R) → IsReadByBuffer settings file r r
+nothing_short settings file r rules grammar streamed = ([], sym (append-nil (pieces_of r)), λ k d lt. absurd (omega arith))
 
 -- ---- what it costs
 

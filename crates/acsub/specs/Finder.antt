@@ -5,6 +5,7 @@ use Rattle.ac_input.specs.declared.search.Anchored.TheVariants.{No}
 use Rattle.ac_input.specs.declared.search.MatchKind as kinds
 use Rattle.ac_input.specs.Computed.{walk_of, listing_of}
 use Rattle.ac_input.specs.Dictionary.{Dictionary}
+use Rattle.ac_input.specs.Limits.{IsWithinLimits}
 use Rattle.ac_input.specs.Occurrence.{Occurrence, Search}
 use Rattle.ac_input.specs.Rules.{Rule}
 use Rattle.ac_input.specs.Same.{IsUnpaired}
@@ -72,9 +73,13 @@ not_built limits.Memory = errors.Memory
 abbrev pub IsNotBuilt : Settings → List Rule → BuildErrorKind → Type 0
 IsNotBuilt settings rules kind = (settings.engine ≢ engines.Packed) × PassesLimit (dictionary_for settings (patterns_of rules)) kind
 
--- an automaton for just what the settings and patterns say; or why there is none
+-- the rules' patterns pass no limit of a build, where the settings ask for an automaton
+abbrev pub IsBuildable : Settings → List Rule → Type 0
+IsBuildable settings rules = (settings.engine ≢ engines.Packed) → IsWithinLimits (dictionary_for settings (patterns_of rules))
+
+-- an automaton for just what the settings and patterns say, which pass no limit; or why there is none
 abbrev pub BuildsAutomaton : Settings → List (List ℕ) → Result NFA RunError → Type 0
-BuildsAutomaton settings patterns (Ok automaton) = (built_as automaton).dictionary ≡ dictionary_for settings patterns
+BuildsAutomaton settings patterns (Ok automaton) = ((built_as automaton).dictionary ≡ dictionary_for settings patterns) × IsWithinLimits (dictionary_for settings patterns)
 BuildsAutomaton settings patterns (Err (errors.Build kind)) = PassesLimit (dictionary_for settings patterns) kind
 BuildsAutomaton settings patterns (Err errors.Memory) = Unit {0}
 BuildsAutomaton settings patterns (Err (errors.Rule e)) = ⊥
@@ -86,7 +91,7 @@ BuildsAutomaton settings patterns (Err errors.Position) = ⊥
 
 -- a finder for the settings and rules; or why there is none
 abbrev pub Builds : Settings → List Rule → Result (Finder NFA) RunError → Type 0
-Builds settings rules (Ok finder) = IsFinderOf built_as (λ automaton anchored. Unit {0}) settings (patterns_of rules) finder
+Builds settings rules (Ok finder) = IsFinderOf built_as (λ automaton anchored. Unit {0}) settings (patterns_of rules) finder × IsBuildable settings rules
 Builds settings rules (Err (errors.Build kind)) = IsNotBuilt settings rules kind
 Builds settings rules (Err errors.Memory) = Unit {0}
 Builds settings rules (Err (errors.Rule e)) = ⊥

@@ -1,7 +1,6 @@
 pub mod Lines
 pub mod Sides
 pub mod Settings
-pub mod Output
 pub mod Input
 pub mod Run
 pub mod Command

@@ -1,21 +1,22 @@
 -- What a run writes, and what its answers say.
-use Rattle.std.specs.Prelude.{◌↔◌, ◌≡◌, ◌≢◌, ℕ, ◌+◌, ◌*◌, ◌<◌, ◌≤◌, List, [], ◌++◌, length, Result, Option, Ok, Err, OnOk}
+use Rattle.std.specs.Prelude.{◌↔◌, ◌≡◌, ◌≢◌, ℕ, ◌+◌, ◌*◌, ◌≤◌, List, [], ◌++◌, length, Result, Option, Ok, Err, OnOk}
 use Rattle.std.specs.List.{concat}
 use Rattle.ac_input.specs.BeginningLaws.{IsBeginning}
 use Rattle.ac_input.specs.Rules.{Rule, IsRuleFile, FirstBadLine}
 use Rattle.ac_input.specs.Steps.{looked_of, moved_of, scanned_of}
 use Rattle.ac_input.specs.declared.steps.Steps.{Steps}
-use Rattle.ac_automaton.specs.Moved.{AreFilled, AreWhole, Failed, HasMoved, Moved, NoneTouched, but_last}
+use Rattle.ac_automaton.specs.Moved.{AllFit, AreFilled, AreWhole, Failed, HasMoved, Moved, NoneTouched}
+use Rattle.ac_automaton.specs.Stream.{CanBeCounted}
 use Rattle.ac_automaton.specs.Watched.{pieces_of}
 use Rattle.ac_automaton.specs.declared.watched.Watched.{Watched}
 use Rattle.acsub.specs.declared.rules.RuleError.TheVariants as rule_errors
 use Rattle.acsub.specs.declared.error.RunError.{RunError}
 use Rattle.acsub.specs.declared.error.RunError.TheVariants as errors
 use Rattle.acsub.specs.declared.settings.Settings.{Settings}
-use Rattle.acsub.specs.Finder.{IsNotBuilt}
+use Rattle.acsub.specs.Finder.{IsBuildable, IsNotBuilt}
 use Rattle.acsub.specs.Plan.{Plan}
 use Rattle.acsub.specs.Settings.{IsAccepted, IsFirstExclusion}
-use Rattle.acsub.specs.Transformed.{IsOutputFront, IsStreamed, output_of}
+use Rattle.acsub.specs.Transformed.{IsOutputFront, IsPrompt, IsStreamed, output_of, stream_room}
 
 -- The rules are in the grammar and go with the settings, the input was read to its end, and the text of all of it was written.
 pub record RanWhole (settings : Settings) (file : List ℕ) (m : Moved) : Type 0 where
@@ -36,10 +37,6 @@ pub record RanToFailedRead (settings : Settings) (file : List ℕ) (m : Moved) :
   pub whole_input : ¬ IsStreamed settings rules → m.taken ≡ []
   pub written : IsBeginning m.taken (output_of settings rules (concat m.pieces))
   pub failed : Failed m 1 0 0
-
--- at least that was written of an input which could be written before the last of its pieces was read
-abbrev pub IsPrompt : Settings → List Rule → Moved → Type 0
-IsPrompt settings rules m = (front : List ℕ) × IsOutputFront settings rules (concat (but_last m.pieces)) front × IsBeginning front m.taken
 
 -- A write failed, or was handed bytes and took none. Where the text is written while the input is read, all was written before
 -- that could be written before the last read; else the input had been read to its end. A beginning of the text of all that was
@@ -69,7 +66,7 @@ pub record RanOutOfPlaces (settings : Settings) (file : List ℕ) (m : Moved) : 
   pub rules : List Rule
   pub grammar : IsRuleFile file rules
   pub accepted : IsAccepted settings rules
-  pub long : 18446744073709551615 < length (concat m.pieces)
+  pub long : ¬ CanBeCounted (concat m.pieces)
   pub written : IsBeginning m.taken (output_of settings rules (concat m.pieces))
   pub failed : Failed m 0 0 0
 
@@ -98,6 +95,22 @@ IsRefusal (Err errors.WriteZero) = ⊥
 IsRefusal (Err errors.Memory) = ⊥
 IsRefusal (Err errors.Position) = ⊥
 
+-- the run went on behind its build, and came to the end or to a fault of a device
+abbrev pub HasBegun : Result (Unit {0}) RunError → Type 0
+HasBegun (Ok done) = Unit {0}
+HasBegun (Err (errors.Rule e)) = ⊥
+HasBegun (Err (errors.Setting e)) = ⊥
+HasBegun (Err (errors.Build kind)) = ⊥
+HasBegun (Err (errors.Read e)) = Unit {0}
+HasBegun (Err (errors.Write e)) = Unit {0}
+HasBegun (Err errors.WriteZero) = Unit {0}
+HasBegun (Err errors.Memory) = ⊥
+HasBegun (Err errors.Position) = Unit {0}
+
+-- the rules of the file pass no limit of a build, where the settings ask for an automaton
+abbrev pub IsFileBuildable : Settings → List ℕ → Type 0
+IsFileBuildable settings file = (rules : List Rule) → IsRuleFile file rules → IsBuildable settings rules
+
 -- What was read and written, and by which answer, where the rules are those of a file.
 abbrev pub Ran : {R W : Type 0} → (R → Option (List ℕ)) → (W → Option (List ℕ)) → Watched R → Watched R → Watched W → Watched W → Settings → List ℕ → Result (Unit {0}) RunError → Type 0
 Ran remaining contents reader_before reader_after writer_before writer_after settings file result =
@@ -112,6 +125,14 @@ RanRules remaining contents reader_before reader_after writer_before writer_afte
 abbrev pub IsFoundBefore : {R W : Type 0} → Settings → List ℕ → Watched R → Watched R → Watched W → Watched W → Type 0
 IsFoundBefore settings file reader_before reader_after writer_before writer_after =
     (rules : List Rule) → IsRuleFile file rules → IsStreamed settings rules → NoneTouched reader_before reader_after writer_before writer_after
+
+-- what reads gave in between, no piece longer than there is room for
+abbrev pub ReadsWithin : {R : Type 0} → ℕ → Watched R → Watched R → Type 0
+ReadsWithin room before after = (gained : List (List ℕ)) × (pieces_of after ≡ pieces_of before ++ gained) × AllFit room gained
+
+-- Where the text is written while the input is read, no read gives more than the buffer has room for.
+abbrev pub IsReadByBuffer : {R : Type 0} → Settings → List ℕ → Watched R → Watched R → Type 0
+IsReadByBuffer settings file before after = (rules : List Rule) → IsRuleFile file rules → IsStreamed settings rules → ReadsWithin (stream_room rules) before after
 
 -- What it may cost to read so many bytes, and to write their text while they are read: two states are looked at for each at most,
 -- no place is scanned, and a seventh of them at most is moved within the buffer.
@@ -152,7 +173,7 @@ Accepts settings file (Err errors.Position) = ⊥
 
 -- All is settled for the settings and the rules of the file; or why it is not.
 abbrev pub Prepares : Settings → List ℕ → Result Plan RunError → Type 0
-Prepares settings file (Ok plan) = (plan.settings ≡ settings) × IsRuleFile file plan.rules × IsAccepted settings plan.rules
+Prepares settings file (Ok plan) = (plan.settings ≡ settings) × IsRuleFile file plan.rules × IsAccepted settings plan.rules × IsBuildable settings plan.rules
 Prepares settings file (Err (errors.Rule (rule_errors.Line n))) = FirstBadLine file n
 Prepares settings file (Err (errors.Rule rule_errors.Memory)) = ⊥
 Prepares settings file (Err (errors.Setting e)) = (rules : List Rule) × IsRuleFile file rules × IsFirstExclusion settings rules e

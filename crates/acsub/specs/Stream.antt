@@ -1,18 +1,19 @@
 -- What a run that writes while it reads says of what it read and wrote.
-use Rattle.std.specs.Prelude.{◌≡◌, ℕ, ◌+◌, ◌<◌, ◌≤◌, List, ◌++◌, length, Option, Result, Ok, Err, OnOk}
+use Rattle.std.specs.Prelude.{◌≡◌, ℕ, ◌+◌, ◌≤◌, List, ◌++◌, length, Option, Result, Ok, Err, OnOk}
 use Rattle.std.specs.List.{concat}
 use Rattle.ac_input.specs.BeginningLaws.{IsBeginning}
 use Rattle.ac_input.specs.Rules.{Rule}
 use Rattle.ac_input.specs.Steps.{looked_of}
 use Rattle.ac_input.specs.declared.steps.Steps.{Steps}
 use Rattle.ac_automaton.specs.Automaton.{Built}
-use Rattle.ac_automaton.specs.Moved.{AreWhole, Failed, HasMoved, Moved, but_last}
+use Rattle.ac_automaton.specs.Moved.{AllFit, AreWhole, Failed, HasMoved, Moved}
+use Rattle.ac_automaton.specs.Stream.{CanBeCounted}
 use Rattle.ac_automaton.specs.StreamReplace.{IsStreamCost, MovedNothing}
 use Rattle.ac_automaton.specs.Watched.{pieces_of}
 use Rattle.ac_automaton.specs.declared.error.StreamError.{StreamError}
 use Rattle.ac_automaton.specs.declared.error.StreamError.TheVariants as stream
 use Rattle.ac_automaton.specs.declared.watched.Watched.{Watched}
-use Rattle.acsub.specs.Transformed.{IsOutputFront, output_of}
+use Rattle.acsub.specs.Transformed.{IsOutputFront, IsPrompt, output_of, stream_room}
 use Rattle.acsub.specs.declared.error.RunError.{RunError}
 use Rattle.acsub.specs.declared.error.RunError.TheVariants as errors
 use Rattle.acsub.specs.declared.settings.Settings.{Settings}
@@ -20,9 +21,7 @@ use Rattle.acsub.specs.declared.settings.Settings.{Settings}
 -- A write failed, or was handed bytes and took none: the text that was decided before the last read was written, and nothing but
 -- a beginning of the text of all that was read.
 pub record StreamedToFailedWrite (settings : Settings) (rules : List Rule) (m : Moved) (stalls : ℕ) : Type 0 where
-  pub front : List ℕ
-  pub before : IsOutputFront settings rules (concat (but_last m.pieces)) front
-  pub at_least : IsBeginning front m.taken
+  pub at_least : IsPrompt settings rules m
   pub at_most : IsBeginning m.taken (output_of settings rules (concat m.pieces))
   pub failed : Failed m 0 1 stalls
 
@@ -36,12 +35,12 @@ AnswersStream settings rules m (Err (errors.Read error)) = IsOutputFront setting
 AnswersStream settings rules m (Err (errors.Write error)) = StreamedToFailedWrite settings rules m 0
 AnswersStream settings rules m (Err errors.WriteZero) = StreamedToFailedWrite settings rules m 1
 AnswersStream settings rules m (Err errors.Memory) = MovedNothing m
-AnswersStream settings rules m (Err errors.Position) = (18446744073709551615 < length (concat m.pieces)) × IsBeginning m.taken (output_of settings rules (concat m.pieces)) × Failed m 0 0 0
+AnswersStream settings rules m (Err errors.Position) = (¬ CanBeCounted (concat m.pieces)) × IsBeginning m.taken (output_of settings rules (concat m.pieces)) × Failed m 0 0 0
 
--- what a run that writes while it reads has read and written, and what it answered
+-- what a run that writes while it reads has read, no piece longer than the buffer, and written, and what it answered
 abbrev pub Streams : {R W : Type 0} → (R → Option (List ℕ)) → (W → Option (List ℕ)) → Watched R → Watched R → Watched W → Watched W → Settings → List Rule → Result (Unit {0}) RunError → Type 0
 Streams remaining contents reader_before reader_after writer_before writer_after settings rules result =
-    (m : Moved) × HasMoved remaining contents reader_before reader_after writer_before writer_after m × AnswersStream settings rules m result
+    (m : Moved) × HasMoved remaining contents reader_before reader_after writer_before writer_after m × AllFit (stream_room rules) m.pieces × AnswersStream settings rules m result
 
 -- What it may cost to write while reading, by the bytes that were read; where it came to the end, each of them was looked at.
 abbrev pub CostsToStream : {R : Type 0} → Built → Watched R → Watched R → Steps → Steps → Result (Unit {0}) RunError → Type 0

@@ -12,8 +12,8 @@ use std::io::Read;
 /// How many bytes a read has room for, at least.
 const PIECE: usize = 65536;
 
-/// Reads up to the first empty read, by pieces of at least 64 KiB. The room for a read is taken before it, so that nothing is
-/// taken after the empty one.
+/// Reads up to the first empty read, each read with room for 64 KiB. That room is taken before the read, so that nothing is taken
+/// after the empty one.
 ///
 /// The vector grows by doubling, so each byte is moved a few times at most; but of the room that is taken only the next piece is
 /// written to, so no more memory is touched than the input and a piece.

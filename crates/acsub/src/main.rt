@@ -12,7 +12,6 @@ mod finder;
 mod input;
 mod line;
 mod matches;
-mod output;
 mod prepared;
 mod rewrite;
 mod rules;

@@ -37,8 +37,8 @@ impl<'a, A: Automaton> Model for Matches<'a, A> {
 
     ghost Value = { List Occurrence };
 
-    ghost view = { λ m.
-        elim m.source [ Walk walk ↦ left_of walk | Overlapping run ↦ rest_of run | Packed picks ↦ picks ] };
+    ghost view = { λ m. elim m.source
+        [ Walk walk ↦ left_of walk | Overlapping run ↦ rest_of run | Packed picks ↦ picks ] };
 }
 
 impl<'a, A: Automaton> Matches<'a, A> {

@@ -6,25 +6,25 @@
 //! by packed search where the settings name it and by an automaton otherwise, and writes the text as it is found. On either road
 //! want of memory is answered while nothing is written yet. The engine and its settings change nothing of the text.
 ghost use Rattle.std.specs.Prelude.{◌≡◌, List, [], false, IfErr, OnOk, OnErr};
-ghost use Rattle.ac_automaton.specs.Watched.{has_ended};
+ghost use Rattle.ac_automaton.specs.Watched.{IsOfWrite, has_ended};
 ghost use Rattle.ac_automaton.specs.Output.{Sent, Stopped};
-ghost use Rattle.acsub.specs.Output.{IsWriteFault};
 ghost use Rattle.ac_automaton.specs.Moved.{NoneTouched};
-ghost use Rattle.acsub.specs.Run.{Accepts, AnswersBadLine, CostsFile, CostsRun, IsFoundBefore, IsRefusal, Prepares, Ran, RanRules};
+ghost use Rattle.acsub.specs.Run.{Accepts, AnswersBadLine, CostsFile, CostsRun, HasBegun, IsFileBuildable, IsFoundBefore, IsReadByBuffer, IsRefusal, Prepares, Ran, RanRules, ReadsWithin};
 ghost use Rattle.acsub.specs.Settings.{IsAccepted};
-ghost use Rattle.acsub.specs.Transformed.{IsStreamed, output_of};
+ghost use Rattle.acsub.specs.Transformed.{IsStreamed, output_of, stream_room};
 ghost use Rattle.acsub.specs.declared.error.RunError.TheVariants.{Memory};
 
 use crate::error::RunError;
 use crate::finder::{self, Chosen};
 use crate::input::read_whole;
-use crate::output::Output;
 use crate::prepared::Prepared;
 use crate::rewrite::{send_list, send_replaced};
 use crate::rules::{RuleError, Rules, read_rules};
 use crate::settings::{Mode, Settings, check};
-use crate::stream::stream_text;
+use crate::stream::{stream_text, told};
 use ac_automaton::automaton::Automaton;
+use ac_automaton::error::StreamError;
+use ac_automaton::output::Output;
 use ac_automaton::watched::Watched;
 use ac_input::steps::Steps;
 use std::alloc::Global;
@@ -53,6 +53,10 @@ pub fn run<R: Read, W: Write>(
     // Nor has want of memory, where the text is written while the input is read.
     ensures memory { result ≡ Err Memory → IsFoundBefore settings.now rules.now
         reader.old reader.new writer.old writer.new }
+    // There no read gives more bytes than the buffer has room for.
+    ensures short { IsReadByBuffer settings.now rules.now reader.old reader.new }
+    // A run that came to the end or to a fault of a device had passed no limit of a build.
+    ensures within { HasBegun result → IsFileBuildable settings.now rules.now }
 {
     let mut steps = Steps::new();
     run_counted(alloc, settings, rules, reader, writer, &mut steps)
@@ -74,6 +78,8 @@ pub fn run_counted<R: Read, W: Write>(
     ensures untouched { IsRefusal result → NoneTouched reader.old reader.new writer.old writer.new }
     ensures memory { result ≡ Err Memory → IsFoundBefore settings.now rules.now
         reader.old reader.new writer.old writer.new }
+    ensures short { IsReadByBuffer settings.now rules.now reader.old reader.new }
+    ensures within { HasBegun result → IsFileBuildable settings.now rules.now }
     ensures cost { CostsFile settings.now rules.now reader.old reader.new
         steps.old steps.new result }
 {
@@ -121,6 +127,8 @@ fn transform<A: Automaton, R: Read, W: Write>(
         prepared.now.settings prepared.now.rules result }
     ensures memory { result ≡ Err Memory → IsStreamed prepared.now.settings prepared.now.rules
         → NoneTouched reader.old reader.new writer.old writer.new }
+    ensures short { IsStreamed prepared.now.settings prepared.now.rules
+        → ReadsWithin (stream_room prepared.now.rules) reader.old reader.new }
     ensures cost { CostsRun prepared.now.settings prepared.now.rules reader.old reader.new
         steps.old steps.new result }
 {
@@ -145,7 +153,10 @@ fn transform_held<A: Automaton, R: Read, W: Write>(
 {
     let mut output = Output::new(alloc)?;
     let input = read_whole(alloc, reader)?;
-    write_text(prepared, input.as_slice(), &mut output, writer)
+    match write_text(prepared, input.as_slice(), &mut output, writer) {
+        Ok(()) => Ok(()),
+        Err(error) => Err(told(error)),
+    }
 }
 
 /// Writes the text of an input.
@@ -154,14 +165,14 @@ fn write_text<A: Automaton, W: Write>(
     input: &[u8],
     output: &mut Output,
     writer: &mut Watched<W>,
-) -> Result<(), RunError>
+) -> Result<(), StreamError>
     requires accepted { IsAccepted prepared.now.settings prepared.now.rules }
     requires fresh { output.old ≡ [] }
     ensures sent { OnOk result (Sent W.contents writer.old writer.new [] []
         (output_of prepared.now.settings prepared.now.rules input.now)) }
     ensures stopped { OnErr result (Stopped W.contents writer.old writer.new []
         (output_of prepared.now.settings prepared.now.rules input.now)) }
-    ensures kind { IfErr result (IsWriteFault writer.old writer.new) }
+    ensures kind { IfErr result (IsOfWrite writer.old writer.new) }
 {
     send_text(prepared, input, output, writer)?;
     output.send_held(writer)
@@ -173,13 +184,13 @@ fn send_text<A: Automaton, W: Write>(
     input: &[u8],
     output: &mut Output,
     writer: &mut Watched<W>,
-) -> Result<(), RunError>
+) -> Result<(), StreamError>
     requires accepted { IsAccepted prepared.now.settings prepared.now.rules }
     ensures sent { OnOk result (Sent W.contents writer.old writer.new output.old output.new
         (output_of prepared.now.settings prepared.now.rules input.now)) }
     ensures stopped { OnErr result (Stopped W.contents writer.old writer.new output.old
         (output_of prepared.now.settings prepared.now.rules input.now)) }
-    ensures kind { IfErr result (IsWriteFault writer.old writer.new) }
+    ensures kind { IfErr result (IsOfWrite writer.old writer.new) }
 {
     match prepared.mode() {
         Mode::Replace => {

@@ -86,3 +86,35 @@ pub fn room_for(alloc: Global, room: usize, most: usize, fails: bool) -> Sink {
         writes: 0,
     }
 }
+
+/// A writer that takes all that it is handed, and no memory: it compares the bytes with a text.
+#[derive(Drop)]
+pub struct Compared<'a> {
+    pub left: &'a [u8],
+    pub alike: bool,
+    pub writes: usize,
+}
+
+impl Write for Compared<'_> {
+    fn write(&mut self, buf: &[u8]) -> io::Result<usize> {
+        self.writes = self.writes.saturating_add(1);
+        match self.left.strip_prefix(buf) {
+            Some(left) => self.left = left,
+            None => self.alike = false,
+        }
+        Ok(buf.len())
+    }
+
+    fn flush(&mut self) -> io::Result<()> {
+        Ok(())
+    }
+}
+
+/// A writer that expects a text.
+pub fn expecting(text: &[u8]) -> Compared<'_> {
+    Compared {
+        left: text,
+        alike: true,
+        writes: 0,
+    }
+}

@@ -23,16 +23,17 @@ pub enum Mode {
     Overlap,
 }
 
-/// By what matches are found. No engine changes what is written.
+/// By what matches are found. No engine changes what is written. Today all but packed search are served by the noncontiguous
+/// automaton, whatever their name.
 #[derive(Clone, Copy, Debug, PartialEq, Eq)]
 pub enum Engine {
-    /// The fastest that the rules allow.
+    /// Whichever the program chooses.
     Auto,
-    /// The noncontiguous automaton: quick to build.
+    /// The noncontiguous automaton.
     Noncontiguous,
-    /// The contiguous automaton: small.
+    /// The contiguous automaton, which isn't there yet.
     Contiguous,
-    /// The deterministic automaton: fast, and large.
+    /// The deterministic automaton, which isn't there yet.
     Dfa,
     /// Packed search: for few patterns and leftmost kinds, with no pairing.
     Packed,

@@ -84,7 +84,8 @@ pub fn tool<F: Files, R: Read, W: Write, E: Write>(
 ) -> u8
     requires { has_ended reader.old ≡ false }
     ensures status { IsStatus result }
-    // At status 0 help was shown, or the text was written that the words and the bytes of the rule file ask for.
+    // At status 0 the words ask for help, and nothing was read; or the text was written that the words and the bytes of the rule
+    // file ask for.
     ensures done { result ≡ 0 → IsDone R.remaining W.contents (map string_bytes words.now)
         reader.old reader.new writer.old writer.new }
 {

@@ -2,20 +2,19 @@
 //!
 //! What was read is written with each match exchanged for the replacement of its pattern. A match that was found is never taken
 //! back, and what is still to be found begins at the cut or behind it; so everything before the cut is written before the next
-//! read, and a reader that waits keeps back nothing but what may still become a match. What is written is gathered into one
-//! buffer, which is sent before each read: a stream over a file makes about one write a read.
+//! read, and a reader that waits keeps back no more bytes than the longest pattern has, or one. What is written is gathered into
+//! one buffer, which is sent before each read: a stream over a file makes about one write a read.
 //!
 //! Nothing is tried again, and nothing is flushed. Both buffers are taken before the first read, and no memory after that.
-ghost use Rattle.std.specs.Prelude.{◌≡◌, ◌+◌, ◌-◌, ◌≤◌, ◌++◌, [], drop, false, length, map, slice_range, IfErr, IfOk, OnErr, OnOk};
-ghost use Rattle.ac_automaton.specs.Output.{Sent, Stopped};
+ghost use Rattle.std.specs.Prelude.{◌≡◌, ◌+◌, ◌-◌, ◌≤◌, [], drop, false, length, map, slice_range, IfErr, IfOk, OnErr, OnOk};
 ghost use Rattle.ac_automaton.specs.Stream.{CanStream, IsOnCourse, ScanCounts, fresh_scan};
 ghost use Rattle.ac_automaton.specs.StreamReplace.{CostsStream, HasSearched, IsBegun, IsPlaced, IsReplaceStreamError, ReplacesStream, SendsDecided, SendsMatch, StopsSending};
 ghost use Rattle.ac_automaton.specs.Watched.{IsOfWrite, has_ended};
 
-use super::output::Output;
 use super::scan::Scan;
 use crate::automaton::Automaton;
 use crate::error::StreamError;
+use crate::output::Output;
 use crate::watched::Watched;
 use ac_input::steps::Steps;
 use std::alloc::Global;
@@ -29,23 +28,6 @@ pub(super) fn part(held: &[u8], from: usize, start: usize, end: usize) -> &[u8]
     ensures { result.now ≡ slice_range held.now (start - from) (end - from) }
 {
     &held[start - from..end - from]
-}
-
-/// Sends what stands before a match, and what is put in its place.
-fn send_exchanged<W: Write>(
-    before: &[u8],
-    replacement: &[u8],
-    output: &mut Output,
-    writer: &mut Watched<W>,
-) -> Result<(), StreamError>
-    ensures sent { OnOk result (Sent W.contents writer.old writer.new output.old output.new
-        (before.now ++ replacement.now)) }
-    ensures stopped { OnErr result (Stopped W.contents writer.old writer.new output.old
-        (before.now ++ replacement.now)) }
-    ensures kind { IfErr result (IsOfWrite writer.old writer.new) }
-{
-    output.send(writer, before)?;
-    output.send(writer, replacement)
 }
 
 /// Finds the next match of what was read, and sends the text from a place to its end. It answers where that is, or none where there
@@ -74,7 +56,7 @@ fn send_match<A: Automaton, W: Write>(
     let from = scan.from();
     let before = part(scan.held(), from, at, found.start());
     let replacement = replacements[found.pattern().as_usize()];
-    send_exchanged(before, replacement, output, writer)?;
+    output.send_exchanged(writer, before, replacement)?;
     Ok(Some(found.end()))
 }
 

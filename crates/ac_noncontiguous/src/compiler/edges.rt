@@ -5,7 +5,7 @@
 ghost use Rattle.std.specs.Prelude.{◌≡◌, ℕ, ◌<◌, length, slice_index};
 ghost use Rattle.ac_input.specs.LiveLaws.{canonical};
 ghost use Rattle.ac_noncontiguous.specs.Numbering.{IsNumbering};
-ghost use Rattle.ac_noncontiguous.specs.Edges.{AreTargets, AreEdges};
+ghost use Rattle.ac_noncontiguous.specs.Edges.{AreTargets, AreEdgesTo};
 
 use crate::compiler::numbering::Numbering;
 use crate::trie::Trie;
@@ -56,7 +56,7 @@ pub(super) fn edges(
     requires numbering { IsNumbering (length trie.now.states.items) numbering.now }
     requires within { state < length numbering.now.at.items }
     requires back { back < length numbering.now.at.items }
-    ensures { AreEdges trie.now numbering.now back state result }
+    ensures { AreEdgesTo trie.now numbering.now back state result }
 {
     if state == 0 {
         return filled(StateID::ZERO);

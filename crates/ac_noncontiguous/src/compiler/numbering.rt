@@ -7,7 +7,7 @@ ghost use Rattle.std.specs.Prelude.{◌≡◌, ℕ, ◌+◌, ◌<◌, ◌≤◌,
 ghost use Rattle.std.specs.List.{filter};
 ghost use Rattle.ac_input.specs.Limits.{greatest};
 ghost use Rattle.ac_noncontiguous.specs.Order.{IsBreadthFirst};
-ghost use Rattle.ac_noncontiguous.specs.Numbering.{is_chosen, AreListed, AreFirst, FitsTrie, IsNumbering, IsLastMatch};
+ghost use Rattle.ac_noncontiguous.specs.Numbering.{is_chosen, AreListed, AreFirstNumbers, FitsTrie, IsNumbering, IsLastMatch};
 
 use crate::links::Links;
 use crate::trie::Trie;
@@ -88,7 +88,7 @@ fn inverse(alloc: Global, at: &[StateID], states: usize) -> Result<Vec<StateID>,
     requires some { 2 ≤ length at.now }
     requires few { length at.now ≤ greatest + 1 }
     requires within { EachIndex at.now (λ k. slice_index at.now k < states) }
-    ensures { IfOk result (λ of. (length of.items ≡ states) × AreFirst at.now 2 of.items) }
+    ensures { IfOk result (λ of. (length of.items ≡ states) × AreFirstNumbers at.now 2 of.items) }
 {
     let mut of = vec![in alloc; StateID::ZERO; states]?;
     let mut from = at.len();

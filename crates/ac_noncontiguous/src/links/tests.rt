@@ -3,10 +3,21 @@ use super::Links;
 use crate::error::BuildError;
 use crate::trie::Trie;
 use ac_input::pairing::Pairing;
-use ac_input::primitives::StateID;
 use ac_input::search::MatchKind;
+use ac_input::search::MatchKind::{LeftmostLongest, Standard};
 use std::alloc::{AllocError, Global};
+use std::process::Abort;
 use std::test::Fail;
+
+/// The patterns, whether the two cases of a letter are the same, the kind, to which state each state fails, and the patterns of
+/// each state, with the number past all patterns behind them.
+type Row<'a> = (
+    &'a [&'a [u8]],
+    bool,
+    MatchKind,
+    &'a [Option<usize>],
+    &'a [usize],
+);
 
 /// The links of the trie of the patterns.
 fn links(
@@ -21,9 +32,16 @@ fn links(
     Ok(links)
 }
 
-/// A state to which another one fails.
-fn to(number: usize) -> Option<StateID> {
-    StateID::new(number).ok()
+/// The numbers of the states to which the states fail.
+fn fails(alloc: Global, links: &Links) -> Result<Vec<Option<usize>>, AllocError> {
+    let mut found = Vec::new(alloc);
+    for fail in &links.fails {
+        found.push(match fail {
+            Some(state) => Some(state.as_usize()),
+            None => None,
+        })?;
+    }
+    Ok(found)
 }
 
 /// The patterns of each state, with the number past all patterns behind them.
@@ -43,107 +61,116 @@ fn lists(alloc: Global, links: &Links, end: usize) -> Result<Vec<usize>, AllocEr
     Ok(found)
 }
 
-#[test]
-fn fails_to_the_longest_suffix(rt: HostRuntime) -> Result<(), Fail> {
-    let patterns: [&[u8]; 4] = [b"he", b"she", b"his", b"hers"];
-    let links = links(rt.alloc(), &patterns, Pairing::none(), MatchKind::Standard)?;
-    // the start, h, he, s, sh, she, hi, his, her, hers
-    let fails = [
-        None,
-        to(0),
-        to(0),
-        to(0),
-        to(1),
-        to(2),
-        to(0),
-        to(3),
-        to(0),
-        to(3),
-    ];
-    assert_eq!(rt; links.fails.as_slice(), fails.as_slice());
-    let lists = lists(rt.alloc(), &links, 4)?;
-    assert_eq!(rt;
-        lists.as_slice(),
-        [4, 4, 0, 4, 4, 4, 1, 0, 4, 4, 2, 4, 4, 3, 4].as_slice()
-    );
+/// Asserts to which state each state fails, and which patterns it has.
+fn links_are(
+    rt: &impl Abort,
+    alloc: Global,
+    links: &Links,
+    end: usize,
+    want: (&[Option<usize>], &[usize]),
+) -> Result<(), Fail> {
+    assert_eq!(rt; fails(alloc, links)?.as_slice(), want.0);
+    assert_eq!(rt; lists(alloc, links, end)?.as_slice(), want.1);
+    Ok(())
+}
+
+/// Asserts what the row says.
+fn row_is(rt: &impl Abort, alloc: Global, row: &Row<'_>) -> Result<(), Fail> {
+    let (patterns, folded, kind, fails, lists) = row;
+    let pairing = if *folded {
+        Pairing::ascii()
+    } else {
+        Pairing::none()
+    };
+    let links = links(alloc, patterns, pairing, *kind)?;
+    links_are(rt, alloc, &links, patterns.len(), (fails, lists))
+}
+
+/// Asserts what each row says.
+fn are(rt: &impl Abort, alloc: Global, rows: &[Row<'_>]) -> Result<(), Fail> {
+    for row in rows {
+        row_is(rt, alloc, row)?;
+    }
     Ok(())
 }
 
 #[test]
+fn fails_to_the_longest_suffix(rt: HostRuntime) -> Result<(), Fail> {
+    const PATTERNS: &[&[u8]] = &[b"he", b"she", b"his", b"hers"];
+    // the start, h, he, s, sh, she, hi, his, her, hers
+    const FAILS: &[Option<usize>] = &[
+        None,
+        Some(0),
+        Some(0),
+        Some(0),
+        Some(1),
+        Some(2),
+        Some(0),
+        Some(3),
+        Some(0),
+        Some(3),
+    ];
+    const LISTS: &[usize] = &[4, 4, 0, 4, 4, 4, 1, 0, 4, 4, 2, 4, 4, 3, 4];
+    are(
+        &rt,
+        rt.alloc(),
+        &[(PATTERNS, false, Standard, FAILS, LISTS)],
+    )
+}
+
+const INSIDE: &[&[u8]] = &[b"b", b"abc", b"abcd"];
+
+#[test]
 fn shares_the_patterns_of_a_failure(rt: HostRuntime) -> Result<(), Fail> {
-    let patterns: [&[u8]; 3] = [b"b", b"abc", b"abcd"];
-    let links = links(rt.alloc(), &patterns, Pairing::none(), MatchKind::Standard)?;
     // the start, b, a, ab, abc, abcd
-    let fails = [None, to(0), to(0), to(1), to(0), to(0)];
-    assert_eq!(rt; links.fails.as_slice(), fails.as_slice());
-    let lists = lists(rt.alloc(), &links, 3)?;
-    assert_eq!(rt; lists.as_slice(), [3, 0, 3, 3, 0, 3, 1, 3, 2, 3].as_slice());
+    const FAILS: &[Option<usize>] = &[None, Some(0), Some(0), Some(1), Some(0), Some(0)];
+    const LISTS: &[usize] = &[3, 0, 3, 3, 0, 3, 1, 3, 2, 3];
+    are(&rt, rt.alloc(), &[(INSIDE, false, Standard, FAILS, LISTS)])?;
+    let links = links(rt.alloc(), INSIDE, Pairing::none(), Standard)?;
     assert_eq!(rt; links.matches.len(), 3);
     Ok(())
 }
 
 #[test]
 fn leaves_a_match_no_failure(rt: HostRuntime) -> Result<(), Fail> {
-    let patterns: [&[u8]; 3] = [b"b", b"abc", b"abcd"];
-    let links = links(
+    const FAILS: &[Option<usize>] = &[None, None, Some(0), Some(1), None, None];
+    const LISTS: &[usize] = &[3, 0, 3, 3, 0, 3, 1, 3, 2, 3];
+    are(
+        &rt,
         rt.alloc(),
-        &patterns,
-        Pairing::none(),
-        MatchKind::LeftmostLongest,
-    )?;
-    let fails = [None, None, to(0), to(1), None, None];
-    assert_eq!(rt; links.fails.as_slice(), fails.as_slice());
-    let lists = lists(rt.alloc(), &links, 3)?;
-    assert_eq!(rt; lists.as_slice(), [3, 0, 3, 3, 0, 3, 1, 3, 2, 3].as_slice());
-    Ok(())
+        &[(INSIDE, false, LeftmostLongest, FAILS, LISTS)],
+    )
 }
 
 #[test]
 fn lists_own_patterns_first(rt: HostRuntime) -> Result<(), Fail> {
-    let patterns: [&[u8]; 3] = [b"a", b"a", b"aa"];
-    let all = links(rt.alloc(), &patterns, Pairing::none(), MatchKind::Standard)?;
-    assert_eq!(rt; all.fails.as_slice(), [None, to(0), to(1)].as_slice());
-    let found = lists(rt.alloc(), &all, 3)?;
-    assert_eq!(rt; found.as_slice(), [3, 0, 1, 3, 2, 0, 1, 3].as_slice());
-    let longest = links(
-        rt.alloc(),
-        &patterns,
-        Pairing::none(),
-        MatchKind::LeftmostLongest,
-    )?;
-    assert_eq!(rt; longest.fails.as_slice(), [None, None, None].as_slice());
-    let found = lists(rt.alloc(), &longest, 3)?;
-    assert_eq!(rt; found.as_slice(), [3, 0, 1, 3, 2, 3].as_slice());
-    Ok(())
+    const PATTERNS: &[&[u8]] = &[b"a", b"a", b"aa"];
+    const FAILS: &[Option<usize>] = &[None, Some(0), Some(1)];
+    const NONE: &[Option<usize>] = &[None, None, None];
+    const ROWS: &[Row<'static>] = &[
+        (PATTERNS, false, Standard, FAILS, &[3, 0, 1, 3, 2, 0, 1, 3]),
+        (PATTERNS, false, LeftmostLongest, NONE, &[3, 0, 1, 3, 2, 3]),
+    ];
+    are(&rt, rt.alloc(), ROWS)
 }
 
 #[test]
 fn lists_the_empty_pattern(rt: HostRuntime) -> Result<(), Fail> {
-    let patterns: [&[u8]; 2] = [b"", b"ab"];
-    let all = links(rt.alloc(), &patterns, Pairing::none(), MatchKind::Standard)?;
-    assert_eq!(rt; all.fails.as_slice(), [None, to(0), to(0)].as_slice());
-    let found = lists(rt.alloc(), &all, 2)?;
-    assert_eq!(rt; found.as_slice(), [0, 2, 0, 2, 1, 0, 2].as_slice());
-    let longest = links(
-        rt.alloc(),
-        &patterns,
-        Pairing::none(),
-        MatchKind::LeftmostLongest,
-    )?;
-    assert_eq!(rt; longest.fails.as_slice(), [None, None, None].as_slice());
-    let found = lists(rt.alloc(), &longest, 2)?;
-    assert_eq!(rt; found.as_slice(), [0, 2, 2, 1, 2].as_slice());
-    Ok(())
+    const PATTERNS: &[&[u8]] = &[b"", b"ab"];
+    const FAILS: &[Option<usize>] = &[None, Some(0), Some(0)];
+    const NONE: &[Option<usize>] = &[None, None, None];
+    const ROWS: &[Row<'static>] = &[
+        (PATTERNS, false, Standard, FAILS, &[0, 2, 0, 2, 1, 0, 2]),
+        (PATTERNS, false, LeftmostLongest, NONE, &[0, 2, 2, 1, 2]),
+    ];
+    are(&rt, rt.alloc(), ROWS)
 }
 
 #[test]
 fn fails_by_partners(rt: HostRuntime) -> Result<(), Fail> {
-    let patterns: [&[u8]; 3] = [b"aB", b"bC", b"B"];
-    let links = links(rt.alloc(), &patterns, Pairing::ascii(), MatchKind::Standard)?;
+    const PATTERNS: &[&[u8]] = &[b"aB", b"bC", b"B"];
     // the start, a, ab, b, bc
-    let fails = [None, to(0), to(3), to(0), to(0)];
-    assert_eq!(rt; links.fails.as_slice(), fails.as_slice());
-    let lists = lists(rt.alloc(), &links, 3)?;
-    assert_eq!(rt; lists.as_slice(), [3, 3, 0, 2, 3, 2, 3, 1, 3].as_slice());
-    Ok(())
+    const FAILS: &[Option<usize>] = &[None, Some(0), Some(3), Some(0), Some(0)];
+    const LISTS: &[usize] = &[3, 3, 0, 2, 3, 2, 3, 1, 3];
+    are(&rt, rt.alloc(), &[(PATTERNS, true, Standard, FAILS, LISTS)])
 }

@@ -28,6 +28,9 @@ impl NFA {
     }
 
     /// Reads on as `advance_to_match`, and passes quickly over the bytes that leave it in the start.
+    ///
+    /// It stays out of `advance_to_match`, whose other loop is the slower for it.
+    #[inline(never)]
     fn skip_to_match(
         &self,
         anchored: Anchored,

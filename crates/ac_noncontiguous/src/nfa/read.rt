@@ -92,11 +92,12 @@ impl<'a> Iterator for TransIter<'a> {
 
 impl NFA {
     ghost use Rattle.ac_noncontiguous.specs.Reads.{dictionary, matches_at};
-    ghost use Rattle.ac_noncontiguous.specs.ReadCalls.{state_len, fail_in, depth_in, edges_in, classes_in, special_in, ClassesAreThose, FailsIn, IsDeepIn, ListsIn, EdgesLeadIn, StandForSome, IsCopy};
+    ghost use Rattle.ac_noncontiguous.specs.ReadCalls.{state_len, fail_in, depth_in, edges_in, classes_in, special_in, ClassesAreThose, CountsIn, FailsIn, IsDeepIn, ListsIn, EdgesLeadIn, SpecialIn, StandForSome, TextsBegin, IsCopy};
 
     /// How many states there are.
     pub fn state_len(&self) -> usize
-        ensures { result ≡ state_len self.now }
+        ensures value { result ≡ state_len self.now }
+        ensures counted { CountsIn self.now result }
     {
         self.tables.states.len() - 1
     }
@@ -158,7 +159,8 @@ impl NFA {
         }
     }
 
-    /// The classes of the bytes: those that no pattern tells apart are in one.
+    /// The classes of the bytes: each byte of an entered pattern, and its partner, is one alone; other bytes share one with their
+    /// neighbours.
     pub fn byte_classes(&self) -> &ByteClasses
         ensures value { result.now ≡ classes_in self.now }
         ensures classes { ClassesAreThose self.now }
@@ -168,7 +170,8 @@ impl NFA {
 
     /// The numbers that stand between the parts of the states.
     pub fn special(&self) -> Special
-        ensures { result ≡ special_in self.now }
+        ensures value { result ≡ special_in self.now }
+        ensures order { SpecialIn self.now result }
     {
         Special {
             max_special_id: self.max_special,
@@ -180,7 +183,8 @@ impl NFA {
 
     /// Each state from 2 on stands for a text: canonical bytes that begin an entered pattern. State 1 stands for none.
     pub fn states_stand(&self)
-        ensures { StandForSome self.now }
+        ensures some { StandForSome self.now }
+        ensures begin { TextsBegin self.now }
     {}
 
     /// The prefilter once more, if one is held.

@@ -1,5 +1,6 @@
 //! Many small searches, each compared with the plain program.
-use super::{Asked, SETTINGS, build, folded, unpaired};
+use super::Letters::{Cased, Folded};
+use super::{Asked, Letters, SETTINGS, build, pairing, pick};
 use crate::nfa::NFA;
 use ac_automaton::automaton::Automaton;
 use ac_input::search::{Anchored, Input, MatchKind, Span};
@@ -41,98 +42,91 @@ fn walks_alike(
     let input = Input::new(text).anchored(anchored).earliest(earliest);
     let mut picks = nfa.try_find_iter(input)?;
     for want in naive.picks(asked.kind, earliest) {
-        let got = picks.next().ok_or("a pick is missing")?;
-        assert_eq!(rt; got.pattern().as_usize(), want.pattern);
-        assert_eq!(rt; got.range(), want.start..want.end);
+        assert_eq!(rt;
+            pick(picks.next()),
+            Some((want.pattern, want.start, want.end))
+        );
     }
     assert!(rt; picks.next().is_none());
-    Ok(())
-}
-
-/// Compares all searches of one text.
-fn searches_alike(rt: &impl Abort, nfa: &NFA, asked: &Asked<'_>, text: &[u8]) -> Result<(), Fail> {
-    for (anchored, earliest) in SEARCHES {
-        walks_alike(rt, nfa, asked, text, anchored, earliest)?;
-    }
     Ok(())
 }
 
 /// Compares all searches of all texts by one automaton.
 fn texts_alike(rt: &impl Abort, nfa: &NFA, asked: &Asked<'_>) -> Result<(), Fail> {
     for text in TEXTS {
-        searches_alike(rt, nfa, asked, text)?;
+        for (anchored, earliest) in SEARCHES {
+            walks_alike(rt, nfa, asked, text, anchored, earliest)?;
+        }
     }
     Ok(())
+}
+
+/// Compares the automaton of one setting.
+fn setting_alike(
+    rt: &impl Abort,
+    alloc: Global,
+    asked: &Asked<'_>,
+    prefilter: bool,
+    depth: usize,
+) -> Result<(), Fail> {
+    let nfa = build(alloc, asked, prefilter, depth)?;
+    texts_alike(rt, &nfa, asked)
 }
 
 /// Compares the automata of all settings.
-fn settings_alike(rt: &impl Abort, alloc: Global, asked: &Asked<'_>) -> Result<(), Fail> {
-    for (prefilter, depth) in SETTINGS {
-        let nfa = build(alloc, asked, prefilter, depth)?;
-        texts_alike(rt, &nfa, asked)?;
-    }
-    Ok(())
-}
-
-/// Compares the automata of one kind, with letters as they are and in both cases.
-fn kind_alike(
+fn settings_alike(
     rt: &impl Abort,
     alloc: Global,
     patterns: &[&[u8]],
     kind: MatchKind,
+    letters: Letters,
 ) -> Result<(), Fail> {
-    settings_alike(rt, alloc, &unpaired(patterns, kind))?;
-    settings_alike(rt, alloc, &folded(patterns, kind))
+    let asked = Asked {
+        patterns,
+        kind,
+        pairing: pairing(letters)?,
+    };
+    for (prefilter, depth) in SETTINGS {
+        setting_alike(rt, alloc, &asked, prefilter, depth)?;
+    }
+    Ok(())
 }
 
-/// Compares all kinds.
-fn all_alike(rt: &impl Abort, alloc: Global, patterns: &[&[u8]]) -> Result<(), Fail> {
-    for kind in KINDS {
-        kind_alike(rt, alloc, patterns, kind)?;
+/// Compares the automata of all kinds for each of these patterns, with letters as they are and in both cases.
+fn all_alike(rt: &impl Abort, alloc: Global, each: &[&[&[u8]]]) -> Result<(), Fail> {
+    for patterns in each {
+        for kind in KINDS {
+            settings_alike(rt, alloc, patterns, kind, Cased)?;
+            settings_alike(rt, alloc, patterns, kind, Folded)?;
+        }
     }
     Ok(())
 }
 
 #[test]
 fn few_patterns(rt: HostRuntime) -> Result<(), Fail> {
-    let alloc = rt.alloc();
-    let none: [&[u8]; 0] = [];
-    all_alike(&rt, alloc, &none)?;
-    let one: [&[u8]; 1] = [b"a"];
-    all_alike(&rt, alloc, &one)?;
-    let short_first: [&[u8]; 2] = [b"a", b"ab"];
-    all_alike(&rt, alloc, &short_first)?;
-    let long_first: [&[u8]; 2] = [b"ab", b"a"];
-    all_alike(&rt, alloc, &long_first)
+    const EACH: &[&[&[u8]]] = &[&[], &[b"a"], &[b"a", b"ab"], &[b"ab", b"a"]];
+    all_alike(&rt, rt.alloc(), EACH)
 }
 
 #[test]
 fn patterns_within_patterns(rt: HostRuntime) -> Result<(), Fail> {
-    let alloc = rt.alloc();
-    let inside: [&[u8]; 3] = [b"b", b"abc", b"abcd"];
-    all_alike(&rt, alloc, &inside)?;
-    let endings: [&[u8]; 4] = [b"aab", b"ab", b"b", b"aab"];
-    all_alike(&rt, alloc, &endings)?;
-    let others: [&[u8]; 3] = [b"aaba", b"abb", b"ba"];
-    all_alike(&rt, alloc, &others)
+    const EACH: &[&[&[u8]]] = &[
+        &[b"b", b"abc", b"abcd"],
+        &[b"aab", b"ab", b"b", b"aab"],
+        &[b"aaba", b"abb", b"ba"],
+    ];
+    all_alike(&rt, rt.alloc(), EACH)
 }
 
 #[test]
 fn with_an_empty_pattern(rt: HostRuntime) -> Result<(), Fail> {
-    let alloc = rt.alloc();
-    let alone: [&[u8]; 1] = [b""];
-    all_alike(&rt, alloc, &alone)?;
-    let last: [&[u8]; 2] = [b"ab", b""];
-    all_alike(&rt, alloc, &last)?;
-    let twice: [&[u8]; 4] = [b"bb", b"", b"b", b""];
-    all_alike(&rt, alloc, &twice)
+    const EACH: &[&[&[u8]]] = &[&[b""], &[b"ab", b""], &[b"bb", b"", b"b", b""]];
+    all_alike(&rt, rt.alloc(), EACH)
 }
 
 #[test]
 fn letters_in_both_cases(rt: HostRuntime) -> Result<(), Fail> {
-    let alloc = rt.alloc();
-    let same: [&[u8]; 3] = [b"AB", b"aB", b"c"];
-    all_alike(&rt, alloc, &same)?;
-    let mixed: [&[u8]; 3] = [b"Ba", b"cab", b"ABC"];
-    all_alike(&rt, alloc, &mixed)
+    const EACH: &[&[&[u8]]] = &[&[b"AB", b"aB", b"c"], &[b"Ba", b"cab", b"ABC"]];
+    all_alike(&rt, rt.alloc(), EACH)
 }

@@ -1,13 +1,14 @@
 //! An automaton with a start for one anchoring alone, and one behind a reference: what is refused, and what is found all the same.
-use super::{build, unpaired};
+use super::{Pick, made, pick};
 use crate::nfa::NFA;
 use ac_automaton::automaton::Automaton;
 use ac_automaton::error::{MatchError, MatchErrorKind, ReplaceError};
 use ac_automaton::overlapping::OverlappingState;
 use ac_input::primitives::{PatternID, StateID};
-use ac_input::search::{Anchored, Input, Match, MatchKind};
+use ac_input::search::{Anchored, Input, MatchKind};
 use ac_input::steps::Steps;
 use ac_literal::prefilter::Prefilter;
+use std::alloc::Global;
 use std::process::Abort;
 use std::test::Fail;
 
@@ -127,41 +128,93 @@ fn finds<A: Automaton>(
     rt: &impl Abort,
     automaton: &A,
     input: &Input<'_>,
-    want: Option<Match>,
+    want: Option<Pick>,
 ) -> Result<(), Fail> {
     let mut steps = Steps::new();
-    assert_eq!(rt; automaton.try_find(input)?, want);
-    assert_eq!(rt; automaton.try_find_counted(input, &mut steps)?, want);
+    assert_eq!(rt; pick(automaton.try_find(input)?), want);
+    assert_eq!(rt; pick(automaton.try_find_counted(input, &mut steps)?), want);
     Ok(())
+}
+
+/// Asserts what is found by the automaton, by a reference to it, and by one that has the unanchored start alone.
+fn each_finds(rt: &impl Abort, nfa: &NFA, want: Pick) -> Result<(), Fail> {
+    let input = Input::new(b"xxabcd");
+    finds(rt, nfa, &input, Some(want))?;
+    finds(rt, &nfa, &input, Some(want))?;
+    finds(rt, &OneStart::new(nfa, Anchored::No), &input, Some(want))
+}
+
+/// The same for the automaton of a kind.
+fn each_of_kind(rt: &impl Abort, alloc: Global, kind: MatchKind, want: Pick) -> Result<(), Fail> {
+    let nfa = made(alloc, &[b"b", b"abc", b"abcd"], kind)?;
+    each_finds(rt, &nfa, want)
 }
 
 #[test]
 fn found_by_each(rt: HostRuntime) -> Result<(), Fail> {
-    let patterns: [&[u8]; 3] = [b"b", b"abc", b"abcd"];
-    let input = Input::new(b"xxabcd");
-    for (kind, want) in [
-        (MatchKind::Standard, Match::must(0, 3..4)),
-        (MatchKind::LeftmostFirst, Match::must(1, 2..5)),
-        (MatchKind::LeftmostLongest, Match::must(2, 2..6)),
-    ] {
-        let nfa = build(rt.alloc(), &unpaired(&patterns, kind), true, 3)?;
-        finds(&rt, &nfa, &input, Some(want))?;
-        finds(&rt, &&nfa, &input, Some(want))?;
-        finds(&rt, &OneStart::new(&nfa, Anchored::No), &input, Some(want))?;
-    }
-    Ok(())
+    each_of_kind(&rt, rt.alloc(), MatchKind::Standard, (0, 3, 4))?;
+    each_of_kind(&rt, rt.alloc(), MatchKind::LeftmostFirst, (1, 2, 5))?;
+    each_of_kind(&rt, rt.alloc(), MatchKind::LeftmostLongest, (2, 2, 6))
+}
+
+/// Asserts what an automaton that has the anchored start alone finds in two texts.
+fn bound_finds(rt: &impl Abort, nfa: &NFA) -> Result<(), Fail> {
+    let bound = OneStart::new(nfa, Anchored::Yes);
+    let cut = Input::new(b"abcx").anchored(Anchored::Yes);
+    finds(rt, &bound, &cut, None)?;
+    let whole = Input::new(b"abcd").anchored(Anchored::Yes);
+    finds(rt, &bound, &whole, Some((0, 0, 4)))
 }
 
 #[test]
 fn found_where_there_is_a_start(rt: HostRuntime) -> Result<(), Fail> {
-    let patterns: [&[u8]; 2] = [b"abcd", b"bc"];
-    let asked = unpaired(&patterns, MatchKind::LeftmostFirst);
-    let nfa = build(rt.alloc(), &asked, true, 3)?;
-    let bound = OneStart::new(&nfa, Anchored::Yes);
-    let cut = Input::new(b"abcx").anchored(Anchored::Yes);
-    finds(&rt, &bound, &cut, None)?;
-    let whole = Input::new(b"abcd").anchored(Anchored::Yes);
-    finds(&rt, &bound, &whole, Some(Match::must(0, 0..4)))
+    let nfa = made(rt.alloc(), &[b"abcd", b"bc"], MatchKind::LeftmostFirst)?;
+    bound_finds(&rt, &nfa)
+}
+
+/// Asserts that searches are refused for this reason.
+fn refuses_searches(
+    rt: &impl Abort,
+    automaton: &OneStart<'_>,
+    input: &Input<'_>,
+    want: MatchErrorKind,
+) -> Result<(), Fail> {
+    let mut state = OverlappingState::start();
+    let error = automaton.try_find(input).err().ok_or("refused")?;
+    assert_eq!(rt; *error.kind(), want);
+    let error = automaton
+        .try_find_overlapping(input, &mut state)
+        .err()
+        .ok_or("refused")?;
+    assert_eq!(rt; *error.kind(), want);
+    Ok(())
+}
+
+/// Asserts that a walk is refused for this reason.
+fn refuses_walk(
+    rt: &impl Abort,
+    automaton: &OneStart<'_>,
+    input: Input<'_>,
+    want: MatchErrorKind,
+) -> Result<(), Fail> {
+    let error = automaton.try_find_iter(input).err().ok_or("refused")?;
+    assert_eq!(rt; *error.kind(), want);
+    Ok(())
+}
+
+/// Asserts that an overlapping walk is refused for this reason.
+fn refuses_overlapping_walk(
+    rt: &impl Abort,
+    automaton: &OneStart<'_>,
+    input: Input<'_>,
+    want: MatchErrorKind,
+) -> Result<(), Fail> {
+    let error = automaton
+        .try_find_overlapping_iter(input)
+        .err()
+        .ok_or("refused")?;
+    assert_eq!(rt; *error.kind(), want);
+    Ok(())
 }
 
 /// Asserts that a search that is refused at all is refused with this, by each call, also where it would be over at once.
@@ -173,64 +226,42 @@ fn refuses(
 ) -> Result<(), Fail> {
     for range in [0..1, 1..0] {
         let input = Input::new(b"a").range(range).anchored(anchored);
-        let mut state = OverlappingState::start();
-        let error = automaton.try_find(&input).err().ok_or("refused")?;
-        assert_eq!(rt; *error.kind(), want);
-        let error = automaton
-            .try_find_overlapping(&input, &mut state)
-            .err()
-            .ok_or("refused")?;
-        assert_eq!(rt; *error.kind(), want);
-        let error = automaton
-            .try_find_iter(input.clone()?)
-            .err()
-            .ok_or("refused")?;
-        assert_eq!(rt; *error.kind(), want);
-        let error = automaton
-            .try_find_overlapping_iter(input)
-            .err()
-            .ok_or("refused")?;
-        assert_eq!(rt; *error.kind(), want);
+        refuses_searches(rt, automaton, &input, want)?;
+        refuses_walk(rt, automaton, input.clone()?, want)?;
+        refuses_overlapping_walk(rt, automaton, input, want)?;
     }
     Ok(())
 }
 
+/// Asserts what an automaton refuses that has one start alone.
+fn each_refuses(rt: &impl Abort, nfa: &NFA) -> Result<(), Fail> {
+    let bound = OneStart::new(nfa, Anchored::Yes);
+    let want = MatchErrorKind::InvalidInputUnanchored;
+    refuses(rt, &bound, Anchored::No, want)?;
+    let free = OneStart::new(nfa, Anchored::No);
+    let want = MatchErrorKind::InvalidInputAnchored;
+    refuses(rt, &free, Anchored::Yes, want)
+}
+
 #[test]
 fn refused_where_there_is_no_start(rt: HostRuntime) -> Result<(), Fail> {
-    let patterns: [&[u8]; 1] = [b"a"];
-    for kind in [MatchKind::Standard, MatchKind::LeftmostFirst] {
-        let nfa = build(rt.alloc(), &unpaired(&patterns, kind), true, 3)?;
-        let bound = OneStart::new(&nfa, Anchored::Yes);
-        let want = MatchErrorKind::InvalidInputUnanchored;
-        refuses(&rt, &bound, Anchored::No, want)?;
-        let free = OneStart::new(&nfa, Anchored::No);
-        let want = MatchErrorKind::InvalidInputAnchored;
-        refuses(&rt, &free, Anchored::Yes, want)?;
-    }
-    Ok(())
+    each_refuses(&rt, &made(rt.alloc(), &[b"a"], MatchKind::Standard)?)?;
+    each_refuses(&rt, &made(rt.alloc(), &[b"a"], MatchKind::LeftmostFirst)?)
 }
 
 /// An overlapping iterator is refused an anchored input also where the automaton serves it.
 #[test]
 fn no_overlapping_iterator_of_an_anchored_input(rt: HostRuntime) -> Result<(), Fail> {
-    let patterns: [&[u8]; 1] = [b"a"];
-    let asked = unpaired(&patterns, MatchKind::Standard);
-    let nfa = build(rt.alloc(), &asked, true, 3)?;
+    let nfa = made(rt.alloc(), &[b"a"], MatchKind::Standard)?;
     let bound = OneStart::new(&nfa, Anchored::Yes);
     let input = Input::new(b"a").anchored(Anchored::Yes);
-    let error = bound
-        .try_find_overlapping_iter(input)
-        .err()
-        .ok_or("refused")?;
-    assert_eq!(rt; *error.kind(), MatchErrorKind::InvalidInputAnchored);
-    Ok(())
+    let want = MatchErrorKind::InvalidInputAnchored;
+    refuses_overlapping_walk(&rt, &bound, input, want)
 }
 
 #[test]
 fn no_replacement_without_a_start(rt: HostRuntime) -> Result<(), Fail> {
-    let patterns: [&[u8]; 1] = [b"a"];
-    let asked = unpaired(&patterns, MatchKind::Standard);
-    let nfa = build(rt.alloc(), &asked, true, 3)?;
+    let nfa = made(rt.alloc(), &[b"a"], MatchKind::Standard)?;
     let bound = OneStart::new(&nfa, Anchored::Yes);
     assert_eq!(rt; bound.patterns_len(), 1);
     let answer = bound.try_replace_all(rt.alloc(), "a", &["b"]);

@@ -1,30 +1,22 @@
 //! Streams in which a search stands in the start most of the time, for automata with few bytes that lead on from it and with many.
-use super::{Asked, SETTINGS, build, folded, unpaired};
+use super::Letters::{Cased, Folded};
+use super::devices::whole;
+use super::streams::gives_by;
+use super::{Asked, Letters, Pick, SETTINGS, build, pairing};
 use crate::nfa::NFA;
-use ac_automaton::automaton::Automaton;
-use ac_automaton::watched::Watched;
-use ac_input::search::{Match, MatchKind};
+use ac_input::search::MatchKind;
 use std::alloc::Global;
-use std::io;
-use std::io::Read;
 use std::process::Abort;
 use std::test::Fail;
 
-/// A reader that gives its bytes, at most so many a read.
-#[derive(Drop)]
-struct Pieces<'a> {
-    bytes: &'a [u8],
-    most: usize,
-}
-
-impl Read for Pieces<'_> {
-    fn read(&mut self, buf: &mut [u8]) -> io::Result<usize> {
-        let n = self.bytes.len().min(self.most).min(buf.len());
-        buf[..n].copy_from_slice(&self.bytes[..n]);
-        self.bytes = &self.bytes[n..];
-        Ok(n)
-    }
-}
+/// The patterns, which bytes are taken for the same, the two words of the text, and what a stream of it gives.
+type Row = (
+    &'static [&'static [u8]],
+    Letters,
+    [u8; 2],
+    [u8; 2],
+    [Option<Pick>; 4],
+);
 
 /// A text of points with one word at its start, another and the first one next to it behind a long run, and the other at its end;
 /// in between stand first bytes of both alone.
@@ -44,108 +36,110 @@ fn text_of(one: [u8; 2], other: [u8; 2]) -> [u8; 400] {
     text
 }
 
-/// Asserts that a stream of the text, so many bytes a read, gives these matches, and then nothing more.
-fn gives_by(
+/// Asserts what streams of the text give, by one, by seven and by all bytes a read.
+fn gives_all(
     rt: &impl Abort,
     alloc: Global,
     nfa: &NFA,
     text: &[u8],
-    most: usize,
-    want: &[Option<Match>; 4],
+    want: &[Option<Pick>],
 ) -> Result<(), Fail> {
-    let mut reader = Watched::new(Pieces { bytes: text, most });
-    let mut matches = nfa.try_stream_find_iter(alloc, &mut reader)?;
-    assert_eq!(rt; matches.next().transpose()?, want[0]);
-    assert_eq!(rt; matches.next().transpose()?, want[1]);
-    assert_eq!(rt; matches.next().transpose()?, want[2]);
-    assert_eq!(rt; matches.next().transpose()?, want[3]);
-    assert!(rt; matches.next().is_none());
-    Ok(())
+    gives_by(rt, alloc, nfa, whole(text, 1), want)?;
+    gives_by(rt, alloc, nfa, whole(text, 7), want)?;
+    gives_by(rt, alloc, nfa, whole(text, 400), want)
 }
 
-/// The same in each setting, by one, by seven and by all bytes a read.
-fn gives(
+/// Asserts what the row says, in one setting.
+fn row_gives(
     rt: &impl Abort,
     alloc: Global,
-    asked: &Asked<'_>,
-    text: &[u8],
-    want: &[Option<Match>; 4],
+    row: &Row,
+    prefilter: bool,
+    depth: usize,
 ) -> Result<(), Fail> {
-    for (prefilter, depth) in SETTINGS {
-        let nfa = build(alloc, asked, prefilter, depth)?;
-        gives_by(rt, alloc, &nfa, text, 1, want)?;
-        gives_by(rt, alloc, &nfa, text, 7, want)?;
-        gives_by(rt, alloc, &nfa, text, 400, want)?;
+    let (patterns, letters, one, other, want) = row;
+    let asked = Asked {
+        patterns,
+        kind: MatchKind::Standard,
+        pairing: pairing(*letters)?,
+    };
+    let nfa = build(alloc, &asked, prefilter, depth)?;
+    gives_all(rt, alloc, &nfa, &text_of(*one, *other), want.as_slice())
+}
+
+/// Asserts what each row says, in each setting.
+fn gives(rt: &impl Abort, alloc: Global, rows: &[Row]) -> Result<(), Fail> {
+    for row in rows {
+        for (prefilter, depth) in SETTINGS {
+            row_gives(rt, alloc, row, prefilter, depth)?;
+        }
     }
     Ok(())
 }
 
+/// What is found where the first word is this pattern, and the second one that.
+const FIRST_ALONE: [Option<Pick>; 4] = [
+    Some((0, 0, 2)),
+    Some((0, 200, 202)),
+    Some((0, 202, 204)),
+    Some((0, 398, 400)),
+];
+
+const FIRST_AND_SECOND: [Option<Pick>; 4] = [
+    Some((0, 0, 2)),
+    Some((1, 200, 202)),
+    Some((0, 202, 204)),
+    Some((1, 398, 400)),
+];
+
+const SECOND_AND_FIRST: [Option<Pick>; 4] = [
+    Some((1, 0, 2)),
+    Some((0, 200, 202)),
+    Some((1, 202, 204)),
+    Some((0, 398, 400)),
+];
+
+const THIRD_AND_SECOND: [Option<Pick>; 4] = [
+    Some((2, 0, 2)),
+    Some((1, 200, 202)),
+    Some((2, 202, 204)),
+    Some((1, 398, 400)),
+];
+
 #[test]
 fn one_first_byte(rt: HostRuntime) -> Result<(), Fail> {
-    let patterns: [&[u8]; 1] = [b"qx"];
-    let asked = unpaired(&patterns, MatchKind::Standard);
-    let want = [
-        Some(Match::must(0, 0..2)),
-        Some(Match::must(0, 200..202)),
-        Some(Match::must(0, 202..204)),
-        Some(Match::must(0, 398..400)),
-    ];
-    gives(&rt, rt.alloc(), &asked, &text_of(*b"qx", *b"qx"), &want)
+    const ROWS: &[Row] = &[(&[b"qx"], Cased, *b"qx", *b"qx", FIRST_ALONE)];
+    gives(&rt, rt.alloc(), ROWS)
 }
 
 #[test]
 fn two_first_bytes(rt: HostRuntime) -> Result<(), Fail> {
-    let patterns: [&[u8]; 2] = [b"qx", b"zx"];
-    let asked = unpaired(&patterns, MatchKind::Standard);
-    let want = [
-        Some(Match::must(0, 0..2)),
-        Some(Match::must(1, 200..202)),
-        Some(Match::must(0, 202..204)),
-        Some(Match::must(1, 398..400)),
-    ];
-    gives(&rt, rt.alloc(), &asked, &text_of(*b"qx", *b"zx"), &want)
+    const ROWS: &[Row] = &[(&[b"qx", b"zx"], Cased, *b"qx", *b"zx", FIRST_AND_SECOND)];
+    gives(&rt, rt.alloc(), ROWS)
 }
 
 /// Three first bytes, and with a fourth one, which no text has, too many to be looked for.
 #[test]
 fn three_and_four_first_bytes(rt: HostRuntime) -> Result<(), Fail> {
-    let three: [&[u8]; 3] = [b"qx", b"\xFFx", b"\x00x"];
-    let four: [&[u8]; 4] = [b"qx", b"\xFFx", b"\x00x", b"kx"];
-    let asked = unpaired(&three, MatchKind::Standard);
-    let many = unpaired(&four, MatchKind::Standard);
-    let second = [
-        Some(Match::must(1, 0..2)),
-        Some(Match::must(0, 200..202)),
-        Some(Match::must(1, 202..204)),
-        Some(Match::must(0, 398..400)),
+    const THREE: &[&[u8]] = &[b"qx", b"\xFFx", b"\x00x"];
+    const FOUR: &[&[u8]] = &[b"qx", b"\xFFx", b"\x00x", b"kx"];
+    const ROWS: &[Row] = &[
+        (THREE, Cased, *b"\xFFx", *b"qx", SECOND_AND_FIRST),
+        (FOUR, Cased, *b"\xFFx", *b"qx", SECOND_AND_FIRST),
+        (THREE, Cased, *b"\x00x", *b"\xFFx", THIRD_AND_SECOND),
+        (FOUR, Cased, *b"\x00x", *b"\xFFx", THIRD_AND_SECOND),
     ];
-    let text = text_of(*b"\xFFx", *b"qx");
-    gives(&rt, rt.alloc(), &asked, &text, &second)?;
-    gives(&rt, rt.alloc(), &many, &text, &second)?;
-    let third = [
-        Some(Match::must(2, 0..2)),
-        Some(Match::must(1, 200..202)),
-        Some(Match::must(2, 202..204)),
-        Some(Match::must(1, 398..400)),
-    ];
-    let text = text_of(*b"\x00x", *b"\xFFx");
-    gives(&rt, rt.alloc(), &asked, &text, &third)?;
-    gives(&rt, rt.alloc(), &many, &text, &third)
+    gives(&rt, rt.alloc(), ROWS)
 }
 
 /// A letter begins a pattern in both cases: one, and with a digit beside it, are few, and two are many.
 #[test]
 fn first_letters_in_both_cases(rt: HostRuntime) -> Result<(), Fail> {
-    let few: [&[u8]; 2] = [b"qX", b"7x"];
-    let many: [&[u8]; 2] = [b"qX", b"Kx"];
-    let want = [
-        Some(Match::must(0, 0..2)),
-        Some(Match::must(1, 200..202)),
-        Some(Match::must(0, 202..204)),
-        Some(Match::must(1, 398..400)),
+    const FEW: &[&[u8]] = &[b"qX", b"7x"];
+    const MANY: &[&[u8]] = &[b"qX", b"Kx"];
+    const ROWS: &[Row] = &[
+        (FEW, Folded, *b"Qx", *b"7X", FIRST_AND_SECOND),
+        (MANY, Folded, *b"qx", *b"kX", FIRST_AND_SECOND),
     ];
-    let asked = folded(&few, MatchKind::Standard);
-    gives(&rt, rt.alloc(), &asked, &text_of(*b"Qx", *b"7X"), &want)?;
-    let asked = folded(&many, MatchKind::Standard);
-    gives(&rt, rt.alloc(), &asked, &text_of(*b"qx", *b"kX"), &want)
+    gives(&rt, rt.alloc(), ROWS)
 }

@@ -2,15 +2,17 @@
 ghost use Rattle.std.specs.Prelude.{◌≡◌, false};
 ghost use Rattle.ac_automaton.specs.Watched.{has_ended};
 
-use super::{SETTINGS, build, unpaired};
+use super::{SETTINGS, build, made, unpaired};
 use crate::nfa::NFA;
 use ac_automaton::automaton::Automaton;
 use ac_automaton::error::StreamError;
 use ac_automaton::watched::{Watched, write_whole};
-use ac_input::search::{Match, MatchKind};
+use ac_input::search::Match;
+use ac_input::search::MatchKind::Standard;
 use std::alloc::Global;
 use std::io;
 use std::io::{ErrorKind, Read, Write};
+use std::process::Abort;
 use std::test::Fail;
 
 /// A reader that gives its bytes, at most so many a read, and then ends or fails.
@@ -85,120 +87,131 @@ fn writes_numbers<R: Read, W: Write>(
     )
 }
 
-#[test]
-fn writes_in_place_of_words(rt: HostRuntime) -> Result<(), Fail> {
-    let patterns: [&[u8]; 3] = [b"fox", b"brown", b"quick"];
-    for (prefilter, depth) in SETTINGS {
-        let nfa = build(
-            rt.alloc(),
-            &unpaired(&patterns, MatchKind::Standard),
-            prefilter,
-            depth,
-        )?;
-        for most in [1, 2, 7] {
-            let mut reader = Watched::new(Source {
-                bytes: b"The quick brown fox.",
-                most,
-                fails: false,
-            });
-            let mut writer = Watched::new(Vec::new(rt.alloc()));
-            writes_numbers(&nfa, rt.alloc(), &mut reader, &mut writer)?;
-            let written: Vec<u8> = writer.into_inner();
-            assert_eq!(rt; written.as_slice(), b"The 2 1 0.".as_slice());
-        }
+const WORDS: &[&[u8]] = &[b"fox", b"brown", b"quick"];
+
+/// Asserts what is written of a sentence that is given by so many bytes a read.
+fn writes_by(rt: &impl Abort, alloc: Global, nfa: &NFA, most: usize) -> Result<(), Fail> {
+    let mut reader = Watched::new(Source {
+        bytes: b"The quick brown fox.",
+        most,
+        fails: false,
+    });
+    let mut writer = Watched::new(Vec::new(alloc));
+    writes_numbers(nfa, alloc, &mut reader, &mut writer)?;
+    let written: Vec<u8> = writer.into_inner();
+    assert_eq!(rt; written.as_slice(), b"The 2 1 0.".as_slice());
+    Ok(())
+}
+
+/// The same, whatever the pieces are.
+fn writes(rt: &impl Abort, alloc: Global, nfa: &NFA) -> Result<(), Fail> {
+    for most in [1, 2, 7] {
+        writes_by(rt, alloc, nfa, most)?;
     }
     Ok(())
+}
+
+/// The same in one setting.
+fn writes_in(rt: &impl Abort, alloc: Global, prefilter: bool, depth: usize) -> Result<(), Fail> {
+    let nfa = build(alloc, &unpaired(WORDS, Standard), prefilter, depth)?;
+    writes(rt, alloc, &nfa)
+}
+
+#[test]
+fn writes_in_place_of_words(rt: HostRuntime) -> Result<(), Fail> {
+    for (prefilter, depth) in SETTINGS {
+        writes_in(&rt, rt.alloc(), prefilter, depth)?;
+    }
+    Ok(())
+}
+
+/// Asserts that the error of a closure is answered, with what was written before it.
+fn answers_by(rt: &impl Abort, alloc: Global, nfa: &NFA, most: usize) {
+    let mut reader = Watched::new(Source {
+        bytes: b"The quick brown fox.",
+        most,
+        fails: false,
+    });
+    let mut writer = Watched::new(Vec::new(alloc));
+    let answer = nfa.try_stream_replace_all_with(
+        alloc,
+        &mut reader,
+        &mut writer,
+        |_found: &Match, _matched: &[u8], _writer: &mut Watched<Vec<u8>>| -> Result<
+            (),
+            StreamError,
+        > { Err(StreamError::Memory) },
+    );
+    assert!(rt; matches!(&answer, Err(StreamError::Memory)));
+    assert!(rt; !reader.ended());
+    let written: Vec<u8> = writer.into_inner();
+    assert_eq!(rt; written.as_slice(), b"The ".as_slice());
 }
 
 #[test]
 fn answers_what_the_closure_refuses(rt: HostRuntime) -> Result<(), Fail> {
-    let patterns: [&[u8]; 3] = [b"fox", b"brown", b"quick"];
-    let nfa = build(
-        rt.alloc(),
-        &unpaired(&patterns, MatchKind::Standard),
-        true,
-        3,
-    )?;
+    let nfa = made(rt.alloc(), WORDS, Standard)?;
     for most in [1, 2, 7] {
-        let mut reader = Watched::new(Source {
-            bytes: b"The quick brown fox.",
-            most,
-            fails: false,
-        });
-        let mut writer = Watched::new(Vec::new(rt.alloc()));
-        let answer = nfa.try_stream_replace_all_with(
-            rt.alloc(),
-            &mut reader,
-            &mut writer,
-            |_found: &Match, _matched: &[u8], _writer: &mut Watched<Vec<u8>>| -> Result<
-                (),
-                StreamError,
-            > { Err(StreamError::Memory) },
-        );
-        assert!(rt; matches!(&answer, Err(StreamError::Memory)));
-        assert!(rt; !reader.ended());
-        let written: Vec<u8> = writer.into_inner();
-        assert_eq!(rt; written.as_slice(), b"The ".as_slice());
+        answers_by(&rt, rt.alloc(), &nfa, most);
     }
     Ok(())
 }
 
-#[test]
-fn a_read_fails(rt: HostRuntime) -> Result<(), Fail> {
-    let patterns: [&[u8]; 1] = [b"fox"];
-    let nfa = build(
-        rt.alloc(),
-        &unpaired(&patterns, MatchKind::Standard),
-        true,
-        3,
-    )?;
+/// Asserts what is written where a read fails.
+fn fails_to_read(rt: &impl Abort, alloc: Global, nfa: &NFA) {
     let mut reader = Watched::new(Source {
         bytes: b"The fox r",
         most: 4,
         fails: true,
     });
-    let mut writer = Watched::new(Vec::new(rt.alloc()));
-    let answer = writes_numbers(&nfa, rt.alloc(), &mut reader, &mut writer);
+    let mut writer = Watched::new(Vec::new(alloc));
+    let answer = writes_numbers(nfa, alloc, &mut reader, &mut writer);
     assert!(rt; matches!(&answer, Err(StreamError::Read(_))));
     let written: Vec<u8> = writer.into_inner();
     let fronts: [&[u8]; 3] = [b"The 0", b"The 0 ", b"The 0 r"];
     assert!(rt; fronts.contains(&written.as_slice()));
+}
+
+#[test]
+fn a_read_fails(rt: HostRuntime) -> Result<(), Fail> {
+    fails_to_read(&rt, rt.alloc(), &made(rt.alloc(), &[b"fox"], Standard)?);
     Ok(())
+}
+
+/// Asserts what is written where a write fails, or takes nothing.
+fn fails_to_write(
+    rt: &impl Abort,
+    alloc: Global,
+    nfa: &NFA,
+    room: usize,
+    fails: bool,
+    want: &[u8],
+) {
+    let mut reader = Watched::new(Source {
+        bytes: b"The fox",
+        most: 20,
+        fails: false,
+    });
+    let mut writer = Watched::new(Sink {
+        taken: Vec::new(alloc),
+        room,
+        fails,
+    });
+    let answer = writes_numbers(nfa, alloc, &mut reader, &mut writer);
+    if fails {
+        assert!(rt; matches!(&answer, Err(StreamError::Write(_))));
+    } else {
+        assert!(rt; matches!(&answer, Err(StreamError::WriteZero)));
+    }
+    assert_eq!(rt; writer.into_inner().taken.as_slice(), want);
 }
 
 #[test]
 fn a_write_fails(rt: HostRuntime) -> Result<(), Fail> {
-    let patterns: [&[u8]; 1] = [b"fox"];
-    let nfa = build(
-        rt.alloc(),
-        &unpaired(&patterns, MatchKind::Standard),
-        true,
-        3,
-    )?;
-    for (room, fails) in [
-        (3usize, true),
-        (3usize, false),
-        (4usize, true),
-        (4usize, false),
-    ] {
-        let mut reader = Watched::new(Source {
-            bytes: b"The fox",
-            most: 20,
-            fails: false,
-        });
-        let mut writer = Watched::new(Sink {
-            taken: Vec::new(rt.alloc()),
-            room,
-            fails,
-        });
-        let answer = writes_numbers(&nfa, rt.alloc(), &mut reader, &mut writer);
-        if fails {
-            assert!(rt; matches!(&answer, Err(StreamError::Write(_))));
-        } else {
-            assert!(rt; matches!(&answer, Err(StreamError::WriteZero)));
-        }
-        let front = b"The ".as_slice();
-        assert_eq!(rt; writer.into_inner().taken.as_slice(), &front[..room]);
-    }
+    let nfa = made(rt.alloc(), &[b"fox"], Standard)?;
+    fails_to_write(&rt, rt.alloc(), &nfa, 3, true, b"The");
+    fails_to_write(&rt, rt.alloc(), &nfa, 3, false, b"The");
+    fails_to_write(&rt, rt.alloc(), &nfa, 4, true, b"The ");
+    fails_to_write(&rt, rt.alloc(), &nfa, 4, false, b"The ");
     Ok(())
 }

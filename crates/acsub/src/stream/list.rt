@@ -5,29 +5,31 @@
 //! one buffer, which is written before each read, so that a stream over a file makes about one write a read.
 //!
 //! Both buffers are taken before the first read, and no memory after that. Nothing is tried again, and nothing is flushed.
-ghost use Rattle.std.specs.Prelude.{◌≡◌, ◌≢◌, ◌≤◌, [], false, IfErr, OnErr, OnOk};
+ghost use Rattle.std.specs.Prelude.{◌≡◌, ◌≤◌, [], false, IfErr, OnErr, OnOk};
 ghost use Rattle.ac_input.specs.declared.search.Anchored.TheVariants.{No};
 ghost use Rattle.ac_input.specs.declared.search.MatchKind.TheVariants.{Standard};
 ghost use Rattle.ac_input.specs.Work.{shortest};
 ghost use Rattle.ac_automaton.specs.Moved.{NoneTouched};
 ghost use Rattle.ac_automaton.specs.Stream.{CanBeCounted, CanStream, IsOnCourse, ScanCounts, fresh_scan, read_by};
 ghost use Rattle.ac_automaton.specs.StreamIter.{AreAllGiven, progress_of, reader_name, reader_of};
-ghost use Rattle.ac_automaton.specs.Watched.{has_ended};
+ghost use Rattle.ac_automaton.specs.StreamReplace.{CostsStream, IsBegun};
+ghost use Rattle.ac_automaton.specs.Watched.{IsOfWrite, has_ended};
+ghost use Rattle.ac_automaton.specs.declared.error.StreamError.TheVariants as stream;
 ghost use Rattle.acsub.specs.Finder.{dictionary_for};
-ghost use Rattle.acsub.specs.Output.{IsWriteFault};
 ghost use Rattle.acsub.specs.Sides.{patterns_of};
 ghost use Rattle.acsub.specs.Stream.{CostsToStream, Streams};
-ghost use Rattle.acsub.specs.StreamList.{GivesMatch, ListsStream, SendsLines, StopsLines, StopsWriting, WritesLines};
+ghost use Rattle.acsub.specs.StreamList.{ListsStream, SendsLines, StopsLines, StopsWriting, WritesLines};
 ghost use Rattle.acsub.specs.Transformed.{IsStreamed};
 ghost use Rattle.acsub.specs.declared.error.RunError.TheVariants.{Memory};
 ghost use Rattle.acsub.specs.declared.settings.Mode.TheVariants.{List};
 
 use crate::error::RunError;
 use crate::line::Line;
-use crate::output::Output;
 use crate::prepared::Prepared;
 use crate::stream::told;
 use ac_automaton::automaton::Automaton;
+use ac_automaton::error::StreamError;
+use ac_automaton::output::Output;
 use ac_automaton::stream::{StreamFindIter, stream_find_iter};
 use ac_automaton::watched::Watched;
 use ac_input::search::Match;
@@ -41,7 +43,7 @@ fn send_held_lines<A: Automaton, R: Read, W: Write>(
     output: &mut Output,
     writer: &mut Watched<W>,
     steps: &mut Steps,
-) -> Result<(), RunError>
+) -> Result<(), StreamError>
     requires countable { CanBeCounted (read_by (progress_of matches.old)) }
     ensures sent { OnOk result (SendsLines W.contents (progress_of matches.old)
         (progress_of matches.new) writer.old writer.new output.old output.new) }
@@ -49,7 +51,7 @@ fn send_held_lines<A: Automaton, R: Read, W: Write>(
     ensures none { OnOk result (output.new ≡ []) }
     ensures stopped { OnErr result (StopsLines W.contents (progress_of matches.old)
         (progress_of matches.new) writer.old writer.new output.old) }
-    ensures kind { IfErr result (IsWriteFault writer.old writer.new) }
+    ensures kind { IfErr result (IsOfWrite writer.old writer.new) }
     ensures reader { reader_of matches.new ≡ reader_of matches.old }
     ensures same_reference { reader_name matches.new ≡ reader_name matches.old }
     ensures counts { ScanCounts (progress_of matches.old) (progress_of matches.new)
@@ -69,7 +71,7 @@ fn write_lines<A: Automaton, R: Read, W: Write>(
     output: &mut Output,
     writer: &mut Watched<W>,
     steps: &mut Steps,
-) -> Result<(), RunError>
+) -> Result<(), StreamError>
     requires countable { CanBeCounted (read_by (progress_of matches.old)) }
     requires course { IsOnCourse (progress_of matches.old) }
     requires empty { output.old ≡ [] }
@@ -78,7 +80,7 @@ fn write_lines<A: Automaton, R: Read, W: Write>(
     ensures none { OnOk result (output.new ≡ []) }
     ensures stopped { OnErr result (StopsWriting W.contents found.now (progress_of matches.old)
         (progress_of matches.new) writer.old writer.new) }
-    ensures kind { IfErr result (IsWriteFault writer.old writer.new) }
+    ensures kind { IfErr result (IsOfWrite writer.old writer.new) }
     ensures reader { reader_of matches.new ≡ reader_of matches.old }
     ensures same_reference { reader_name matches.new ≡ reader_name matches.old }
     ensures counts { ScanCounts (progress_of matches.old) (progress_of matches.new)
@@ -89,32 +91,13 @@ fn write_lines<A: Automaton, R: Read, W: Write>(
     send_held_lines(matches, output, writer, steps)
 }
 
-/// The next match, by as many reads as it takes to find one.
-fn next_match<A: Automaton, R: Read>(
-    matches: &mut StreamFindIter<'_, A, R>,
-    steps: &mut Steps,
-) -> Result<Option<Match>, RunError>
-    ensures gives { GivesMatch R.remaining (progress_of matches.old) (progress_of matches.new)
-        (reader_of matches.old) (reader_of matches.new) result }
-    ensures same_reference { reader_name matches.new ≡ reader_name matches.old }
-    ensures counts { ScanCounts (progress_of matches.old) (progress_of matches.new)
-        steps.old steps.new }
-    ensures kept { IsOnCourse (progress_of matches.new) }
-{
-    match matches.next_counted(steps) {
-        None => Ok(None),
-        Some(Ok(found)) => Ok(Some(found)),
-        Some(Err(error)) => Err(told(error)),
-    }
-}
-
 /// Reads on to the end of the input. Before each read all that can be listed is written.
 fn list_read<A: Automaton, R: Read, W: Write>(
     matches: &mut StreamFindIter<'_, A, R>,
     output: &mut Output,
     writer: &mut Watched<W>,
     steps: &mut Steps,
-) -> Result<(), RunError>
+) -> Result<(), StreamError>
     requires fresh { progress_of matches.old ≡ fresh_scan (progress_of matches.old).built }
     requires standard { (progress_of matches.old).built.dictionary.kind ≡ Standard }
     requires filled { 1 ≤ shortest (progress_of matches.old).built.dictionary.patterns }
@@ -122,12 +105,13 @@ fn list_read<A: Automaton, R: Read, W: Write>(
     requires unended { has_ended (reader_of matches.old) ≡ false }
     ensures lists { ListsStream R.remaining W.contents (progress_of matches.old).built
         (reader_of matches.old) (reader_of matches.new) writer.old writer.new result }
-    ensures costs { CostsToStream (progress_of matches.old).built (reader_of matches.old)
+    ensures costs { CostsStream (progress_of matches.old).built (reader_of matches.old)
         (reader_of matches.new) steps.old steps.new result }
-    ensures begun { IfErr result (λ error. error ≢ Memory) }
+    ensures begun { IfErr result IsBegun }
     ensures same_reference { reader_name matches.new ≡ reader_name matches.old }
 {
-    while let Some(found) = next_match(matches, steps)? {
+    while let Some(next) = matches.next_counted(steps) {
+        let found = next?;
         write_lines(&found, matches, output, writer, steps)?;
     }
     Ok(())
@@ -140,27 +124,23 @@ fn list_stream<A: Automaton, R: Read, W: Write>(
     reader: &mut Watched<R>,
     writer: &mut Watched<W>,
     steps: &mut Steps,
-) -> Result<(), RunError>
+) -> Result<(), StreamError>
     requires open { has_ended reader.old ≡ false }
     requires can { CanStream (A.built automaton.now) (A.supports automaton.now) }
     // All lines of what was read before a read that failed, and no less than those of all pieces but the last before a write that
     // failed.
     ensures lists { ListsStream R.remaining W.contents (A.built automaton.now)
         reader.old reader.new writer.old writer.new result }
-    ensures costs { CostsToStream (A.built automaton.now) reader.old reader.new
+    ensures costs { CostsStream (A.built automaton.now) reader.old reader.new
         steps.old steps.new result }
-    ensures memory { IfErr result (λ error. error ≡ Memory
+    ensures memory { IfErr result (λ error. error ≡ stream.Memory
         → NoneTouched reader.old reader.new writer.old writer.new) }
 {
     let mut output = Output::new(alloc)?;
-    match stream_find_iter(reader, automaton, alloc) {
-        Ok(mut matches) => {
-            let outcome = list_read(&mut matches, &mut output, writer, steps);
-            let _reader = matches.into_reader();
-            outcome
-        }
-        Err(error) => Err(told(error)),
-    }
+    let mut matches = stream_find_iter(reader, automaton, alloc)?;
+    let outcome = list_read(&mut matches, &mut output, writer, steps);
+    let _reader = matches.into_reader();
+    outcome
 }
 
 /// Writes a line for each match of what is read, by the automaton that was prepared.
@@ -185,7 +165,10 @@ pub(crate) fn stream_list<A: Automaton, R: Read, W: Write>(
     ensures memory { IfErr result (λ error. error ≡ Memory
         → NoneTouched reader.old reader.new writer.old writer.new) }
 {
-    list_stream(alloc, automaton, reader, writer, steps)
+    match list_stream(alloc, automaton, reader, writer, steps) {
+        Ok(()) => Ok(()),
+        Err(error) => Err(told(error)),
+    }
 }
 
 #[cfg(test)]

@@ -196,38 +196,36 @@ fn tells_a_bad_rule_file(rt: HostRuntime) -> Result<(), Fail> {
     Ok(())
 }
 
-/// Asserts how a limit of a build is told.
-fn tells_build(
-    rt: &impl Abort,
-    alloc: Global,
-    kind: BuildErrorKind,
-    line: &str,
-) -> Result<(), Fail> {
+/// Asserts how a fault is told, and by which status.
+fn tells_fault(rt: &impl Abort, alloc: Global, fault: &Fault, status: u8, line: &str) {
     let mut told = Vec::new(alloc);
-    let status = tell(&Fault::Run(RunError::Build(kind)), &mut told);
-    assert_eq!(rt; status, 4, "{line:?}");
+    assert_eq!(rt; tell(fault, &mut told), status, "{line:?}");
     assert_eq!(rt; told.as_slice(), line.as_bytes(), "{line:?}");
-    Ok(())
 }
 
-/// A limit of a build is too far away for a test: told as a run would tell it.
+/// Asserts how a limit of a build is told.
+fn tells_build(rt: &impl Abort, alloc: Global, kind: BuildErrorKind, line: &str) {
+    tells_fault(rt, alloc, &Fault::Run(RunError::Build(kind)), 4, line);
+}
+
+/// A limit is too far away for a test, and memory is ample: told as a run would tell them.
 #[test]
-fn tells_a_limit(rt: HostRuntime) -> Result<(), Fail> {
+fn tells_a_limit(rt: HostRuntime) {
     let (max, requested_max) = (2147483646, 2147483647);
     let states = BuildErrorKind::StateIDOverflow { max, requested_max };
-    tells_build(&rt, rt.alloc(), states, "acsub: build: too many states\n")?;
     let patterns = BuildErrorKind::PatternIDOverflow { max, requested_max };
-    tells_build(
-        &rt,
-        rt.alloc(),
-        patterns,
-        "acsub: build: too many patterns\n",
-    )?;
     let long = BuildErrorKind::PatternTooLong {
         pattern: PatternID::must(7),
         len: 2147483647,
     };
-    tells_build(&rt, rt.alloc(), long, "acsub: build: pattern too long\n")
+    let alloc = rt.alloc();
+    tells_build(&rt, alloc, states, "acsub: build: too many states\n");
+    tells_build(&rt, alloc, patterns, "acsub: build: too many patterns\n");
+    tells_build(&rt, alloc, long, "acsub: build: pattern too long\n");
+    let memory = Fault::Run(RunError::Memory);
+    tells_fault(&rt, alloc, &memory, 7, "acsub: out of memory\n");
+    let position = Fault::Run(RunError::Position);
+    tells_fault(&rt, alloc, &position, 8, "acsub: input too long\n");
 }
 
 /// A reader that gives the start of a text, and then fails. Of that text one byte may be held back, and the space behind the fox.

@@ -150,6 +150,7 @@ fn marks_everywhere(rt: HostRuntime) -> Result<(), Fail> {
 fn agree_in(
     rt: &impl Abort,
     searcher: &Searcher,
+    kind: SearchKind,
     patterns: &[&[u8]],
     text: &[u8],
     span: Span,
@@ -161,25 +162,31 @@ fn agree_in(
         .find_in(text, span)
         .map(|it| (it.pattern().as_usize(), it.start(), it.end()));
     let want = Naive::new(patterns, Pairing::none(), text, span, Anchored::No)
-        .best(SearchKind::LeftmostFirst, false)
+        .best(kind, false)
         .map(|it| (it.pattern, it.start, it.end));
     assert_eq!(rt; found, want);
     Ok(())
 }
 
 /// Compares the match of each span of up to 600 bytes that begins in the first blocks.
-fn agree_in_spans(rt: &impl Abort, alloc: Global, patterns: &[&[u8]]) -> Result<(), Fail> {
+fn agree_in_spans(
+    rt: &impl Abort,
+    alloc: Global,
+    packed_kind: MatchKind,
+    kind: SearchKind,
+    patterns: &[&[u8]],
+) -> Result<(), Fail> {
     let mut text = letters(alloc, 700, 3)?;
     for place in [31, 64, 95, 127, 300, 599, 630] {
         put(&mut text, place, b"dca");
     }
-    let searcher = searcher(rt, alloc, MatchKind::LeftmostFirst, patterns)?;
+    let searcher = searcher(rt, alloc, packed_kind, patterns)?;
     for start in 0..70 {
         for len in 0..601 {
             let end = (start + len).min(text.len());
             if start <= end {
                 let span = Span { start, end };
-                agree_in(rt, &searcher, patterns, &text, span)?;
+                agree_in(rt, &searcher, kind, patterns, &text, span)?;
             }
         }
     }
@@ -188,11 +195,16 @@ fn agree_in_spans(rt: &impl Abort, alloc: Global, patterns: &[&[u8]]) -> Result<
 
 #[test]
 fn spans(rt: HostRuntime) -> Result<(), Fail> {
-    let alloc = rt.alloc();
-    agree_in_spans(&rt, alloc, &[b"dca"])?;
-    agree_in_spans(&rt, alloc, &[b"dcab", b"dc", b"dca"])?;
+    let first = (MatchKind::LeftmostFirst, SearchKind::LeftmostFirst);
+    let longest = (MatchKind::LeftmostLongest, SearchKind::LeftmostLongest);
     let nine: [&[u8]; 9] = [
         b"dcab", b"dcX", b"dca", b"Xab", b"Xac", b"Xba", b"Xbc", b"Xca", b"Xcb",
     ];
-    agree_in_spans(&rt, alloc, &nine)
+    let alloc = rt.alloc();
+    for (packed_kind, kind) in [first, longest] {
+        agree_in_spans(&rt, alloc, packed_kind, kind, &[b"dca"])?;
+        agree_in_spans(&rt, alloc, packed_kind, kind, &[b"dcab", b"dc", b"dca"])?;
+        agree_in_spans(&rt, alloc, packed_kind, kind, &nine)?;
+    }
+    Ok(())
 }

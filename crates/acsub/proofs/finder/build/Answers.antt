@@ -14,4 +14,4 @@ build_packed-requires-clause-served c =
 pub returns-in-Packed : goal.returns-in-Packed
 returns-in-Packed c =
     let made = c.in_ok-searcher-in-Packed.ensures in
-    ((made.0, made.1 ∙ ap bytes_of c.as_slice.ensures.value ∙ c.in_ok-patterns.ensures), packed-unpaired c.args.settings.now c.args.rules.now c.requires c.in-Packed.is)
+    (((made.0, made.1 ∙ ap bytes_of c.as_slice.ensures.value ∙ c.in_ok-patterns.ensures), packed-unpaired c.args.settings.now c.args.rules.now c.requires c.in-Packed.is), λ other. absurd (other c.in-Packed.is))

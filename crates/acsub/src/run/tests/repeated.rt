@@ -143,18 +143,15 @@ fn finds_what_ends_many(rt: HostRuntime) -> Result<(), Fail> {
         ] {
             let mut settings = settings_for(Mode::List, kind);
             settings.pairing = Pairing::ascii();
-            for prefilter in [true, false] {
-                settings.prefilter = prefilter;
-                writes_once(
-                    &rt,
-                    alloc,
-                    AUTOMATA,
-                    &settings,
-                    rules.as_str(),
-                    late.as_str(),
-                    want,
-                );
-            }
+            writes(
+                &rt,
+                alloc,
+                AUTOMATA,
+                &settings,
+                rules.as_str(),
+                late.as_bytes(),
+                want.as_bytes(),
+            );
         }
     }
     Ok(())
@@ -206,6 +203,38 @@ fn skips_what_nearly_matches(rt: HostRuntime) -> Result<(), Fail> {
             input.as_str(),
             want,
         );
+    }
+    Ok(())
+}
+
+/// A rule that takes a pattern away: so many letters `a`, then `b`, and the letters again.
+fn long_rule(alloc: Global, letters: usize) -> Result<String, AllocError> {
+    let mut rule = "61".repeat(alloc, letters)?;
+    rule.push_str("62")?;
+    rule.push_str("61".repeat(alloc, letters)?.as_str())?;
+    rule.push_str("\t\n")?;
+    Ok(rule)
+}
+
+/// The engine of the longest runs.
+const ONE: &[Engine] = &[Engine::Auto];
+
+/// One folded pattern of 400,001 bytes over 2,000,000 that never end it. A body that compares at every place, from either end of
+/// the pattern, doesn't end in time.
+#[test]
+fn ends_over_a_pattern_that_never_ends(rt: HostRuntime) -> Result<(), Fail> {
+    let alloc = rt.alloc();
+    let rule = long_rule(alloc, 200_000)?;
+    let input = letters(alloc, 2_000_000, "")?;
+    for kind in [
+        MatchKind::Standard,
+        MatchKind::LeftmostFirst,
+        MatchKind::LeftmostLongest,
+    ] {
+        let mut settings = settings_for(Mode::List, kind);
+        settings.pairing = Pairing::ascii();
+        let (rules, input) = (rule.as_str(), input.as_str());
+        writes_once(&rt, alloc, ONE, &settings, rules, input, "");
     }
     Ok(())
 }

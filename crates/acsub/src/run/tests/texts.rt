@@ -7,43 +7,31 @@ fn replaces(rt: HostRuntime) -> Result<(), Fail> {
     let alloc = rt.alloc();
     let speech: &[(&str, &str)] = &[("fox", "sloth"), ("brown", "grey"), ("quick", "slow")];
     let words: &[(&str, &str)] = &[("append", "x"), ("appendage", "y"), ("app", "z")];
-    let rows: [(MatchKind, &[(&str, &str)], &str, &str); 8] = [
-        (
-            MatchKind::Standard,
-            speech,
-            "The quick brown fox.",
-            "The slow grey sloth.",
-        ),
-        (MatchKind::Standard, &[("", "-")], "ab", "-a-b-"),
-        (
-            MatchKind::Standard,
-            &[("ab", "X"), ("", "-")],
-            "aab",
-            "-a-a-b-",
-        ),
-        (
-            MatchKind::LeftmostFirst,
-            &[("ab", "X"), ("", "-")],
-            "aab",
-            "-aX",
-        ),
-        (MatchKind::Standard, &[("o", "O")], "foo", "fOO"),
-        (MatchKind::Standard, &[], "ab", "ab"),
-        (MatchKind::LeftmostLongest, &[("a", "")], "aaa", ""),
-        (
-            MatchKind::LeftmostFirst,
-            words,
-            "append the app to the appendage",
-            "x the z to the xage",
-        ),
+    let empty: &[(&str, &str)] = &[("ab", "X"), ("", "-")];
+    let append = "append the app to the appendage";
+    let (standard, first, longest) = (
+        MatchKind::Standard,
+        MatchKind::LeftmostFirst,
+        MatchKind::LeftmostLongest,
+    );
+    let (quick, slow) = ("The quick brown fox.", "The slow grey sloth.");
+    let rows: [(&[Engine], MatchKind, &[(&str, &str)], &str, &str); 8] = [
+        (AUTOMATA, standard, speech, quick, slow),
+        (AUTOMATA, standard, &[("", "-")], "ab", "-a-b-"),
+        (AUTOMATA, standard, empty, "aab", "-a-a-b-"),
+        (AUTOMATA, first, empty, "aab", "-aX"),
+        (AUTOMATA, standard, &[("o", "O")], "foo", "fOO"),
+        (AUTOMATA, standard, &[], "ab", "ab"),
+        (ENGINES, longest, &[("a", "")], "aaa", ""),
+        (ENGINES, first, words, append, "x the z to the xage"),
     ];
-    for (kind, sides, input, want) in rows {
+    for (engines, kind, sides, input, want) in rows {
         let rules = rules_file(alloc, sides)?;
         let settings = settings_for(Mode::Replace, kind);
         writes(
             &rt,
             alloc,
-            AUTOMATA,
+            engines,
             &settings,
             rules.as_str(),
             input.as_bytes(),
@@ -79,40 +67,53 @@ fn replaces_bytes(rt: HostRuntime) {
 fn lists(rt: HostRuntime) -> Result<(), Fail> {
     let alloc = rt.alloc();
     let nested: &[&str] = &["b", "abc", "abcd"];
+    let bees: &[&str] = &["abcd", "b", "bce", "ce"];
     let words: &[&str] = &["append", "appendage", "app"];
     let tails: &[&str] = &["z", "abcdefghi", "hz", "abcdefgh"];
+    let tree: &[&str] = &["apple", "maple", "Snapple"];
+    let (sam, wise): (&[&str], &[&str]) = (&["Sam", "Samwise"], &["Samwise", "Sam"]);
     let append = "append the app to the appendage";
+    let nobody = "Nobody likes maple in their apple flavored Snapple.";
+    let flavors = "1 13 18\n0 28 33\n2 43 50\n";
     let (standard, first, longest) = (
         MatchKind::Standard,
         MatchKind::LeftmostFirst,
         MatchKind::LeftmostLongest,
     );
-    let rows: [(MatchKind, &[&str], &str, &str); 17] = [
-        (standard, nested, "abcd", "0 1 2\n"),
-        (first, nested, "abcd", "1 0 3\n"),
-        (longest, nested, "abcd", "2 0 4\n"),
-        (first, &["ab", ""], "aab", "1 0 0\n0 1 3\n"),
-        (first, &["abcd", "b", "bce", "ce"], "abce", "1 1 2\n3 2 4\n"),
-        (standard, &[], "ab", ""),
-        (standard, &[""], "", "0 0 0\n"),
-        (standard, &["a", "a"], "a", "0 0 1\n"),
-        (first, tails, "abcdefghz", "3 0 8\n0 8 9\n"),
-        (longest, tails, "abcdefghz", "3 0 8\n0 8 9\n"),
-        (standard, words, append, "2 0 3\n2 11 14\n2 22 25\n"),
-        (longest, words, append, "0 0 6\n2 11 14\n1 22 31\n"),
-        (first, &["Sam", "Samwise"], "Samwise", "0 0 3\n"),
-        (first, &["Samwise", "Sam"], "Samwise", "0 0 7\n"),
-        (standard, &["Samwise", "Sam"], "Samwise", "1 0 3\n"),
-        (standard, &["aa"], "aaaaa", "0 0 2\n0 2 4\n"),
-        (standard, &["fox"], "The quick", ""),
+    let rows: [(&[Engine], MatchKind, &[&str], &str, &str); 19] = [
+        (AUTOMATA, standard, nested, "abcd", "0 1 2\n"),
+        (ENGINES, first, nested, "abcd", "1 0 3\n"),
+        (ENGINES, longest, nested, "abcd", "2 0 4\n"),
+        (AUTOMATA, first, &["ab", ""], "aab", "1 0 0\n0 1 3\n"),
+        (ENGINES, first, bees, "abce", "1 1 2\n3 2 4\n"),
+        (AUTOMATA, standard, &[], "ab", ""),
+        (AUTOMATA, standard, &[""], "", "0 0 0\n"),
+        (AUTOMATA, standard, &["a", "a"], "a", "0 0 1\n"),
+        (ENGINES, first, tails, "abcdefghz", "3 0 8\n0 8 9\n"),
+        (ENGINES, longest, tails, "abcdefghz", "3 0 8\n0 8 9\n"),
+        (ENGINES, longest, &["a", "ab"], "xayabbbz", "0 1 2\n1 3 5\n"),
+        (
+            AUTOMATA,
+            standard,
+            words,
+            append,
+            "2 0 3\n2 11 14\n2 22 25\n",
+        ),
+        (ENGINES, longest, words, append, "0 0 6\n2 11 14\n1 22 31\n"),
+        (ENGINES, first, sam, "Samwise", "0 0 3\n"),
+        (ENGINES, first, wise, "Samwise", "0 0 7\n"),
+        (AUTOMATA, standard, wise, "Samwise", "1 0 3\n"),
+        (AUTOMATA, standard, tree, nobody, flavors),
+        (AUTOMATA, standard, &["aa"], "aaaaa", "0 0 2\n0 2 4\n"),
+        (AUTOMATA, standard, &["fox"], "The quick", ""),
     ];
-    for (kind, patterns, input, want) in rows {
+    for (engines, kind, patterns, input, want) in rows {
         let rules = patterns_file(alloc, patterns)?;
         let settings = settings_for(Mode::List, kind);
         writes(
             &rt,
             alloc,
-            AUTOMATA,
+            engines,
             &settings,
             rules.as_str(),
             input.as_bytes(),
@@ -156,17 +157,15 @@ fn lists_overlapping(rt: HostRuntime) -> Result<(), Fail> {
 fn packs(rt: HostRuntime) -> Result<(), Fail> {
     let alloc = rt.alloc();
     let replacing = "61\t31\n6162\t32\n";
-    let leftmost = "61626364\t\n62\t\n626365\t\n6365\t\n";
     let most = "61\t62\n".repeat(alloc, 128)?;
     let (first, longest) = (MatchKind::LeftmostFirst, MatchKind::LeftmostLongest);
-    let rows: [(Mode, MatchKind, &str, &str, &str); 4] = [
-        (Mode::Replace, longest, replacing, "xayabbbz", "x1y2bbz"),
-        (Mode::Replace, first, replacing, "xayabbbz", "x1y1bbbz"),
-        (Mode::List, first, leftmost, "abce", "1 1 2\n3 2 4\n"),
-        (Mode::Replace, first, most.as_str(), "ab", "bb"),
+    let rows: [(MatchKind, &str, &str, &str); 3] = [
+        (longest, replacing, "xayabbbz", "x1y2bbz"),
+        (first, replacing, "xayabbbz", "x1y1bbbz"),
+        (first, most.as_str(), "ab", "bb"),
     ];
-    for (mode, kind, rules, input, want) in rows {
-        let settings = settings_for(mode, kind);
+    for (kind, rules, input, want) in rows {
+        let settings = settings_for(Mode::Replace, kind);
         writes(
             &rt,
             alloc,

@@ -5,7 +5,7 @@ use crate::settings::{Engine, Mode, Settings};
 use ac_automaton::watched::Watched;
 use ac_input::pairing::Pairing;
 use ac_input::search::MatchKind;
-use std::alloc::{AllocError, Global};
+use std::alloc::Global;
 use std::test::Fail;
 
 /// `append`, `appendage` and `app`.
@@ -16,11 +16,11 @@ const INPUT: &[u8] = b"append the app to the appendage";
 /// What is listed of the input.
 const LINES: &[u8] = b"2 0 3\n2 11 14\n2 22 25\n";
 
-fn settings_with(pairing: Pairing) -> Settings {
+fn settings() -> Settings {
     Settings {
         mode: Mode::List,
         kind: MatchKind::Standard,
-        pairing,
+        pairing: Pairing::none(),
         engine: Engine::Auto,
         prefilter: true,
         dense_depth: None,
@@ -50,8 +50,8 @@ struct Trial {
     writes: usize,
 }
 
-fn try_list(alloc: Global, pairing: Pairing, rules: &str, source: Source<'_>, sink: Sink) -> Trial {
-    let settings = settings_with(pairing);
+fn try_list(alloc: Global, rules: &str, source: Source<'_>, sink: Sink) -> Trial {
+    let settings = settings();
     let mut reader = Watched::new(source);
     let mut writer = Watched::new(sink);
     let outcome = run(alloc, &settings, rules.as_bytes(), &mut reader, &mut writer);
@@ -73,7 +73,7 @@ fn lists_up_to_a_failed_read(rt: HostRuntime) {
             source.fails = true;
             source.after = b"append";
             let sink = room_for(rt.alloc(), 64, 64, false);
-            let did = try_list(rt.alloc(), Pairing::none(), RULES, source, sink);
+            let did = try_list(rt.alloc(), RULES, source, sink);
             assert!(rt; !did.done, "after {read} bytes");
             assert_eq!(rt;
                 did.taken.as_slice(),
@@ -92,7 +92,7 @@ fn reads_no_further_than_the_line_that_fails(rt: HostRuntime) {
         for room in 0..LINES.len() {
             for most in [1usize, 5, 64] {
                 let sink = room_for(rt.alloc(), room, most, fails);
-                let did = try_list(rt.alloc(), Pairing::none(), RULES, whole(INPUT, 1), sink);
+                let did = try_list(rt.alloc(), RULES, whole(INPUT, 1), sink);
                 assert!(rt; !did.done, "with room for {room}");
                 assert_eq!(rt; did.taken.as_slice(), &LINES[..room]);
                 let before = known_after(did.reads.saturating_sub(1)).len();
@@ -109,7 +109,7 @@ fn lists_up_to_an_empty_read(rt: HostRuntime) {
     let mut source = whole(&INPUT[..24], 5);
     source.after = b"p";
     let sink = room_for(rt.alloc(), 64, 64, false);
-    let did = try_list(rt.alloc(), Pairing::none(), RULES, source, sink);
+    let did = try_list(rt.alloc(), RULES, source, sink);
     assert!(rt; did.done);
     assert_eq!(rt; did.taken.as_slice(), b"2 0 3\n2 11 14\n".as_slice());
     assert_eq!(rt; (did.reads, did.writes), (6, 2));
@@ -120,37 +120,9 @@ fn lists_up_to_an_empty_read(rt: HostRuntime) {
 fn gathers_the_lines_of_a_read(rt: HostRuntime) -> Result<(), Fail> {
     let input = "a".repeat(rt.alloc(), 20_000)?;
     let sink = room_for(rt.alloc(), 1_000_000, 1_000_000, false);
-    let did = try_list(
-        rt.alloc(),
-        Pairing::none(),
-        "61\t\n",
-        whole(input.as_bytes(), 20_000),
-        sink,
-    );
+    let did = try_list(rt.alloc(), "61\t\n", whole(input.as_bytes(), 20_000), sink);
     assert!(rt; did.done);
     assert_eq!(rt; (did.reads, did.writes), (2, 4));
     assert_eq!(rt; did.taken.len(), 257_784);
-    Ok(())
-}
-
-/// A rule that takes a pattern away: so many letters `a`, then `b`, and the letters again.
-fn long_rule(alloc: Global, letters: usize) -> Result<String, AllocError> {
-    let mut rule = "61".repeat(alloc, letters)?;
-    rule.push_str("62")?;
-    rule.push_str("61".repeat(alloc, letters)?.as_str())?;
-    rule.push_str("\t\n")?;
-    Ok(rule)
-}
-
-/// One folded pattern of 40,001 bytes over 400,000 that never end it. A body that compares at every place doesn't end in time.
-#[test]
-fn ends_over_a_pattern_that_never_ends(rt: HostRuntime) -> Result<(), Fail> {
-    let rule = long_rule(rt.alloc(), 20_000)?;
-    let input = "A".repeat(rt.alloc(), 400_000)?;
-    let source = whole(input.as_bytes(), 65_536);
-    let sink = room_for(rt.alloc(), 64, 64, false);
-    let did = try_list(rt.alloc(), Pairing::ascii(), rule.as_str(), source, sink);
-    assert!(rt; did.done);
-    assert_eq!(rt; did.writes, 0);
     Ok(())
 }

@@ -1,11 +1,9 @@
 -- The text goes on with what stands before the next match, and with what it is replaced by.
-use Rattle.std.proofs.Common.{◌≡◌, ◌≤◌, ◌<◌, ◌+◌, length, map, arith, subst, sym, ap, ◌∙◌}
+use Rattle.std.proofs.Common.{◌≡◌, ◌≤◌, ◌<◌, length, map, arith, ap, ◌∙◌}
 use Rattle.std.proofs.lemmas.Result.{err_from_is_err_and}
 use Rattle.std.specs.List.{concat}
 use Rattle.std.proofs.lemmas.List.{length-drop}
-use Rattle.ac_automaton.specs.Automaton.{Built}
 use Rattle.ac_automaton.specs.Stream.{read_by}
-use Rattle.ac_automaton.specs.StreamReplace.{SendsTo}
 use Rattle.ac_automaton.proofs.StreamSendLemmas.{match-behind, match-none, match-sent, match-stopped, part-read, replacement-at}
 use Rattle.ac_automaton.proofs.stream.replace.send_match.Goals as goal
 
@@ -54,4 +52,4 @@ returns-clause-sent g c =
     g.W.Write.contents c.args.writer.now c.send_exchanged.new.writer _ _
     (part-read s t _ _ _ _ _ _ finds.0 c.held.ensures.held c.from-from.ensures.from c.start.ensures.value from c.part-before.ensures)
     (replacement-at c.args.replacements.now _ _ _ (c.as_usize.ensures.value ∙ c.pattern.ensures) number)
-    c.args.output.now c.send_exchanged.new.output c.in_ok-send_exchanged.ensures.sent)
+    c.args.output.now c.send_exchanged.new.self c.in_ok-send_exchanged.ensures.sent)

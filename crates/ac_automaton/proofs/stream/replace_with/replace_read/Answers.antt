@@ -27,7 +27,7 @@ returns-in_err-at g c =
     let p = err_from_is_err_and c.from_residual-in_err-at.result c.from_residual-in_err-at.ensures.1 in
     let read = c.in_ok-read_more.ensures.read in
     rw (p.1, p.2) (stops-with g.W.Write.contents g.F.FnMut g.R.Read.remaining c.args.scan.now.built c.loop-scan.scan c.read_more.new.self c.loop-scan.at c.args.reader.now c.loop-scan.reader c.read_more.new.reader c.args.replace_with.now c.loop-scan.replace_with c.args.writer.now c.loop-scan.writer read.0 0
-    c.loop-scan.invariant.replaced read.1 c.replace_decided.new.writer _ refl c.in_err-at.ensures.stops)
+    c.loop-scan.invariant.replaced read.1 c.replace_decided.new.writer _ c.in_ok-read_more.ensures.kept refl c.in_err-at.ensures.stops)
 
 pub loop-scan-smaller : goal.loop-scan-smaller
 loop-scan-smaller g c =

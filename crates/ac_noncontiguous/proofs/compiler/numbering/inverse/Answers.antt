@@ -1,7 +1,7 @@
 -- From the last state back, so that the first one that stands for a trie state gives it its number.
 use Rattle.std.proofs.Common.{◌≡◌, ℕ, ◌+◌, ◌-◌, ◌<◌, length, subst, ◌∙◌, arith, length-set}
 use Rattle.std.proofs.lemmas.List.{get_or_read}
-use Rattle.ac_noncontiguous.specs.Numbering.{AreFirst}
+use Rattle.ac_noncontiguous.specs.Numbering.{AreFirstNumbers}
 use Rattle.ac_noncontiguous.proofs.NumberingLemmas.{first-none, first-set}
 use Rattle.ac_noncontiguous.proofs.compiler.numbering.inverse.Goals as goal
 
@@ -15,7 +15,7 @@ loop-from-preserved c =
     let within : from < length at = omega (arith, c.loop-from.invariant.within) in
     let back : c.loop-from.from ≡ from + 1 = omega arith in
     let read = get_or_read at from c.index-at-from.result within c.index-at-from.is 0 in
-    let f = subst (λ (n : ℕ). AreFirst at n c.loop-from.of.items) back c.loop-from.invariant.first in
+    let f = subst (λ (n : ℕ). AreFirstNumbers at n c.loop-from.of.items) back c.loop-from.invariant.first in
     record {
       some = omega arith;
       within = omega (arith, c.loop-from.invariant.within);
@@ -26,4 +26,4 @@ loop-from-preserved c =
 pub returns : goal.returns
 returns c =
     let two : c.loop-from.from ≡ 2 = omega (arith, c.loop-from.invariant.some) in
-    (c.loop-from.invariant.counted, subst (λ (n : ℕ). AreFirst c.args.at.now n c.loop-from.of.items) two c.loop-from.invariant.first)
+    (c.loop-from.invariant.counted, subst (λ (n : ℕ). AreFirstNumbers c.args.at.now n c.loop-from.of.items) two c.loop-from.invariant.first)

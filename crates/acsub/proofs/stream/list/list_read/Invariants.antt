@@ -4,13 +4,13 @@ use Rattle.ac_automaton.specs.StreamIter.{progress_of, reader_name, reader_of}
 use Rattle.acsub.specs.StreamList.{HasListed}
 use Rattle.acsub.proofs.stream.list.list_read.Given as goal
 
-abbrev pub invariant-loop-found : goal.invariant-loop-found
-invariant-loop-found g l = record {
+abbrev pub invariant-loop-next : goal.invariant-loop-next
+invariant-loop-next g l = record {
   listed : HasListed g.R.Read.remaining g.W.Write.contents (progress_of l.fn.matches).built (progress_of l.matches) (reader_of l.fn.matches) (reader_of l.matches) l.fn.writer l.writer;
   empty : l.output ≡ [];
   same_reference : reader_name l.matches ≡ reader_name l.fn.matches;
   counted : ScanCounts (progress_of l.fn.matches) (progress_of l.matches) l.fn.steps l.steps;
 }
 
-abbrev pub decreases-loop-found : goal.decreases-loop-found
-decreases-loop-found g l = 18446744073709551616 - length (read_by (progress_of l.matches))
+abbrev pub decreases-loop-next : goal.decreases-loop-next
+decreases-loop-next g l = 18446744073709551616 - length (read_by (progress_of l.matches))

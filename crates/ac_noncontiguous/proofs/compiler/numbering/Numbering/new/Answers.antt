@@ -1,7 +1,7 @@
 -- The start comes first in breadth-first order, so the rest is all but the start.
 use Rattle.std.proofs.Common.{◌≡◌, ℕ, ◌-◌, ◌<◌, List, length, take, drop, subst, ap, ◌∙◌, arith, slice_index, length-drop}
 use Rattle.std.proofs.lemmas.List.Elements.{Contains-get_or}
-use Rattle.ac_noncontiguous.specs.Numbering.{AreFirst}
+use Rattle.ac_noncontiguous.specs.Numbering.{AreFirstNumbers}
 use Rattle.ac_noncontiguous.proofs.PlacesLemmas.{order-short, order-start, order-rest, slice-rest, listed-rest, places-listed, last-listed, numbers-first}
 use Rattle.ac_noncontiguous.proofs.compiler.numbering.Numbering.new.Goals as goal
 
@@ -24,7 +24,7 @@ list-requires-clause-few c =
 pub inverse-requires-clause-few : goal.inverse-requires-clause-few
 inverse-requires-clause-few c =
     let p = places-listed c.args.trie.now.states.items _ c.args.order.now c.in_ok-at.field-0 c.args.trie.now.tree c.requires.order (listed-rest _ c.args.order.now _ c.in_ok-at.ensures) in
-    omega (arith, ap length c.deref.ensures.value, p.few, c.args.trie.now.few)
+    omega (arith, ap length c.deref.ensures.value, p.counted, c.args.trie.now.few)
 
 pub inverse-requires-clause-some : goal.inverse-requires-clause-some
 inverse-requires-clause-some c =
@@ -41,7 +41,7 @@ inverse-requires-clause-within c i within =
 pub last_match-requires-clause-within : goal.last_match-requires-clause-within
 last_match-requires-clause-within c =
     let p = places-listed c.args.trie.now.states.items _ c.args.order.now c.in_ok-at.field-0 c.args.trie.now.tree c.requires.order (listed-rest _ c.args.order.now _ c.in_ok-at.ensures) in
-    (omega (arith, p.starts.0), omega (arith, p.starts.1, p.few, c.args.trie.now.few))
+    (omega (arith, p.starts.0), omega (arith, p.starts.1, p.counted, c.args.trie.now.few))
 
 pub returns : goal.returns
 returns c =
@@ -49,7 +49,7 @@ returns c =
     let places = c.in_ok-at.field-0 in
     let listed = listed-rest _ c.args.order.now _ c.in_ok-at.ensures in
     let p = places-listed c.args.trie.now.states.items _ c.args.order.now places c.args.trie.now.tree c.requires.order listed in
-    let first = subst (λ (xs : List ℕ). AreFirst xs 2 c.in_ok-of.of.items) c.deref.ensures.value c.in_ok-of.ensures.1 in
+    let first = subst (λ (xs : List ℕ). AreFirstNumbers xs 2 c.in_ok-of.of.items) c.deref.ensures.value c.in_ok-of.ensures.1 in
     record {
       made = record {
         places = p;

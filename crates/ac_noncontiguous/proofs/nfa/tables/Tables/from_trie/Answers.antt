@@ -1,6 +1,8 @@
 -- The tables stand for each dictionary for which the trie and the links do.
-use Rattle.std.proofs.Common.{ℕ, List, length, subst, arith}
+use Rattle.std.proofs.Common.{ℕ, List, length, sym, subst, arith}
+use Rattle.ac_input.specs.Limits.{HasStates}
 use Rattle.ac_noncontiguous.specs.Assembly.{AreKept}
+use Rattle.ac_noncontiguous.proofs.CountLemmas.{stand-counts}
 use Rattle.ac_noncontiguous.proofs.MeaningLemmas.{text_of, are-texts}
 use Rattle.ac_noncontiguous.proofs.TableLemmas.{setting, are-transitions, are-rows, are-failures, are-lists}
 use Rattle.ac_noncontiguous.proofs.ByteLemmas.{trie-classed}
@@ -23,7 +25,8 @@ returns-clause-stands c m t l =
       record {
         len = length numbering.at.items;
         counted = kept.counted;
-        few = omega (arith, made.places.few, trie.few);
+        few = omega (arith, made.places.counted, trie.few);
+        has = subst (HasStates m) (sym made.places.counted) (stand-counts m trie.states.items trie.ends.items trie.tree t.stands);
         texts = are-texts m trie numbering back s;
         transitions = are-transitions m trie links numbering back offsets row_offsets states c.in_ok-layout.layout.transitions.items s c.in_ok-layout.ensures kept;
         rows = are-rows m trie links numbering back offsets row_offsets c.in_ok-rows.rows.rows.items c.classes-classes.result states s c.in_ok-rows.ensures.0 c.in_ok-rows.ensures.1 kept;

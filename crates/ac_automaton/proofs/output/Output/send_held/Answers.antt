@@ -1,6 +1,6 @@
 -- What was held back is written as it is.
 use Rattle.ac_automaton.proofs.OutputLemmas.{Sent-held}
-use Rattle.acsub.proofs.output.Output.send_held.Goals as goal
+use Rattle.ac_automaton.proofs.output.Output.send_held.Goals as goal
 
 pub returns-clause-sent : goal.returns-clause-sent
 returns-clause-sent g c =

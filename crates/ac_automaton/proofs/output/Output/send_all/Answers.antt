@@ -1,7 +1,7 @@
 -- What the first sending held back the second writes.
 use Rattle.std.proofs.lemmas.Result.{on_err_weaker}
 use Rattle.ac_automaton.proofs.OutputLemmas.{Stopped-and_held}
-use Rattle.ac_automaton.proofs.stream.output.Output.send_all.Goals as goal
+use Rattle.ac_automaton.proofs.output.Output.send_all.Goals as goal
 
 pub returns-clause-stopped : goal.returns-clause-stopped
 returns-clause-stopped g c =

@@ -2,7 +2,7 @@
 use Rattle.std.proofs.Common.{[]}
 use Rattle.std.proofs.lemmas.Result.{err_from_is_err_and, on_err_weaker, on_ok_weaker}
 use Rattle.ac_automaton.proofs.OutputLemmas.{Sent-then, Stopped-more, Stopped-then}
-use Rattle.ac_automaton.proofs.stream.output.Output.send.Goals as goal
+use Rattle.ac_automaton.proofs.output.Output.send.Goals as goal
 
 pub returns-in_err-send_held-clause-stopped : goal.returns-in_err-send_held-clause-stopped
 returns-in_err-send_held-clause-stopped g c =

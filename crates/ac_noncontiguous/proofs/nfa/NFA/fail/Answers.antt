@@ -1,0 +1,13 @@
+use Rattle.std.proofs.Common.{◌≡◌, ap, subst}
+use Rattle.ac_noncontiguous.specs.declared.nfa.tables.State.{State}
+use Rattle.ac_noncontiguous.specs.ReadCalls.{fail_in, FailsIn}
+use Rattle.ac_noncontiguous.proofs.LookupLemmas.{kept-read}
+use Rattle.ac_noncontiguous.proofs.ReadCallLemmas.{below-kept, fails-in}
+use Rattle.ac_noncontiguous.proofs.nfa.NFA.fail.Goals as goal
+
+pub returns-clause-fails : goal.returns-clause-fails
+returns-clause-fails c =
+    let a = c.args.self.now in
+    let h = below-kept a c.args.sid c.requires in
+    let kept : fail_in a c.args.sid ≡ c.index.result.now.fail = ap (λ (s : State). s.fail) (kept-read a.tables c.args.sid c.as_usize.result c.index.result.now h c.as_usize.ensures.value c.index.ensures) in
+    subst (FailsIn a c.args.sid) kept (fails-in a c.args.sid c.requires)

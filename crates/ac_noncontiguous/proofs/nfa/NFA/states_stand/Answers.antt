@@ -1,0 +1,5 @@
+use Rattle.ac_noncontiguous.proofs.ReadCallLemmas.{texts-begin}
+use Rattle.ac_noncontiguous.proofs.nfa.NFA.states_stand.Goals as goal
+
+pub returns-clause-begin : goal.returns-clause-begin
+returns-clause-begin c = texts-begin c.args.self.now

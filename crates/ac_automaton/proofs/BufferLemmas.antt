@@ -1,10 +1,9 @@
 -- What a read puts into a buffer.
-use Rattle.std.proofs.Common.{◌≡◌, ℕ, ◌+◌, ◌≤◌, List, ◌++◌, length, take, sym, ap, ◌∙◌, append_assoc, Option}
+use Rattle.std.proofs.Common.{◌≡◌, ℕ, ◌+◌, ◌≤◌, List, [], ◌∷◌, ◌++◌, length, take, sym, ap, ◌∙◌, append_assoc, Option}
 use Rattle.std.proofs.Math.Seq.{take-append-add}
 use Rattle.std.proofs.lemmas.List.{take-take, take-append-le, length-take-le}
 use Rattle.ac_automaton.specs.Buffer.{Held, Filled}
-use Rattle.std.specs.Io.KnownBytes.{Consumes, IsAtEnd}
-use Rattle.ac_automaton.specs.Watched.{ReadGave, inner_of}
+use Rattle.ac_automaton.specs.Moved.{HasGiven}
 use Rattle.ac_automaton.specs.declared.watched.Watched.{Watched}
 
 -- what is held is its five parts
@@ -22,19 +21,14 @@ front-more xs ys tail rest len filled n fits within enough =
     ∙ ap (λ (t : List ℕ). take filled xs ++ t) (take-append-le n ys (tail ++ rest) enough)
 
 -- a read that gave bytes filled the buffer by these
-pub filled-by : {R : Type 0} (remaining : R → Option (List ℕ)) (old new : Held) (before after : Watched R) (buf front : List ℕ) (n : ℕ) → ReadGave before after buf n
-    → Consumes (remaining (inner_of before)) (remaining (inner_of after)) (take n buf)
-    → (n ≡ 0 → IsAtEnd (remaining (inner_of after)))
+pub filled-by : {R : Type 0} (remaining : R → Option (List ℕ)) (old new : Held) (before after : Watched R) (buf front : List ℕ) (n : ℕ) → n ≤ length buf
+    → HasGiven remaining before after (take n buf ∷ []) 0
     → old.bytes ≡ front → new.bytes ≡ front ++ take n buf
     → new.room ≡ old.room → new.keep ≡ old.keep → new.read ≡ old.read + n → new.moved ≡ old.moved → Filled remaining old new before after n
-filled-by remaining old new before after buf front n gave device at_end was is room keep read moved = record {
+filled-by remaining old new before after buf front n within given was is room keep read moved = record {
   piece = take n buf;
-  count = length-take-le n buf gave.within;
+  count = length-take-le n buf within;
   held = held_from_parts new (record old { bytes = old.bytes ++ take n buf; read = old.read + n })
       (is ∙ ap (λ (t : List ℕ). t ++ take n buf) (sym was)) room keep read moved;
-  pieces = gave.pieces;
-  ended = gave.ended;
-  failures = gave.failures;
-  device = device;
-  at_end = at_end;
+  read = given;
 }

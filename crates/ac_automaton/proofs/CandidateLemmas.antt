@@ -1,5 +1,5 @@
 -- Overlapping search by candidates: what is left where the walk is back at the start, and where a prefilter points.
-use Rattle.std.proofs.Common.{◌≡◌, ℕ, ◌+◌, ◌-◌, ◌*◌, ◌<◌, ◌≤◌, Bool, false, true, List, [], ◌∷◌, ◌++◌, length, map, Option, Some, None, IsTrue, ⊎_elim, slice_range, inl, inr, sym, ap, subst, refl, ◌∙◌, arith}
+use Rattle.std.proofs.Common.{◌≡◌, ℕ, ◌+◌, ◌-◌, ◌*◌, ◌<◌, ◌≤◌, Bool, false, true, List, [], ◌∷◌, ◌++◌, length, map, Option, Some, None, ⊎_elim, slice_range, inl, inr, sym, ap, subst, refl, ◌∙◌, arith}
 use Rattle.std.specs.List.{filter}
 use Rattle.std.proofs.lemmas.Bool.{false≢true, cases_lt}
 use Rattle.std.proofs.lemmas.Option.{same_Some, none-some}
@@ -7,7 +7,7 @@ use Rattle.ac_input.specs.declared.search.Anchored.TheVariants.{No}
 use Rattle.ac_input.specs.declared.search.MatchKind.TheVariants.{Standard, LeftmostFirst}
 use Rattle.ac_input.specs.declared.search.candidate.Candidate.{Candidate}
 use Rattle.ac_input.specs.declared.search.candidate.Candidate.TheVariants as candidates
-use Rattle.ac_input.specs.declared.primitives.state_id.StateID.{StateID}
+use Rattle.ac_input.specs.Number.{StateID}
 use Rattle.ac_input.specs.declared.steps.Steps.{Steps}
 use Rattle.ac_input.specs.Candidate.{IsCandidate, IsScan, IsScanned, IsNearFound, IsFirstOf, scan_len, start_of}
 use Rattle.ac_input.specs.Computed.{listing_of}

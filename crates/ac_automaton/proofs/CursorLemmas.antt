@@ -3,7 +3,7 @@ use Rattle.std.proofs.Common.{◌≡◌, ◌≢◌, ◌↔◌, ⊎_elim, ℕ, ze
 use Rattle.std.proofs.lemmas.Bool.{cases_lt}
 use Rattle.std.proofs.lemmas.List.{take-take, drop-take, drop-drop, append-nil, append_assoc}
 use Rattle.std.proofs.lemmas.Option.{slice_get-get_or}
-use Rattle.ac_input.specs.declared.primitives.state_id.StateID.{StateID}
+use Rattle.ac_input.specs.Number.{StateID}
 use Rattle.ac_input.specs.declared.search.Anchored.{Anchored}
 use Rattle.ac_input.specs.declared.steps.Steps.{Steps}
 use Rattle.ac_input.specs.Input.{is_anchored}
@@ -13,7 +13,7 @@ use Rattle.ac_input.specs.Tells.{Tells}
 use Rattle.ac_input.specs.Work.{IsLookups}
 use Rattle.ac_input.proofs.OrderLemmas.{slice_range-length}
 use Rattle.ac_input.proofs.StateLemmas.{live-one}
-use Rattle.ac_automaton.specs.Automaton.{Built, IsDead, IsSpecial, Leads, IsReadCost, PassesPlain}
+use Rattle.ac_automaton.specs.Automaton.{Built, IsSpecial, Leads, IsReadCost, PassesPlain}
 use Rattle.ac_automaton.specs.Cursor.{IsCursor, IsQuiet, HasReadOn, read_to, walked}
 use Rattle.ac_automaton.specs.declared.cursor.Cursor.{Cursor}
 

@@ -1,20 +1,33 @@
 -- How sendings follow one another.
-use Rattle.std.proofs.Common.{ℕ, ◌+◌, Option, List, [], ◌++◌, refl, sym, ap, ◌∙◌, subst, append_assoc}
+use Rattle.std.proofs.Common.{◌≡◌, ℕ, ◌+◌, Option, List, [], ◌++◌, refl, sym, ap, ◌∙◌, subst, append_assoc, add-zero}
 use Rattle.std.proofs.lemmas.List.{append-nil}
 use Rattle.std.specs.Io.KnownBytes.{Appends}
 use Rattle.std.proofs.KnownBytes.{Appends-nil, Appends-trans}
 use Rattle.ac_automaton.specs.declared.watched.Watched.{Watched}
-use Rattle.ac_automaton.specs.Watched.{inner_of, TookAll, TookFront}
+use Rattle.ac_automaton.specs.Moved.{HasTaken}
+use Rattle.ac_automaton.specs.Watched.{inner_of, stalls_of, NoneRead, TookAll, TookFront}
 use Rattle.ac_automaton.specs.Output.{Sent, Stopped}
+
+-- nothing was read, and nothing then
+NoneRead-then : {W : Type 0} {old mid new : Watched W} → NoneRead old mid → NoneRead mid new → NoneRead old new
+NoneRead-then a b = record { pieces = b.pieces ∙ a.pieces; ended = b.ended ∙ a.ended }
+
+-- what the writer tells of a sending
+pub HasTaken-from_sent : {W : Type 0} (contents : W → Option (List ℕ)) (old new : Watched W) (held after bytes : List ℕ) (s : Sent contents old new held after bytes) → HasTaken contents old new s.gained 0 0
+HasTaken-from_sent contents old new held after bytes s = record { taken = s.taken; flushed = s.flushed; failures = s.fine.failures ∙ sym (add-zero _); stalls = s.fine.stalls ∙ sym (add-zero _); reads = s.reads; device = s.device }
+
+-- and of one that stopped
+pub HasTaken-from_stopped : {W : Type 0} (contents : W → Option (List ℕ)) (old new : Watched W) (held bytes : List ℕ) (stalls : ℕ) (s : Stopped contents old new held bytes) → stalls_of new ≡ stalls_of old + stalls → HasTaken contents old new s.gained 1 stalls
+HasTaken-from_stopped contents old new held bytes stalls s stalled = record { taken = s.taken; flushed = s.flushed; failures = s.failures; stalls = stalled; reads = s.reads; device = s.device }
 
 -- sending nothing
 pub Sent-none : {W : Type 0} (contents : W → Option (List ℕ)) (writer : Watched W) (held : List ℕ) → Sent contents writer writer held held []
-Sent-none contents writer held = record { gained = []; taken = sym (append-nil _); order = sym (append-nil held); fine = record { failures = refl; stalls = refl }; device = Appends-nil (contents (inner_of writer)) }
+Sent-none contents writer held = record { gained = []; taken = sym (append-nil _); flushed = refl; order = sym (append-nil held); reads = record { pieces = refl; ended = refl }; fine = record { failures = refl; stalls = refl }; device = Appends-nil (contents (inner_of writer)) }
 
 -- what stopped with some bytes has stopped with more of them
 pub Stopped-more : {W : Type 0} (contents : W → Option (List ℕ)) (old new : Watched W) (held bytes more : List ℕ) → Stopped contents old new held bytes → Stopped contents old new held (bytes ++ more)
 Stopped-more contents old new held bytes more s =
-    record { gained = s.gained; lost = s.lost ++ more; taken = s.taken; order = sym (append_assoc s.gained s.lost more) ∙ ap (λ (t : List ℕ). t ++ more) s.order ∙ append_assoc held bytes more; failures = s.failures; device = s.device }
+    record { gained = s.gained; lost = s.lost ++ more; taken = s.taken; flushed = s.flushed; reads = s.reads; order = sym (append_assoc s.gained s.lost more) ∙ ap (λ (t : List ℕ). t ++ more) s.order ∙ append_assoc held bytes more; failures = s.failures; device = s.device }
 
 -- one sending after another
 pub Sent-then : {W : Type 0} (contents : W → Option (List ℕ)) (old mid new : Watched W) (held between after bytes more : List ℕ) → Sent contents old mid held between bytes → Sent contents mid new between after more → Sent contents old new held after (bytes ++ more)
@@ -23,6 +36,8 @@ Sent-then contents old mid new held between after bytes more a b =
       gained = a.gained ++ b.gained;
       taken = b.taken ∙ ap (λ (t : List ℕ). t ++ b.gained) a.taken ∙ append_assoc _ a.gained b.gained;
       order = append_assoc a.gained b.gained after ∙ ap (λ (t : List ℕ). a.gained ++ t) b.order ∙ sym (append_assoc a.gained between more) ∙ ap (λ (t : List ℕ). t ++ more) a.order ∙ append_assoc held bytes more;
+      flushed = b.flushed ∙ a.flushed;
+      reads = NoneRead-then a.reads b.reads;
       fine = record { failures = b.fine.failures ∙ a.fine.failures; stalls = b.fine.stalls ∙ a.fine.stalls };
       device = Appends-trans _ _ _ a.gained b.gained a.device b.device;
     }
@@ -35,6 +50,8 @@ Stopped-then contents old mid new held between bytes more a b =
       lost = b.lost;
       taken = b.taken ∙ ap (λ (t : List ℕ). t ++ b.gained) a.taken ∙ append_assoc _ a.gained b.gained;
       order = append_assoc a.gained b.gained b.lost ∙ ap (λ (t : List ℕ). a.gained ++ t) b.order ∙ sym (append_assoc a.gained between more) ∙ ap (λ (t : List ℕ). t ++ more) a.order ∙ append_assoc held bytes more;
+      flushed = b.flushed ∙ a.flushed;
+      reads = NoneRead-then a.reads b.reads;
       failures = b.failures ∙ ap (λ (n : ℕ). n + 1) a.fine.failures;
       device = Appends-trans _ _ _ a.gained b.gained a.device b.device;
     }
@@ -48,17 +65,17 @@ pub Stopped-and_held : {W : Type 0} (contents : W → Option (List ℕ)) (old mi
 Stopped-and_held contents old mid new held between bytes a b = subst (Stopped contents old new held) (append-nil bytes) (Stopped-then contents old mid new held between bytes [] a b)
 
 -- a write of all bytes, where nothing was held back
-pub Sent-from_all : {W : Type 0} (contents : W → Option (List ℕ)) (old new : Watched W) (bytes : List ℕ) → TookAll old new bytes → Appends (contents (inner_of old)) (contents (inner_of new)) bytes → Sent contents old new [] [] bytes
-Sent-from_all contents old new bytes all device = record { gained = bytes; taken = all.taken; order = append-nil bytes; fine = all.fine; device = device }
+pub Sent-from_all : {W : Type 0} (contents : W → Option (List ℕ)) (old new : Watched W) (bytes : List ℕ) → TookAll old new bytes → NoneRead old new → Appends (contents (inner_of old)) (contents (inner_of new)) bytes → Sent contents old new [] [] bytes
+Sent-from_all contents old new bytes all reads device = record { gained = bytes; taken = all.taken; flushed = all.flushed; reads = reads; order = append-nil bytes; fine = all.fine; device = device }
 
 -- a write of what was held back
 pub Sent-held : {W : Type 0} (contents : W → Option (List ℕ)) (old new : Watched W) (held : List ℕ) → Sent contents old new [] [] held → Sent contents old new held [] []
-Sent-held contents old new held s = record { gained = s.gained; taken = s.taken; order = s.order ∙ sym (append-nil held); fine = s.fine; device = s.device }
+Sent-held contents old new held s = record { gained = s.gained; taken = s.taken; flushed = s.flushed; reads = s.reads; order = s.order ∙ sym (append-nil held); fine = s.fine; device = s.device }
 
 -- a write of what was held back that stopped
 pub Stopped-held : {W : Type 0} (contents : W → Option (List ℕ)) (old new : Watched W) (held : List ℕ) → Stopped contents old new [] held → Stopped contents old new held []
-Stopped-held contents old new held s = record { gained = s.gained; lost = s.lost; taken = s.taken; order = s.order ∙ sym (append-nil held); failures = s.failures; device = s.device }
+Stopped-held contents old new held s = record { gained = s.gained; lost = s.lost; taken = s.taken; flushed = s.flushed; reads = s.reads; order = s.order ∙ sym (append-nil held); failures = s.failures; device = s.device }
 
 -- a write that stopped, where nothing was held back
-pub Stopped-from_front : {W : Type 0} (contents : W → Option (List ℕ)) (old new : Watched W) (bytes : List ℕ) → TookFront contents old new bytes → Stopped contents old new [] bytes
-Stopped-from_front contents old new bytes f = record { gained = f.front; lost = f.rest; taken = f.taken; order = sym f.split; failures = f.failures; device = f.device }
+pub Stopped-from_front : {W : Type 0} (contents : W → Option (List ℕ)) (old new : Watched W) (bytes : List ℕ) → TookFront contents old new bytes → NoneRead old new → Stopped contents old new [] bytes
+Stopped-from_front contents old new bytes f reads = record { gained = f.front; lost = f.rest; taken = f.taken; flushed = f.flushed; reads = reads; order = sym f.split; failures = f.failures; device = f.device }

@@ -1,13 +1,12 @@
 -- What a search of a stream keeps stays right from call to call.
-use Rattle.std.proofs.Common.{◌≡◌, ◌≢◌, ℕ, ◌+◌, ◌-◌, ◌*◌, ◌<◌, ◌≤◌, ◌↔◌, max, nat_lt, Bool, true, false, IsTrue, List, [], ◌∷◌, ◌++◌, length, take, drop, Option, None, Some, slice_range, sym, ap, subst, refl, ◌∙◌, arith, append-nil, append_assoc, length-append, length-drop}
+use Rattle.std.proofs.Common.{◌≡◌, ℕ, ◌+◌, ◌-◌, ◌*◌, ◌≤◌, nat_lt, Bool, true, false, IsTrue, List, [], ◌∷◌, ◌++◌, length, take, drop, Option, None, Some, slice_range, sym, ap, subst, refl, ◌∙◌, arith, append-nil, append_assoc, length-append, length-drop}
 use Rattle.std.specs.List.{concat}
-use Rattle.std.specs.Io.KnownBytes.{Consumes, Keeps}
 use Rattle.std.proofs.Math.Seq.{drop-append_seam, take-append_seam}
 use Rattle.std.proofs.lemmas.Bool.{false≢true, ltb-false, ltb-true}
 use Rattle.std.proofs.lemmas.List.{drop-append-le}
 use Rattle.std.proofs.lemmas.List.Elements.{All-push}
 use Rattle.std.proofs.lemmas.List.Folds.{concat-append}
-use Rattle.ac_input.specs.declared.primitives.state_id.StateID.{StateID}
+use Rattle.ac_input.specs.Number.{StateID}
 use Rattle.ac_input.specs.declared.steps.Steps.{Steps}
 use Rattle.ac_input.specs.declared.search.MatchKind.TheVariants.{Standard}
 use Rattle.ac_input.specs.Dictionary.{IsLive, live_len, whole}
@@ -16,13 +15,13 @@ use Rattle.ac_input.specs.Walk.{IsWalk}
 use Rattle.ac_input.proofs.BeginningLemmas.{slice_range-append}
 use Rattle.ac_input.specs.Occurrence.{Occurrence}
 use Rattle.ac_input.specs.Work.{longest, shortest}
-use Rattle.ac_input.specs.Steps.{Added, AreNone, Done, looked_of, scanned_of, moved_of}
+use Rattle.ac_input.specs.Steps.{Added, AreNone, Done, looked_of, scanned_of}
 use Rattle.ac_automaton.specs.Automaton.{Built}
 use Rattle.ac_automaton.specs.Buffer.{Filled, Held, IsPaid, room_for, kept_for, nothing_held}
 use Rattle.ac_automaton.specs.Replace.{matches_in}
 use Rattle.ac_automaton.specs.Scan.{HoldsRead, IsScan, StandsInState, since_last, SearchesOn, after_search, scanned_at, some_of}
 use Rattle.ac_automaton.specs.Stream.{CanBeCounted, HasRead, IsOnCourse, Scanned, fresh_scan, room_of, IsDecided, ScanCounts, read_by}
-use Rattle.ac_automaton.specs.Watched.{NoneTaken, ReadFailed, inner_of}
+use Rattle.ac_automaton.specs.Moved.{HasGiven}
 use Rattle.ac_automaton.specs.declared.watched.Watched.{Watched}
 use Rattle.ac_automaton.specs.declared.stream.scan.Progress.{Progress}
 use Rattle.ac_automaton.specs.declared.stream.scan.Searched.{Searched}
@@ -283,26 +282,15 @@ piece-behind held front piece n is long =
     let k : length held - n ≡ length front = omega arith in
     ap (λ (i : ℕ). drop i held) k ∙ ap (drop (length front)) is ∙ drop-append_seam front piece
 
--- what is left of a device that kept its bytes lost none
-keeps-consumes : (a b : Option (List ℕ)) → Keeps a b → Consumes a b []
-keeps-consumes None b h = tt
-keeps-consumes (Some x) None h = absurd h
-keeps-consumes (Some x) (Some y) h = sym h
-
--- no bytes are an empty piece
-empty-long : (piece : List ℕ) (n : ℕ) → length piece ≡ n → (n ≡ 0) ↔ (piece ≡ [])
-empty-long [] n e = (λ z. refl, λ z. sym e)
-empty-long (x ∷ xs) n e = (λ z. absurd (omega arith), λ z. absurd (let d : x ∷ xs ≡ [] = z in cc))
-
 -- After a read that failed: what is kept is right, the read gave an empty piece, and the search is on its course.
 pub read-failed : {R : Type 0} (remaining : R → Option (List ℕ)) (before after : Watched R) (b : Built) (Reads : List ℕ → StateID → Type 0) (start : StateID) (pieces all : List (List ℕ)) (count : ℕ) (p : Progress) (old new : Held) (sums : Steps) (over : Bool)
     → IsScan Reads (scanned_at b pieces count p old sums) start p.sid count old over
     → ((live : Option ℕ) × IsLive b.dictionary false (since_last (scanned_at b pieces count p old sums)) live)
     → new ≡ old → IsPaid new → all ≡ pieces ++ [] ∷ []
-    → ReadFailed before after → NoneTaken before after → Keeps (remaining (inner_of before)) (remaining (inner_of after))
+    → HasGiven remaining before after ([] ∷ []) 1
     → IsScan Reads (scanned_at b all count p new sums) start p.sid count new over
     × HasRead remaining (scanned_at b pieces count p old sums) (scanned_at b all count p new sums) before after [] 1
-read-failed {R} remaining before after b Reads start pieces all count p old new sums over is live same paid more failed writes keeps =
+read-failed {R} remaining before after b Reads start pieces all count p old new sums over is live same paid more failed =
     let s : Scanned = scanned_at b pieces count p old sums in
     let grown : IsGrown old new [] = record {
       bytes = ap (λ (h : Held). h.bytes) same ∙ sym (append-nil old.bytes);
@@ -325,12 +313,7 @@ read-failed {R} remaining before after b Reads start pieces all count p old new 
             last = refl;
             from = is.stands.course.kept.0;
             short = omega arith;
-            reader = failed.pieces;
-            ended = (λ e. refl, λ e. failed.ended);
-            failures = failed.failures;
-            writes = writes;
-            device = keeps-consumes (remaining (inner_of before)) (remaining (inner_of after)) keeps;
-            at_end = λ e none_failed. absurd (omega arith);
+            read = failed;
           }),
     )
 
@@ -338,14 +321,14 @@ read-failed {R} remaining before after b Reads start pieces all count p old new 
 pub read-gave : {R : Type 0} (remaining : R → Option (List ℕ)) (before after : Watched R) (b : Built) (Reads : List ℕ → StateID → Type 0) (start : StateID) (pieces all : List (List ℕ)) (count : ℕ) (p : Progress) (old new : Held) (sums : Steps) (was : Bool) (n : ℕ) (held : List ℕ)
     → IsScan Reads (scanned_at b pieces count p old sums) start p.sid count old was
     → ((live : Option ℕ) × IsLive b.dictionary false (since_last (scanned_at b pieces count p old sums)) live)
-    → Filled remaining old new before after n → IsPaid new → NoneTaken before after
+    → Filled remaining old new before after n → IsPaid new
     → held ≡ new.bytes → all ≡ pieces ++ drop (length held - n) held ∷ []
     → p.from ≤ 18446744073709551615
     → IsScan Reads (scanned_at b all count p new sums) start p.sid count new (nat_lt (18446744073709551615 - p.from) (length held))
     × ((piece : List ℕ) × HasRead remaining (scanned_at b pieces count p old sums) (scanned_at b all count p new sums) before after piece 0 × (length piece ≡ n))
     × (nat_lt (18446744073709551615 - p.from) (length held) ≡ false → CanBeCounted (read_by (scanned_at b all count p new sums)))
     × (nat_lt (18446744073709551615 - p.from) (length held) ≡ true → ¬ CanBeCounted (read_by (scanned_at b all count p new sums)))
-read-gave {R} remaining before after b Reads start pieces all count p old new sums was n held is live filled paid writes holds more fits =
+read-gave {R} remaining before after b Reads start pieces all count p old new sums was n held is live filled paid holds more fits =
     let s : Scanned = scanned_at b pieces count p old sums in
     let piece : List ℕ = filled.piece in
     let grown : IsGrown old new piece = record {
@@ -361,8 +344,7 @@ read-gave {R} remaining before after b Reads start pieces all count p old new su
     let view = read-view b pieces all count p old new sums piece is.number course.decided grown joined in
     let long : length held + p.from ≡ length (read_by s ++ piece) = ap (λ (l : List ℕ). length l + p.from) holds ∙ grown-long s old new piece course is.holds grown in
     let test = over-test p.from (length held) (length (read_by s ++ piece)) fits long in
-    let right = read-right Reads s start p.sid count old new was (nat_lt (18446744073709551615 - p.from) (length held)) piece is grown live test.0 test.1 in
-    let empty = empty-long piece n filled.count in (
+    let right = read-right Reads s start p.sid count old new was (nat_lt (18446744073709551615 - p.from) (length held)) piece is grown live test.0 test.1 in (
       subst (λ (t : Scanned). IsScan Reads t start p.sid count new (nat_lt (18446744073709551615 - p.from) (length held))) (sym view) right,
       (
         piece,
@@ -375,12 +357,7 @@ read-gave {R} remaining before after b Reads start pieces all count p old new su
               last = refl;
               from = course.kept.0;
               short = piece-short s old new piece course is.holds grown;
-              reader = filled.pieces;
-              ended = (λ e. empty.0 (filled.ended.0 e), λ e. filled.ended.1 (empty.1 e));
-              failures = let e = filled.failures in omega arith;
-              writes = writes;
-              device = filled.device;
-              at_end = λ e none. filled.at_end (empty.1 e);
+              read = filled.read;
             }),
         filled.count,
       ),

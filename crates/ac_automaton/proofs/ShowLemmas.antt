@@ -1,11 +1,11 @@
 -- What an overlapping search shows where its walk stands, and what reading on to there comes to.
-use Rattle.std.proofs.Common.{◌≡◌, ◌⊎◌, ⊎_elim, ℕ, ◌+◌, ◌<◌, ◌≤◌, Bool, List, [], ◌++◌, Option, Some, None, slice_get, drop, inl, inr, sym, ap, subst, refl, ◌∙◌, arith}
-use Rattle.ac_input.specs.declared.primitives.state_id.StateID.{StateID}
+use Rattle.std.proofs.Common.{◌≡◌, ◌⊎◌, ⊎_elim, ℕ, ◌+◌, ◌<◌, ◌≤◌, List, [], Option, Some, None, inl, inr, sym, ap, subst, ◌∙◌, arith}
+use Rattle.ac_input.specs.Number.{StateID}
 use Rattle.ac_input.specs.declared.search.Anchored.{Anchored}
 use Rattle.ac_input.specs.declared.search.MatchKind.TheVariants.{Standard}
 use Rattle.ac_input.specs.declared.steps.Steps.{Steps}
 use Rattle.ac_input.specs.Computed.{listing_of}
-use Rattle.ac_input.specs.Dictionary.{Dictionary, IsLive}
+use Rattle.ac_input.specs.Dictionary.{IsLive}
 use Rattle.ac_input.specs.Input.{Asked, is_anchored}
 use Rattle.ac_input.specs.LiveLaws.{IsOwnInverse}
 use Rattle.ac_input.specs.Occurrence.{Search, Occurrence, starting_at}
@@ -19,7 +19,7 @@ use Rattle.ac_automaton.specs.declared.cursor.End.TheVariants.{Found, Idle}
 use Rattle.ac_automaton.specs.declared.overlapping.Place.{Place}
 use Rattle.ac_automaton.specs.declared.overlapping.Place.TheVariants.{At, Over}
 use Rattle.ac_automaton.specs.declared.overlapping.Shown.{Shown}
-use Rattle.ac_automaton.specs.Overlapping.{ending_from, told_from, TellsFirst, ShowsFirst, ShowsHere, EndsHere, ReadsOn, IsBehind, IsPaid, IsPaidAt, IsPaidBy}
+use Rattle.ac_automaton.specs.Overlapping.{ending_from, told_from, TellsFirst, ShowsFirst, ShowsHere, EndsHere, ReadsOn, IsBehind, IsPaidAt, IsPaidBy}
 use Rattle.ac_automaton.proofs.OverlappingLemmas.{IsPlace, HasWalkedOn, ending_from-dead, ending_from-split, place_of-cursor, shows-none, shows-some, pays-over, pays-at, pays-back, read_on-settled}
 
 -- where the state is dead, nothing more is shown

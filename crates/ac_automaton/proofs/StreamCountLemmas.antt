@@ -1,7 +1,6 @@
 -- How what a search of a stream costs adds up.
-use Rattle.std.proofs.Common.{◌≡◌, ℕ, ◌+◌, ◌*◌, ◌≤◌, refl, sym, ap, ◌∙◌, arith, add_assoc, add-zero, length}
+use Rattle.std.proofs.Common.{ℕ, ◌+◌, sym, ap, ◌∙◌, add_assoc, add-zero}
 use Rattle.ac_input.specs.declared.steps.Steps.{Steps}
-use Rattle.ac_input.specs.Steps.{Done}
 use Rattle.ac_automaton.specs.Stream.{ScanCounts, Scanned}
 
 -- nothing was done yet

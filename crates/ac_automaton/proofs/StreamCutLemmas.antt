@@ -1,18 +1,17 @@
 -- What a search of a stream gave, of the matches of all that was read: up to its cut, and nothing of what comes behind.
-use Rattle.std.proofs.Common.{◌≡◌, ℕ, ◌+◌, ◌-◌, ◌<◌, ◌≤◌, max, Bool, true, false, List, [], ◌∷◌, ◌++◌, length, take, drop, get_or, Option, Some, None, Contains, refl, sym, ap, ap₂, ◌∙◌, subst, arith, append_assoc, take-append-drop, ⊎_elim}
+use Rattle.std.proofs.Common.{◌≡◌, ℕ, ◌<◌, ◌≤◌, true, false, List, [], ◌∷◌, ◌++◌, length, take, drop, Option, Some, None, Contains, refl, sym, ap, ◌∙◌, subst, arith, take-append-drop, ⊎_elim}
 use Rattle.std.specs.List.{All, AllByRecursion}
-use Rattle.std.proofs.lemmas.List.{append-nil, length-take-le, length-append}
+use Rattle.std.proofs.lemmas.List.{length-take-le}
 use Rattle.std.proofs.lemmas.List.Elements.{All-contains, Contains-append_cases, recursion_from_All}
 use Rattle.std.proofs.lemmas.Option.{same_Some, none-some}
 use Rattle.ac_input.specs.declared.search.MatchKind.{MatchKind}
 use Rattle.ac_input.specs.declared.search.MatchKind.TheVariants.{Standard}
-use Rattle.ac_input.specs.Occurrence.{Search, Occurrence, Occurs, starting_at}
-use Rattle.ac_input.specs.Dictionary.{Dictionary, whole}
+use Rattle.ac_input.specs.Occurrence.{Search, Occurrence, starting_at}
+use Rattle.ac_input.specs.Dictionary.{whole}
 use Rattle.ac_input.specs.Walk.{IsPick, Here, Further, IsWalk}
 use Rattle.ac_input.specs.Cut.{IsCut}
 use Rattle.ac_input.specs.Work.{shortest}
-use Rattle.ac_input.specs.Text.{replaced_from}
-use Rattle.ac_input.specs.BeginningLaws.{IsBeginning, longer}
+use Rattle.ac_input.specs.BeginningLaws.{longer}
 use Rattle.ac_input.proofs.ContainsLemmas.{Contains-nil, Contains-cases}
 use Rattle.ac_input.proofs.TextLemmas.{pick-occurs}
 use Rattle.ac_input.proofs.WalkLemmas.{occurs-earlier, pick-within, walk_of-walk, walk-unique}

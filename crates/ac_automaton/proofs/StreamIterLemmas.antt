@@ -1,26 +1,23 @@
 -- What the matches of a stream read and give, turn by turn.
 use Rattle.std.proofs.Common.{◌≡◌, ◌≢◌, ◌⊎◌, ⊎_elim, inl, inr, ℕ, ◌+◌, ◌-◌, ◌<◌, ◌≤◌, true, false, IsTrue, List, [], ◌∷◌, ◌++◌, length, take, Option, None, Some, Ok, Err, sym, ap, subst, refl, ◌∙◌, arith, append-nil, append_assoc, length-append}
-use Rattle.std.specs.Io.KnownBytes.{Consumes}
 use Rattle.std.specs.List.{concat}
-use Rattle.std.proofs.KnownBytes.{Consumes-nil, Consumes-trans}
 use Rattle.std.proofs.Math.Seq.{take-append_seam}
 use Rattle.std.proofs.lemmas.Bool.{false≢true}
-use Rattle.std.proofs.lemmas.List.Elements.{All-pop, All-push}
+use Rattle.std.proofs.lemmas.List.Elements.{All-push}
 use Rattle.std.proofs.lemmas.List.Folds.{concat-append}
 use Rattle.ac_input.specs.declared.steps.Steps.{Steps}
 use Rattle.ac_input.specs.Occurrence.{Occurrence}
 use Rattle.ac_automaton.specs.Automaton.{Built}
 use Rattle.ac_automaton.specs.Replace.{matches_in}
-use Rattle.ac_automaton.specs.Stream.{CanBeCounted, FindsHeld, HasRead, IsSearched, ReadsMore, ReadsNothing, ScanCounts, Scanned, matches_read, read_by, room_of}
+use Rattle.ac_automaton.specs.Stream.{CanBeCounted, FindsHeld, ReadsMore, ReadsNothing, ScanCounts, Scanned, read_by, room_of}
 use Rattle.ac_automaton.specs.Moved.{AreFilled}
-use Rattle.ac_automaton.specs.StreamIter.{AreAllGiven, EndsInLastPiece, HasGained, IsStopped, IsNextMatch, NextGives, StaysStopped, TurnGives, TurnReads}
-use Rattle.ac_automaton.specs.Watched.{NoneTaken, has_ended, inner_of, pieces_of}
-use Rattle.ac_automaton.proofs.StreamReplaceLemmas.{still-open}
+use Rattle.ac_automaton.specs.StreamIter.{AreAllGiven, HasGained, IsStopped, NextGives, StaysStopped, TurnGives, TurnReads}
+use Rattle.ac_automaton.specs.Watched.{has_ended, pieces_of}
 use Rattle.ac_automaton.specs.declared.error.StreamError.{StreamError}
 use Rattle.ac_automaton.specs.declared.error.StreamError.TheVariants.{Config, Read, Write, WriteZero, Memory, Position}
 use Rattle.ac_automaton.specs.declared.stream.Turn.TheVariants.{Found, More, Over, Failed}
 use Rattle.ac_automaton.specs.declared.watched.Watched.{Watched}
-use Rattle.ac_automaton.proofs.MovedLemmas.{AreFilled-pop, AreFilled-push}
+use Rattle.ac_automaton.proofs.MovedLemmas.{AreFilled-push, given-none, given-push, is_empty-none}
 
 -- ---- counting
 
@@ -52,12 +49,12 @@ brought-some u t piece few is many = λ none.
 -- the error of a turn is that of its read
 pub turn-failed : {R : Type 0} (remaining : R → Option (List ℕ)) (s u t : Scanned) (before after : Watched R) (error : StreamError) → has_ended before ≡ false → FindsHeld s None u → CanBeCounted (read_by u) → ReadsMore remaining u t before after (Err error) → TurnGives remaining s t before after (Failed error)
 turn-failed remaining s u t before after (Config error) open_ finds few read = read
-turn-failed remaining s u t before after (Read error) open_ finds few read = record { mid = u; unended = open_; few = few; nothing = finds.0; given = finds.1; last = finds.2; all = all-given-then s u finds few; read = read }
+turn-failed remaining s u t before after (Read error) open_ finds few read = record { mid = u; few = few; nothing = finds.0; given = finds.1; last = finds.2; all = all-given-then s u finds few; read = read }
 turn-failed remaining s u t before after (Write error) open_ finds few read = read
 turn-failed remaining s u t before after WriteZero open_ finds few read = read
 turn-failed remaining s u t before after Memory open_ finds few read = read
 turn-failed remaining s u t before after Position open_ finds few read =
-    (read.0, record { mid = u; unended = open_; few = few; nothing = finds.0; given = finds.1; last = finds.2; all = all-given-then s u finds few; read = read.1 }, brought-some u t read.0 few read.1.pieces read.2, read.2)
+    (read.0, record { mid = u; few = few; nothing = finds.0; given = finds.1; last = finds.2; all = all-given-then s u finds few; read = read.1 }, brought-some u t read.0 few read.1.pieces read.2, read.2)
 
 -- ---- what was gained
 
@@ -67,11 +64,7 @@ gained-none remaining s before = record {
   built = refl;
   pieces = sym (append-nil s.pieces);
   short = λ k d lt. absurd (omega arith);
-  reader = sym (append-nil (pieces_of before));
-  ended = λ filled. refl;
-  failures = omega arith;
-  writes = record { taken = refl; stalls = refl };
-  device = Consumes-nil (remaining (inner_of before));
+  read = given-none remaining before;
 }
 
 -- nothing more where nothing is read
@@ -80,11 +73,7 @@ gained-same remaining s t u before after gained failed has nothing = record {
   built = nothing.built ∙ has.built;
   pieces = nothing.pieces ∙ has.pieces;
   short = has.short;
-  reader = has.reader;
-  ended = has.ended;
-  failures = has.failures;
-  writes = has.writes;
-  device = has.device;
+  read = has.read;
 }
 
 -- one piece more
@@ -96,14 +85,7 @@ gained-more remaining s t u before mid after gained piece failed has turn =
       built = read.built ∙ built;
       pieces = read.pieces ∙ ap (λ (l : List (List ℕ)). l ++ piece ∷ []) (turn.nothing.pieces ∙ has.pieces) ∙ append_assoc s.pieces gained (piece ∷ []);
       short = All-push (λ l. length l ≤ room_of s.built) gained piece has.short (subst (λ (b : Built). length piece ≤ room_of b) built read.short);
-      reader = read.reader ∙ ap (λ (l : List (List ℕ)). l ++ piece ∷ []) has.reader ∙ append_assoc (pieces_of before) gained (piece ∷ []);
-      ended = λ filled.
-          let parts = AreFilled-pop gained piece filled in
-          still-open (has_ended after) piece read.ended parts.1 ∙ sym turn.unended ∙ has.ended parts.0;
-      failures = let e = read.failures in let f = has.failures in omega arith;
-      writes = record { taken = read.writes.taken ∙ has.writes.taken; stalls = read.writes.stalls ∙ has.writes.stalls };
-      device = subst (λ (l : List ℕ). Consumes (remaining (inner_of before)) (remaining (inner_of after)) l) (sym (concat-append gained (piece ∷ []) ∙ ap (λ (l : List ℕ). concat gained ++ l) (append-nil piece)))
-          (Consumes-trans (remaining (inner_of before)) (remaining (inner_of mid)) (remaining (inner_of after)) (concat gained) piece has.device read.device);
+      read = given-push remaining before mid after gained piece failed has.read read.read;
     }
 
 -- Some turns have been made, each of which read some bytes.
@@ -134,7 +116,7 @@ open-first : {R : Type 0} (remaining : R → Option (List ℕ)) (s t u : Scanned
 open-first {R} remaining s t u before mid after x y piece failed has turn = ⊎_elim
     (λ (none : has.gained ≡ []).
     let same = has.first none in (
-      ap (λ (r : Watched R). has_ended r) (sym same.1) ∙ turn.unended,
+      ap (λ (r : Watched R). has_ended r) (sym same.1) ∙ turn.read.read.turns.0,
       subst (λ (l : List (List ℕ)). CanBeCounted (concat l)) (turn.nothing.pieces ∙ ap (λ (z : Scanned). z.pieces) same.0) turn.few,
     ))
     has.unended
@@ -158,7 +140,7 @@ turned-more remaining s t u before mid after x y z has turn counts =
       has = gained-more remaining s t u before mid after has.gained piece 0 has.has turn.1;
       filled = AreFilled-push has.gained piece has.filled turn.2;
       given = read.given ∙ given ∙ has.given;
-      fresh = λ some. (omega arith, λ e. turn.2 (read.ended.0 e), turn.3);
+      fresh = λ some. (omega arith, λ e. turn.2 (is_empty-none piece (sym read.read.turns.1 ∙ e)), turn.3);
       first = λ none. absurd (more-some has.gained piece none);
       unended = λ some. open-first remaining s t u before mid after x y piece 0 has turn.1;
       on = let a = has.on in let b = turn.1.nothing.on in let e = read.at in omega arith;
@@ -221,9 +203,9 @@ turned-over {R} remaining s t u before mid after x y has (inl stopped) = (
 turned-over remaining s t u before mid after x y has (inr turn) = (
   has.gained ++ [] ∷ [],
   gained-more remaining s t u before mid after has.gained [] 0 has.has turn,
-  inr ((has.gained, has.filled, refl), all-given-still remaining t u mid after 0 turn, turn.read.at_end refl refl),
+  inr ((has.gained, has.filled, refl), all-given-still remaining t u mid after 0 turn, turn.read.read.at_end refl ([], tt, refl)),
   turn.read.given ∙ turn.given ∙ has.given,
-  inl (turn.read.ended.1 refl, all-given-still remaining t u mid after 0 turn),
+  inl (turn.read.read.turns.1, all-given-still remaining t u mid after 0 turn),
 )
 
 -- an error
@@ -234,7 +216,7 @@ turned-failed remaining s t u before mid after x y (Read error) has turn = (
   gained-more remaining s t u before mid after has.gained [] 1 has.has turn,
   has.filled,
   turn.read.given ∙ turn.given ∙ has.given,
-  turn.read.ended.1 refl,
+  turn.read.read.turns.1,
   all-given-still remaining t u mid after 1 turn,
 )
 turned-failed remaining s t u before mid after x y (Write error) has turn = turn

@@ -1,5 +1,5 @@
 -- What the text since the last match says of the matches of a stream, whatever is still read.
-use Rattle.std.proofs.Common.{◌≡◌, ◌≢◌, ⊎_elim, inl, inr, ℕ, ◌+◌, ◌-◌, ◌*◌, ◌<◌, ◌≤◌, max, Bool, true, false, IsTrue, List, [], ◌∷◌, ◌++◌, length, take, drop, Option, None, Some, Contains, slice_range, sym, ap, subst, refl, ◌∙◌, arith, length-append, append_assoc, append-nil}
+use Rattle.std.proofs.Common.{◌≡◌, ⊎_elim, inl, inr, ℕ, ◌+◌, ◌-◌, ◌<◌, ◌≤◌, max, true, false, List, [], ◌∷◌, ◌++◌, length, Option, None, Some, Contains, slice_range, sym, ap, subst, refl, ◌∙◌, arith, length-append, append_assoc, append-nil}
 use Rattle.std.specs.List.{All}
 use Rattle.std.proofs.lemmas.Bool.{cases_lt}
 use Rattle.std.proofs.lemmas.List.Elements.{All-contains_itself}
@@ -11,7 +11,7 @@ use Rattle.ac_input.specs.Computed.{walk_of, walk_after}
 use Rattle.ac_input.specs.Dictionary.{Dictionary, whole}
 use Rattle.ac_input.specs.LiveLaws.{shifted}
 use Rattle.ac_input.specs.Occurrence.{Search, Occurrence, Occurs, starting_at}
-use Rattle.ac_input.specs.Tells.{Tells, TellsUnanchored, ending}
+use Rattle.ac_input.specs.Tells.{Tells, TellsUnanchored}
 use Rattle.ac_input.specs.Walk.{IsPick, Here, Further, IsWalk}
 use Rattle.ac_input.specs.Work.{longest, shortest}
 use Rattle.ac_input.proofs.BeginningLemmas.{slice_range-append}

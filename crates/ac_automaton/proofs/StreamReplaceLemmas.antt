@@ -1,10 +1,8 @@
 -- What a replacement over a stream has read and written, from one read to the next, and at its end.
-use Rattle.std.proofs.Common.{◌≡◌, ◌≢◌, ◌↔◌, ℕ, ◌+◌, ◌-◌, ◌<◌, ◌≤◌, Bool, true, false, IsTrue, List, [], ◌∷◌, ◌++◌, length, take, drop, Option, None, Result, Ok, Err, refl, sym, ap, ◌∙◌, subst, arith, append_assoc, add-zero}
+use Rattle.std.proofs.Common.{◌≡◌, ◌≢◌, ℕ, ◌+◌, ◌-◌, ◌<◌, ◌≤◌, false, List, [], ◌∷◌, ◌++◌, length, take, drop, Option, None, Result, Ok, Err, refl, sym, ap, ◌∙◌, subst, arith, append_assoc, add-zero}
 use Rattle.std.specs.List.{concat}
 use Rattle.std.specs.Prelude.{slice_index_or, IfErr, OnErr, OnOk}
-use Rattle.std.specs.Io.KnownBytes.{Appends, Consumes}
-use Rattle.std.proofs.KnownBytes.{Appends-nil, Appends-trans, Consumes-nil, Consumes-trans}
-use Rattle.std.proofs.lemmas.List.{append-nil, drop-drop, length-append, same_from_push, take-append-le, take_all, take_rest}
+use Rattle.std.proofs.lemmas.List.{append-nil, drop-drop, length-append, take-append-le, take_all, take_rest}
 use Rattle.std.proofs.lemmas.List.Folds.{concat-append}
 use Rattle.ac_input.specs.declared.search.MatchKind.TheVariants.{Standard}
 use Rattle.ac_input.specs.BeginningLaws.{IsBeginning}
@@ -21,12 +19,13 @@ use Rattle.ac_automaton.specs.Output.{Sent, Stopped}
 use Rattle.ac_automaton.specs.Replace.{LieInOrder, matches_in}
 use Rattle.ac_automaton.specs.Stream.{CanBeCounted, HasRead, IsOnCourse, IsSearched, ReadsMore, Scanned, cut_of, fresh_scan, held_by, keep_of, matches_read, read_by, room_of}
 use Rattle.ac_automaton.specs.StreamReplace.{HasReplaced, IsAtCut, IsPlaced, IsReading, IsBegun, IsReplacedFront, ReplacedToFailedWrite, ReplacesStream, SendsTo, StopsSending, replaced_in, text_to}
-use Rattle.ac_automaton.specs.Watched.{IsOfWrite, inner_of, pieces_of, stalls_of, taken_of}
+use Rattle.ac_automaton.specs.Watched.{IsOfWrite, pieces_of, stalls_of}
 use Rattle.ac_automaton.specs.declared.error.StreamError.{StreamError}
 use Rattle.ac_automaton.specs.declared.error.StreamError.TheVariants.{Config, Read, Write, WriteZero, Memory, Position}
 use Rattle.ac_automaton.specs.declared.watched.Watched.{Watched}
 use Rattle.ac_automaton.proofs.IterLemmas.{occurs-not_empty}
-pub use Rattle.ac_automaton.proofs.MovedLemmas.{AreFilled-push}
+pub use Rattle.ac_automaton.proofs.MovedLemmas.{AreFilled-push, given-none, given-push, still-open, taken-none, taken-then}
+use Rattle.ac_automaton.proofs.OutputLemmas.{HasTaken-from_sent, HasTaken-from_stopped}
 use Rattle.ac_automaton.proofs.StreamCutLemmas.{matches-cut, matches-front, matches-walk}
 use Rattle.ac_automaton.proofs.StreamSendLemmas.{cut-within, text-begins}
 use Rattle.ac_automaton.proofs.StreamTextLemmas.{replaced-grows}
@@ -43,61 +42,19 @@ but_last-push [] piece = refl
 but_last-push (p ∷ []) piece = refl
 but_last-push (p ∷ (q ∷ ps)) piece = ap (λ (t : List (List ℕ)). p ∷ t) (but_last-push (q ∷ ps) piece)
 
--- no pieces are not whole
-none-whole : (filled : List (List ℕ)) → [] ≡ filled ++ [] ∷ [] → ⊥
-none-whole [] e = cc
-none-whole (p ∷ ps) e = cc
-
--- the last piece of a whole input is empty
-whole-last : (pieces : List (List ℕ)) (piece : List ℕ) → AreWhole (pieces ++ piece ∷ []) → piece ≡ []
-whole-last pieces piece w = (same_from_push pieces w.0 piece [] w.2).1
-
 -- ---- what devices tell
-
--- nothing was read yet
-pub given-none : {R : Type 0} (remaining : R → Option (List ℕ)) (reader : Watched R) → HasGiven remaining reader reader [] 0
-given-none remaining reader = record {
-  pieces = sym (append-nil _);
-  failures = sym (add-zero _);
-  device = Consumes-nil (remaining (inner_of reader));
-  at_end = λ fine w. absurd (none-whole w.0 w.2);
-}
 
 -- one more read
 pub given-more : {R : Type 0} (remaining : R → Option (List ℕ)) (s t : Scanned) (old mid new : Watched R) (piece : List ℕ) (failed : ℕ) → HasGiven remaining old mid s.pieces 0 → HasRead remaining s t mid new piece failed → HasGiven remaining old new t.pieces failed
-given-more remaining s t old mid new piece failed g h =
-    let more : HasGiven remaining old new (s.pieces ++ piece ∷ []) failed = record {
-      pieces = h.reader ∙ ap (λ (ps : List (List ℕ)). ps ++ piece ∷ []) g.pieces ∙ append_assoc (pieces_of old) s.pieces (piece ∷ []);
-      failures = h.failures ∙ ap (λ (n : ℕ). n + failed) (g.failures ∙ add-zero _);
-      device = subst (Consumes (remaining (inner_of old)) (remaining (inner_of new))) (sym (concat-push s.pieces piece)) (Consumes-trans _ _ _ (concat s.pieces) piece g.device h.device);
-      at_end = λ fine w. h.at_end (whole-last s.pieces piece w) fine;
-    } in
-    subst (λ (ps : List (List ℕ)). HasGiven remaining old new ps failed) (sym h.pieces) more
-
--- nothing was written yet
-pub taken-none : {W : Type 0} (contents : W → Option (List ℕ)) (writer : Watched W) → HasTaken contents writer writer [] 0 0
-taken-none contents writer = record { taken = sym (append-nil _); failures = sym (add-zero _); stalls = sym (add-zero _); device = Appends-nil (contents (inner_of writer)) }
+given-more remaining s t old mid new piece failed g h = subst (λ (ps : List (List ℕ)). HasGiven remaining old new ps failed) (sym h.pieces) (given-push remaining old mid new s.pieces piece failed g h.read)
 
 -- more was written
 pub taken-sent : {W : Type 0} (contents : W → Option (List ℕ)) (old mid new : Watched W) (text bytes : List ℕ) → HasTaken contents old mid text 0 0 → Sent contents mid new [] [] bytes → HasTaken contents old new (text ++ bytes) 0 0
-taken-sent contents old mid new text bytes t s =
-    let same : s.gained ≡ bytes = sym (append-nil s.gained) ∙ s.order in
-    record {
-      taken = s.taken ∙ ap (λ (xs : List ℕ). xs ++ s.gained) t.taken ∙ append_assoc (taken_of old) text s.gained ∙ ap (λ (xs : List ℕ). taken_of old ++ (text ++ xs)) same;
-      failures = s.fine.failures ∙ t.failures;
-      stalls = s.fine.stalls ∙ t.stalls;
-      device = subst (λ (xs : List ℕ). Appends (contents (inner_of old)) (contents (inner_of new)) (text ++ xs)) same (Appends-trans _ _ _ text s.gained t.device s.device);
-    }
+taken-sent contents old mid new text bytes t s = taken-then contents old mid new text bytes 0 0 t (subst (λ (xs : List ℕ). HasTaken contents mid new xs 0 0) (sym (append-nil s.gained) ∙ s.order) (HasTaken-from_sent contents mid new [] [] bytes s))
 
 -- a write stopped
 pub taken-stopped : {W : Type 0} (contents : W → Option (List ℕ)) (old mid new : Watched W) (text bytes : List ℕ) (stalls : ℕ) (h : Stopped contents mid new [] bytes) → HasTaken contents old mid text 0 0 → stalls_of new ≡ stalls_of mid + stalls → HasTaken contents old new (text ++ h.gained) 1 stalls
-taken-stopped contents old mid new text bytes stalls h t stalled =
-    record {
-      taken = h.taken ∙ ap (λ (xs : List ℕ). xs ++ h.gained) t.taken ∙ append_assoc (taken_of old) text h.gained;
-      failures = h.failures ∙ ap (λ (n : ℕ). n + 1) (t.failures ∙ add-zero _);
-      stalls = stalled ∙ ap (λ (n : ℕ). n + stalls) (t.stalls ∙ add-zero _);
-      device = Appends-trans _ _ _ text h.gained t.device h.device;
-    }
+taken-stopped contents old mid new text bytes stalls h t stalled = taken-then contents old mid new text h.gained 1 stalls t (HasTaken-from_stopped contents mid new [] bytes stalls h stalled)
 
 -- ---- what is decided
 
@@ -356,11 +313,6 @@ piece-some piece n len some e = let none = ap length e in absurd (omega arith)
 pub piece-none : (piece : List ℕ) (n : ℕ) → length piece ≡ n → n ≤ 0 → piece ≡ []
 piece-none [] n len none = refl
 piece-none (b ∷ bs) n len none = absurd (omega arith)
-
--- a read of some bytes does not end the input
-pub still-open : (ended : Bool) (piece : List ℕ) → (IsTrue ended ↔ (piece ≡ [])) → piece ≢ [] → ended ≡ false
-still-open true piece iff some = absurd (some (iff.0 refl))
-still-open false piece iff some = refl
 
 -- what is left to read, where places can be counted, is less after each read of some bytes
 pub less-left : (s t u : Scanned) (piece : List ℕ) → t.pieces ≡ s.pieces ++ piece ∷ [] → u.pieces ≡ t.pieces → piece ≢ [] → CanBeCounted (read_by t) → 18446744073709551616 - length (read_by u) < 18446744073709551616 - length (read_by s)

@@ -11,7 +11,7 @@ use Rattle.ac_automaton.specs.Replace.{IsForMatches, LieInOrder, RepliesAt, matc
 use Rattle.ac_automaton.specs.Stream.{FindsHeld, IsOnCourse, Scanned, cut_of, keep_of, matches_read, read_by}
 use Rattle.ac_automaton.specs.StreamReplace.{IsPlaced}
 use Rattle.ac_automaton.specs.StreamReplaceWith.{GoesOn, HasComeTo, IsStreamFault, IsWriterChain, PassesMatch, RefusedByClosure, StopsChain, StoppedAtWrite, StreamReplacer}
-use Rattle.ac_automaton.specs.Watched.{IsOfWrite, TookFront, stalls_of}
+use Rattle.ac_automaton.specs.Watched.{IsOfWrite, NoneRead, TookFront, stalls_of}
 use Rattle.ac_automaton.specs.declared.error.StreamError.{StreamError}
 use Rattle.ac_automaton.specs.declared.error.StreamError.TheVariants.{Config, Read, Write, WriteZero, Memory, Position}
 use Rattle.ac_automaton.specs.declared.watched.Watched.{Watched}
@@ -62,9 +62,9 @@ module _ {F W : Type 0} (contents : W → Option (List ℕ)) (g : StreamReplacer
   -- a write of what stands before a place stopped
   stopped-at : (s : Scanned) (at end : ℕ) (rest : List Occurrence) (first f : F) (begun old new : Watched W) (bytes : List ℕ) (stalls : ℕ) → IsPlaced s at → at ≤ end → end ≤ length (read_by s)
       → matches_read s ≡ s.given ++ rest → All (λ o. end ≤ o.start) rest → length (concat (but_last s.pieces)) ≤ at + keep_of s.built
-      → IsWriterChain contents g (read_by s) 0 s.given at first begun f old → bytes ≡ slice_range (read_by s) at end → TookFront contents old new bytes → stalls_of new ≡ stalls_of old + stalls
+      → IsWriterChain contents g (read_by s) 0 s.given at first begun f old → bytes ≡ slice_range (read_by s) at end → TookFront contents old new bytes → NoneRead old new → stalls_of new ≡ stalls_of old + stalls
       → StoppedAtWrite contents g s.built s.pieces first begun new stalls
-  stopped-at s at end rest first f begun old new bytes stalls placed le within all later near chain is took stalled =
+  stopped-at s at end rest first f begun old new bytes stalls placed le within all later near chain is took reads stalled =
       let front = slice_range-front (read_by s) at end took.front took.rest le within (sym is ∙ took.split) took.left in
       let before : at + length took.front < end = front.1 in
       record {
@@ -76,22 +76,22 @@ module _ {F W : Type 0} (contents : W → Option (List ℕ)) (g : StreamReplacer
         came = come-to s at rest first f begun old (omega arith) placed.lies all (all-later at end rest le later) near chain;
         order = (omega arith, omega arith);
         later = all-behind (at + length took.front) end rest before later;
-        stopped = subst (λ (t : List ℕ). HasTaken contents old new t 1 stalls) front.0 (HasTaken-from_front contents old new bytes stalls took stalled);
+        stopped = subst (λ (t : List ℕ). HasTaken contents old new t 1 stalls) front.0 (HasTaken-from_front contents old new bytes stalls took reads stalled);
       }
 
   -- the same, by the error
   pub write-stopped : (s : Scanned) (at end : ℕ) (rest : List Occurrence) (first f : F) (begun old new : Watched W) (bytes : List ℕ) (error : StreamError) → IsPlaced s at → at ≤ end → end ≤ length (read_by s)
       → matches_read s ≡ s.given ++ rest → All (λ o. end ≤ o.start) rest → length (concat (but_last s.pieces)) ≤ at + keep_of s.built
-      → IsWriterChain contents g (read_by s) 0 s.given at first begun f old → bytes ≡ slice_range (read_by s) at end → TookFront contents old new bytes → IsOfWrite old new error
+      → IsWriterChain contents g (read_by s) 0 s.given at first begun f old → bytes ≡ slice_range (read_by s) at end → TookFront contents old new bytes → NoneRead old new → IsOfWrite old new error
       → IsStreamFault contents g s.built s.pieces 0 first begun new error
-  write-stopped s at end rest first f begun old new bytes (Config error) placed le within all later near chain is took kind = absurd kind
-  write-stopped s at end rest first f begun old new bytes (Read error) placed le within all later near chain is took kind = absurd kind
-  write-stopped s at end rest first f begun old new bytes (Write error) placed le within all later near chain is took kind =
-      (refl, stopped-at s at end rest first f begun old new bytes 0 placed le within all later near chain is took (kind ∙ sym (add-zero _)))
-  write-stopped s at end rest first f begun old new bytes WriteZero placed le within all later near chain is took kind =
-      (refl, stopped-at s at end rest first f begun old new bytes 1 placed le within all later near chain is took kind)
-  write-stopped s at end rest first f begun old new bytes Memory placed le within all later near chain is took kind = absurd kind
-  write-stopped s at end rest first f begun old new bytes Position placed le within all later near chain is took kind = absurd kind
+  write-stopped s at end rest first f begun old new bytes (Config error) placed le within all later near chain is took reads kind = absurd kind
+  write-stopped s at end rest first f begun old new bytes (Read error) placed le within all later near chain is took reads kind = absurd kind
+  write-stopped s at end rest first f begun old new bytes (Write error) placed le within all later near chain is took reads kind =
+      (refl, stopped-at s at end rest first f begun old new bytes 0 placed le within all later near chain is took reads (kind ∙ sym (add-zero _)))
+  write-stopped s at end rest first f begun old new bytes WriteZero placed le within all later near chain is took reads kind =
+      (refl, stopped-at s at end rest first f begun old new bytes 1 placed le within all later near chain is took reads kind)
+  write-stopped s at end rest first f begun old new bytes Memory placed le within all later near chain is took reads kind = absurd kind
+  write-stopped s at end rest first f begun old new bytes Position placed le within all later near chain is took reads kind = absurd kind
 
   -- ---- one match
 
@@ -101,14 +101,14 @@ module _ {F W : Type 0} (contents : W → Option (List ℕ)) (g : StreamReplacer
     begins-behind = match-behind [] s t at o placed course finds
 
     -- the write of what stands before it stopped
-    pub before-stopped : (f : F) (old new : Watched W) (bytes : List ℕ) (error : StreamError) → bytes ≡ slice_range (read_by s) at o.start → TookFront contents old new bytes → IsOfWrite old new error → StopsChain contents g s at f old new error
-    before-stopped f old new bytes error is took kind =
+    pub before-stopped : (f : F) (old new : Watched W) (bytes : List ℕ) (error : StreamError) → bytes ≡ slice_range (read_by s) at o.start → TookFront contents old new bytes → NoneRead old new → IsOfWrite old new error → StopsChain contents g s at f old new error
+    before-stopped f old new bytes error is took reads kind =
         let left = next-left s t o course finds in
         let some : o.start < o.end = finds.4.some in
         let within : o.end ≤ length (read_by s) = finds.4.within in
         record {
           stops = λ first begun near chain. inr (write-stopped s at o.start (o ∷ left.0) first f begun old new bytes error placed begins-behind (omega arith) left.1
-              (All-cons (λ (q : Occurrence). o.start ≤ q.start) o left.0 (omega arith) (all-later o.start o.end left.0 (omega arith) left.2)) near chain is took kind);
+              (All-cons (λ (q : Occurrence). o.start ≤ q.start) o left.0 (omega arith) (all-later o.start o.end left.0 (omega arith) left.2)) near chain is took reads kind);
         }
 
     module _ (f after : F) (old mid new : Watched W) (matched : List ℕ) (taken : HasTaken contents old mid (slice_range (read_by s) at o.start) 0 0) (is : matched ≡ slice_range (read_by s) o.start o.end) where
@@ -214,11 +214,11 @@ module _ {F W : Type 0} (contents : W → Option (List ℕ)) (g : StreamReplacer
         }
 
     -- the write of it stopped
-    pub cut-stopped : (error : StreamError) → TookFront contents old new bytes → IsOfWrite old new error → StopsChain contents g s at f old new error
-    cut-stopped error took kind =
+    pub cut-stopped : (error : StreamError) → TookFront contents old new bytes → NoneRead old new → IsOfWrite old new error → StopsChain contents g s at f old new error
+    cut-stopped error took reads kind =
         let left = rest-left s placed.course in
         let le = placed.cut in
         let within = cut-within s placed.course in
         record {
-          stops = λ first begun near chain. inr (write-stopped s at cut left.0 first f begun old new bytes error placed (omega arith) (omega arith) left.1 (all-later cut (cut_of s) left.0 (omega arith) left.2) near chain plain took kind);
+          stops = λ first begun near chain. inr (write-stopped s at cut left.0 first f begun old new bytes error placed (omega arith) (omega arith) left.1 (all-later cut (cut_of s) left.0 (omega arith) left.2) near chain plain took reads kind);
         }

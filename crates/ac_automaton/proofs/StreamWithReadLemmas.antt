@@ -14,13 +14,13 @@ use Rattle.ac_automaton.specs.Replace.{IsForMatches, matches_in}
 use Rattle.ac_automaton.specs.Stream.{CanBeCounted, CanStream, HasRead, IsOnCourse, ReadsMore, Scanned, cut_of, fresh_scan, keep_of, read_by, room_of}
 use Rattle.ac_automaton.specs.StreamReplace.{IsAtCut}
 use Rattle.ac_automaton.specs.StreamReplaceWith.{GoesOn, HasCome, HasReplacedWith, IsStreamFault, IsWriterChain, ReadsAndReplaces, RefusedByClosure, ReplacesStreamWith, StopsChain, StreamReplacer}
-use Rattle.ac_automaton.specs.Watched.{IsOfWrite, TookAll, TookFront, inner_of}
+use Rattle.ac_automaton.specs.Watched.{IsOfWrite, NoneRead, TookAll, TookFront, inner_of}
 use Rattle.ac_automaton.specs.declared.error.StreamError.{StreamError}
 use Rattle.ac_automaton.specs.declared.error.StreamError.TheVariants.{Config, Read, Write, WriteZero, Memory, Position}
 use Rattle.ac_automaton.specs.declared.watched.Watched.{Watched}
-use Rattle.ac_automaton.proofs.StreamReplaceLemmas.{AreFilled-push, before-last, given-all, given-more, given-none, pieces-fit, place-within, placed-after, read-more, replaced-fresh, same-cut, same-lies}
+use Rattle.ac_automaton.proofs.StreamReplaceLemmas.{AreFilled-push, before-last, given-all, given-more, given-none, pieces-fit, place-within, placed-after, read-more, replaced-fresh, same-cut, same-lies, taken-none}
 use Rattle.ac_automaton.proofs.StreamWithLemmas.{all-later, come-to, rest-left, write-stopped}
-use Rattle.ac_automaton.proofs.WriterChainLemmas.{HasTaken-from_all, HasTaken-none, chain-grows, chain-same}
+use Rattle.ac_automaton.proofs.WriterChainLemmas.{HasTaken-from_all, chain-grows, chain-same}
 
 module _ {F W : Type 0} (contents : W → Option (List ℕ)) (g : StreamReplacer F W) {R : Type 0} (remaining : R → Option (List ℕ)) (b : Built) where
   -- before the first read
@@ -30,7 +30,7 @@ module _ {F W : Type 0} (contents : W → Option (List ℕ)) (g : StreamReplacer
     place = (replaced-fresh remaining contents [] b reader writer course).place;
     filled = tt;
     read = given-none remaining reader;
-    chain = (refl, HasTaken-none contents writer);
+    chain = (refl, taken-none contents writer);
     ready = ready;
   }
 
@@ -125,20 +125,20 @@ module _ {F W : Type 0} (contents : W → Option (List ℕ)) (g : StreamReplacer
         )
 
     -- nothing was read, and the write of what is left stopped
-    rest-failed : (w1 : Watched W) (bytes : List ℕ) (error : StreamError) → IsOnCourse t → CanBeCounted (read_by t) → failed ≡ 0 → piece ≡ [] → bytes ≡ drop at (read_by t) → TookFront contents w w1 bytes → IsOfWrite w w1 error
+    rest-failed : (w1 : Watched W) (bytes : List ℕ) (error : StreamError) → IsOnCourse t → CanBeCounted (read_by t) → failed ≡ 0 → piece ≡ [] → bytes ≡ drop at (read_by t) → TookFront contents w w1 bytes → NoneRead w w1 → IsOfWrite w w1 error
         → ReadsAndReplaces contents g remaining b first r0 r1 w0 w1 (Err error)
-    rest-failed w1 bytes error course countable fine none is took kind =
+    rest-failed w1 bytes error course countable fine none is took reads kind =
         let x = read_by t in
         let fault = write-stopped contents g t at (length x) [] first f w0 w w1 bytes error (placed-after remaining s t at r r1 piece failed h.place read course countable) within-all (omega arith) (sym (given-all remaining s t at r r1 piece failed h.place read none) ∙ sym (append-nil t.given))
-        (All-from_recursion (λ (o : Occurrence). length x ≤ o.start) [] tt) near-stays chain-stays (is ∙ sym (take_rest x at)) took kind in
+        (All-from_recursion (λ (o : Occurrence). length x ≤ o.start) [] tt) near-stays chain-stays (is ∙ sym (take_rest x at)) took reads kind in
         (t.pieces, 0, subst (HasGiven remaining r0 r1 t.pieces) fine given-read, fit-read course, inr (subst (λ (c : Built). IsStreamFault contents g c t.pieces 0 first w0 w1 error) built-read fault))
 
     -- the same by the answer
     pub rest-answered : (w1 : Watched W) (bytes : List ℕ) (result : Result (Unit {0}) StreamError) → IsOnCourse t → CanBeCounted (read_by t) → failed ≡ 0 → piece ≡ [] → bytes ≡ drop at (read_by t)
-        → OnOk result (TookAll w w1 bytes) → OnErr result (TookFront contents w w1 bytes) → IfErr result (IsOfWrite w w1) → OnOk result (Appends (contents (inner_of w)) (contents (inner_of w1)) bytes) → ReadsAndReplaces contents g remaining b first r0 r1 w0 w1 result
-    rest-answered w1 bytes (Ok done) course countable fine none is all took kind device =
-        rest-passed w1 course fine none (subst (λ (t : List ℕ). HasTaken contents w w1 t 0 0) is (HasTaken-from_all contents w w1 bytes all device))
-    rest-answered w1 bytes (Err error) course countable fine none is all took kind device = rest-failed w1 bytes error course countable fine none is took kind
+        → OnOk result (TookAll w w1 bytes) → OnErr result (TookFront contents w w1 bytes) → NoneRead w w1 → IfErr result (IsOfWrite w w1) → OnOk result (Appends (contents (inner_of w)) (contents (inner_of w1)) bytes) → ReadsAndReplaces contents g remaining b first r0 r1 w0 w1 result
+    rest-answered w1 bytes (Ok done) course countable fine none is all took reads kind device =
+        rest-passed w1 course fine none (subst (λ (t : List ℕ). HasTaken contents w w1 t 0 0) is (HasTaken-from_all contents w w1 bytes all reads device))
+    rest-answered w1 bytes (Err error) course countable fine none is all took reads kind device = rest-failed w1 bytes error course countable fine none is took reads kind
 
   -- a read that failed, or with which there are more bytes than places
   pub read-stopped-with : (s t : Scanned) (at : ℕ) (r0 r r1 : Watched R) (first f : F) (w0 w : Watched W) (error : StreamError) → HasReplacedWith contents g remaining b s at r0 r first f w0 w → IsOnCourse t → ReadsMore remaining s t r r1 (Err error)

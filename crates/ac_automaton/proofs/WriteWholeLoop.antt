@@ -4,12 +4,13 @@ use Rattle.std.proofs.lemmas.List.{take_rest, take-take, drop-take}
 use Rattle.std.specs.Io.KnownBytes.{Appends}
 use Rattle.std.proofs.KnownBytes.{Appends-trans}
 use Rattle.ac_automaton.specs.declared.watched.Watched.{Watched}
-use Rattle.ac_automaton.specs.Watched.{taken_of, inner_of, NoneFailed, NoneRead, WriteTook}
+use Rattle.ac_automaton.specs.Watched.{taken_of, flushed_of, inner_of, NoneFailed, NoneRead, WriteTook}
 
 -- the first `written` bytes were taken, and no call failed
 pub record HasWritten {T : Type 0} (contents : T → Option (List ℕ)) (old new : Watched T) (bytes : List ℕ) (written : ℕ) : Type 0 where
   pub within : written ≤ length bytes
   pub taken : taken_of new ≡ taken_of old ++ take written bytes
+  pub flushed : flushed_of new ≡ flushed_of old
   pub fine : NoneFailed old new
   pub reads : NoneRead old new
   pub device : Appends (contents (inner_of old)) (contents (inner_of new)) (take written bytes)
@@ -41,6 +42,7 @@ written_more contents old mid new bytes written n before took some reads appende
       within = omega (arith, before.within, took.within, ap length (take_rest bytes written), length-drop written bytes);
       taken = took.taken ∙ ap (λ (l : List ℕ). l ++ take n (left written bytes)) before.taken
           ∙ append_assoc (taken_of old) (take written bytes) (take n (left written bytes)) ∙ ap (λ (l : List ℕ). taken_of old ++ l) (sym further);
+      flushed = took.flushed ∙ before.flushed;
       fine = let none = took.some_taken some in record { failures = none.failures ∙ before.fine.failures; stalls = none.stalls ∙ before.fine.stalls };
       reads = record { pieces = reads.pieces ∙ before.reads.pieces; ended = reads.ended ∙ before.reads.ended };
       device = subst (Appends (contents (inner_of old)) (contents (inner_of new))) (sym further)

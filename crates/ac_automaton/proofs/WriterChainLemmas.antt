@@ -1,16 +1,16 @@
 -- How the chain of a closure's replacements over a stream goes on: by bytes that the writer takes, and by a call.
-use Rattle.std.proofs.Common.{◌≡◌, ℕ, ◌+◌, ◌-◌, ◌<◌, ◌≤◌, List, [], ◌∷◌, ◌++◌, length, take, drop, Option, Ok, refl, sym, ap, ◌∙◌, subst, arith, append_assoc, add-zero, slice_range}
+use Rattle.std.proofs.Common.{◌≡◌, ℕ, ◌+◌, ◌-◌, ◌<◌, ◌≤◌, List, [], ◌∷◌, ◌++◌, length, take, drop, Option, Ok, refl, sym, ap, ◌∙◌, subst, arith, add-zero, slice_range}
 use Rattle.std.specs.Io.KnownBytes.{Appends}
-use Rattle.std.proofs.KnownBytes.{Appends-nil, Appends-trans}
-use Rattle.std.proofs.lemmas.List.{append-nil, drop-drop, length-append, take-take}
+use Rattle.std.proofs.lemmas.List.{drop-drop, length-append, take-take}
 use Rattle.std.proofs.Math.Seq.{take-add, take-append_seam}
 use Rattle.ac_input.specs.Occurrence.{Occurrence}
 use Rattle.ac_input.proofs.OrderLemmas.{slice_range-length}
 use Rattle.ac_automaton.specs.Moved.{HasTaken}
 use Rattle.ac_automaton.specs.Replace.{LieInOrder, RepliesAt}
 use Rattle.ac_automaton.specs.StreamReplaceWith.{IsWriterChain, StreamReplacer}
-use Rattle.ac_automaton.specs.Watched.{TookAll, TookFront, inner_of, stalls_of, taken_of}
+use Rattle.ac_automaton.specs.Watched.{NoneRead, TookAll, TookFront, inner_of, stalls_of}
 use Rattle.ac_automaton.specs.declared.watched.Watched.{Watched}
+use Rattle.ac_automaton.proofs.MovedLemmas.{taken-none, taken-then}
 
 -- ---- parts of a text
 
@@ -42,26 +42,13 @@ slice_range-front x a b front rest le within is some =
 -- ---- what the writer takes
 
 module _ {W : Type 0} (contents : W → Option (List ℕ)) where
-  -- nothing
-  pub HasTaken-none : (writer : Watched W) → HasTaken contents writer writer [] 0 0
-  HasTaken-none writer = record { taken = sym (append-nil _); failures = sym (add-zero _); stalls = sym (add-zero _); device = Appends-nil (contents (inner_of writer)) }
-
-  -- some bytes, and then more
-  HasTaken-then : (old mid new : Watched W) (bytes more : List ℕ) → HasTaken contents old mid bytes 0 0 → HasTaken contents mid new more 0 0 → HasTaken contents old new (bytes ++ more) 0 0
-  HasTaken-then old mid new bytes more a b = record {
-    taken = b.taken ∙ ap (λ (t : List ℕ). t ++ more) a.taken ∙ append_assoc (taken_of old) bytes more;
-    failures = b.failures ∙ add-zero _ ∙ a.failures;
-    stalls = b.stalls ∙ add-zero _ ∙ a.stalls;
-    device = Appends-trans _ _ _ bytes more a.device b.device;
-  }
-
   -- all that was to be written
-  pub HasTaken-from_all : (old new : Watched W) (bytes : List ℕ) → TookAll old new bytes → Appends (contents (inner_of old)) (contents (inner_of new)) bytes → HasTaken contents old new bytes 0 0
-  HasTaken-from_all old new bytes all device = record { taken = all.taken; failures = all.fine.failures ∙ sym (add-zero _); stalls = all.fine.stalls ∙ sym (add-zero _); device = device }
+  pub HasTaken-from_all : (old new : Watched W) (bytes : List ℕ) → TookAll old new bytes → NoneRead old new → Appends (contents (inner_of old)) (contents (inner_of new)) bytes → HasTaken contents old new bytes 0 0
+  HasTaken-from_all old new bytes all reads device = record { taken = all.taken; flushed = all.flushed; failures = all.fine.failures ∙ sym (add-zero _); stalls = all.fine.stalls ∙ sym (add-zero _); reads = reads; device = device }
 
   -- a beginning of it
-  pub HasTaken-from_front : (old new : Watched W) (bytes : List ℕ) (stalls : ℕ) (h : TookFront contents old new bytes) → stalls_of new ≡ stalls_of old + stalls → HasTaken contents old new h.front 1 stalls
-  HasTaken-from_front old new bytes stalls h stalled = record { taken = h.taken; failures = h.failures; stalls = stalled; device = h.device }
+  pub HasTaken-from_front : (old new : Watched W) (bytes : List ℕ) (stalls : ℕ) (h : TookFront contents old new bytes) → NoneRead old new → stalls_of new ≡ stalls_of old + stalls → HasTaken contents old new h.front 1 stalls
+  HasTaken-from_front old new bytes stalls h reads stalled = record { taken = h.taken; flushed = h.flushed; failures = h.failures; stalls = stalled; reads = reads; device = h.device }
 
 -- ---- the chain
 
@@ -70,7 +57,7 @@ module _ {F W : Type 0} (contents : W → Option (List ℕ)) (g : StreamReplacer
   pub chain-grows : (x : List ℕ) (patterns at : ℕ) (os : List Occurrence) (to more : ℕ) (f last : F) (old mid new : Watched W) → LieInOrder patterns to at os → at ≤ to → to ≤ more
       → IsWriterChain contents g x at os to f old last mid → HasTaken contents mid new (slice_range x to more) 0 0 → IsWriterChain contents g x at os more f old last new
   chain-grows x patterns at [] to more f last old mid new lies from le h t =
-      (h.0, subst (λ (bytes : List ℕ). HasTaken contents old new bytes 0 0) (slice_range-join x at to more from le) (HasTaken-then contents old mid new (slice_range x at to) (slice_range x to more) h.1 t))
+      (h.0, subst (λ (bytes : List ℕ). HasTaken contents old new bytes 0 0) (slice_range-join x at to more from le) (taken-then contents old mid new (slice_range x at to) (slice_range x to more) 0 0 h.1 t))
   chain-grows x patterns at (o ∷ os) to more f last old mid new lies from le h t =
       (h.0, h.1, h.2, h.3, h.4, chain-grows x patterns o.end os to more h.2 last h.1 mid new lies.4 lies.3 le h.5 t)
 
@@ -83,7 +70,7 @@ module _ {F W : Type 0} (contents : W → Option (List ℕ)) (g : StreamReplacer
     last,
     h.1,
     subst (λ (q : F). RepliesAt g q o (slice_range x o.start o.end) before (Ok tt) last new) h.0 reply,
-    (refl, subst (λ (bytes : List ℕ). HasTaken contents new new bytes 0 0) (sym (slice_range-none x o.end)) (HasTaken-none contents new)),
+    (refl, subst (λ (bytes : List ℕ). HasTaken contents new new bytes 0 0) (sym (slice_range-none x o.end)) (taken-none contents new)),
   )
   chain-push x at (q ∷ os) o f mid last old before new h reply =
       (h.0, h.1, h.2, h.3, h.4, chain-push x q.end os o h.2 mid last h.1 before new h.5 reply)

@@ -1,7 +1,6 @@
 -- The bytes of a stream that are held in memory, and what reading and rolling do to them.
-use Rattle.std.specs.Prelude.{◌≡◌, ℕ, ◌+◌, ◌-◌, ◌*◌, ◌≤◌, ◌↔◌, max, IsTrue, List, [], ◌∷◌, ◌++◌, length, drop, Option}
-use Rattle.std.specs.Io.KnownBytes.{Consumes, IsAtEnd}
-use Rattle.ac_automaton.specs.Watched.{pieces_of, has_ended, failures_of, inner_of}
+use Rattle.std.specs.Prelude.{◌≡◌, ℕ, ◌+◌, ◌-◌, ◌*◌, ◌≤◌, max, List, [], ◌∷◌, ◌++◌, length, drop, Option}
+use Rattle.ac_automaton.specs.Moved.{HasGiven}
 use Rattle.ac_automaton.specs.declared.watched.Watched.{Watched}
 
 -- What is held: some bytes, in a room that never grows; how many of them are kept at most where the room is full; how many were
@@ -33,17 +32,12 @@ pub record IsPaid (h : Held) : Type 0 where
   pub within : length h.bytes ≤ h.room
   pub paid : 7 * h.moved + (length h.bytes - h.keep) ≤ h.read
 
--- A read gave so many bytes, which are held behind the others. Where the reader tells what is left of it, that lost them, and is
--- at its end where there are none.
+-- one read gave so many bytes, which are held after the others
 pub record Filled {R : Type 0} (remaining : R → Option (List ℕ)) (old new : Held) (before after : Watched R) (n : ℕ) : Type 0 where
   pub piece : List ℕ
   pub count : length piece ≡ n
   pub held : new ≡ record old { bytes = old.bytes ++ piece; read = old.read + n }
-  pub pieces : pieces_of after ≡ pieces_of before ++ piece ∷ []
-  pub ended : IsTrue (has_ended after) ↔ (n ≡ 0)
-  pub failures : failures_of after ≡ failures_of before
-  pub device : Consumes (remaining (inner_of before)) (remaining (inner_of after)) piece
-  pub at_end : n ≡ 0 → IsAtEnd (remaining (inner_of after))
+  pub read : HasGiven remaining before after (piece ∷ []) 0
 
 -- what is held from a place on was moved to the front
 abbrev pub rolled : Held → ℕ → Held

@@ -1,7 +1,7 @@
 -- Where a search stands, what a state tells there, and what it costs to read on.
-use Rattle.std.specs.Prelude.{◌≡◌, ℕ, ◌-◌, ◌<◌, ◌≤◌, ◌==◌, List, [], length, Option, Some, get_or, slice_get, slice_range, option_map}
+use Rattle.std.specs.Prelude.{ℕ, ◌-◌, ◌<◌, ◌≤◌, ◌==◌, List, [], length, Option, Some, get_or, slice_get, slice_range, option_map}
 use Rattle.std.specs.List.{filter}
-use Rattle.ac_input.specs.declared.primitives.state_id.StateID.{StateID}
+use Rattle.ac_input.specs.Number.{StateID}
 use Rattle.ac_input.specs.declared.search.Anchored.{Anchored}
 use Rattle.ac_input.specs.declared.search.Anchored.TheVariants.{No, Yes}
 use Rattle.ac_input.specs.declared.steps.Steps.{Steps}

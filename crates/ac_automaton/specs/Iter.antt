@@ -1,5 +1,5 @@
 -- A walk over the matches of an input: where it stands, what is left of it, and what it costs.
-use Rattle.std.specs.Prelude.{◌≡◌, ℕ, ◌+◌, ◌-◌, ◌*◌, ◌<◌, ◌≤◌, min, Bool, List, Option, None, Some, IfSome, IsTrue, length}
+use Rattle.std.specs.Prelude.{◌≡◌, ℕ, ◌+◌, ◌-◌, ◌*◌, ◌<◌, ◌≤◌, min, Bool, List, Option, None, Some, IfSome, length}
 use Rattle.ac_input.specs.declared.search.MatchKind.{MatchKind}
 use Rattle.ac_input.specs.declared.search.MatchKind.TheVariants.{Standard}
 use Rattle.ac_input.specs.declared.steps.Steps.{Steps}

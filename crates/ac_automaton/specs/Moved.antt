@@ -1,8 +1,8 @@
 -- What a call moved between two devices: what it read, what it wrote, and how often that failed.
-use Rattle.std.specs.Prelude.{◌≡◌, ◌≢◌, ℕ, ◌+◌, ◌≤◌, List, [], ◌∷◌, ◌++◌, length, Option}
+use Rattle.std.specs.Prelude.{◌≡◌, ◌≢◌, ℕ, ◌+◌, ◌≤◌, Bool, false, true, List, [], ◌∷◌, ◌++◌, length, Option}
 use Rattle.std.specs.Io.KnownBytes.{Appends, Consumes, IsAtEnd}
 use Rattle.std.specs.List.{All, concat}
-use Rattle.ac_automaton.specs.Watched.{failures_of, stalls_of, pieces_of, taken_of, inner_of}
+use Rattle.ac_automaton.specs.Watched.{failures_of, stalls_of, pieces_of, taken_of, flushed_of, has_ended, inner_of, NoneRead, NoneTaken}
 use Rattle.ac_automaton.specs.declared.watched.Watched.{Watched}
 
 -- no piece is empty
@@ -24,6 +24,17 @@ but_last [] = []
 but_last (piece ∷ []) = []
 but_last (piece ∷ (next ∷ pieces)) = piece ∷ but_last (next ∷ pieces)
 
+-- whether a piece is empty
+abbrev pub is_empty : List ℕ → Bool
+is_empty [] = true
+is_empty (byte ∷ bytes) = false
+
+-- Reads gave these pieces in turn, from one value of `has_ended` to another: each was made of an input that had not ended, and
+-- ended it exactly where its piece is empty. So nothing was read after an empty read, nor after one that failed.
+abbrev pub AreInTurn : Bool → List (List ℕ) → Bool → Type 0
+AreInTurn before [] after = after ≡ before
+AreInTurn before (piece ∷ pieces) after = (before ≡ false) × AreInTurn (is_empty piece) pieces after
+
 -- what was moved: the pieces that reads gave, how many reads failed, the bytes that writes took, how many writes failed, and how
 -- many of those were handed bytes and took none
 pub record Moved : Type 0 where
@@ -33,20 +44,24 @@ pub record Moved : Type 0 where
   pub failed_writes : ℕ
   pub stalled_writes : ℕ
 
--- A reader, before and after, tells that it gave these pieces, and that so many reads failed. A device in memory tells it by its
--- bytes too: what is left to read lost what was read, and is at its end where that was all.
+-- A reader, before and after, tells that it gave these pieces, that so many reads failed, and that nothing was written to it. A
+-- device in memory tells it by its bytes too: what is left to read lost what was read, and is at its end where that was all.
 pub record HasGiven {R : Type 0} (remaining : R → Option (List ℕ)) (before after : Watched R) (gained : List (List ℕ)) (failed : ℕ) : Type 0 where
   pub pieces : pieces_of after ≡ pieces_of before ++ gained
+  pub turns : AreInTurn (has_ended before) gained (has_ended after)
   pub failures : failures_of after ≡ failures_of before + failed
+  pub writes : NoneTaken before after
   pub device : Consumes (remaining (inner_of before)) (remaining (inner_of after)) (concat gained)
   pub at_end : failed ≡ 0 → AreWhole gained → IsAtEnd (remaining (inner_of after))
 
--- A writer, before and after, tells that it took these bytes, and how many writes failed and stalled. What a device in memory
--- holds grew by these bytes.
+-- A writer, before and after, tells that it took these bytes, how many writes failed and stalled, and that nothing was flushed
+-- and nothing read from it. What a device in memory holds grew by these bytes.
 pub record HasTaken {W : Type 0} (contents : W → Option (List ℕ)) (before after : Watched W) (bytes : List ℕ) (failed stalled : ℕ) : Type 0 where
   pub taken : taken_of after ≡ taken_of before ++ bytes
+  pub flushed : flushed_of after ≡ flushed_of before
   pub failures : failures_of after ≡ failures_of before + failed
   pub stalls : stalls_of after ≡ stalls_of before + stalled
+  pub reads : NoneRead before after
   pub device : Appends (contents (inner_of before)) (contents (inner_of after)) bytes
 
 -- a reader and a writer, before and after, tell that this was moved

@@ -1,8 +1,7 @@
 -- What an overlapping search still has to show where it stands, and what its calls may cost on the whole.
-use Rattle.std.specs.Prelude.{◌≡◌, ◌≢◌, ◌⊎◌, ℕ, ◌+◌, ◌-◌, ◌*◌, ◌<◌, ◌≤◌, ◌||◌, ◌==◌, not, nat_le, Bool, List, [], ◌∷◌, ◌++◌, length, map, drop, get_or, slice_get, slice_range, IsTrue, Option, None, Some, is_some, filter, if◌then◌else◌}
-use Rattle.ac_input.specs.declared.primitives.state_id.StateID.{StateID}
+use Rattle.std.specs.Prelude.{◌≡◌, ◌≢◌, ◌⊎◌, ℕ, ◌+◌, ◌-◌, ◌*◌, ◌<◌, ◌≤◌, ◌||◌, ◌==◌, not, nat_le, Bool, List, [], ◌∷◌, ◌++◌, length, map, drop, get_or, slice_get, IsTrue, Option, None, Some, is_some, filter, if◌then◌else◌}
+use Rattle.ac_input.specs.Number.{StateID}
 use Rattle.ac_input.specs.declared.search.Anchored.{Anchored}
-use Rattle.ac_input.specs.declared.search.MatchKind.{MatchKind}
 use Rattle.ac_input.specs.declared.search.MatchKind.TheVariants.{Standard}
 use Rattle.ac_input.specs.declared.steps.Steps.{Steps}
 use Rattle.ac_input.specs.Computed.{listing_of}
@@ -14,7 +13,7 @@ use Rattle.ac_input.specs.Steps.{AreNone, looked_of, scanned_of, moved_of}
 use Rattle.ac_input.specs.Tells.{ending}
 use Rattle.ac_input.specs.Work.{lookups_per_byte}
 use Rattle.ac_automaton.specs.Automaton.{Built, refusal_of, searched, listing_in}
-use Rattle.ac_automaton.specs.Cursor.{read_to, walked, IsCursor, ending_at}
+use Rattle.ac_automaton.specs.Cursor.{read_to, walked, IsCursor}
 use Rattle.ac_automaton.specs.declared.error.MatchErrorKind.{MatchErrorKind}
 use Rattle.ac_automaton.specs.declared.error.MatchErrorKind.TheVariants.{UnsupportedOverlapping}
 use Rattle.ac_automaton.specs.declared.overlapping.Entry.{Entry}

@@ -1,13 +1,10 @@
 -- The overlapping matches of an input in turn: which were shown, which are left, and what that costs.
-use Rattle.std.specs.Prelude.{◌≡◌, ◌⊎◌, ℕ, ◌+◌, ◌-◌, ◌*◌, ◌≤◌, Bool, IsTrue, List, drop, Option, is_some, if◌then◌else◌}
+use Rattle.std.specs.Prelude.{◌≡◌, ◌⊎◌, ℕ, ◌+◌, ◌-◌, ◌*◌, ◌≤◌, List, drop, Option, is_some, if◌then◌else◌}
 use Rattle.ac_input.specs.declared.search.Anchored.{Anchored}
 use Rattle.ac_input.specs.declared.search.Anchored.TheVariants.{No, Yes}
-use Rattle.ac_input.specs.declared.search.MatchKind.{MatchKind}
 use Rattle.ac_input.specs.declared.steps.Steps.{Steps}
-use Rattle.ac_input.specs.Computed.{listing_of}
-use Rattle.ac_input.specs.Input.{Asked, search_in}
-use Rattle.ac_input.specs.Dictionary.{Dictionary}
-use Rattle.ac_input.specs.Occurrence.{Search, Occurrence}
+use Rattle.ac_input.specs.Input.{Asked}
+use Rattle.ac_input.specs.Occurrence.{Occurrence}
 use Rattle.ac_input.specs.Steps.{looked_of, scanned_of, moved_of}
 use Rattle.ac_input.specs.Work.{lookups_per_byte}
 use Rattle.ac_automaton.specs.declared.error.MatchErrorKind.{MatchErrorKind}

@@ -1,6 +1,5 @@
 -- A search of a stream: how far it has come, what its calls do, and what it costs.
-use Rattle.std.specs.Prelude.{◌≡◌, ◌≢◌, ◌⊎◌, ◌↔◌, ℕ, ◌+◌, ◌-◌, ◌*◌, ◌<◌, ◌≤◌, max, IsTrue, List, [], ◌∷◌, ◌++◌, length, drop, Option, None, Some, Result, Ok, Err}
-use Rattle.std.specs.Io.KnownBytes.{Consumes, IsAtEnd}
+use Rattle.std.specs.Prelude.{◌≡◌, ◌≢◌, ◌⊎◌, ℕ, ◌+◌, ◌-◌, ◌*◌, ◌<◌, ◌≤◌, max, List, [], ◌∷◌, ◌++◌, length, drop, Option, None, Some, Result, Ok, Err}
 use Rattle.std.specs.List.{All, concat}
 use Rattle.ac_input.specs.declared.search.Anchored.{Anchored}
 use Rattle.ac_input.specs.declared.search.Anchored.TheVariants.{No}
@@ -12,9 +11,8 @@ use Rattle.ac_input.specs.Steps.{Done}
 use Rattle.ac_input.specs.Work.{longest, shortest, lookups_per_byte}
 use Rattle.ac_automaton.specs.Automaton.{Built, refusal_of}
 use Rattle.ac_automaton.specs.Buffer.{kept_for, room_for}
-use Rattle.ac_automaton.specs.Moved.{AllFit}
+use Rattle.ac_automaton.specs.Moved.{AllFit, HasGiven}
 use Rattle.ac_automaton.specs.Replace.{matches_in}
-use Rattle.ac_automaton.specs.Watched.{pieces_of, has_ended, failures_of, inner_of, NoneTaken}
 use Rattle.ac_automaton.specs.declared.error.MatchErrorKind.{MatchErrorKind}
 use Rattle.ac_automaton.specs.declared.error.MatchErrorKind.TheVariants.{UnsupportedStream, UnsupportedEmpty}
 use Rattle.ac_automaton.specs.declared.error.StreamError.{StreamError}
@@ -163,8 +161,7 @@ abbrev pub FindsHeld : Scanned → Option Occurrence → Scanned → Type 0
 FindsHeld s None t = ReadsNothing s t × (t.given ≡ s.given) × (t.last ≡ s.last) × (CanBeCounted (read_by s) → IsSearched t × (t.given ≡ matches_read t))
 FindsHeld s (Some o) t = ReadsNothing s t × (t.given ≡ s.given ++ o ∷ []) × (t.last ≡ o.end) × (t.at ≡ o.end) × IsHeldMatch s o × CanBeCounted (read_by s)
 
--- One read gave a piece, which the search has behind what it had; what is before the cut may be held no longer. Where the reader
--- tells what is left of it, that lost the piece, and is at its end where the read gave nothing and did not fail.
+-- One read gave a piece, which the search has after what it had; what is before the cut may be held no longer.
 pub record HasRead {R : Type 0} (remaining : R → Option (List ℕ)) (s t : Scanned) (before after : Watched R) (piece : List ℕ) (failed : ℕ) : Type 0 where
   pub built : t.built ≡ s.built
   pub pieces : t.pieces ≡ s.pieces ++ piece ∷ []
@@ -173,12 +170,7 @@ pub record HasRead {R : Type 0} (remaining : R → Option (List ℕ)) (s t : Sca
   pub last : t.last ≡ s.last
   pub from : t.from ≤ cut_of s
   pub short : length piece ≤ room_of s.built
-  pub reader : pieces_of after ≡ pieces_of before ++ piece ∷ []
-  pub ended : IsTrue (has_ended after) ↔ (piece ≡ [])
-  pub failures : failures_of after ≡ failures_of before + failed
-  pub writes : NoneTaken before after
-  pub device : Consumes (remaining (inner_of before)) (remaining (inner_of after)) piece
-  pub at_end : piece ≡ [] → failed ≡ 0 → IsAtEnd (remaining (inner_of after))
+  pub read : HasGiven remaining before after (piece ∷ []) failed
 
 -- What a read comes to: so many bytes more, none at the end; or an error, of a read that failed, or of one with which there are
 -- more bytes than places.

@@ -1,12 +1,12 @@
 -- What the matches of a stream, as an iterator, give and read.
-use Rattle.std.specs.Prelude.{◌≡◌, ◌≢◌, ◌⊎◌, ℕ, ◌+◌, ◌-◌, ◌<◌, ◌≤◌, true, false, List, [], ◌∷◌, ◌++◌, length, take, Option, None, Some, Result, Ok, Err}
+use Rattle.std.specs.Prelude.{◌≡◌, ◌≢◌, ◌⊎◌, ℕ, ◌-◌, ◌<◌, ◌≤◌, true, List, [], ◌∷◌, ◌++◌, length, take, Option, None, Some, Result, Ok, Err}
 use Rattle.std.specs.Borrow.{Fml, GName, MutBor, RattleType, RestsIfErr}
-use Rattle.std.specs.Io.KnownBytes.{Consumes, IsAtEnd}
+use Rattle.std.specs.Io.KnownBytes.{IsAtEnd}
 use Rattle.std.specs.List.{concat}
 use Rattle.ac_input.specs.Occurrence.{Occurrence}
-use Rattle.ac_automaton.specs.Moved.{AllFit, AreFilled, AreWhole}
+use Rattle.ac_automaton.specs.Moved.{AllFit, AreFilled, AreWhole, HasGiven}
 use Rattle.ac_automaton.specs.Stream.{CanBeCounted, FindsHeld, HasRead, IsSearched, ReadsNothing, Scanned, matches_read, read_by, room_of}
-use Rattle.ac_automaton.specs.Watched.{pieces_of, has_ended, failures_of, inner_of, NoneTaken}
+use Rattle.ac_automaton.specs.Watched.{pieces_of, has_ended, inner_of}
 use Rattle.ac_automaton.specs.contracts.watched.Watched.{the_row}
 use Rattle.ac_automaton.specs.declared.error.StreamError.{StreamError}
 use Rattle.ac_automaton.specs.declared.error.StreamError.TheVariants.{Config, Read, Write, WriteZero, Memory, Position}
@@ -17,17 +17,12 @@ use Rattle.ac_automaton.specs.declared.watched.Watched.{Watched}
 
 -- ---- what was read
 
--- Reads gave these pieces, none longer than the buffer, and so many of them failed; no input ends by pieces of some bytes. Where
--- the reader tells what is left of it, that lost the pieces.
+-- reads gave these pieces, none longer than the buffer, and so many of them failed
 pub record HasGained {R : Type 0} (remaining : R → Option (List ℕ)) (s t : Scanned) (before after : Watched R) (gained : List (List ℕ)) (failed : ℕ) : Type 0 where
   pub built : t.built ≡ s.built
   pub pieces : t.pieces ≡ s.pieces ++ gained
   pub short : AllFit (room_of s.built) gained
-  pub reader : pieces_of after ≡ pieces_of before ++ gained
-  pub ended : AreFilled gained → has_ended after ≡ has_ended before
-  pub failures : failures_of after ≡ failures_of before + failed
-  pub writes : NoneTaken before after
-  pub device : Consumes (remaining (inner_of before)) (remaining (inner_of after)) (concat gained)
+  pub read : HasGiven remaining before after gained failed
 
 -- all matches of what was read were given, and all of it was searched
 abbrev pub AreAllGiven : Scanned → Type 0
@@ -72,7 +67,6 @@ StaysStopped s t before after r = IsStopped s before → (r ≡ None) × (t.piec
 -- All of what was read before was searched and given, and one read gave this piece.
 pub record TurnReads {R : Type 0} (remaining : R → Option (List ℕ)) (s t : Scanned) (before after : Watched R) (piece : List ℕ) (failed : ℕ) : Type 0 where
   pub mid : Scanned
-  pub unended : has_ended before ≡ false
   pub few : CanBeCounted (read_by mid)
   pub nothing : ReadsNothing s mid
   pub given : mid.given ≡ s.given

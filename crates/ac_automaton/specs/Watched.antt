@@ -21,6 +21,10 @@ pieces_of watched = watched.pieces.items
 abbrev pub taken_of : {T : Type 0} → Watched T → List ℕ
 taken_of watched = watched.taken.bytes
 
+-- the bytes that its writes had taken when it was last flushed without a failure
+abbrev pub flushed_of : {T : Type 0} → Watched T → List ℕ
+flushed_of watched = watched.flushed.bytes
+
 -- whether its input has ended
 abbrev pub has_ended : {T : Type 0} → Watched T → Bool
 has_ended watched = watched.ended
@@ -35,6 +39,7 @@ pub record IsFresh {T : Type 0} (watched : Watched T) : Type 0 where
   pub stalls : stalls_of watched ≡ 0
   pub pieces : pieces_of watched ≡ []
   pub taken : taken_of watched ≡ []
+  pub flushed : flushed_of watched ≡ []
   pub ended : has_ended watched ≡ false
 
 -- a read gave the first n bytes of the buffer, and the input has ended where there are none
@@ -55,9 +60,10 @@ pub record NoneRead {T : Type 0} (old new : Watched T) : Type 0 where
   pub pieces : pieces_of new ≡ pieces_of old
   pub ended : has_ended new ≡ has_ended old
 
--- no write took a byte in between, and none stalled
+-- no write took a byte in between, none stalled, and nothing was flushed
 pub record NoneTaken {T : Type 0} (old new : Watched T) : Type 0 where
   pub taken : taken_of new ≡ taken_of old
+  pub flushed : flushed_of new ≡ flushed_of old
   pub stalls : stalls_of new ≡ stalls_of old
 
 -- no call failed in between
@@ -70,10 +76,17 @@ pub record HasStalled {T : Type 0} (old new : Watched T) : Type 0 where
   pub failures : failures_of new ≡ failures_of old + 1
   pub stalls : stalls_of new ≡ stalls_of old + 1
 
+-- all that was taken was flushed, and no call failed
+pub record HasFlushed {T : Type 0} (old new : Watched T) : Type 0 where
+  pub flushed : flushed_of new ≡ taken_of new
+  pub taken : taken_of new ≡ taken_of old
+  pub fine : NoneFailed old new
+
 -- a write took the first n of the bytes, and stalled where there were some and it took none
 pub record WriteTook {T : Type 0} (old new : Watched T) (bytes : List ℕ) (n : ℕ) : Type 0 where
   pub within : n ≤ length bytes
   pub taken : taken_of new ≡ taken_of old ++ take n bytes
+  pub flushed : flushed_of new ≡ flushed_of old
   pub some_taken : 0 < n → NoneFailed old new
   pub none_given : length bytes ≡ 0 → NoneFailed old new
   pub none_taken : n ≡ 0 → 0 < length bytes → HasStalled old new
@@ -83,18 +96,21 @@ pub record TookNone {T : Type 0} (old new : Watched T) : Type 0 where
   pub nothing : NoneTaken old new
   pub failures : failures_of new ≡ failures_of old + 1
 
--- all the bytes were taken, and no call failed
+-- all the bytes were taken, nothing was flushed, and no call failed
 pub record TookAll {T : Type 0} (old new : Watched T) (bytes : List ℕ) : Type 0 where
   pub taken : taken_of new ≡ taken_of old ++ bytes
+  pub flushed : flushed_of new ≡ flushed_of old
   pub fine : NoneFailed old new
 
--- the bytes were taken up to the one call that failed, with some bytes left; contents is what the device tells that it holds
+-- The bytes were taken up to the one call that failed, with some bytes left, and nothing was flushed. contents is what the
+-- device tells that it holds.
 pub record TookFront {T : Type 0} (contents : T → Option (List ℕ)) (old new : Watched T) (bytes : List ℕ) : Type 0 where
   pub front : List ℕ
   pub rest : List ℕ
   pub split : bytes ≡ front ++ rest
   pub left : 0 < length rest
   pub taken : taken_of new ≡ taken_of old ++ front
+  pub flushed : flushed_of new ≡ flushed_of old
   pub failures : failures_of new ≡ failures_of old + 1
   pub device : Appends (contents (inner_of old)) (contents (inner_of new)) front
 

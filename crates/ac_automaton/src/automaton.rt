@@ -40,7 +40,7 @@ pub trait Automaton {
     ghost use Rattle.std.specs.Prelude.{◌≡◌, ◌≢◌, ℕ, ◌<◌, ◌↔◌, Bool, false, List, [], ◌∷◌, ◌++◌, length, map, take, IsTrue, IfOk, IfErr, IsOk, OnOk, get_or, Option, slice_get, option_map};
     ghost use Rattle.std.specs.String.{string_bytes};
     ghost use Rattle.ac_input.specs.declared.search.Anchored.{Anchored};
-    ghost use Rattle.ac_input.specs.declared.primitives.state_id.StateID.{StateID};
+    ghost use Rattle.ac_input.specs.Number.{StateID};
     ghost use Rattle.ac_input.specs.Candidate.{Filter};
     ghost use Rattle.ac_input.specs.Input.{is_anchored};
     ghost use Rattle.ac_input.specs.LiveLaws.{IsOwnInverse};
@@ -77,6 +77,7 @@ pub trait Automaton {
     ghost special: { Self → StateID → Bool };
 
     /// The state in which a search begins. It is refused where the automaton has no start for the anchoring.
+    /// A caller: `uses::callers::states::ends_with_any`.
     fn start_state(&self, anchored: Anchored) -> Result<StateID, MatchError>
         ensures start { IfOk result (λ sid. Reads self.now anchored [] sid) }
         ensures supported { IsOk result ↔ supports self.now anchored }
@@ -130,6 +131,7 @@ pub trait Automaton {
     /// It takes a byte at least, where there is one; and counts the states that it looks at, as `advance` does.
     ///
     /// So a search goes that asks no prefilter: there a start is a state like any other.
+    /// A caller: `uses::callers::states::first_end`.
     fn advance_to_match(
         &self,
         anchored: Anchored,
@@ -176,6 +178,7 @@ pub trait Automaton {
         ensures { AtEach (Reads self.now) sid (TellsDead (built self.now) result) };
 
     /// Whether a pattern matches here.
+    /// A caller: `uses::callers::states::patterns_at`.
     fn is_match(&self, sid: StateID) -> bool
         requires { IsState (Reads self.now) sid }
         ensures { IsTrue result ↔ (matches self.now sid ≢ []) };
@@ -193,12 +196,14 @@ pub trait Automaton {
         ensures { result ≡ (built self.now).dictionary.kind };
 
     /// How many patterns match at a state that matches.
+    /// A caller: `uses::callers::states::patterns_at`.
     fn match_len(&self, sid: StateID) -> usize
         requires valid { IsState (Reads self.now) sid }
         requires matches { matches self.now sid ≢ [] }
         ensures { result ≡ length (matches self.now sid) };
 
     /// The pattern of this index of those that match at a state.
+    /// A caller: `uses::callers::states::patterns_at`.
     fn match_pattern(&self, sid: StateID, index: usize) -> PatternID
         requires valid { IsState (Reads self.now) sid }
         requires within { index < length (matches self.now sid) }
@@ -210,11 +215,13 @@ pub trait Automaton {
         ensures { result ≡ length (built self.now).dictionary.patterns };
 
     /// How many bytes the pattern has.
+    /// A caller: `uses::callers::find::match_len`.
     fn pattern_len(&self, pattern: PatternID) -> usize
         requires { pattern < length (built self.now).dictionary.patterns }
         ensures { result ≡ length (get_or (built self.now).dictionary.patterns pattern []) };
 
     /// How many bytes the shortest pattern has; `usize::MAX` where there is none.
+    /// A caller: `uses::callers::find::may_match`.
     fn min_pattern_len(&self) -> usize
         ensures { result ≡ shortest (built self.now).dictionary.patterns };
 
@@ -252,6 +259,7 @@ pub trait Automaton {
         ↔ IsSpecial (built self) (matches self sid) (starts self sid) anchored text) };
 
     /// The state after one more byte, where the search began with this anchoring.
+    /// A caller: `uses::callers::states::ends_with_any`.
     final fn next_state(&self, anchored: Anchored, sid: StateID, byte: u8) -> StateID
         requires { IsReached (Reads self.now anchored) sid }
         ensures { Leads (Reads self.now anchored) sid (byte ∷ []) result }
@@ -263,6 +271,7 @@ pub trait Automaton {
     /// The match of the input, if it has one: the best of the automaton's kind, or of the standard one in an earliest search.
     ///
     /// It is refused where the automaton has no start for the input's anchoring, and for no other reason.
+    /// A caller: `uses::callers::find::first_match`.
     final fn try_find(&self, input: &Input<'_>) -> Result<Option<Match>, MatchError>
         ensures found { IfOk result (IsFound (built self.now) input.now) }
         ensures supported { IsOk result ↔ supports self.now input.now.anchored }
@@ -273,6 +282,7 @@ pub trait Automaton {
     }
 
     /// The same, and counts what it does.
+    /// A caller: `uses::callers::find::first_match_counted`.
     final fn try_find_counted(
         &self,
         input: &Input<'_>,
@@ -288,6 +298,7 @@ pub trait Automaton {
     }
 
     /// All matches of the input, one after another: see [`FindIter`]. It is refused as `try_find` is.
+    /// A caller: `uses::callers::iterate::all_matches`.
     final fn try_find_iter<'a, 'h>(
         &'a self,
         input: Input<'h>,
@@ -309,6 +320,7 @@ pub trait Automaton {
     ///
     /// It is refused where the automaton has no start for the input's anchoring, or isn't of the standard kind, which alone
     /// remembers every occurrence. The state is then as it was.
+    /// A caller: `uses::callers::overlap::occurrence`.
     final fn try_find_overlapping(
         &self,
         input: &Input<'_>,
@@ -334,6 +346,7 @@ pub trait Automaton {
     /// All occurrences in the input, one after another; see [`FindOverlappingIter`].
     ///
     /// It is refused as `try_find_overlapping` is, and then where the input is anchored.
+    /// A caller: `uses::callers::overlap::all_occurrences`.
     final fn try_find_overlapping_iter<'a, 'h>(
         &'a self,
         input: Input<'h>,
@@ -354,8 +367,10 @@ pub trait Automaton {
     /// read. It takes one buffer of `max(65536, 8 * max(1, longest))` bytes, and no memory after that.
     ///
     /// It is refused where the automaton has no start for a search that isn't anchored, or isn't of the standard kind, or has an
-    /// empty pattern, in that order, and then where there is no memory for the buffer. Nothing was read then.
-    final fn try_stream_find_iter<'a, R: Read>(
+    /// empty pattern, in that order, and then where there is no memory for the buffer. Nothing was read then: this call asks no
+    /// [`Read`] of the reader, so it can't read.
+    /// A caller: `uses::callers::stream::all_matches`.
+    final fn try_stream_find_iter<'a, R>(
         &'a self,
         alloc: Global,
         reader: &'a mut Watched<R>,
@@ -378,6 +393,7 @@ pub trait Automaton {
     /// that begins or ends within a character is passed over: its bytes stay.
     ///
     /// It is refused where the automaton has no start for a search that isn't anchored, and where memory is.
+    /// A caller: `uses::callers::replace::replaced_text`.
     final fn try_replace_all(
         &self,
         alloc: Global,
@@ -395,6 +411,7 @@ pub trait Automaton {
     }
 
     /// The same of bytes: there every match is replaced.
+    /// A caller: `uses::callers::replace::replaced_by_itself`.
     final fn try_replace_all_bytes(
         &self,
         alloc: Global,
@@ -416,6 +433,7 @@ pub trait Automaton {
     ///
     /// It is refused as `try_replace_all` is. Where memory is refused, what was appended stays. The destination grows by the
     /// allocator that it was made with.
+    /// A caller: `uses::callers::replace::append_first_replaced`.
     final fn try_replace_all_with<F>(
         &self,
         _alloc: Global,
@@ -437,6 +455,7 @@ pub trait Automaton {
     }
 
     /// The same of bytes: there the closure is called for every match.
+    /// A caller: `uses::callers::replace::append_matched`.
     final fn try_replace_all_with_bytes<F>(
         &self,
         _alloc: Global,
@@ -463,6 +482,7 @@ pub trait Automaton {
     ///
     /// It is refused where a stream can't be searched, and where there is no memory for its two buffers; the reader and the writer
     /// are then as they were, and no memory is asked for after that. Where a read or a write fails, nothing is tried again.
+    /// A caller: `uses::callers::stream::replaced`.
     final fn try_stream_replace_all<R: Read, W: Write>(
         &self,
         alloc: Global,
@@ -485,6 +505,7 @@ pub trait Automaton {
 
     /// The same, and counts what it does. On the whole it looks at two states at most for each byte that it reads, and moves a seventh
     /// of the bytes at most within its buffer; where it comes to the end it has looked at one state at least for each.
+    /// A caller: `uses::callers::stream::replaced_counted`.
     final fn try_stream_replace_all_counted<R: Read, W: Write>(
         &self,
         alloc: Global,
@@ -513,6 +534,7 @@ pub trait Automaton {
     ///
     /// It reads, writes and is refused as `try_stream_replace_all` is, but gathers nothing, so that it takes one buffer alone. What the
     /// closure refuses ends it, and is answered as it is; so an error may be the closure's.
+    /// A caller: `uses::callers::stream::copied`.
     final fn try_stream_replace_all_with<R: Read, W: Write, F>(
         &self,
         alloc: Global,

@@ -1,14 +1,15 @@
 //! The bytes of a stream that are held in memory.
 //!
-//! A stream is searched by pieces, in one buffer of a size that never changes. What a read gives is put behind what is held. A
+//! A stream is searched by pieces, in one buffer of a size that never changes. What a read gives is put after what is held. A
 //! match may begin in one piece and end in another, so of what is held as many bytes are kept as the longest pattern has; they
-//! are moved to the front only where no room is left behind them. They are an eighth of the buffer at most, and the rest of it is
-//! read before they are moved again: so for each byte that is moved seven are read.
-ghost use Rattle.std.specs.Prelude.{◌≡◌, ◌+◌, ◌-◌, ◌≤◌, ◌<◌, ◌↔◌, false, length, IfOk, OnErr, IsTrue};
+//! are moved to the front only where no room is left after them. They are an eighth of the buffer at most, and the rest of it is
+//! read before they are moved again: so for each byte that is moved seven are read. One function moves bytes, and counts them.
+ghost use Rattle.std.specs.Prelude.{◌≡◌, ◌+◌, ◌-◌, ◌≤◌, ◌<◌, ◌↔◌, false, [], ◌∷◌, length, IfOk, OnErr, IsTrue, vec_len};
+ghost use Rattle.std.specs.List.{copy_within};
 ghost use Rattle.ac_input.specs.Steps.{Done};
-ghost use Rattle.std.specs.Io.KnownBytes.{Keeps};
 ghost use Rattle.ac_automaton.specs.Buffer.{Filled, IsPaid, kept_for, nothing_held, rolled};
-ghost use Rattle.ac_automaton.specs.Watched.{NoneTaken, ReadFailed, has_ended, inner_of};
+ghost use Rattle.ac_automaton.specs.Moved.{HasGiven};
+ghost use Rattle.ac_automaton.specs.Watched.{has_ended};
 
 use crate::watched::Watched;
 use ac_input::history::Count;
@@ -93,7 +94,7 @@ impl Buffer {
         self.keep
     }
 
-    /// Whether no room is left behind what is held.
+    /// Whether no room is left after what is held.
     pub fn is_full(&self) -> bool
         ensures { IsTrue result ↔ (length self.now.bytes ≡ self.now.room) }
     {
@@ -105,11 +106,8 @@ impl Buffer {
         requires room { length self.old.bytes < self.old.room }
         requires open { has_ended reader.old ≡ false }
         ensures gave { IfOk result (Filled R.remaining self.old self.new reader.old reader.new) }
-        ensures failed { OnErr result (ReadFailed reader.old reader.new) }
+        ensures failed { OnErr result (HasGiven R.remaining reader.old reader.new ([] ∷ []) 1) }
         ensures kept { OnErr result (self.new ≡ self.old) }
-        ensures writes { NoneTaken reader.old reader.new }
-        ensures device { OnErr result (Keeps (R.remaining (inner_of reader.old))
-            (R.remaining (inner_of reader.new))) }
         ensures paid { IsPaid self.new }
     {
         let n = reader.read(&mut self.bytes[self.filled..])?;
@@ -118,7 +116,7 @@ impl Buffer {
         Ok(n)
     }
 
-    /// Moves what is held from a place on to the front, where no room is left behind it.
+    /// Moves what is held from a place on to the front, where no room is left after it.
     pub fn roll(&mut self, from: usize, steps: &mut Steps)
         requires full { length self.old.bytes ≡ self.old.room }
         requires from { from ≤ length self.old.bytes }
@@ -127,10 +125,20 @@ impl Buffer {
         ensures paid { IsPaid self.new }
         ensures moved { Done 0 0 (length self.old.bytes - from) steps.old steps.new }
     {
-        let kept = self.filled - from;
-        self.bytes.copy_within(from..self.filled, 0);
-        self.filled = kept;
-        self.moved = self.moved.more(&kept);
-        steps.shift(kept);
+        move_to_front(&mut self.bytes, from, self.filled, steps);
+        self.filled -= from;
+        self.moved = self.moved.more(&self.filled);
     }
+}
+
+/// Moves the bytes between two places to the front, and counts each of them. Nothing else moves bytes of a stream.
+fn move_to_front(bytes: &mut Vec<u8>, from: usize, end: usize, steps: &mut Steps)
+    requires order { from ≤ end }
+    requires within { end ≤ vec_len bytes.old }
+    ensures front { bytes.new.items ≡ copy_within bytes.old.items from end 0 }
+    ensures len { vec_len bytes.new ≡ vec_len bytes.old }
+    ensures counted { Done 0 0 (end - from) steps.old steps.new }
+{
+    bytes.copy_within(from..end, 0);
+    steps.shift(end - from);
 }

@@ -23,6 +23,7 @@ use std::marker::Model;
 /// The matches of an input that are left to come. From [`Automaton::try_find_iter`].
 ///
 /// Once it has answered `None` it answers nothing else, and does nothing.
+/// A caller: `uses::callers::iterate::count_matches`.
 #[derive(Drop)]
 pub struct FindIter<'a, 'h, A: Automaton> {
     automaton: &'a A,
@@ -114,6 +115,7 @@ fn next_pick<A: Automaton>(
 
 impl<'a, 'h, A: Automaton> FindIter<'a, 'h, A> {
     /// The next match, as `next` gives it; and counts what it does.
+    /// A caller: `uses::callers::iterate::pass_matches`.
     pub fn next_counted(&mut self, steps: &mut Steps) -> Option<Match>
         ensures pick { IsNextPick self.old result }
         ensures walk { IsWalkAfter self.old result self.new }

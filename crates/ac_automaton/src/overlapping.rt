@@ -86,6 +86,7 @@ pub struct OverlappingState {
 
 impl OverlappingState {
     /// The state of a search that has not begun.
+    /// A caller: `uses::callers::overlap::occurrence`.
     pub fn start() -> OverlappingState
         ensures fresh { IsFreshState result }
         ensures found { found_of result ≡ None }
@@ -99,6 +100,7 @@ impl OverlappingState {
     }
 
     /// The match that the last search showed; none before the first, and after the last occurrence.
+    /// A caller: `uses::callers::overlap::occurrence`.
     pub fn get_match(&self) -> Option<Match>
         ensures { result ≡ found_of self.now }
     {

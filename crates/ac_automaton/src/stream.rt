@@ -55,7 +55,7 @@ enum Turn {
 /// [`try_stream_find_iter`](crate::automaton::Automaton::try_stream_find_iter), with the reader first. A caller whose own contract
 /// speaks of the reader calls this one: it says of the reader what it is where the search is refused, and only of a first parameter
 /// can a contract say what becomes of what was lent.
-pub fn stream_find_iter<'a, A: Automaton, R: Read>(
+pub fn stream_find_iter<'a, A: Automaton, R>(
     reader: &'a mut Watched<R>,
     automaton: &'a A,
     alloc: Global,
@@ -124,6 +124,7 @@ impl<'a, A: Automaton, R: Read> StreamFindIter<'a, A, R> {
     }
 
     /// The next item, as `next` gives it; and counts what it does.
+    /// A caller: `uses::callers::stream::all_matches`.
     pub fn next_counted(&mut self, steps: &mut Steps) -> Option<Result<Match, StreamError>>
         ensures gives { NextGives R.remaining (progress_of self.old) (progress_of self.new)
             (reader_of self.old) (reader_of self.new) result }

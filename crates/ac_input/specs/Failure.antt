@@ -1,5 +1,14 @@
 -- Failure links: which part of a text may still grow into the answer when the whole of it no longer can, and which patterns the
--- state of a text lists.
+-- state of a text lists. They are why an automaton needs one state for each beginning of an entered pattern, and no more.
+--
+-- A state stands for a text that begins an entered pattern; so the state that is reached is the live prefix of the bytes that
+-- were read. A byte that leads to no longer beginning is tried from the failure, which is the longest part of the text that may
+-- still grow into the answer, and so on until it leads somewhere; each failure is shorter, so it pays for its look. The failure
+-- of a text is found by that of the text without its last byte. Under a leftmost kind a text that matches has none.
+--
+-- A state lists the patterns that are its text, and then what its failure lists. That list tells what the searches ask of a
+-- state, for every text by which the state is reached. Texts that are the same are alike in all this, so an automaton may keep
+-- the canonical bytes of each. The lemmas are in FailureLemmas, AlikeLemmas, TellsLemmas, ShadowLemmas and SomeLemmas.
 use Rattle.std.specs.Prelude.{◌↔◌, ℕ, ◌<◌, ◌≤◌, List, [], ◌∷◌, ◌++◌, drop, Contains, IsTrue, false, Option, Some, None}
 use Rattle.ac_input.specs.Same.{same_text}
 use Rattle.ac_input.specs.Dictionary.{Dictionary, IsEntered, IsAlive}

@@ -16,10 +16,8 @@ pub mod Computed
 pub mod Laws
 pub mod BeginningLaws
 pub mod LiveLaws
-pub mod FailureLaws
 pub mod Limits
 pub mod States
-pub mod StateLaws
 pub mod Number
 pub mod Steps
 pub mod Input

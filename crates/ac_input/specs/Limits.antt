@@ -1,12 +1,9 @@
 -- The limits of a build: how many patterns and states an automaton may have, and how long a pattern may be.
 use Rattle.std.specs.Prelude.{◌≡◌, ◌≢◌, ◌↔◌, ℕ, ◌+◌, ◌<◌, ◌≤◌, List, [], ◌∷◌, ◌++◌, length, take, map, AllPairs, Contains}
+use Rattle.ac_input.specs.declared.primitives.number.TheConstants.{GREATEST}
 use Rattle.ac_input.specs.declared.search.MatchKind.{MatchKind}
 use Rattle.ac_input.specs.Dictionary.{Dictionary, IsPattern, IsEntered}
 use Rattle.ac_input.specs.LiveLaws.{canonical}
-
--- The greatest number of a state or a pattern. Numbers begin at 0, so there may be one more of each.
-abbrev pub greatest : ℕ
-greatest = 2147483646
 
 -- the dictionary of the first so many patterns
 abbrev pub first_patterns : Dictionary → ℕ → Dictionary
@@ -33,11 +30,11 @@ pub record IsPrefix (m : Dictionary) (text : List ℕ) : Type 0 where
 abbrev pub HasStates : Dictionary → ℕ → Type 0
 HasStates m states = (texts : List (List ℕ)) × AllPairs (λ s t. s ≢ t) texts × ((text : List ℕ) → Contains texts text ↔ IsPrefix m text) × (states ≡ length texts + 4)
 
--- the dictionary passes no limit
+-- The dictionary passes no limit. Numbers begin at 0, so there may be one more pattern or state than the greatest number.
 pub record IsWithinLimits (m : Dictionary) : Type 0 where
-  pub patterns : length m.patterns ≤ greatest + 1
-  pub lengths : (n : ℕ) (p : List ℕ) → IsPattern m n p → length p ≤ greatest
-  pub states : (states : ℕ) × HasStates m states × (states ≤ greatest + 1)
+  pub patterns : length m.patterns ≤ GREATEST + 1
+  pub lengths : (n : ℕ) (p : List ℕ) → IsPattern m n p → length p ≤ GREATEST
+  pub states : (states : ℕ) × HasStates m states × (states ≤ GREATEST + 1)
 
 -- a limit of a build
 pub data Limit : Type 0 where
@@ -48,9 +45,9 @@ pub data Limit : Type 0 where
 -- The limit that one more pattern passes: its number is too great, or it is too long, or with it there are too many states. Where
 -- several stand, the first of these counts.
 abbrev pub Passes : Dictionary → List ℕ → Limit → Type 0
-Passes m p PatternNumber = greatest < length m.patterns
-Passes m p PatternLength = (length m.patterns ≤ greatest) × (greatest < length p)
-Passes m p StateNumber = (length m.patterns ≤ greatest) × (length p ≤ greatest) × ((states : ℕ) × HasStates (with_pattern m p) states × (greatest + 1 < states))
+Passes m p PatternNumber = GREATEST < length m.patterns
+Passes m p PatternLength = (length m.patterns ≤ GREATEST) × (GREATEST < length p)
+Passes m p StateNumber = (length m.patterns ≤ GREATEST) × (length p ≤ GREATEST) × ((states : ℕ) × HasStates (with_pattern m p) states × (GREATEST + 1 < states))
 
 -- the pattern of this number passes the limit, and none before it passes one
 pub record IsLimitAt (m : Dictionary) (n : ℕ) (limit : Limit) : Type 0 where

@@ -1,4 +1,9 @@
 -- What the states of an automaton stand for: texts of canonical bytes.
+--
+-- A state stands for the canonical bytes of the live prefix of what was read; it alone tells where the next byte leads. Where
+-- there is a longer state for that byte, it leads there; else the failure is asked, which is a shorter state, and so on. So an
+-- automaton keeps for each state its longer ones, its failure, and its list of patterns; and failures are found from the shorter
+-- states to the longer ones, by the same steps. The lemmas are in LeadsLemmas; an implementation needs no others for its steps.
 use Rattle.std.specs.Prelude.{◌≡◌, ℕ, ◌+◌, ◌≤◌, map, Bool, List, length, drop, Option, Some, None}
 use Rattle.ac_input.specs.Dictionary.{Dictionary, IsLive}
 use Rattle.ac_input.specs.LiveLaws.{canonical}

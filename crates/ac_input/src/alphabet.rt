@@ -24,6 +24,3 @@ pub fn opposite_ascii_case(byte: u8) -> u8
         _ => byte,
     }
 }
-
-#[cfg(test)]
-mod tests;

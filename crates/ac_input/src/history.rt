@@ -117,4 +117,13 @@ impl Taken {
     {
         Self { text: PhantomData }
     }
+
+    /// The same bytes once more.
+    pub fn same(&self) -> Taken
+        ensures { result.bytes ≡ self.now.bytes }
+    {
+        Self {
+            text: PhantomData::<()>,
+        }
+    }
 }

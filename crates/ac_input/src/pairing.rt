@@ -86,9 +86,16 @@ impl Pairing {
     pub fn other(&self, byte: u8) -> u8
         ensures value { result ≡ other self.now byte }
         ensures inverse { other self.now result ≡ byte }
-        ensures pairs { IsPairing self.now }
     {
         self.table[byte as usize]
+    }
+
+    /// For each byte its partner, for a caller that keeps the table itself.
+    pub fn table(&self) -> [u8; 256]
+        ensures value { result ≡ self.now }
+        ensures pairing { IsPairing result }
+    {
+        self.table
     }
 
     /// Whether there is no pair.
@@ -151,6 +158,3 @@ fn table_of(pairs: &[(u8, u8)]) -> [u8; 256]
     }
     table
 }
-
-#[cfg(test)]
-mod tests;

@@ -64,6 +64,3 @@ impl Steps {
         self.moved = self.moved.plus(&more.moved);
     }
 }
-
-#[cfg(test)]
-mod tests;

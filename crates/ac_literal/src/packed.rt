@@ -17,6 +17,3 @@ pub mod scanner;
 pub mod teddy;
 
 pub use api::{Builder, Config, FindIter, MatchKind, Searcher};
-
-#[cfg(test)]
-mod tests;

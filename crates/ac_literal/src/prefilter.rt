@@ -90,6 +90,7 @@ impl Prefilter {
     /// Where the first match of the span may begin; the match itself, where a search for patterns found it.
     ///
     /// It looks at nothing outside the span, and takes no memory.
+    /// A caller: `uses::callers::packed::skip`.
     pub fn find_in(&self, haystack: &[u8], span: Span) -> Candidate
         requires ordered { span.start ≤ span.end }
         requires within { span.end ≤ length haystack.now }
@@ -102,6 +103,7 @@ impl Prefilter {
     /// The same, and counts the places that a scan for bytes covered.
     ///
     /// A search for one pattern and packed search are no scans for bytes: they count nothing.
+    /// A caller: `uses::callers::packed::ask_counted`.
     pub fn find_in_counted(&self, haystack: &[u8], span: Span, steps: &mut Steps) -> Candidate
         requires ordered { span.start ≤ span.end }
         requires within { span.end ≤ length haystack.now }
@@ -134,6 +136,3 @@ impl Prefilter {
         })
     }
 }
-
-#[cfg(test)]
-mod tests;

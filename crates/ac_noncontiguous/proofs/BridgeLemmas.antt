@@ -4,8 +4,9 @@ use Rattle.std.proofs.lemmas.Bool.{cases_eq}
 use Rattle.std.proofs.lemmas.List.{take-map, map-append}
 use Rattle.std.proofs.lemmas.Option.{slice_get_within, slice_get-get_or}
 use Rattle.ac_input.specs.Dictionary.{Dictionary, IsPattern, IsEntered, Begins, BeginsEntered}
-use Rattle.ac_input.specs.LiveLaws.{canonical, IsOwnInverse, CanonicalBytesTellTexts}
-use Rattle.ac_input.specs.FailureLaws.{CanonicalBytesAreTheSame}
+use Rattle.ac_input.specs.LiveLaws.{canonical, IsOwnInverse}
+use Rattle.ac_input.proofs.AlikeLemmas.{canonical-text}
+use Rattle.ac_input.proofs.SameLemmas.{canonical-same_text, same_text-canonical}
 use Rattle.ac_input.specs.Limits.{canonical_text, IsPrefix}
 use Rattle.ac_input.specs.Failure.{IsOwn}
 use Rattle.ac_noncontiguous.specs.declared.trie.State.{State}
@@ -18,17 +19,11 @@ use Rattle.ac_noncontiguous.proofs.StandingLemmas.{end-cases}
 use Rattle.ac_noncontiguous.proofs.TextLemmas.{push-same, text-child, text-start, text-one}
 use Rattle.ac_noncontiguous.proofs.CountLemmas.{state-prefix, prefix-state}
 
--- The states are those of the trie of a dictionary, and the laws of canonical bytes hold.
+-- The states are those of the trie of a dictionary.
 pub record Stands (m : Dictionary) (states : List State) (ends : List (Option ℕ)) : Type 0 where
   pub tree : IsTree states
   pub entered : HasEntered m states ends
   pub inverse : IsOwnInverse m.pairing
-  pub tell : CanonicalBytesTellTexts
-  pub settled : CanonicalBytesAreTheSame
-
--- canonical bytes are their own
-pub settled-text : (m : Dictionary) (p : List ℕ) → IsOwnInverse m.pairing → CanonicalBytesAreTheSame → canonical_text m (canonical_text m p) ≡ canonical_text m p
-settled-text m p inverse same = (same m.pairing p inverse).1
 
 -- the text of a state is of canonical bytes
 pub text-settled : (m : Dictionary) (states : List State) (ends : List (Option ℕ)) → Stands m states ends → (i : ℕ) → i < length states → canonical_text m (text states i) ≡ text states i
@@ -41,7 +36,7 @@ text-settled m states ends s i within =
     let b = s.entered.begins i (omega arith) within in
     let front = canonical_text m b.1 in
     let d = depth states i in
-    ap (canonical_text m) b.4 ∙ (sym (take-map (canonical m.pairing) d front) ∙ (ap (take d) (settled-text m b.1 s.inverse s.settled) ∙ sym b.4)))
+    ap (canonical_text m) b.4 ∙ (sym (take-map (canonical m.pairing) d front) ∙ (ap (take d) (canonical-text m.pairing b.1 s.inverse) ∙ sym b.4)))
     (cases_eq i 0)
 
 -- and so is the byte that leads to it
@@ -72,7 +67,7 @@ text-begins m states ends s i within =
     (λ (none : i ≡ 0). subst (BeginsEntered m) (sym (ap (text states) none ∙ text-start states s.tree)) tt)
     (λ (ne : i ≢ 0).
     let p = (state-prefix m states ends s.tree s.entered i (omega arith) within).entered in
-    begins-some m (text states i) p.0 p.1 p.2 (canonical-begins s.tell m.pairing (text states i) p.1 s.inverse p.3 (text-settled m states ends s i within ∙ p.4)))
+    begins-some m (text states i) p.0 p.1 p.2 (canonical-begins m.pairing (text states i) p.1 s.inverse p.3 (text-settled m states ends s i within ∙ p.4)))
     (cases_eq i 0)
 
 -- so where there is a child for a byte, the text and the byte do
@@ -86,7 +81,7 @@ begins-child m states ends s of low within settled begins =
     let some : 0 < length t = omega (arith, length-append (text states of) (low ∷ [])) in
     let b = some-begins m t some begins in
     let e : canonical_text m t ≡ t = map-append (canonical m.pairing) (text states of) (low ∷ []) ∙ (ap (λ (xs : List ℕ). xs ++ canonical m.pairing low ∷ []) (text-settled m states ends s of within) ∙ ap (λ (x : ℕ). text states of ++ x ∷ []) settled) in
-    let front = begins-canonical s.tell m.pairing t b.1 s.inverse b.3 in
+    let front = begins-canonical m.pairing t b.1 s.inverse b.3 in
     let is_prefix : IsPrefix m t = record { some = some; entered = (b.0, b.1, b.2, b.3.0, sym e ∙ front) } in
     let k = prefix-state m states ends s.tree s.entered t is_prefix in
     let c = k.0 in
@@ -109,13 +104,13 @@ ends-own m states ends s i n e =
     let p = get_or m.patterns n [] in
     let is_p : IsPattern m n p = slice_get-get_or m.patterns n [] n_in in
     let k = s.entered.entered n i p is_p e in
-    (p, k.0, (s.tell m.pairing p (text states i) s.inverse).1 (sym (ap (canonical_text m) k.2 ∙ settled-text m p s.inverse s.settled)))
+    (p, k.0, same_text-canonical m.pairing p (text states i) s.inverse (sym (ap (canonical_text m) k.2 ∙ canonical-text m.pairing p s.inverse)))
 
 -- and the other way
 pub own-ends : (m : Dictionary) (states : List State) (ends : List (Option ℕ)) → Stands m states ends → (i n : ℕ) → i < length states → IsOwn m (text states i) n → EndsIn ends i n
 own-ends m states ends s i n within own =
     let p = own.0 in
-    let e : canonical_text m p ≡ text states i = (s.tell m.pairing p (text states i) s.inverse).0 own.2 ∙ text-settled m states ends s i within in
+    let e : canonical_text m p ≡ text states i = canonical-same_text m.pairing p (text states i) s.inverse own.2 ∙ text-settled m states ends s i within in
     ⊎_elim
     (λ (at : (j : ℕ) × (slice_get ends n ≡ Some (Some j))).
     let k = s.entered.entered n at.0 p own.1.0 at.1 in

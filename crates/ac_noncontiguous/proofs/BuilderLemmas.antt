@@ -52,7 +52,7 @@ some-held m b wanted (Ok (Some f)) same on d a n y =
 pub parts-of : (m from : Dictionary) (wanted : Bool) (tables : Tables) (held : Option Filter) → from ≡ m → AreCompiled m tables → IsHeld wanted m held → AreParts from tables held
 parts-of m from wanted tables held same compiled is =
     subst (λ (k : Dictionary). AreParts k tables held) (sym same)
-    (record { stands = ∣ compiled.0 ∣₁; classed = ∣ compiled.1 ∣₁; held = λ f holds. (is.made f holds).2 })
+    (record { stands = ∣ compiled.0 ∣₁; classed = ∣ compiled.1 ∣₁; held = λ f holds. (is.made f holds).2; paired = compiled.2 })
 
 -- what is built
 pub built-by : (s : Settings) (m from : Dictionary) (tables : Tables) (held : Option Filter) (nfa : NFA) → from ≡ m → IsMadeOf from tables held nfa → IsHeld s.prefilter m held → IsWithinLimits m → IsBuiltBy s m (built_as nfa)

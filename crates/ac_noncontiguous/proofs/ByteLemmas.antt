@@ -7,8 +7,7 @@ use Rattle.std.proofs.lemmas.List.Elements.{Contains-get_or}
 use Rattle.ac_input.specs.Alphabet.{has, is_edge}
 use Rattle.ac_input.specs.Dictionary.{Dictionary, IsEntered}
 use Rattle.ac_input.specs.Same.{other, same}
-use Rattle.ac_input.specs.LiveLaws.{canonical, IsOwnInverse, PairingIsOwnInverse, CanonicalBytesTellTexts}
-use Rattle.ac_input.specs.FailureLaws.{CanonicalBytesAreTheSame}
+use Rattle.ac_input.specs.LiveLaws.{canonical, IsOwnInverse}
 use Rattle.ac_input.specs.Limits.{canonical_text, IsPrefix}
 use Rattle.ac_noncontiguous.specs.declared.trie.State.{State}
 use Rattle.ac_noncontiguous.specs.declared.trie.Trie.{Trie}
@@ -108,10 +107,10 @@ byte-state m states ends s n p y entered held =
     (j.0, j.1, j.2, parts.1 ∙ (get_or-map (canonical m.pairing) p k y 0 inside ∙ ap (canonical m.pairing) held.2))
 
 -- so the bytes of the states and their partners are those of the entered patterns and theirs
-pub trie-bytes : CanonicalBytesTellTexts → CanonicalBytesAreTheSame → PairingIsOwnInverse → (trie : Trie) (m : Dictionary) → IsTrieOf m trie → (x : ℕ) → IsStateByte trie (length trie.states.items) x ↔ IsByteOf m x
-trie-bytes tell settled inverse trie m t x =
+pub trie-bytes : (trie : Trie) (m : Dictionary) → IsTrieOf m trie → (x : ℕ) → IsStateByte trie (length trie.states.items) x ↔ IsByteOf m x
+trie-bytes trie m t x =
     let states = trie.states.items in
-    let s = stands-of tell settled inverse trie m t in (
+    let s = stands-of trie m t in (
       (λ c.
           let h = state-byte m states trie.ends.items s c.0 c.1 c.2 in
           let alike : IsTrue (same m.pairing (byte states c.0) x) = subst (λ (q : List ℕ). IsTrue (same q (byte states c.0) x)) (sym t.pairing) c.3 in
@@ -122,9 +121,9 @@ trie-bytes tell settled inverse trie m t x =
     )
 
 -- and the classes that they make are those of the dictionary
-pub trie-classed : CanonicalBytesTellTexts → CanonicalBytesAreTheSame → PairingIsOwnInverse → (trie : Trie) (classes : List ℕ) → AreClassesOfTrie trie classes → (m : Dictionary) → IsTrieOf m trie → AreByteClasses m classes
-trie-classed tell settled inverse trie classes h m t =
-    let bytes = trie-bytes tell settled inverse trie m t in (
+pub trie-classed : (trie : Trie) (classes : List ℕ) → AreClassesOfTrie trie classes → (m : Dictionary) → IsTrieOf m trie → AreByteClasses m classes
+trie-classed trie classes h m t =
+    let bytes = trie-bytes trie m t in (
       h.0,
       h.1,
       λ b small. (

@@ -3,7 +3,8 @@ use Rattle.std.proofs.Common.{◌≡◌, ◌⊎◌, ℕ, zero, suc, ◌<◌, ◌
 use Rattle.std.proofs.lemmas.List.{take-map}
 use Rattle.std.proofs.lemmas.Option.{slice_get_within}
 use Rattle.ac_input.specs.Dictionary.{Dictionary, IsPattern, Begins, IsShadowed, IsEntered}
-use Rattle.ac_input.specs.LiveLaws.{canonical, IsOwnInverse, CanonicalBytesTellTexts}
+use Rattle.ac_input.specs.LiveLaws.{canonical, IsOwnInverse}
+use Rattle.ac_input.proofs.SameLemmas.{canonical-same_text, same_text-canonical}
 use Rattle.ac_input.specs.Limits.{with_pattern}
 
 -- ---- places of a list with one more element
@@ -61,9 +62,9 @@ entered-before m p n q before e = (pattern-before m p n q before e.0, λ first s
 -- ---- canonical bytes
 
 -- what begins a text begins it in canonical bytes
-pub begins-canonical : CanonicalBytesTellTexts → (pairing front whole : List ℕ) → IsOwnInverse pairing → Begins pairing front whole → map (canonical pairing) front ≡ take (length front) (map (canonical pairing) whole)
-begins-canonical tell pairing front whole inverse h = (tell pairing front (take (length front) whole) inverse).0 h.1 ∙ sym (take-map (canonical pairing) (length front) whole)
+pub begins-canonical : (pairing front whole : List ℕ) → IsOwnInverse pairing → Begins pairing front whole → map (canonical pairing) front ≡ take (length front) (map (canonical pairing) whole)
+begins-canonical pairing front whole inverse h = canonical-same_text pairing front (take (length front) whole) inverse h.1 ∙ sym (take-map (canonical pairing) (length front) whole)
 
 -- and the other way
-pub canonical-begins : CanonicalBytesTellTexts → (pairing front whole : List ℕ) → IsOwnInverse pairing → length front ≤ length whole → map (canonical pairing) front ≡ take (length front) (map (canonical pairing) whole) → Begins pairing front whole
-canonical-begins tell pairing front whole inverse short e = (short, (tell pairing front (take (length front) whole) inverse).1 (e ∙ take-map (canonical pairing) (length front) whole))
+pub canonical-begins : (pairing front whole : List ℕ) → IsOwnInverse pairing → length front ≤ length whole → map (canonical pairing) front ≡ take (length front) (map (canonical pairing) whole) → Begins pairing front whole
+canonical-begins pairing front whole inverse short e = (short, same_text-canonical pairing front (take (length front) whole) inverse (e ∙ take-map (canonical pairing) (length front) whole))

@@ -2,11 +2,12 @@
 use Rattle.std.proofs.Common.{◌≡◌, ◌≢◌, ℕ, ◌+◌, ◌<◌, ◌≤◌, true, false, List, [], ◌∷◌, ◌++◌, length, Option, Some, None, is_some, option_map, refl, sym, ap, subst, ◌∙◌, ⊎_elim, arith, slice_get, slice_index_or, true≢false}
 use Rattle.std.proofs.lemmas.Option.{slice_get_read}
 use Rattle.ac_input.specs.Dictionary.{Dictionary, BeginsEntered}
-use Rattle.ac_input.specs.LiveLaws.{canonical, IsOwnInverse, PairingIsOwnInverse, CanonicalBytesTellTexts}
-use Rattle.ac_input.specs.FailureLaws.{CanonicalBytesAreTheSame, EmptyHasNoFailure, MatchHasNoFailure, EmptyPatternLeavesNoFailure, NoFailureStays}
+use Rattle.ac_input.specs.LiveLaws.{canonical, IsOwnInverse}
 use Rattle.ac_input.specs.Failure.{IsOwn}
 use Rattle.ac_input.specs.States.{LeadsTo, FailsTo}
-use Rattle.ac_input.specs.StateLaws.{ChildIsNext, FailureTellsNext, DeadIsNext, StartIsNext, FirstFailsToStart, FailureTellsFailure}
+use Rattle.ac_input.proofs.SameLemmas.{own_inverse-pairing}
+use Rattle.ac_input.proofs.FailureLemmas.{failure-empty, own-none, own-failure_none, failure-stays_none}
+use Rattle.ac_input.proofs.LeadsLemmas.{leads-child, leads-start, leads-failure, leads-failure_none, fails-first, fails-next}
 use Rattle.ac_noncontiguous.specs.declared.trie.State.{State}
 use Rattle.ac_noncontiguous.specs.declared.trie.Trie.{Trie}
 use Rattle.ac_noncontiguous.specs.Kept.{IsTrieOf}
@@ -21,21 +22,21 @@ pub text-some : (states : List State) → IsTree states → (i : ℕ) → i < le
 text-some states tree i within ne none = omega (arith, child-deep states tree i (omega arith) within, length-text states i, ap length none)
 
 -- what a state tells of a byte is where it leads
-pub told-leads : ChildIsNext → StartIsNext → (m : Dictionary) (states : List State) (ends : List (Option ℕ)) → Stands m states ends → GoesOnFromStart m → (of low id : ℕ) → of < length states → canonical m.pairing low ≡ low → IsToldBy states of low (Some id) → NextOf m states of low (Some id)
-told-leads child start m states ends s goes of low id within settled told =
+pub told-leads : (m : Dictionary) (states : List State) (ends : List (Option ℕ)) → Stands m states ends → GoesOnFromStart m → (of low id : ℕ) → of < length states → canonical m.pairing low ≡ low → IsToldBy states of low (Some id) → NextOf m states of low (Some id)
+told-leads m states ends s goes of low id within settled told =
     ⊎_elim
     (λ (c : IsChildOf states of low (Some id)).
     let t : text states id ≡ text states of ++ low ∷ [] =
     text-child states s.tree id c.0 c.1 ∙ (ap (λ (p : ℕ). text states p ++ byte states id ∷ []) c.2 ∙ ap (λ (b : ℕ). text states of ++ b ∷ []) c.3) in
     let begins = subst (BeginsEntered m) (sym (text-child states s.tree id c.0 c.1) ∙ t) (child-begins m states ends s id c.0 c.1) in
-    let h = child m false (text states of) low (text-settled m states ends s of within) begins in
+    let h = leads-child m false (text states of) low (text-settled m states ends s of within) begins in
     subst (λ (xs : List ℕ). LeadsTo m false (text states of ++ low ∷ []) (Some xs)) (ap (λ (b : ℕ). text states of ++ b ∷ []) settled ∙ sym t) h)
     (λ (back : (of ≡ 0) × (id ≡ 0) × HasNoChild states of low).
     let none = none-begins m states ends s of low within settled back.2 in
     let of_empty : text states of ≡ [] = ap (text states) back.0 ∙ text-start states s.tree in
     let id_empty : text states id ≡ [] = ap (text states) back.1 ∙ text-start states s.tree in
     let short : text states of ++ low ∷ [] ≡ low ∷ [] = ap (λ (xs : List ℕ). xs ++ low ∷ []) of_empty in
-    let h = start m low s.inverse goes (λ begins. none (subst (BeginsEntered m) (sym short) begins)) in
+    let h = leads-start m low s.inverse goes (λ begins. none (subst (BeginsEntered m) (sym short) begins)) in
     subst (λ (xs : List ℕ). LeadsTo m false xs (Some (text states id))) (sym short)
     (subst (λ (xs : List ℕ). LeadsTo m false (low ∷ []) (Some xs)) (sym id_empty) h))
     told
@@ -61,15 +62,15 @@ Follows m states low from (Some at) = (r : Option ℕ) → NextOf m states at lo
 Follows m states low from None = NextOf m states from low None
 
 -- one failure more
-pub follows-more : FailureTellsNext → DeadIsNext → (m : Dictionary) (states : List State) (ends fails : List (Option ℕ)) → Stands m states ends → (low from at : ℕ) (r : Option ℕ) → at < length states → depth states at ≤ depth states from → canonical m.pairing low ≡ low → AreFailsAbove m states fails (depth states from + 1) → slice_get fails at ≡ Some r → IsToldBy states at low None → Follows m states low from (Some at) → Follows m states low from r
-follows-more next dead m states ends fails s low from at (Some f) within shallow settled known given told follows =
+pub follows-more : (m : Dictionary) (states : List State) (ends fails : List (Option ℕ)) → Stands m states ends → (low from at : ℕ) (r : Option ℕ) → at < length states → depth states at ≤ depth states from → canonical m.pairing low ≡ low → AreFailsAbove m states fails (depth states from + 1) → slice_get fails at ≡ Some r → IsToldBy states at low None → Follows m states low from (Some at) → Follows m states low from r
+follows-more m states ends fails s low from at (Some f) within shallow settled known given told follows =
     let none = none-begins m states ends s at low within settled told.1 in
     let fails_to = known at (Some f) within (omega arith) given in
-    (λ r leads. follows r ((next m (text states at) (text states f) low (option_map (text states) r) s.inverse fails_to none).0 leads))
-follows-more next dead m states ends fails s low from at None within shallow settled known given told follows =
+    (λ r leads. follows r ((leads-failure m (text states at) (text states f) low (option_map (text states) r) s.inverse fails_to none).0 leads))
+follows-more m states ends fails s low from at None within shallow settled known given told follows =
     let none = none-begins m states ends s at low within settled told.1 in
     let fails_to = known at None within (omega arith) given in
-    follows None (dead m (text states at) low (text-some states s.tree at within told.0) fails_to none)
+    follows None (leads-failure_none m (text states at) low (text-some states s.tree at within told.0) fails_to none)
 
 -- at most so many more failures are followed
 abbrev pub failures_left : List State → Option ℕ → ℕ
@@ -92,14 +93,14 @@ failure-within states fails most id r s shallow given f is =
     (h.0, omega (arith, h.1))
 
 -- what a state told is where the byte leads from the first one
-pub told-returns : ChildIsNext → StartIsNext → (m : Dictionary) (states : List State) (ends : List (Option ℕ)) → Stands m states ends → GoesOnFromStart m → (low from at : ℕ) (told : Option ℕ) → at < length states → canonical m.pairing low ≡ low → is_some told ≡ true → IsToldBy states at low told → Follows m states low from (Some at) → NextOf m states from low told
-told-returns child start m states ends s goes low from at (Some id) within settled some told follows = follows (Some id) (told-leads child start m states ends s goes at low id within settled told)
-told-returns child start m states ends s goes low from at None within settled some told follows = cc
+pub told-returns : (m : Dictionary) (states : List State) (ends : List (Option ℕ)) → Stands m states ends → GoesOnFromStart m → (low from at : ℕ) (told : Option ℕ) → at < length states → canonical m.pairing low ≡ low → is_some told ≡ true → IsToldBy states at low told → Follows m states low from (Some at) → NextOf m states from low told
+told-returns m states ends s goes low from at (Some id) within settled some told follows = follows (Some id) (told-leads m states ends s goes at low id within settled told)
+told-returns m states ends s goes low from at None within settled some told follows = cc
 
 -- the trie of a dictionary stands for it
-pub stands-of : CanonicalBytesTellTexts → CanonicalBytesAreTheSame → PairingIsOwnInverse → (trie : Trie) (m : Dictionary) → IsTrieOf m trie → Stands m trie.states.items trie.ends.items
-stands-of tell same inverse trie m t =
-    record { tree = trie.tree; entered = t.stands; inverse = subst IsOwnInverse (sym t.pairing) (inverse trie.pairing trie.paired); tell = tell; settled = same }
+pub stands-of : (trie : Trie) (m : Dictionary) → IsTrieOf m trie → Stands m trie.states.items trie.ends.items
+stands-of trie m t =
+    record { tree = trie.tree; entered = t.stands; inverse = subst IsOwnInverse (sym t.pairing) (own_inverse-pairing trie.pairing trie.paired) }
 
 -- what isn't some is none
 pub none-of : (r : Option ℕ) → is_some r ≡ false → r ≡ None
@@ -113,17 +114,17 @@ pub above-fewer : (m : Dictionary) (states : List State) (fails : List (Option �
 above-fewer m states fails few more le known i r within shallow given = known i r within (omega arith) given
 
 -- the start has none
-pub start-fails : EmptyHasNoFailure → (m : Dictionary) (states : List State) → IsTree states → (i : ℕ) → i ≡ 0 → FailsTo m (text states i) None
-start-fails empty m states tree i is = subst (λ (xs : List ℕ). FailsTo m xs None) (sym (ap (text states) is ∙ text-start states tree)) (empty m)
+pub start-fails : (m : Dictionary) (states : List State) → IsTree states → (i : ℕ) → i ≡ 0 → FailsTo m (text states i) None
+start-fails m states tree i is = subst (λ (xs : List ℕ). FailsTo m xs None) (sym (ap (text states) is ∙ text-start states tree)) (failure-empty m)
 
 -- under a leftmost kind a match state has none, and with an empty pattern no state has one
-pub final-fails : MatchHasNoFailure → EmptyPatternLeavesNoFailure → (m : Dictionary) (states : List State) (ends : List (Option ℕ)) → Stands m states ends → (i : ℕ) → i < length states → IsFinalIn m.kind states i true → FailsTo m (text states i) None
-final-fails match empty m states ends s i within final =
+pub final-fails : (m : Dictionary) (states : List State) (ends : List (Option ℕ)) → Stands m states ends → (i : ℕ) → i < length states → IsFinalIn m.kind states i true → FailsTo m (text states i) None
+final-fails m states ends s i within final =
     ⊎_elim
-    (λ (here : is_match states i ≡ true). let own = match-own m states ends s i within here in match m (text states i) own.0 final.0 own.1)
+    (λ (here : is_match states i ≡ true). let own = match-own m states ends s i within here in own-none m (text states i) own.0 final.0 own.1)
     (λ (start : is_match states 0 ≡ true).
     let own = match-own m states ends s 0 s.tree.start.0 start in
-    empty m (text states i) own.0 final.0 (subst (λ (xs : List ℕ). IsOwn m xs own.0) (text-start states s.tree) own.1))
+    own-failure_none m [] (text states i) own.0 final.0 (subst (λ (xs : List ℕ). IsOwn m xs own.0) (text-start states s.tree) own.1))
     final.1
 
 -- a state in which under a leftmost kind no pattern ends has no own one
@@ -135,26 +136,26 @@ pub goes-on : (m : Dictionary) (states : List State) (ends : List (Option ℕ)) 
 goes-on m states ends s i open_ kind n own = unmatched-own m states ends s 0 n s.tree.start.0 (open_ kind).1 (subst (λ (xs : List ℕ). IsOwn m xs n) (sym (text-start states s.tree)) own)
 
 -- a child of the start fails to the start
-pub first-fails : FirstFailsToStart → (m : Dictionary) (states : List State) (ends : List (Option ℕ)) → Stands m states ends → (i : ℕ) → i ≢ 0 → i < length states → parent states i ≡ 0 → IsFinalIn m.kind states i false → FailsTo m (text states i) (Some (text states 0))
-first-fails first m states ends s i ne within above open_ =
+pub first-fails : (m : Dictionary) (states : List State) (ends : List (Option ℕ)) → Stands m states ends → (i : ℕ) → i ≢ 0 → i < length states → parent states i ≡ 0 → IsFinalIn m.kind states i false → FailsTo m (text states i) (Some (text states 0))
+first-fails m states ends s i ne within above open_ =
     let short : text states i ≡ byte states i ∷ [] =
     text-child states s.tree i (omega arith) within ∙ ap (λ (xs : List ℕ). xs ++ byte states i ∷ []) (ap (text states) above ∙ text-start states s.tree) in
-    let h = first m (byte states i) s.inverse (λ kind n. (goes-on m states ends s i open_ kind n, λ own. unmatched-own m states ends s i n within (open_ kind).0 (subst (λ (xs : List ℕ). IsOwn m xs n) (sym short) own))) in
+    let h = fails-first m (byte states i) s.inverse (λ kind n. (goes-on m states ends s i open_ kind n, λ own. unmatched-own m states ends s i n within (open_ kind).0 (subst (λ (xs : List ℕ). IsOwn m xs n) (sym short) own))) in
     subst (λ (xs : List ℕ). FailsTo m xs (Some (text states 0))) (sym short) (subst (λ (xs : List ℕ). FailsTo m (byte states i ∷ []) (Some xs)) (sym (text-start states s.tree)) h)
 
 -- a child of a state without a failure has none
-pub none-fails : NoFailureStays → (m : Dictionary) (states : List State) (ends : List (Option ℕ)) → Stands m states ends → (i : ℕ) → i ≢ 0 → i < length states → parent states i ≢ 0 → FailsTo m (text states (parent states i)) None → FailsTo m (text states i) None
-none-fails stays m states ends s i ne within above none =
+pub none-fails : (m : Dictionary) (states : List State) (ends : List (Option ℕ)) → Stands m states ends → (i : ℕ) → i ≢ 0 → i < length states → parent states i ≢ 0 → FailsTo m (text states (parent states i)) None → FailsTo m (text states i) None
+none-fails m states ends s i ne within above none =
     let p = s.tree.parents i (omega arith) within in
     subst (λ (xs : List ℕ). FailsTo m xs None) (sym (text-child states s.tree i (omega arith) within))
-    (stays m (text states (parent states i)) (byte states i ∷ []) (text-some states s.tree (parent states i) (omega (arith, p.0)) above) none)
+    (failure-stays_none m (text states (parent states i)) (byte states i ∷ []) (text-some states s.tree (parent states i) (omega (arith, p.0)) above) none)
 
 -- else a state fails to where its byte leads from the failure of its parent
-pub more-fails : FailureTellsFailure → (m : Dictionary) (states : List State) (ends : List (Option ℕ)) → Stands m states ends → (i from : ℕ) (r : Option ℕ) → i ≢ 0 → i < length states → IsFinalIn m.kind states i false → FailsTo m (text states (parent states i)) (Some (text states from)) → NextOf m states from (byte states i) r → FailsTo m (text states i) (option_map (text states) r)
-more-fails tells m states ends s i from r ne within open_ above leads =
+pub more-fails : (m : Dictionary) (states : List State) (ends : List (Option ℕ)) → Stands m states ends → (i from : ℕ) (r : Option ℕ) → i ≢ 0 → i < length states → IsFinalIn m.kind states i false → FailsTo m (text states (parent states i)) (Some (text states from)) → NextOf m states from (byte states i) r → FailsTo m (text states i) (option_map (text states) r)
+more-fails m states ends s i from r ne within open_ above leads =
     let t = text-child states s.tree i (omega arith) within in
     subst (λ (xs : List ℕ). FailsTo m xs (option_map (text states) r)) (sym t)
-    ((tells m (text states (parent states i)) (text states from) (byte states i) (option_map (text states) r) s.inverse above
+    ((fails-next m (text states (parent states i)) (text states from) (byte states i) (option_map (text states) r) s.inverse above
     (λ kind n own. unmatched-own m states ends s i n within (open_ kind).0 (subst (λ (xs : List ℕ). IsOwn m xs n) (sym t) own))).0 leads)
 
 -- the failure of the parent, as it is read

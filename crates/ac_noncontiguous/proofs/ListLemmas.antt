@@ -13,7 +13,7 @@ use Rattle.ac_input.proofs.ContainsLemmas.{Contains-nil, Contains-head, Contains
 use Rattle.ac_input.specs.Dictionary.{Dictionary}
 use Rattle.ac_input.specs.Failure.{AreRising, AreOwn, IsList}
 use Rattle.ac_input.specs.Pairing.{IsDistinct}
-use Rattle.ac_input.specs.StateLaws.{FailureTellsList, OwnPatternsAreList}
+use Rattle.ac_input.proofs.LeadsLemmas.{list-of_failure, list-alone}
 use Rattle.ac_noncontiguous.specs.declared.links.Range.{Range}
 use Rattle.ac_noncontiguous.specs.declared.trie.State.{State}
 use Rattle.ac_noncontiguous.specs.Tree.{depth, text}
@@ -224,8 +224,8 @@ abbrev pub AreFirstLists : Dictionary → List State → List Range → List ℕ
 AreFirstLists m states ranges matches order most = (k : ℕ) → k < most → IsList m (text states (slice_index order k)) (in_range matches (range_at ranges (slice_index order k)))
 
 -- the list of a state
-list-of : OwnPatternsAreList → FailureTellsList → (m : Dictionary) (states : List State) (ends fails : List (Option ℕ)) (ranges : List Range) (matches order : List ℕ) (k i : ℕ) (rest : Range) (own : List ℕ) → Stands m states ends → AreFails m states fails → AreShallower states fails → IsBreadthFirst states order → k < length order → i ≡ slice_index order k → i < length states → IsRest fails ranges i rest → IsOwnList ends i own → AreFirstLists m states ranges matches order k → IsList m (text states i) (own ++ in_range matches rest)
-list-of alone tells m states ends fails ranges matches order k i rest own s leads shallower o k_in is within rest_is are known = by (get_or fails i None) (slice_get-get_or fails i None (omega (arith, shallower.counted)))
+list-of : (m : Dictionary) (states : List State) (ends fails : List (Option ℕ)) (ranges : List Range) (matches order : List ℕ) (k i : ℕ) (rest : Range) (own : List ℕ) → Stands m states ends → AreFails m states fails → AreShallower states fails → IsBreadthFirst states order → k < length order → i ≡ slice_index order k → i < length states → IsRest fails ranges i rest → IsOwnList ends i own → AreFirstLists m states ranges matches order k → IsList m (text states i) (own ++ in_range matches rest)
+list-of m states ends fails ranges matches order k i rest own s leads shallower o k_in is within rest_is are known = by (get_or fails i None) (slice_get-get_or fails i None (omega (arith, shallower.counted)))
   where
     by : (r : Option ℕ) → slice_get fails i ≡ Some r → IsList m (text states i) (own ++ in_range matches rest)
     by (Some f) given =
@@ -234,14 +234,14 @@ list-of alone tells m states ends fails ranges matches order k i rest own s lead
         let before = shallower-before states order o p.0 k p.1 k_in (omega (arith, h.1, ap (depth states) p.2, ap (depth states) is)) in
         let above = subst (λ (j : ℕ). IsList m (text states j) (in_range matches (range_at ranges j))) p.2 (known p.0 before) in
         subst (λ (r : Range). IsList m (text states i) (own ++ in_range matches r)) (sym (rest_is.some f given))
-        (tells m (text states i) (text states f) own (in_range matches (range_at ranges f)) s.inverse (own-are m states ends s i own within are) (leads.leads i (Some f) given) above)
+        (list-of_failure m (text states i) (text states f) own (in_range matches (range_at ranges f)) s.inverse (own-are m states ends s i own within are) (leads.leads i (Some f) given) above)
     by None given =
         subst (λ (r : Range). IsList m (text states i) (own ++ in_range matches r)) (sym (rest_is.none given))
-        (subst (IsList m (text states i)) (sym (append-nil own)) (alone m (text states i) own (own-are m states ends s i own within are) (leads.leads i None given)))
+        (subst (IsList m (text states i)) (sym (append-nil own)) (list-alone m (text states i) own (own-are m states ends s i own within are) (leads.leads i None given)))
 
 -- one more list
-pub lists-more : OwnPatternsAreList → FailureTellsList → (m : Dictionary) (states : List State) (ends fails : List (Option ℕ)) (ranges : List Range) (matches new order : List ℕ) (k i : ℕ) (rest range : Range) → Stands m states ends → AreFails m states fails → AreShallower states fails → IsBreadthFirst states order → k < length order → i ≡ slice_index order k → AreRoom states ends ranges matches → IsRest fails ranges i rest → IsListed ends i rest range matches new → AreFirstLists m states ranges matches order k → AreFirstLists m states (slice_set ranges i range) new order (k + 1)
-lists-more alone tells m states ends fails ranges matches new order k i rest range s leads shallower o k_in is room rest_is listed known j lt =
+pub lists-more : (m : Dictionary) (states : List State) (ends fails : List (Option ℕ)) (ranges : List Range) (matches new order : List ℕ) (k i : ℕ) (rest range : Range) → Stands m states ends → AreFails m states fails → AreShallower states fails → IsBreadthFirst states order → k < length order → i ≡ slice_index order k → AreRoom states ends ranges matches → IsRest fails ranges i rest → IsListed ends i rest range matches new → AreFirstLists m states ranges matches order k → AreFirstLists m states (slice_set ranges i range) new order (k + 1)
+lists-more m states ends fails ranges matches new order k i rest range s leads shallower o k_in is room rest_is listed known j lt =
     let within : i < length states = omega (arith, is, o.within k k_in) in
     ⊎_elim
     (λ (before : j < k).
@@ -252,7 +252,7 @@ lists-more alone tells m states ends fails ranges matches new order k i rest ran
     let here : slice_index order j ≡ i = ap (slice_index order) (let same : j ≡ k = omega arith in same) ∙ sym is in
     let set : range_at (slice_set ranges i range) i ≡ range = get_or-set_same ranges i range no_range (omega (arith, room.counted)) in
     subst (λ (z : ℕ). IsList m (text states z) (in_range new (range_at (slice_set ranges i range) z))) (sym here)
-    (subst (IsList m (text states i)) (sym (ap (in_range new) set ∙ listed.list)) (list-of alone tells m states ends fails ranges matches order k i rest listed.own s leads shallower o k_in is within rest_is listed.are_own known)))
+    (subst (IsList m (text states i)) (sym (ap (in_range new) set ∙ listed.list)) (list-of m states ends fails ranges matches order k i rest listed.own s leads shallower o k_in is within rest_is listed.are_own known)))
     (cases_lt j k)
 
 -- all lists

@@ -3,8 +3,7 @@ use Rattle.std.proofs.Common.{◌≡◌, ◌≢◌, ◌⊎◌, ℕ, zero, suc, �
 use Rattle.std.proofs.lemmas.Bool.{cases_eq}
 use Rattle.std.proofs.lemmas.Bool.Decides.{nat_tests}
 use Rattle.ac_input.specs.Dictionary.{Dictionary, BeginsEntered}
-use Rattle.ac_input.specs.LiveLaws.{canonical, IsOwnInverse, CanonicalBytesTellTexts}
-use Rattle.ac_input.specs.FailureLaws.{CanonicalBytesAreTheSame}
+use Rattle.ac_input.specs.LiveLaws.{canonical}
 use Rattle.ac_input.specs.States.{LeadsTo}
 use Rattle.ac_noncontiguous.specs.declared.trie.Trie.{Trie}
 use Rattle.ac_noncontiguous.specs.declared.compiler.numbering.Numbering.{Numbering}
@@ -14,13 +13,12 @@ use Rattle.ac_noncontiguous.specs.Nfa.{state_of, AreTexts, IsEdge}
 use Rattle.ac_noncontiguous.specs.Numbering.{IsNumbering}
 use Rattle.ac_noncontiguous.specs.Edges.{missing, IsChildFor, IsEdgeTo}
 use Rattle.ac_noncontiguous.proofs.TextLemmas.{text-start, text-child, length-text, child-deep}
-use Rattle.ac_noncontiguous.proofs.ChildLemmas.{text-canonical, begins-child, child-begins, text-begins}
+use Rattle.ac_noncontiguous.proofs.BridgeLemmas.{text-begins, text-settled}
+use Rattle.ac_noncontiguous.proofs.FailLemmas.{stands-of}
+use Rattle.ac_noncontiguous.proofs.ChildLemmas.{begins-child_for, child_for-begins}
 
--- what the laws say of a trie and its numbering, and where the bytes that begin nothing lead from the unanchored start
+-- what a trie and its numbering stand for, and where the bytes that begin nothing lead from the unanchored start
 pub record Setting (m : Dictionary) (trie : Trie) (numbering : Numbering) (back : ℕ) : Type 0 where
-  pub tell : CanonicalBytesTellTexts
-  pub same : CanonicalBytesAreTheSame
-  pub inverse : IsOwnInverse m.pairing
   pub stands : IsTrieOf m trie
   pub numbered : IsNumbering (length trie.states.items) numbering
   pub to_start : (back ≡ 0) ⊎ (back ≡ numbering.start)
@@ -48,7 +46,7 @@ pub are-texts : (m : Dictionary) (trie : Trie) (numbering : Numbering) (back : �
 are-texts m trie numbering back s =
     let states = trie.states.items in
     let p = s.numbered.places in
-    let own = text-canonical s.same m states trie.ends.items s.inverse trie.tree s.stands.stands in
+    let t = stands-of trie m s.stands in
     let empty : (i : ℕ) → i ≡ 0 → text states i ≡ [] = λ i e. ap (text states) e ∙ text-start states trie.tree in
     record {
       starts = (p.starts.0, p.starts.1, empty _ p.starts.2, empty _ p.starts.3);
@@ -60,7 +58,7 @@ are-texts m trie numbering back s =
           (cases_eq k 0);
       begin = λ i past within.
           let k = slice_index numbering.at.items i in
-          (text-begins s.tell m states trie.ends.items k s.inverse trie.tree s.stands.stands own (p.within i within), own k (p.within i within));
+          (text-begins m states trie.ends.items t k (p.within i within), text-settled m states trie.ends.items t k (p.within i within));
     }
 
 -- where the bytes lead from each state
@@ -73,15 +71,15 @@ is-edge m trie numbering back s i b next within e =
     let k_in = p.within i within in
     let low = canonical m.pairing b in
     let same_low : low ≡ canonical trie.pairing b = ap (λ (q : List ℕ). canonical q b) s.stands.pairing in
-    let own = text-canonical s.same m states ends s.inverse trie.tree s.stands.stands in
+    let t = stands-of trie m s.stands in
     let begins : (c : ℕ) → IsChildFor states k (canonical trie.pairing b) c → BeginsEntered m (text states k ++ b ∷ []) =
-    λ c h. child-begins s.tell m states ends k b c s.inverse trie.tree s.stands.stands (own k k_in) h.0 h.1 h.2 (h.3 ∙ sym same_low) in
+    λ c h. child_for-begins m states ends t k b c h.0 h.1 h.2 (h.3 ∙ sym same_low) in
     let none : 1 < i → (¬ BeginsEntered m (text states k ++ b ∷ [])) → next ≡ missing numbering.start back i =
     λ past nothing. e.none past (λ c some c_in above is_low. nothing (begins c (some, c_in, above, is_low))) in
     record {
       dead = e.dead;
       child = λ past something.
-          let c = begins-child s.tell m states ends k b s.inverse trie.tree s.stands.stands k_in (own k k_in) something in
+          let c = begins-child_for m states ends t k b k_in something in
           let is = e.child past c.0 (c.1, c.2, c.3, c.4 ∙ same_low) in
           let n = s.numbered.numbers.numbers c.0 c.2 in
           let spelled : text states c.0 ≡ text states k ++ low ∷ [] = text-child states trie.tree c.0 c.1 c.2 ∙ ap₂ (λ (z x : ℕ). text states z ++ x ∷ []) c.3 c.4 in

@@ -7,6 +7,7 @@ use Rattle.std.proofs.lemmas.Bool.{cases_lt, cases_eq, or_cases, eqb-true, false
 use Rattle.std.proofs.lemmas.Bool.Decides.{nat_tests}
 use Rattle.std.proofs.lemmas.List.{length-take-le, get_or-take, get_or-drop, nil_from_length}
 use Rattle.std.proofs.lemmas.Option.{slice_get_read}
+use Rattle.ac_input.specs.declared.primitives.number.TheConstants.{GREATEST}
 use Rattle.ac_input.specs.declared.search.Anchored.{Anchored}
 use Rattle.ac_input.specs.declared.search.Anchored.TheVariants.{No, Yes}
 use Rattle.ac_input.specs.declared.steps.Steps.{Steps}
@@ -88,7 +89,7 @@ pub tables-start : (m : Dictionary) (tables : Tables) → ∥ AreTablesOf m tabl
 tables-start m tables h = ∥∥₁_elim h le_prop (λ w. w.1.texts.starts.0)
 
 -- and there is room for the anchored one
-pub tables-few : (m : Dictionary) (tables : Tables) → ∥ AreTablesOf m tables ∥₁ → tables.start + 1 ≤ 2147483646
+pub tables-few : (m : Dictionary) (tables : Tables) → ∥ AreTablesOf m tables ∥₁ → tables.start + 1 ≤ GREATEST
 tables-few m tables h = ∥∥₁_elim h le_prop (λ w. let few = w.1.few in let within = w.1.texts.starts.1 in omega (arith, few, within))
 
 -- ---- the patterns of a state

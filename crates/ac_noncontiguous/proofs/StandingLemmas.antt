@@ -5,8 +5,9 @@ use Rattle.std.proofs.lemmas.List.{take_all, take-take, length-take-le, length-m
 use Rattle.std.proofs.lemmas.Option.{slice_get_within, slice_get-get_or}
 use Rattle.ac_input.specs.declared.search.MatchKind.TheVariants.{LeftmostFirst}
 use Rattle.ac_input.specs.Dictionary.{Dictionary, IsPattern, IsShadowed, IsEntered}
-use Rattle.ac_input.specs.LiveLaws.{canonical, IsOwnInverse, CanonicalBytesTellTexts}
-use Rattle.ac_input.specs.Limits.{greatest, with_pattern, canonical_text}
+use Rattle.ac_input.specs.LiveLaws.{canonical, IsOwnInverse}
+use Rattle.ac_input.specs.declared.primitives.number.TheConstants.{GREATEST}
+use Rattle.ac_input.specs.Limits.{with_pattern, canonical_text}
 use Rattle.ac_noncontiguous.specs.declared.trie.State.{State}
 use Rattle.ac_noncontiguous.specs.Tree.{IsTree, Extends, parent, depth, is_match, path, text}
 use Rattle.ac_noncontiguous.specs.Entering.{IsWalked, IsMarked}
@@ -38,7 +39,7 @@ pub record IsMore (m : Dictionary) (p : List ℕ) (old new : List State) (end : 
   pub unmarked_added : (i : ℕ) → length old ≤ i → i < length new → end ≢ Some i → is_match new i ≡ false
 
 -- so it stands for the dictionary with the pattern
-pub stand-more : (m : Dictionary) (p : List ℕ) (old new : List State) (ends : List (Option ℕ)) (end : Option ℕ) → HasEntered m old ends → length p ≤ greatest → IsMore m p old new end → HasEntered (with_pattern m p) new (ends ++ end ∷ [])
+pub stand-more : (m : Dictionary) (p : List ℕ) (old new : List State) (ends : List (Option ℕ)) (end : Option ℕ) → HasEntered m old ends → length p ≤ GREATEST → IsMore m p old new end → HasEntered (with_pattern m p) new (ends ++ end ∷ [])
 stand-more m p old new ends end s short g =
     record {
       counted = omega (arith, length-append ends (end ∷ []), length-append m.patterns (p ∷ []), s.counted);
@@ -127,10 +128,10 @@ not-ended m old mid ends bytes s tree ext free e i q is short front there =
     true≢false (sym ((s.matches i k.1).1 (e, there)) ∙ (sym x.3 ∙ unmarked))
 
 -- a pattern that isn't entered is shadowed by one that comes still earlier
-shadow-sooner : CanonicalBytesTellTexts → (m : Dictionary) (old : List State) (ends : List (Option ℕ)) (bytes : List ℕ) → IsOwnInverse m.pairing → HasEntered m old ends → (e : ℕ) (q : List ℕ) → IsPattern m e q → canonical_text m q ≡ take (length q) bytes → slice_get ends e ≡ Some None → (f : ℕ) × (r : List ℕ) × (f < e) × IsPattern m f r × (length r < length q) × (canonical_text m r ≡ take (length r) bytes)
-shadow-sooner tell m old ends bytes inverse s e q is front there =
+shadow-sooner : (m : Dictionary) (old : List State) (ends : List (Option ℕ)) (bytes : List ℕ) → IsOwnInverse m.pairing → HasEntered m old ends → (e : ℕ) (q : List ℕ) → IsPattern m e q → canonical_text m q ≡ take (length q) bytes → slice_get ends e ≡ Some None → (f : ℕ) × (r : List ℕ) × (f < e) × IsPattern m f r × (length r < length q) × (canonical_text m r ≡ take (length r) bytes)
+shadow-sooner m old ends bytes inverse s e q is front there =
     let k = (s.left_out e q is there).1 in
-    let sooner = begins-canonical tell m.pairing k.1 q inverse k.5 in
+    let sooner = begins-canonical m.pairing k.1 q inverse k.5 in
     let inner : take (length k.1) (canonical_text m q) ≡ take (length k.1) bytes = ap (take (length k.1)) front ∙ take-take (length k.1) (length q) bytes (omega (arith, k.4)) in
     (k.0, k.1, k.2, k.3, k.4, sooner ∙ inner)
 
@@ -143,33 +144,33 @@ end-cases ends e within = by (get_or ends e None) (slice_get-get_or ends e None 
     by None there = inr there
 
 -- So no earlier pattern is one: where it isn't entered itself, a still earlier one shadows it.
-pub no-shadow : CanonicalBytesTellTexts → (m : Dictionary) (old mid : List State) (ends : List (Option ℕ)) (bytes : List ℕ) → IsOwnInverse m.pairing → HasEntered m old ends → IsTree old → Extends old mid → ((i : ℕ) → i < length mid → depth mid i < length bytes → text mid i ≡ take (depth mid i) bytes → is_match mid i ≡ false) → (bound e : ℕ) (q : List ℕ) → e < bound → IsPattern m e q → length q < length bytes → canonical_text m q ≡ take (length q) bytes → ⊥
-no-shadow tell m old mid ends bytes inverse s tree ext free zero e q lt is short front = absurd (omega arith)
-no-shadow tell m old mid ends bytes inverse s tree ext free (suc bound) e q lt is short front =
+pub no-shadow : (m : Dictionary) (old mid : List State) (ends : List (Option ℕ)) (bytes : List ℕ) → IsOwnInverse m.pairing → HasEntered m old ends → IsTree old → Extends old mid → ((i : ℕ) → i < length mid → depth mid i < length bytes → text mid i ≡ take (depth mid i) bytes → is_match mid i ≡ false) → (bound e : ℕ) (q : List ℕ) → e < bound → IsPattern m e q → length q < length bytes → canonical_text m q ≡ take (length q) bytes → ⊥
+no-shadow m old mid ends bytes inverse s tree ext free zero e q lt is short front = absurd (omega arith)
+no-shadow m old mid ends bytes inverse s tree ext free (suc bound) e q lt is short front =
     ⊎_elim
     (λ (at : (i : ℕ) × (slice_get ends e ≡ Some (Some i))). not-ended m old mid ends bytes s tree ext free e at.0 q is short front at.1)
     (λ (there : slice_get ends e ≡ Some None).
-    let k = shadow-sooner tell m old ends bytes inverse s e q is front there in
-    no-shadow tell m old mid ends bytes inverse s tree ext free bound k.0 k.1 (omega (arith, k.2)) k.3 (omega (arith, k.4)) k.5)
+    let k = shadow-sooner m old ends bytes inverse s e q is front there in
+    no-shadow m old mid ends bytes inverse s tree ext free bound k.0 k.1 (omega (arith, k.2)) k.3 (omega (arith, k.4)) k.5)
     (end-cases ends e (omega (arith, s.counted, slice_get_within m.patterns e q is)))
 
 -- A pattern that was entered byte by byte is entered.
-pub entered-walked : CanonicalBytesTellTexts → (m : Dictionary) (p : List ℕ) (old mid : List State) (ends : List (Option ℕ)) (read at : ℕ) → IsOwnInverse m.pairing → HasEntered m old ends → IsTree old → Extends old mid → (m.kind ≡ LeftmostFirst → (i : ℕ) → i < length mid → depth mid i < length p → text mid i ≡ take (depth mid i) (canonical_text m p) → is_match mid i ≡ false) → IsEntered (with_pattern m p) (length m.patterns) p
-entered-walked tell m p old mid ends read at inverse s tree ext free =
+pub entered-walked : (m : Dictionary) (p : List ℕ) (old mid : List State) (ends : List (Option ℕ)) (read at : ℕ) → IsOwnInverse m.pairing → HasEntered m old ends → IsTree old → Extends old mid → (m.kind ≡ LeftmostFirst → (i : ℕ) → i < length mid → depth mid i < length p → text mid i ≡ take (depth mid i) (canonical_text m p) → is_match mid i ≡ false) → IsEntered (with_pattern m p) (length m.patterns) p
+entered-walked m p old mid ends read at inverse s tree ext free =
     let bytes = canonical_text m p in
     let len : length bytes ≡ length p = length-map p (canonical m.pairing) in (
       get-last m.patterns p,
       λ first shadow.
           let k = shadowed-before m p (length m.patterns) p (omega arith) shadow in
-          no-shadow tell m old mid ends bytes inverse s tree ext (λ i within shallow spelled. free first i within (omega arith) spelled) (length m.patterns) k.0 k.1 k.2 k.3 (omega (arith, k.4)) (begins-canonical tell m.pairing k.1 p inverse k.5),
+          no-shadow m old mid ends bytes inverse s tree ext (λ i within shallow spelled. free first i within (omega arith) spelled) (length m.patterns) k.0 k.1 k.2 k.3 (omega (arith, k.4)) (begins-canonical m.pairing k.1 p inverse k.5),
     )
 
 -- so the trie stands for one more pattern
-pub stand-entered : CanonicalBytesTellTexts → (m : Dictionary) (p : List ℕ) (old mid new : List State) (ends : List (Option ℕ)) (id : ℕ) → IsOwnInverse m.pairing → HasEntered m old ends → IsTree old → length p ≤ greatest → IsWalked m.kind old mid (canonical_text m p) (length (canonical_text m p)) id → IsMarked mid new id → HasEntered (with_pattern m p) new (ends ++ Some id ∷ [])
-stand-entered tell m p old mid new ends id inverse s tree short w k =
+pub stand-entered : (m : Dictionary) (p : List ℕ) (old mid new : List State) (ends : List (Option ℕ)) (id : ℕ) → IsOwnInverse m.pairing → HasEntered m old ends → IsTree old → length p ≤ GREATEST → IsWalked m.kind old mid (canonical_text m p) (length (canonical_text m p)) id → IsMarked mid new id → HasEntered (with_pattern m p) new (ends ++ Some id ∷ [])
+stand-entered m p old mid new ends id inverse s tree short w k =
     let bytes = canonical_text m p in
     let len : length bytes ≡ length p = length-map p (canonical m.pairing) in
-    let entered = entered-walked tell m p old mid ends 0 0 inverse s tree w.extends (λ first i within shallow spelled. w.unmatched first i within (omega arith) spelled) in
+    let entered = entered-walked m p old mid ends 0 0 inverse s tree w.extends (λ first i within shallow spelled. w.unmatched first i within (omega arith) spelled) in
     let texts = text-marked mid new id k in
     stand-more m p old new ends (Some id) s short
     (record {
@@ -189,8 +190,8 @@ stand-entered tell m p old mid new ends id inverse s tree short w k =
     })
 
 -- or for one more that is shadowed
-pub stand-left_out : CanonicalBytesTellTexts → (m : Dictionary) (p : List ℕ) (old mid : List State) (ends : List (Option ℕ)) (read at : ℕ) → IsOwnInverse m.pairing → HasEntered m old ends → IsTree old → length p ≤ greatest → m.kind ≡ LeftmostFirst → read < length (canonical_text m p) → is_match mid at ≡ true → IsWalked m.kind old mid (canonical_text m p) read at → HasEntered (with_pattern m p) mid (ends ++ None ∷ [])
-stand-left_out tell m p old mid ends read at inverse s tree short first more match w =
+pub stand-left_out : (m : Dictionary) (p : List ℕ) (old mid : List State) (ends : List (Option ℕ)) (read at : ℕ) → IsOwnInverse m.pairing → HasEntered m old ends → IsTree old → length p ≤ GREATEST → m.kind ≡ LeftmostFirst → read < length (canonical_text m p) → is_match mid at ≡ true → IsWalked m.kind old mid (canonical_text m p) read at → HasEntered (with_pattern m p) mid (ends ++ None ∷ [])
+stand-left_out m p old mid ends read at inverse s tree short first more match w =
     let bytes = canonical_text m p in
     let len : length bytes ≡ length p = length-map p (canonical m.pairing) in
     let at_old : at < length old =
@@ -205,7 +206,7 @@ stand-left_out tell m p old mid ends read at inverse s tree short first more mat
     let k = s.entered e.0 at q is_q e.1 in
     let spelled : canonical_text m q ≡ take read bytes = sym k.2 ∙ (sym (text-extends old mid tree w.extends at at_old) ∙ w.reached.2) in
     let q_len : length q ≡ read = sym (length-map q (canonical m.pairing)) ∙ (ap length spelled ∙ length-take-le read bytes (omega arith)) in
-    let begins = canonical-begins tell m.pairing q p inverse (omega arith) (spelled ∙ ap (λ (n : ℕ). take n bytes) (sym q_len)) in
+    let begins = canonical-begins m.pairing q p inverse (omega arith) (spelled ∙ ap (λ (n : ℕ). take n bytes) (sym q_len)) in
     stand-more m p old mid ends None s short
     (record {
       longer = w.extends.longer;

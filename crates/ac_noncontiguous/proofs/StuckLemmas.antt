@@ -5,8 +5,9 @@ use Rattle.std.proofs.lemmas.List.{length-map}
 use Rattle.ac_input.specs.declared.search.MatchKind.{MatchKind}
 use Rattle.ac_input.specs.declared.search.MatchKind.TheVariants.{LeftmostFirst}
 use Rattle.ac_input.specs.Dictionary.{Dictionary}
-use Rattle.ac_input.specs.LiveLaws.{canonical, IsOwnInverse, PairingIsOwnInverse, CanonicalBytesTellTexts}
-use Rattle.ac_input.specs.Limits.{greatest, canonical_text, Passes, StateNumber}
+use Rattle.ac_input.specs.LiveLaws.{canonical, IsOwnInverse}
+use Rattle.ac_input.specs.declared.primitives.number.TheConstants.{GREATEST}
+use Rattle.ac_input.specs.Limits.{canonical_text, Passes, StateNumber}
 use Rattle.ac_noncontiguous.specs.declared.error.BuildErrorKind.{BuildErrorKind}
 use Rattle.ac_noncontiguous.specs.declared.error.BuildErrorKind.TheVariants.{StateIDOverflow, PatternIDOverflow, PatternTooLong, Memory}
 use Rattle.ac_noncontiguous.specs.declared.trie.State.{State}
@@ -35,18 +36,18 @@ stuck-free kind old mid bytes read at tree w more free none first i within shall
     (cases_lt (depth mid i) read)
 
 -- there are too many states with the pattern
-stuck-passes : CanonicalBytesTellTexts → (m : Dictionary) (p : List ℕ) (old mid : List State) (ends : List (Option ℕ)) (read at : ℕ) → IsOwnInverse m.pairing → HasEntered m old ends → IsTree old → IsTree mid → length ends ≤ greatest → length p ≤ greatest → IsWalked m.kind old mid (canonical_text m p) read at → read < length (canonical_text m p) → (m.kind ≡ LeftmostFirst → is_match mid at ≡ false) → HasNoChild mid at (get_or (canonical_text m p) read 0) → greatest + 1 < length mid + 4 → Passes m p StateNumber
-stuck-passes tell m p old mid ends read at inverse s tree mid_tree few short w more free none many =
+stuck-passes : (m : Dictionary) (p : List ℕ) (old mid : List State) (ends : List (Option ℕ)) (read at : ℕ) → IsOwnInverse m.pairing → HasEntered m old ends → IsTree old → IsTree mid → length ends ≤ GREATEST → length p ≤ GREATEST → IsWalked m.kind old mid (canonical_text m p) read at → read < length (canonical_text m p) → (m.kind ≡ LeftmostFirst → is_match mid at ≡ false) → HasNoChild mid at (get_or (canonical_text m p) read 0) → GREATEST + 1 < length mid + 4 → Passes m p StateNumber
+stuck-passes m p old mid ends read at inverse s tree mid_tree few short w more free none many =
     let len : length (canonical_text m p) ≡ length p = length-map p (canonical m.pairing) in
-    let entered = entered-walked tell m p old mid ends 0 0 inverse s tree w.extends (λ first i within shallow spelled. stuck-free m.kind old mid (canonical_text m p) read at mid_tree w more free none first i within (omega arith) spelled) in
+    let entered = entered-walked m p old mid ends 0 0 inverse s tree w.extends (λ first i within shallow spelled. stuck-free m.kind old mid (canonical_text m p) read at mid_tree w more free none first i within (omega arith) spelled) in
     (omega (arith, s.counted), short, (length mid - 1 + (length p - read) + 4, stuck-counts m p old mid ends read at tree mid_tree s w (omega arith) entered none, omega (arith, mid_tree.start.0)))
 
 -- what a trie that stands for a dictionary tells of a pattern that it can't enter
-pub trie-stuck : CanonicalBytesTellTexts → PairingIsOwnInverse → (m : Dictionary) (p : List ℕ) (old : Trie) (error : BuildErrorKind) → IsTrieOf m old → length old.ends.items ≤ greatest → length p ≤ greatest → IsStuck old.kind old.states.items (map (canonical old.pairing) p) error → IsPatternRefused m p error
-trie-stuck tell invert m p old (StateIDOverflow max requested) t few short stuck =
+pub trie-stuck : (m : Dictionary) (p : List ℕ) (old : Trie) (error : BuildErrorKind) → IsTrieOf m old → length old.ends.items ≤ GREATEST → length p ≤ GREATEST → IsStuck old.kind old.states.items (map (canonical old.pairing) p) error → IsPatternRefused m p error
+trie-stuck m p old (StateIDOverflow max requested) t few short stuck =
     let h : IsStuck m.kind old.states.items (canonical_text m p) (StateIDOverflow max requested) =
     subst (λ (k : MatchKind). IsStuck k old.states.items (canonical_text m p) (StateIDOverflow max requested)) (sym t.kind) (subst (λ (q : List ℕ). IsStuck old.kind old.states.items (map (canonical q) p) (StateIDOverflow max requested)) (sym t.pairing) stuck) in
-    (h.7.0, h.7.1, stuck-passes tell m p old.states.items h.0 old.ends.items h.1 h.2 (trie-inverse invert m old t) t.stands old.tree h.3 few short h.5 h.4 h.6 h.7.3 h.7.2)
-trie-stuck tell invert m p old (PatternIDOverflow max requested) t few short stuck = absurd stuck.7
-trie-stuck tell invert m p old (PatternTooLong pattern len) t few short stuck = absurd stuck.7
-trie-stuck tell invert m p old Memory t few short stuck = tt
+    (h.7.0, h.7.1, stuck-passes m p old.states.items h.0 old.ends.items h.1 h.2 (trie-inverse m old t) t.stands old.tree h.3 few short h.5 h.4 h.6 h.7.3 h.7.2)
+trie-stuck m p old (PatternIDOverflow max requested) t few short stuck = absurd stuck.7
+trie-stuck m p old (PatternTooLong pattern len) t few short stuck = absurd stuck.7
+trie-stuck m p old Memory t few short stuck = tt

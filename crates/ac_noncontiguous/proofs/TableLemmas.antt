@@ -7,10 +7,9 @@ use Rattle.ac_input.specs.declared.search.MatchKind.TheVariants.{Standard}
 use Rattle.ac_input.specs.Alphabet.{class}
 use Rattle.ac_input.specs.Dictionary.{Dictionary}
 use Rattle.ac_input.specs.Failure.{IsList, OwnAlone, OwnThen, AreOwn, IsOwn}
-use Rattle.ac_input.specs.FailureLaws.{CanonicalBytesAreTheSame}
-use Rattle.ac_input.specs.LiveLaws.{canonical, PairingIsOwnInverse, CanonicalBytesTellTexts}
+use Rattle.ac_input.specs.LiveLaws.{canonical}
 use Rattle.ac_input.specs.States.{FailsTo}
-use Rattle.ac_input.specs.StateLaws.{StartIsNext, StartIsLeft}
+use Rattle.ac_input.proofs.LeadsLemmas.{leads-start, leads-start_none}
 use Rattle.ac_noncontiguous.specs.declared.links.Links.{Links}
 use Rattle.ac_noncontiguous.specs.declared.trie.Trie.{Trie}
 use Rattle.ac_noncontiguous.specs.declared.nfa.tables.State.{State}
@@ -26,7 +25,8 @@ use Rattle.ac_noncontiguous.specs.Assembly.{IsBack, number_or_dead, AreKept}
 use Rattle.ac_noncontiguous.specs.Edges.{missing, IsChildFor}
 use Rattle.ac_noncontiguous.proofs.TextLemmas.{text-start, length-text}
 use Rattle.ac_noncontiguous.proofs.TrieLemmas.{trie-inverse}
-use Rattle.ac_noncontiguous.proofs.ChildLemmas.{text-canonical, child-begins}
+use Rattle.ac_noncontiguous.proofs.FailLemmas.{stands-of}
+use Rattle.ac_noncontiguous.proofs.ChildLemmas.{child_for-begins}
 use Rattle.ac_noncontiguous.proofs.MeaningLemmas.{Setting, text_of, state_of-some, is-edge, missing-not}
 
 -- ---- where the bytes that begin nothing lead
@@ -52,19 +52,16 @@ own-none m matches from len within own none n is =
     omega (arith, c.1)
 
 -- the setting
-pub setting : CanonicalBytesTellTexts → CanonicalBytesAreTheSame → PairingIsOwnInverse → StartIsNext → StartIsLeft → (m : Dictionary) (trie : Trie) (links : Links) (numbering : Numbering) (back : ℕ) → IsTrieOf m trie → AreLinks m trie.states.items links → IsNumbering (length trie.states.items) numbering → IsBack trie.kind links.ranges.items numbering.start back → Setting m trie numbering back
-setting tell same invert next left m trie links numbering back t l n b =
+pub setting : (m : Dictionary) (trie : Trie) (links : Links) (numbering : Numbering) (back : ℕ) → IsTrieOf m trie → AreLinks m trie.states.items links → IsNumbering (length trie.states.items) numbering → IsBack trie.kind links.ranges.items numbering.start back → Setting m trie numbering back
+setting m trie links numbering back t l n b =
     let states = trie.states.items in
-    let inverse = trie-inverse invert m trie t in
+    let inverse = trie-inverse m trie t in
     let some : 0 < length states = trie.tree.start.0 in
     let range = slice_index_or links.ranges.items 0 no_range in
     let within = l.lists.within 0 some in
     let empty = text-start states trie.tree in
     let own : AreOwn m [] (in_range links.matches.items range) = subst (λ (x : List ℕ). AreOwn m x (in_range links.matches.items range)) empty (own-list m (text states 0) (in_range links.matches.items range) empty (l.lists.lists 0 some)) in
     record {
-      tell = tell;
-      same = same;
-      inverse = inverse;
       stands = t;
       numbered = n;
       to_start = ⊎_elim (λ (dead : (trie.kind ≢ Standard) × (0 < range_len links.ranges.items 0) × (back ≡ 0)). inl dead.2) (λ (start : (trie.kind ≢ Standard → range_len links.ranges.items 0 ≡ 0) × (back ≡ numbering.start)). inr start.1) b;
@@ -72,12 +69,12 @@ setting tell same invert next left m trie links numbering back t l n b =
           ⊎_elim
           (λ (dead : (trie.kind ≢ Standard) × (0 < range_len links.ranges.items 0) × (back ≡ 0)).
           let n_own = own-some m links.matches.items range.from range.len within own dead.1 in (
-            (λ _. left m byte n_own.0 (λ is. dead.0 (sym t.kind ∙ is)) n_own.1 nothing),
+            (λ _. leads-start_none m byte n_own.0 (λ is. dead.0 (sym t.kind ∙ is)) n_own.1 nothing),
             (λ is. absurd (omega (arith, dead.2, n.places.starts.0))),
           ))
           (λ (start : (trie.kind ≢ Standard → range_len links.ranges.items 0 ≡ 0) × (back ≡ numbering.start)). (
             (λ is. absurd (omega (arith, start.1, n.places.starts.0))),
-            (λ _. next m byte inverse (λ leftmost. own-none m links.matches.items range.from range.len within own (start.0 (λ is. leftmost (t.kind ∙ is)))) nothing),
+            (λ _. leads-start m byte inverse (λ leftmost. own-none m links.matches.items range.from range.len within own (start.0 (λ is. leftmost (t.kind ∙ is)))) nothing),
           ))
           b;
     }
@@ -114,8 +111,7 @@ are-transitions m trie links numbering back offsets rows states transitions s l 
           (λ (none : next_at transitions at ≡ missing start back i). absurd (h.longer is_not at place.0 place.1 (none ∙ missing-not start back i not_start)))
           (λ (one : (c : ℕ) × IsChildFor trie.states.items node (canonical trie.pairing b) c).
           let same_low : canonical m.pairing b ≡ canonical trie.pairing b = ap (λ (q : List ℕ). canonical q b) s.stands.pairing in
-          let own = text-canonical s.same m trie.states.items trie.ends.items s.inverse trie.tree s.stands.stands node (s.numbered.places.within i lt) in
-          child-begins s.tell m trie.states.items trie.ends.items node b one.0 s.inverse trie.tree s.stands.stands own one.1.0 one.1.1 one.1.2 (one.1.3 ∙ sym same_low))
+          child_for-begins m trie.states.items trie.ends.items (stands-of trie m s.stands) node b one.0 one.1.0 one.1.1 one.1.2 (one.1.3 ∙ sym same_low))
           (e.cases past);
     }
 

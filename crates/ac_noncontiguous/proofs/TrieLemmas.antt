@@ -3,8 +3,10 @@ use Rattle.std.proofs.Common.{◌≡◌, ℕ, ◌+◌, ◌≤◌, List, [], ◌�
 use Rattle.ac_input.specs.declared.search.MatchKind.{MatchKind}
 use Rattle.ac_input.specs.Pairing.{IsPairing}
 use Rattle.ac_input.specs.Dictionary.{Dictionary}
-use Rattle.ac_input.specs.LiveLaws.{canonical, IsOwnInverse, PairingIsOwnInverse, CanonicalBytesTellTexts}
-use Rattle.ac_input.specs.Limits.{greatest, with_pattern, canonical_text, IsWithinLimits}
+use Rattle.ac_input.specs.LiveLaws.{canonical, IsOwnInverse}
+use Rattle.ac_input.proofs.SameLemmas.{own_inverse-pairing}
+use Rattle.ac_input.specs.declared.primitives.number.TheConstants.{GREATEST}
+use Rattle.ac_input.specs.Limits.{with_pattern, canonical_text, IsWithinLimits}
 use Rattle.ac_noncontiguous.specs.declared.trie.State.{State}
 use Rattle.ac_noncontiguous.specs.declared.trie.Trie.{Trie}
 use Rattle.ac_noncontiguous.specs.Entering.{IsMarked, IsEnd}
@@ -14,17 +16,17 @@ use Rattle.ac_noncontiguous.proofs.StandingLemmas.{stand-entered, stand-left_out
 use Rattle.ac_noncontiguous.proofs.CountLemmas.{stand-counts}
 
 -- the pairing of a trie's dictionary is its own inverse
-pub trie-inverse : PairingIsOwnInverse → (m : Dictionary) (old : Trie) → IsTrieOf m old → IsOwnInverse m.pairing
-trie-inverse invert m old t = invert m.pairing (subst (λ (q : List ℕ). IsPairing q) (sym t.pairing) old.paired)
+pub trie-inverse : (m : Dictionary) (old : Trie) → IsTrieOf m old → IsOwnInverse m.pairing
+trie-inverse m old t = own_inverse-pairing m.pairing (subst (λ (q : List ℕ). IsPairing q) (sym t.pairing) old.paired)
 
 -- where a pattern ends, as its dictionary says it
 pub trie-ends : (m : Dictionary) (p : List ℕ) (old : Trie) (mid : List State) (end : Option ℕ) → IsTrieOf m old → IsEnd old.kind old.states.items mid (map (canonical old.pairing) p) end → IsEnd m.kind old.states.items mid (canonical_text m p) end
 trie-ends m p old mid end t h = subst (λ (k : MatchKind). IsEnd k old.states.items mid (canonical_text m p) end) (sym t.kind) (subst (λ (q : List ℕ). IsEnd old.kind old.states.items mid (map (canonical q) p) end) (sym t.pairing) h)
 
 -- one more pattern is entered
-pub trie-entered : CanonicalBytesTellTexts → PairingIsOwnInverse → (m : Dictionary) (p : List ℕ) (old mid marked new : Trie) (id : ℕ) → IsTrieOf m old → length p ≤ greatest → IsEnd old.kind old.states.items mid.states.items (map (canonical old.pairing) p) (Some id) → KeepsSettings old mid → IsMarked mid.states.items marked.states.items id → KeepsSettings mid marked → IsNoted marked new (Some id) → IsTrieOf (with_pattern m p) new
-trie-entered tell invert m p old mid marked new id t short w kept k kept_marked n =
-    let stands = stand-entered tell m p old.states.items mid.states.items marked.states.items old.ends.items id (trie-inverse invert m old t) t.stands old.tree short (trie-ends m p old mid.states.items (Some id) t w) k in
+pub trie-entered : (m : Dictionary) (p : List ℕ) (old mid marked new : Trie) (id : ℕ) → IsTrieOf m old → length p ≤ GREATEST → IsEnd old.kind old.states.items mid.states.items (map (canonical old.pairing) p) (Some id) → KeepsSettings old mid → IsMarked mid.states.items marked.states.items id → KeepsSettings mid marked → IsNoted marked new (Some id) → IsTrieOf (with_pattern m p) new
+trie-entered m p old mid marked new id t short w kept k kept_marked n =
+    let stands = stand-entered m p old.states.items mid.states.items marked.states.items old.ends.items id (trie-inverse m old t) t.stands old.tree short (trie-ends m p old mid.states.items (Some id) t w) k in
     let ends : new.ends.items ≡ old.ends.items ++ Some id ∷ [] = n.ends ∙ ap (λ v. v.items ++ Some id ∷ []) (kept_marked.ends ∙ kept.ends) in
     record {
       pairing = t.pairing ∙ sym (n.pairing ∙ (kept_marked.pairing ∙ kept.pairing));
@@ -33,10 +35,10 @@ trie-entered tell invert m p old mid marked new id t short w kept k kept_marked 
     }
 
 -- one more pattern is shadowed
-pub trie-left_out : CanonicalBytesTellTexts → PairingIsOwnInverse → (m : Dictionary) (p : List ℕ) (old mid new : Trie) → IsTrieOf m old → length p ≤ greatest → IsEnd old.kind old.states.items mid.states.items (map (canonical old.pairing) p) None → KeepsSettings old mid → IsNoted mid new None → IsTrieOf (with_pattern m p) new
-trie-left_out tell invert m p old mid new t short w kept n =
+pub trie-left_out : (m : Dictionary) (p : List ℕ) (old mid new : Trie) → IsTrieOf m old → length p ≤ GREATEST → IsEnd old.kind old.states.items mid.states.items (map (canonical old.pairing) p) None → KeepsSettings old mid → IsNoted mid new None → IsTrieOf (with_pattern m p) new
+trie-left_out m p old mid new t short w kept n =
     let h = trie-ends m p old mid.states.items None t w in
-    let stands = stand-left_out tell m p old.states.items mid.states.items old.ends.items h.1.0 h.1.1 (trie-inverse invert m old t) t.stands old.tree short h.0 h.1.2 h.1.3 h.1.4 in
+    let stands = stand-left_out m p old.states.items mid.states.items old.ends.items h.1.0 h.1.1 (trie-inverse m old t) t.stands old.tree short h.0 h.1.2 h.1.3 h.1.4 in
     let ends : new.ends.items ≡ old.ends.items ++ None ∷ [] = n.ends ∙ ap (λ v. v.items ++ None ∷ []) kept.ends in
     record {
       pairing = t.pairing ∙ sym (n.pairing ∙ kept.pairing);

@@ -4,6 +4,7 @@ use Rattle.std.specs.Borrow.{Bor}
 use Rattle.ac_input.specs.Candidate.{Filter}
 use Rattle.ac_input.specs.Dictionary.{Dictionary}
 use Rattle.ac_input.specs.Limits.{IsWithinLimits}
+use Rattle.ac_input.specs.Pairing.{IsPairing}
 use Rattle.ac_input.specs.Same.{IsUnpaired}
 use Rattle.ac_input.specs.declared.search.MatchKind.{MatchKind}
 use Rattle.ac_input.specs.declared.search.MatchKind.TheVariants.{Standard}
@@ -53,6 +54,6 @@ IsBuiltAtFirst patterns built = (s : Settings) × AreFirst s × IsBuiltBy s (dic
 abbrev pub IsRefusedAtFirst : List (Bor (List ℕ)) → BuildErrorKind → Type 0
 IsRefusedAtFirst patterns error = (s : Settings) × AreFirst s × IsBuildRefused (dictionary_by s patterns) error
 
--- the tables and the classes of bytes of a dictionary
+-- the tables and the classes of bytes of a dictionary, which has a pairing
 abbrev pub AreCompiled : Dictionary → Tables → Type 0
-AreCompiled m tables = AreTablesOf m tables × AreByteClasses m tables.classes
+AreCompiled m tables = AreTablesOf m tables × AreByteClasses m tables.classes × IsPairing m.pairing

@@ -4,9 +4,11 @@ use Rattle.ac_input.specs.declared.search.MatchKind.{MatchKind}
 use Rattle.ac_input.specs.Alphabet.{class, has, is_edge, AreClassesOf}
 use Rattle.ac_input.specs.Candidate.{Filter}
 use Rattle.ac_input.specs.Dictionary.{Dictionary, IsEntered, BeginsEntered}
+use Rattle.ac_input.specs.Pairing.{IsPairing}
 use Rattle.ac_input.specs.Same.{same}
 use Rattle.ac_input.specs.Failure.{IsList}
-use Rattle.ac_input.specs.Limits.{greatest, HasStates}
+use Rattle.ac_input.specs.declared.primitives.number.TheConstants.{GREATEST}
+use Rattle.ac_input.specs.Limits.{HasStates}
 use Rattle.ac_input.specs.LiveLaws.{canonical}
 use Rattle.ac_input.specs.States.{LeadsTo, FailsTo}
 use Rattle.ac_noncontiguous.specs.declared.nfa.tables.State.{State}
@@ -138,7 +140,7 @@ pub record AreLists (m : Dictionary) (len start max_match : ℕ) (text : ℕ →
 pub record AreTables (m : Dictionary) (text : ℕ → List ℕ) (tables : Tables) : Type 0 where
   pub len : ℕ
   pub counted : length tables.states.items ≡ len + 1
-  pub few : len ≤ 2147483647
+  pub few : len ≤ GREATEST + 1
   pub has : HasStates m len
   pub texts : AreTexts m len tables.start text
   pub transitions : AreTransitions m len tables.start text tables.states.items tables.transitions.items
@@ -158,7 +160,7 @@ lens_of patterns = map (λ p. length p) patterns
 
 -- no pattern is longer than the greatest number
 abbrev pub AreShort : List (List ℕ) → Type 0
-AreShort patterns = (n : ℕ) (p : List ℕ) → slice_get patterns n ≡ Some p → length p ≤ greatest
+AreShort patterns = (n : ℕ) (p : List ℕ) → slice_get patterns n ≡ Some p → length p ≤ GREATEST
 
 -- the byte stands in an entered pattern, or its partner does
 abbrev pub IsByteOf : Dictionary → ℕ → Type 0
@@ -182,8 +184,9 @@ last_special tables (Some f) = tables.start + 1
 abbrev pub IsHeldFor : Dictionary → Option Filter → Type 0
 IsHeldFor m held = (f : Filter) → held ≡ Some f → f.dictionary ≡ m
 
--- the tables of an automaton, the classes of its bytes, and its prefilter, if it holds one
+-- the tables of an automaton, the classes of its bytes, its prefilter, if it holds one, and its pairing
 pub record AreParts (m : Dictionary) (tables : Tables) (prefilter : Option Filter) : Type 0 where
   pub stands : ∥ AreTablesOf m tables ∥₁
   pub classed : ∥ AreByteClasses m tables.classes ∥₁
   pub held : IsHeldFor m prefilter
+  pub paired : IsPairing m.pairing

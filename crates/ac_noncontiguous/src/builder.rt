@@ -4,8 +4,13 @@
 //! have a prefilter, and up to which depth states keep a row of next states. The last two change no answer.
 //!
 //! A build enters the patterns into a trie, links each of its states to the one to which it fails, and makes the tables from
-//! both; trie and links are given back then. It takes time in proportion to the bytes of all patterns, and memory likewise.
-ghost use Rattle.std.specs.Prelude.{◌≡◌, map, length, IfOk, IfErr, OnOk};
+//! both; trie and links are given back then.
+//!
+//! It takes time and memory in proportion to the bytes of all patterns, to the rows, and to the lists of the states. A row has
+//! four bytes for each class of bytes. Under the standard kind a state in which a pattern ends repeats the list of the state to
+//! which it fails: the n patterns `a`, `aa`, `aaa` and so on have n (n + 1) / 2 entries, of four bytes each. Under a leftmost kind
+//! such a state has no failure, and each pattern is kept once.
+ghost use Rattle.std.specs.Prelude.{◌≡◌, IfOk, IfErr, OnOk};
 ghost use Rattle.ac_input.specs.Dictionary.{Dictionary};
 ghost use Rattle.ac_input.specs.Pairing.{IsFolded};
 ghost use Rattle.ac_input.specs.Limits.{IsWithinLimits};
@@ -76,6 +81,7 @@ impl Default for Builder {
 
 impl Builder {
     /// Standard matches, no byte paired, a prefilter wanted, and rows for states of up to two bytes.
+    /// A caller: `uses::callers::build::folded`.
     pub fn new() -> Builder
         ensures { AreFirst result }
     {
@@ -88,6 +94,7 @@ impl Builder {
     }
 
     /// Sets which of several overlapping occurrences is the match.
+    /// A caller: `uses::callers::build::folded`.
     pub fn match_kind(&mut self, kind: MatchKind) -> &mut Builder
         ensures same { result.ghost_name ≡ self.entry.ghost_name }
         ensures value { result.now ≡ record self.old { kind = kind } }
@@ -98,6 +105,7 @@ impl Builder {
 
     /// Sets whether ASCII letters count as the same in their two cases. It sets the whole pairing: of this call and
     /// [`Builder::pairing`] the last one decides.
+    /// A caller: `uses::callers::build::folded`.
     pub fn ascii_case_insensitive(&mut self, yes: bool) -> &mut Builder
         ensures same { result.ghost_name ≡ self.entry.ghost_name }
         ensures rest { result.now ≡ record self.old { pairing = result.now.pairing } }
@@ -112,6 +120,7 @@ impl Builder {
     }
 
     /// Sets which bytes stand for one another. At first none does.
+    /// A caller: `uses::callers::build::thrifty`.
     pub fn pairing(&mut self, pairing: Pairing) -> &mut Builder
         ensures same { result.ghost_name ≡ self.entry.ghost_name }
         ensures value { result.now ≡ record self.old { pairing = pairing } }
@@ -122,6 +131,7 @@ impl Builder {
 
     /// Sets to which depth states keep a row: those to which fewer bytes lead. A row makes a look-up fast, and takes four bytes
     /// for each class of bytes. It changes no answer.
+    /// A caller: `uses::callers::build::thrifty`.
     pub fn dense_depth(&mut self, depth: usize) -> &mut Builder
         ensures same { result.ghost_name ≡ self.entry.ghost_name }
         ensures value { result.now ≡ record self.old { dense_depth = depth } }
@@ -131,6 +141,7 @@ impl Builder {
     }
 
     /// Sets whether searches have a prefilter, where one serves. It changes no answer.
+    /// A caller: `uses::callers::build::thrifty`.
     pub fn prefilter(&mut self, yes: bool) -> &mut Builder
         ensures same { result.ghost_name ≡ self.entry.ghost_name }
         ensures value { result.now ≡ record self.old { prefilter = yes } }
@@ -168,10 +179,11 @@ impl Builder {
 
     /// The automaton of the patterns, which are numbered from 0 in this order.
     ///
-    /// It is refused where there are more than 2147483647 patterns, where one has more than 2147483646 bytes, where more than
-    /// 2147483647 states would be wanted (four, and one for each different beginning, of a byte or more, of the patterns that are
-    /// entered; a byte and its partner count as one), and where memory ends; and only then. Where several limits are passed, the
-    /// first pattern that passes one decides.
+    /// It is refused where there are more patterns than [`PatternID::LIMIT`](ac_input::primitives::PatternID::LIMIT), where one has
+    /// more bytes than the greatest number, where more states than that limit would be wanted (four, and one for each different
+    /// beginning, of a byte or more, of the patterns that are entered; a byte and its partner count as one), and where memory ends;
+    /// and only then. Where several limits are passed, the first pattern that passes one decides.
+    /// A caller: `uses::callers::build::thrifty`.
     pub fn build(&self, alloc: Global, patterns: &[&[u8]]) -> Result<NFA, BuildError>
         ensures built { IfOk result (λ nfa. IsBuiltBy self.now
             (dictionary_by self.now patterns.now) (built_as nfa)) }
@@ -190,13 +202,13 @@ impl Builder {
         ensures refused { IfErr result (IsBuildRefused (dictionary_by self.now patterns.now)) }
     {
         let trie = Trie::from_patterns(alloc, patterns, self.pairing, self.kind)?;
-        trie.is_within_limits();
         Ok(tables_of(alloc, &trie, self.dense_depth)?)
     }
 }
 
 impl NFA {
     /// The automaton of the patterns by the settings that a builder has at first: standard matches, no byte paired.
+    /// A caller: `uses::callers::build::occurs_in`.
     pub fn new(alloc: Global, patterns: &[&[u8]]) -> Result<NFA, BuildError>
         ensures built { IfOk result (λ nfa. IsBuiltAtFirst patterns.now (built_as nfa)) }
         ensures refused { IfErr result (IsRefusedAtFirst patterns.now) }
@@ -205,6 +217,7 @@ impl NFA {
     }
 
     /// A builder with the settings that it has at first.
+    /// A caller: `uses::callers::build::thrifty`.
     pub fn builder() -> Builder
         ensures { AreFirst result }
     {

@@ -3,7 +3,7 @@
 //! The states get their numbers first ([`numbering`]). Then they are laid out one after another in the order of these: where each
 //! byte leads from a state is looked up in the trie ([`edges`]), and written down as its transitions ([`transitions`]) and, near to
 //! the start, as its row ([`rows`]). It takes time in proportion to the states, and nothing but the tables is kept.
-ghost use Rattle.std.specs.Prelude.{◌≡◌, ◌<◌, length, IfOk};
+ghost use Rattle.std.specs.Prelude.{◌<◌, length, IfOk};
 ghost use Rattle.ac_noncontiguous.specs.Order.{IsBreadthFirst};
 ghost use Rattle.ac_noncontiguous.specs.Numbering.{FitsTrie};
 ghost use Rattle.ac_noncontiguous.specs.Assembly.{IsBack, AreTablesFor, AreClassedFor};
@@ -21,11 +21,8 @@ use crate::compiler::transitions::Transitions;
 use crate::links::Links;
 use crate::nfa::tables::Tables;
 use crate::trie::Trie;
-use ac_input::failure_laws::canonical_bytes_are_the_same;
-use ac_input::live_laws::{canonical_bytes_tell_texts, pairing_is_own_inverse};
 use ac_input::primitives::StateID;
 use ac_input::search::MatchKind;
-use ac_input::state_laws::{start_is_left, start_is_next};
 use std::alloc::{AllocError, Global};
 
 /// Where the bytes that begin no entered pattern lead from the unanchored start.
@@ -54,11 +51,6 @@ impl Tables {
         ensures stands { IfOk result (AreTablesFor trie.now links) }
         ensures classed { IfOk result (AreClassedFor trie.now) }
     {
-        canonical_bytes_tell_texts();
-        canonical_bytes_are_the_same();
-        pairing_is_own_inverse();
-        start_is_next();
-        start_is_left();
         let numbering = Numbering::new(alloc, trie, order, &links)?;
         let back = start_back(trie, &links, numbering.start);
         let classes = classes(trie);

@@ -1,13 +1,13 @@
 //! Why an automaton is not built.
 //!
-//! An automaton keeps its states and patterns under 32-bit numbers, of which the greatest is 2147483646. A build that would
+//! An automaton keeps its states and patterns under 32-bit numbers, of which [`GREATEST`] is the greatest. A build that would
 //! need a number past that is refused, and a [`BuildError`] says which limit was met, and by what. A build can also run out of
 //! memory, at any time. Nothing else refuses one.
 ghost use Rattle.std.specs.Prelude.{◌≡◌, Some};
 ghost use Rattle.ac_noncontiguous.specs.declared.error.BuildErrorKind.TheVariants.{Memory};
 ghost use Rattle.ac_noncontiguous.specs.Errors.{build_error_text};
 
-use ac_input::primitives::PatternID;
+use ac_input::primitives::{GREATEST, PatternID};
 use std::alloc::AllocError;
 use std::error::Error;
 use std::fmt;
@@ -18,19 +18,19 @@ use std::marker::Model;
 pub enum BuildErrorKind {
     /// There are more states than can be numbered.
     StateIDOverflow {
-        /// The greatest number of a state: 2147483646.
+        /// The greatest number of a state, [`GREATEST`].
         max: u64,
         /// A number past it that a state would need.
         requested_max: u64,
     },
     /// There are more patterns than can be numbered.
     PatternIDOverflow {
-        /// The greatest number of a pattern: 2147483646.
+        /// The greatest number of a pattern, [`GREATEST`].
         max: u64,
         /// A number past it that a pattern would need.
         requested_max: u64,
     },
-    /// A pattern has more than 2147483646 bytes.
+    /// A pattern has more than [`GREATEST`] bytes.
     PatternTooLong {
         /// The number of the pattern.
         pattern: PatternID,
@@ -118,14 +118,14 @@ impl fmt::Display for BuildError {
     fn fmt<W: fmt::Write>(&self, f: &mut fmt::Formatter<W>) -> fmt::Result {
         match self.kind {
             BuildErrorKind::StateIDOverflow { requested_max, .. } => {
-                write!(f, "state number {requested_max} is past 2147483646")
+                write!(f, "state number {requested_max} is past {GREATEST}")
             }
             BuildErrorKind::PatternIDOverflow { requested_max, .. } => {
-                write!(f, "pattern number {requested_max} is past 2147483646")
+                write!(f, "pattern number {requested_max} is past {GREATEST}")
             }
             BuildErrorKind::PatternTooLong { pattern, len } => {
                 let number = pattern.as_usize();
-                write!(f, "pattern {number} has {len} bytes, more than 2147483646")
+                write!(f, "pattern {number} has {len} bytes, more than {GREATEST}")
             }
             BuildErrorKind::Memory => write!(f, "out of memory"),
         }
@@ -133,33 +133,3 @@ impl fmt::Display for BuildError {
 }
 
 impl Error for BuildError {}
-
-#[cfg(test)]
-mod tests {
-    use super::BuildError;
-    use ac_input::primitives::PatternID;
-    use std::test::Fail;
-
-    #[test]
-    fn says_why(rt: HostRuntime) -> Result<(), Fail> {
-        for (error, text) in [
-            (
-                BuildError::state_id_overflow(2147483646, 2147483647),
-                "state number 2147483647 is past 2147483646",
-            ),
-            (
-                BuildError::pattern_id_overflow(2147483646, 2147483648),
-                "pattern number 2147483648 is past 2147483646",
-            ),
-            (
-                BuildError::pattern_too_long(PatternID::must(7), 2147483647),
-                "pattern 7 has 2147483647 bytes, more than 2147483646",
-            ),
-            (BuildError::memory(), "out of memory"),
-        ] {
-            let said = error.to_string(rt.alloc())?;
-            assert_eq!(rt; said.as_str(), text);
-        }
-        Ok(())
-    }
-}

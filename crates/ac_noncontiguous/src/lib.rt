@@ -23,6 +23,3 @@ pub use ac_literal::prefilter::{Candidate, Prefilter, PrefilterBuilder};
 pub use builder::Builder;
 pub use error::{BuildError, BuildErrorKind};
 pub use nfa::NFA;
-
-#[cfg(test)]
-mod tests;

@@ -3,7 +3,7 @@
 //! The patterns of a state are its own, and then those of the state to which it fails. They are a range of one list: a state
 //! without patterns of its own shares the range of its failure, and another one has a copy behind its own. No pattern stands
 //! twice in a range.
-ghost use Rattle.std.specs.Prelude.{◌≡◌, ℕ, ◌+◌, ◌<◌, ◌≤◌, length, slice_get, Some, IfOk};
+ghost use Rattle.std.specs.Prelude.{◌≡◌, ℕ, ◌+◌, ◌<◌, length, slice_get, Some, IfOk};
 ghost use Rattle.ac_input.specs.Dictionary.{Dictionary};
 ghost use Rattle.ac_noncontiguous.specs.Tree.{depth};
 ghost use Rattle.ac_noncontiguous.specs.Kept.{IsTrieOf};
@@ -15,10 +15,7 @@ ghost use Rattle.ac_noncontiguous.specs.Failures.{AreShallower};
 
 use crate::trie::Trie;
 use crate::trie::own::OwnPatterns;
-use ac_input::failure_laws::canonical_bytes_are_the_same;
-use ac_input::live_laws::{canonical_bytes_tell_texts, pairing_is_own_inverse};
 use ac_input::primitives::{PatternID, StateID};
-use ac_input::state_laws::{failure_tells_list, own_patterns_are_list};
 use std::alloc::{AllocError, Global};
 
 /// Some patterns of a list: from one place on, so many.
@@ -103,11 +100,6 @@ impl Links {
         ensures { IfOk result (λ links. (m : Dictionary) → IsTrieOf m trie.now →
             AreFails m trie.now.states.items fails.items → AreLinks m trie.now.states.items links) }
     {
-        canonical_bytes_tell_texts();
-        canonical_bytes_are_the_same();
-        pairing_is_own_inverse();
-        own_patterns_are_list();
-        failure_tells_list();
         let own = trie.own_patterns(alloc)?;
         let mut ranges = vec![in alloc; Range { from: 0, len: 0 }; fails.len()]?;
         let mut matches = Vec::new(alloc);
@@ -123,6 +115,3 @@ impl Links {
         })
     }
 }
-
-#[cfg(test)]
-mod tests;

@@ -15,7 +15,7 @@ pub(crate) mod tables;
 ghost use Rattle.std.specs.Prelude.{◌≡◌, ◌≤◌, ◌+◌, if◌then◌else◌};
 ghost use Rattle.std.proofs.Props.{props};
 ghost use Rattle.ac_input.specs.Pairing.{IsPairing};
-ghost use Rattle.ac_input.specs.Limits.{greatest};
+ghost use Rattle.ac_input.specs.declared.primitives.number.TheConstants.{GREATEST};
 ghost use Rattle.ac_noncontiguous.specs.Nfa.{dictionary_from, AreTablesOf, AreByteClasses, last_special, IsHeldFor, AreParts};
 ghost use Rattle.ac_noncontiguous.specs.Starters.{SkipsIdle};
 
@@ -50,7 +50,7 @@ pub struct NFA {
 
 /// The last state at which a search has more to do than to read on.
 fn last_special_of(tables: &Tables, held: bool) -> StateID
-    requires { tables.now.start + 1 ≤ greatest }
+    requires { tables.now.start + 1 ≤ GREATEST }
     ensures { result ≡ (if held then tables.now.start + 1 else tables.now.max_match) }
 {
     if held {
@@ -75,8 +75,6 @@ impl NFA {
         ensures { IsMadeOf (dictionary_from lens.patterns.items pairing kind) tables prefilter
             result }
     {
-        // what the call answers matters to nobody, but it tells that the pairing is one
-        let _ = pairing.other(0);
         let max_special = last_special_of(&tables, prefilter.is_some());
         let starters = Starters::of(&tables);
         NFA {

@@ -16,7 +16,8 @@ ghost use Rattle.ac_input.specs.Same.{other};
 ghost use Rattle.ac_input.specs.Pairing.{IsPairing};
 ghost use Rattle.ac_input.specs.LiveLaws.{canonical};
 ghost use Rattle.ac_input.specs.Dictionary.{Dictionary};
-ghost use Rattle.ac_input.specs.Limits.{greatest, without_patterns, with_pattern, IsWithinLimits};
+ghost use Rattle.ac_input.specs.declared.primitives.number.TheConstants.{GREATEST};
+ghost use Rattle.ac_input.specs.Limits.{without_patterns, with_pattern};
 ghost use Rattle.ac_noncontiguous.specs.Own.{AreEnds};
 ghost use Rattle.ac_noncontiguous.specs.Tree.{IsTree, IsChildPlace, IsAdded, state_at, is_match, byte as byte_of};
 ghost use Rattle.ac_noncontiguous.specs.Entering.{IsMarked, IsChildStep, IsChildRefused, IsEnd, IsStuck};
@@ -30,17 +31,13 @@ pub(crate) mod own;
 
 use crate::error::{BuildError, BuildErrorKind};
 use crate::trie::hints::Hints;
-use ac_input::live_laws::{canonical_bytes_tell_texts, pairing_is_own_inverse};
 use ac_input::pairing::Pairing;
-use ac_input::primitives::{PatternID, StateID};
+use ac_input::primitives::{GREATEST, PatternID, StateID};
 use ac_input::search::MatchKind;
 use std::alloc::Global;
 
 /// How many states a trie may have: an automaton has three more, the dead one, the fail one and the anchored start.
 const MOST_STATES: usize = StateID::LIMIT - 3;
-
-/// How many bytes a pattern may have.
-const LONGEST: usize = 2147483646;
 
 /// A beginning of a pattern. The start is no child, so that its number, 0, says that there is no child or no sibling.
 #[derive(Clone, Copy, Debug)]
@@ -73,11 +70,12 @@ pub(crate) struct Trie {
     /// For each pattern the state in which it ends, if it is entered.
     ends: Vec<Option<StateID>>,
     hints: Hints,
-    pairing: Pairing,
+    /// For each byte its partner.
+    pairing: [u8; 256],
     kind: MatchKind,
     ghost tree: { IsTree states.items },
-    ghost few: { length states.items + 3 ≤ greatest + 1 },
-    ghost counted: { length ends.items ≤ greatest + 1 },
+    ghost few: { length states.items + 3 ≤ GREATEST + 1 },
+    ghost counted: { length ends.items ≤ GREATEST + 1 },
     ghost paired: { IsPairing pairing },
     ghost placed: { AreEnds ends.items (length states.items) },
 }
@@ -90,8 +88,6 @@ impl Trie {
         ensures made { IfOk result (IsTrieOf (without_patterns kind pairing)) }
         ensures refused { IfErr result (λ error. error ≡ BuildErrorKind.Memory) }
     {
-        // what the call answers matters to nobody, but it tells that the pairing is one
-        let _ = pairing.other(0);
         let start = State {
             parent: StateID::ZERO,
             child: StateID::ZERO,
@@ -108,7 +104,7 @@ impl Trie {
             states,
             ends: Vec::new(alloc),
             hints: Hints::new(alloc),
-            pairing,
+            pairing: pairing.table(),
             kind,
         })
     }
@@ -125,16 +121,10 @@ impl Trie {
     {
         let mut trie = Trie::new(alloc, kind, pairing)?;
         for pattern in patterns {
-            trie.is_within_limits();
             trie.add(pattern)?;
         }
         Ok(trie)
     }
-
-    /// Where it stands for a dictionary, that passes no limit.
-    pub(crate) fn is_within_limits(&self)
-        ensures { (m : Dictionary) → IsTrieOf m self.now → IsWithinLimits m }
-    {}
 
     /// How many states there are.
     pub(crate) fn len(&self) -> usize
@@ -233,14 +223,14 @@ impl Trie {
     pub(crate) fn canonical(&self, byte: u8) -> u8
         ensures { result ≡ canonical self.now.pairing byte }
     {
-        byte.min(self.pairing.other(byte))
+        byte.min(self.other(byte))
     }
 
     /// The partner of the byte.
     pub(crate) fn other(&self, byte: u8) -> u8
         ensures { result ≡ other self.now.pairing byte }
     {
-        self.pairing.other(byte)
+        self.pairing[byte as usize]
     }
 
     /// Which occurrences are preferred.
@@ -292,7 +282,7 @@ impl Trie {
 
     /// Notes where the next pattern by number ends.
     fn note_end(&mut self, end: Option<StateID>) -> Result<(), BuildError>
-        requires room { length self.old.ends.items ≤ greatest }
+        requires room { length self.old.ends.items ≤ GREATEST }
         requires within { (id : ℕ) → end ≡ Some id → id < length self.old.states.items }
         ensures noted { OnOk result (IsNoted self.old self.new end) }
         ensures refused { IfErr result (λ kind. kind ≡ BuildErrorKind.Memory) }
@@ -312,13 +302,11 @@ impl Trie {
         ensures refused { IfErr result
             (λ kind. (m : Dictionary) → IsTrieOf m self.old → IsPatternRefused m pattern.now kind) }
     {
-        canonical_bytes_tell_texts();
-        pairing_is_own_inverse();
         let number = self.ends.len();
         if number > PatternID::MAX.as_usize() {
             return Err(BuildError::pattern_id_overflow(PatternID::MAX.as_u64(), number as u64));
         }
-        if pattern.len() > LONGEST {
+        if pattern.len() > GREATEST {
             return Err(BuildError::pattern_too_long(PatternID::must(number), pattern.len()));
         }
         match self.enter(pattern)? {
@@ -330,6 +318,3 @@ impl Trie {
         }
     }
 }
-
-#[cfg(test)]
-mod tests;

@@ -448,6 +448,3 @@ impl<'a> Naive<'a> {
         Ok(found)
     }
 }
-
-#[cfg(test)]
-mod tests;

@@ -11,3 +11,4 @@ pub mod FinderLemmas
 pub mod BuiltLemmas
 pub mod StreamListLemmas
 pub mod StreamedLemmas
+pub mod OutcomeLemmas

@@ -1,17 +1,18 @@
 -- What was moved, and which answers go with it.
-use Rattle.std.proofs.Common.{◌≡◌, ◌≢◌, ◌↔◌, ℕ, ◌+◌, Option, List, [], Result, Ok, Err, refl, sym, ap, ◌∙◌, subst, add-zero}
+use Rattle.std.proofs.Common.{◌≡◌, ◌≢◌, ◌↔◌, ℕ, Option, List, [], Result, Ok, Err, refl, sym, ap, ◌∙◌, subst, add-zero}
 use Rattle.std.specs.List.{concat}
 use Rattle.std.proofs.lemmas.List.{append-nil}
 use Rattle.ac_input.specs.Rules.{Rule, IsRuleFile, FirstBadLine}
 use Rattle.ac_input.proofs.RuleLemmas.{FirstBadLine-one, FirstBadLine-none, IsRuleFile-one}
-use Rattle.ac_automaton.specs.Moved.{AreWhole, HasGiven, HasMoved, HasTaken, Moved}
+use Rattle.ac_automaton.specs.Moved.{AreWhole, HasGiven, HasMoved, Moved}
 use Rattle.ac_automaton.specs.Output.{Sent, Stopped}
-use Rattle.ac_automaton.specs.Watched.{IsOfWrite, stalls_of}
+use Rattle.ac_automaton.specs.Watched.{IsOfWrite}
 use Rattle.ac_automaton.specs.declared.error.MatchErrorKind.{MatchErrorKind}
 use Rattle.ac_automaton.specs.declared.error.StreamError.{StreamError}
 use Rattle.ac_automaton.specs.declared.error.StreamError.TheVariants as stream
 use Rattle.ac_automaton.specs.declared.watched.Watched.{Watched}
-use Rattle.ac_automaton.proofs.StreamReplaceLemmas.{given-none, taken-none}
+use Rattle.ac_automaton.proofs.MovedLemmas.{given-none, taken-none}
+use Rattle.ac_automaton.proofs.OutputLemmas.{HasTaken-from_sent, HasTaken-from_stopped}
 use Rattle.acsub.specs.declared.rules.RuleError.TheVariants as rule_errors
 use Rattle.acsub.specs.declared.error.RunError.{RunError}
 use Rattle.acsub.specs.declared.error.RunError.TheVariants as errors
@@ -30,14 +31,6 @@ nothing = record { pieces = []; failed_reads = 0; taken = []; failed_writes = 0;
 
 pub HasMoved-nothing : {R W : Type 0} (remaining : R → Option (List ℕ)) (contents : W → Option (List ℕ)) (r : Watched R) (w : Watched W) → HasMoved remaining contents r r w w nothing
 HasMoved-nothing remaining contents r w = record { reader = given-none remaining r; writer = taken-none contents w }
-
--- all that was sent was written
-taken-from_sent : {W : Type 0} (contents : W → Option (List ℕ)) (w w' : Watched W) (bytes : List ℕ) (s : Sent contents w w' [] [] bytes) → HasTaken contents w w' s.gained 0 0
-taken-from_sent contents w w' bytes s = record { taken = s.taken; failures = s.fine.failures ∙ sym (add-zero _); stalls = s.fine.stalls ∙ sym (add-zero _); device = s.device }
-
--- of what was sent, a beginning was written
-taken-from_stopped : {W : Type 0} (contents : W → Option (List ℕ)) (w w' : Watched W) (bytes : List ℕ) (stalls : ℕ) (s : Stopped contents w w' [] bytes) → stalls_of w' ≡ stalls_of w + stalls → HasTaken contents w w' s.gained 1 stalls
-taken-from_stopped contents w w' bytes stalls s stalled = record { taken = s.taken; failures = s.failures; stalls = stalled; device = s.device }
 
 -- the answer where there was no memory before anything was read
 pub memory_answer : (settings : Settings) (rules : List Rule) (file : List ℕ) → IsRuleFile file rules → AnswersRun settings file nothing (Err errors.Memory)
@@ -76,7 +69,7 @@ module _ {R W : Type 0} (remaining : R → Option (List ℕ)) (contents : W → 
   pub written_answer : Sent contents w w' [] [] (output_of settings rules input) → RanRules remaining contents r r' w w' settings rules (Ok tt)
   written_answer sent = (
     record { pieces = pieces; failed_reads = 0; taken = sent.gained; failed_writes = 0; stalled_writes = 0 },
-    record { reader = gave; writer = taken-from_sent contents w w' _ sent },
+    record { reader = gave; writer = HasTaken-from_sent contents w w' [] [] _ sent },
     λ refusal. refusal,
     λ file grammar. record { rules = rules; grammar = grammar; accepted = accepted; whole = whole; written = sym (append-nil sent.gained) ∙ sent.order ∙ ap (output_of settings rules) is; failed = (refl, refl, refl) },
   )
@@ -87,13 +80,13 @@ module _ {R W : Type 0} (remaining : R → Option (List ℕ)) (contents : W → 
   write_answer (stream.Read error) told t stopped kind = absurd kind
   write_answer (stream.Write error) told t stopped kind = subst (λ (e : RunError). RanRules remaining contents r r' w w' settings rules (Err e)) (sym t) (
     record { pieces = pieces; failed_reads = 0; taken = stopped.gained; failed_writes = 1; stalled_writes = 0 },
-    record { reader = gave; writer = taken-from_stopped contents w w' _ 0 stopped (kind ∙ sym (add-zero _)) },
+    record { reader = gave; writer = HasTaken-from_stopped contents w w' [] _ 0 stopped (kind ∙ sym (add-zero _)) },
     λ refusal. refusal,
     write_failed contents settings rules w w' pieces input 0 stopped accepted held whole is,
   )
   write_answer stream.WriteZero told t stopped kind = subst (λ (e : RunError). RanRules remaining contents r r' w w' settings rules (Err e)) (sym t) (
     record { pieces = pieces; failed_reads = 0; taken = stopped.gained; failed_writes = 1; stalled_writes = 1 },
-    record { reader = gave; writer = taken-from_stopped contents w w' _ 1 stopped kind },
+    record { reader = gave; writer = HasTaken-from_stopped contents w w' [] _ 1 stopped kind },
     λ refusal. refusal,
     write_failed contents settings rules w w' pieces input 1 stopped accepted held whole is,
   )

@@ -2,8 +2,6 @@
 use Rattle.std.proofs.Common.{◌≡◌, ◌≢◌, ◌⊎◌, ⊎_elim, inl, inr, ℕ, suc, ◌+◌, ◌-◌, ◌<◌, ◌≤◌, true, false, List, [], ◌∷◌, ◌++◌, length, take, Option, Some, None, Result, Ok, Err, refl, sym, ap, ◌∙◌, subst, arith, append_assoc, add-zero}
 use Rattle.std.specs.List.{concat}
 use Rattle.std.specs.Prelude.{IfErr, OnOk}
-use Rattle.std.specs.Io.KnownBytes.{Consumes, IsAtEnd}
-use Rattle.std.proofs.KnownBytes.{Consumes-trans}
 use Rattle.std.proofs.lemmas.Bool.{false≢true}
 use Rattle.std.proofs.lemmas.List.{append-nil, append_cancel_left, take_all}
 use Rattle.std.proofs.lemmas.List.Folds.{concat-append}
@@ -22,13 +20,14 @@ use Rattle.ac_input.specs.Work.{shortest}
 use Rattle.ac_input.proofs.BeginningLemmas.{listed-beginning, whole-walk_begins}
 use Rattle.ac_input.proofs.TextLemmas.{listed-append}
 use Rattle.ac_automaton.specs.Automaton.{Built}
-use Rattle.ac_automaton.specs.Moved.{AllFit, AreFilled, AreWhole, HasGiven, HasMoved, HasTaken, Moved, but_last}
+use Rattle.ac_automaton.specs.Moved.{AllFit, AreFilled, HasGiven, HasMoved, HasTaken, Moved, but_last}
 use Rattle.ac_automaton.specs.Output.{Sent, Stopped}
 use Rattle.ac_automaton.specs.Replace.{LieInOrder, matches_in}
 use Rattle.ac_automaton.specs.Stream.{CanBeCounted, CanStream, FindsHeld, IsConfigRefusal, IsOnCourse, IsSearched, IsStreamRefusal, ReadsNothing, Scanned, fresh_scan, matches_read, read_by, room_of}
 use Rattle.ac_automaton.specs.StreamIter.{AreAllGiven, HasGained, NextGives}
-use Rattle.ac_automaton.specs.Watched.{IsOfWrite, has_ended, inner_of, pieces_of, stalls_of}
+use Rattle.ac_automaton.specs.Watched.{IsOfWrite, has_ended, pieces_of, stalls_of}
 use Rattle.ac_automaton.specs.declared.watched.Watched.{Watched}
+use Rattle.ac_automaton.proofs.MovedLemmas.{given-then, turns-filled}
 use Rattle.ac_automaton.proofs.OutputLemmas.{Sent-none, Sent-then, Stopped-then}
 use Rattle.ac_automaton.proofs.ReplaceLemmas.{matches-lie}
 use Rattle.ac_automaton.proofs.StreamReplaceLemmas.{given-none, nothing-matches, pieces-fit, taken-none, taken-sent, taken-stopped}
@@ -162,14 +161,6 @@ filled-append : (one other : List (List ℕ)) → AreFilled one → AreFilled ot
 filled-append [] other f g = g
 filled-append (p ∷ ps) other f g = (f.0, filled-append ps other f.1 g)
 
--- pieces that end with an empty one are not filled
-filled-no_end : (pieces : List (List ℕ)) → AreFilled (pieces ++ [] ∷ []) → ⊥
-filled-no_end [] f = f.0 refl
-filled-no_end (p ∷ ps) f = filled-no_end ps f.1
-
-filled-not_whole : (pieces : List (List ℕ)) → AreFilled pieces → AreWhole pieces → ⊥
-filled-not_whole pieces f w = filled-no_end w.0 (subst AreFilled w.2 f)
-
 -- the last of all pieces is the last that was gained
 but_last-gained : (before : List (List ℕ)) (g : List ℕ) (gs : List (List ℕ)) → but_last (before ++ g ∷ gs) ≡ before ++ but_last (g ∷ gs)
 but_last-gained [] g gs = refl
@@ -242,15 +233,8 @@ front-given b before (g ∷ gs) pieces given others o standard some is all late 
 -- ---- from one read to the next
 
 -- more pieces were read
-given-gained : {R : Type 0} (remaining : R → Option (List ℕ)) (s t : Scanned) (old mid new : Watched R) (gained : List (List ℕ)) (failed : ℕ) → HasGiven remaining old mid s.pieces 0 → HasGained remaining s t mid new gained failed → (failed ≡ 0 → AreWhole (s.pieces ++ gained) → IsAtEnd (remaining (inner_of new))) → HasGiven remaining old new t.pieces failed
-given-gained remaining s t old mid new gained failed g h at_end =
-    let more : HasGiven remaining old new (s.pieces ++ gained) failed = record {
-      pieces = h.reader ∙ ap (λ (ps : List (List ℕ)). ps ++ gained) g.pieces ∙ append_assoc (pieces_of old) s.pieces gained;
-      failures = h.failures ∙ ap (λ (n : ℕ). n + failed) (g.failures ∙ add-zero _);
-      device = subst (Consumes (remaining (inner_of old)) (remaining (inner_of new))) (sym (concat-append s.pieces gained)) (Consumes-trans _ _ _ (concat s.pieces) (concat gained) g.device h.device);
-      at_end = at_end;
-    } in
-    subst (λ (ps : List (List ℕ)). HasGiven remaining old new ps failed) (sym h.pieces) more
+given-gained : {R : Type 0} (remaining : R → Option (List ℕ)) (s t : Scanned) (old mid new : Watched R) (gained : List (List ℕ)) (failed : ℕ) → HasGiven remaining old mid s.pieces 0 → AreFilled s.pieces → HasGained remaining s t mid new gained failed → HasGiven remaining old new t.pieces failed
+given-gained remaining s t old mid new gained failed g filled h = subst (λ (ps : List (List ℕ)). HasGiven remaining old new ps failed) (sym h.pieces) (given-then remaining old mid new s.pieces gained failed (λ _. filled) g h.read)
 
 -- the bytes of more pieces
 read-gained : {R : Type 0} (remaining : R → Option (List ℕ)) (s t : Scanned) (mid new : Watched R) (gained : List (List ℕ)) (failed : ℕ) → HasGained remaining s t mid new gained failed → read_by t ≡ read_by s ++ concat gained
@@ -284,7 +268,7 @@ module _ {R W : Type 0} (remaining : R → Option (List ℕ)) (contents : W → 
     pub ends-whole : NextGives remaining s t r r1 None → ListsStream remaining contents b r0 r1 w0 w (Ok tt) × IsSearched t
     ends-whole (gained, has, (inl none), given, stopped) =
         let unread : read_by t ≡ read_by s = read-gained remaining s t r r1 gained 0 has ∙ ap (λ (ps : List (List ℕ)). read_by s ++ concat ps) none ∙ append-nil (read_by s) in
-        let still : has_ended r1 ≡ has_ended r = has.ended (subst AreFilled (sym none) tt) in
+        let still : has_ended r1 ≡ has_ended r = turns-filled (has_ended r) (has_ended r1) gained has.read.turns (subst AreFilled (sym none) tt) in
         absurd (⊎_elim
         (λ (ended : (has_ended r1 ≡ true) × AreAllGiven t). false≢true (sym h.unended ∙ sym still ∙ ended.0))
         (λ (many : ¬ CanBeCounted (read_by t)). many (subst CanBeCounted (sym unread) h.countable))
@@ -292,7 +276,7 @@ module _ {R W : Type 0} (remaining : R → Option (List ℕ)) (contents : W → 
     ends-whole (gained, has, (inr whole), given, stopped) = (
       (
         record { pieces = t.pieces; failed_reads = 0; taken = listed s.given; failed_writes = 0; stalled_writes = 0 },
-        record { reader = given-gained remaining s t r0 r r1 gained 0 h.read has (λ fine all. whole.2); writer = h.written },
+        record { reader = given-gained remaining s t r0 r r1 gained 0 h.read h.filled has; writer = h.written },
         pieces-fit b t (has.built ∙ h.built) course,
         (
           (s.pieces ++ whole.0.0, filled-append s.pieces whole.0.0 h.filled whole.0.1, has.pieces ∙ ap (λ (ps : List (List ℕ)). s.pieces ++ ps) whole.0.2 ∙ sym (append_assoc s.pieces whole.0.0 ([] ∷ []))),
@@ -307,7 +291,7 @@ module _ {R W : Type 0} (remaining : R → Option (List ℕ)) (contents : W → 
     pub ends-failed_read : (error : _) (filled : List (List ℕ)) → HasGained remaining s t r r1 (filled ++ [] ∷ []) 1 → t.given ≡ s.given → AreAllGiven t → ListsStream remaining contents b r0 r1 w0 w (Err (reads.Read error))
     ends-failed_read error filled has given all = (
       record { pieces = t.pieces; failed_reads = 1; taken = listed s.given; failed_writes = 0; stalled_writes = 0 },
-      record { reader = given-gained remaining s t r0 r r1 (filled ++ [] ∷ []) 1 h.read has (λ fine whole. absurd (omega arith)); writer = h.written },
+      record { reader = given-gained remaining s t r0 r r1 (filled ++ [] ∷ []) 1 h.read h.filled has; writer = h.written },
       pieces-fit b t (has.built ∙ h.built) course,
       (lines-same has.built given all, (refl, refl, refl)),
     )
@@ -316,7 +300,7 @@ module _ {R W : Type 0} (remaining : R → Option (List ℕ)) (contents : W → 
     pub ends-too_long : (gained : List (List ℕ)) → HasGained remaining s t r r1 gained 0 → AreFilled gained → t.given ≡ s.given → ¬ CanBeCounted (read_by t) → ListsStream remaining contents b r0 r1 w0 w (Err reads.Position)
     ends-too_long gained has filled given many = (
       record { pieces = t.pieces; failed_reads = 0; taken = listed s.given; failed_writes = 0; stalled_writes = 0 },
-      record { reader = given-gained remaining s t r0 r r1 gained 0 h.read has (λ fine whole. absurd (filled-not_whole (s.pieces ++ gained) (filled-append s.pieces gained h.filled filled) whole)); writer = h.written },
+      record { reader = given-gained remaining s t r0 r r1 gained 0 h.read h.filled has; writer = h.written },
       pieces-fit b t (has.built ∙ h.built) course,
       (many, lines-begin has.built given, (refl, refl, refl)),
     )
@@ -349,7 +333,7 @@ module _ {R W : Type 0} (remaining : R → Option (List ℕ)) (contents : W → 
       now-filled = filled-append s.pieces next.0 h.filled next.2
 
       now-given : HasGiven remaining r0 r1 t.pieces 0
-      now-given = given-gained remaining s t r0 r r1 next.0 0 h.read next.1 (λ fine whole_input. absurd (filled-not_whole (s.pieces ++ next.0) now-filled whole_input))
+      now-given = given-gained remaining s t r0 r r1 next.0 0 h.read h.filled next.1
 
       now-built : t.built ≡ b
       now-built = next.1.built ∙ h.built
@@ -374,7 +358,7 @@ module _ {R W : Type 0} (remaining : R → Option (List ℕ)) (contents : W → 
         countable = subst (λ (ps : List (List ℕ)). CanBeCounted (concat ps)) (sym lines.same.pieces) next.5.countable;
         all = lines.all;
         filled = subst AreFilled (sym (lines.same.pieces ∙ next.1.pieces)) now-filled;
-        unended = next.1.ended next.2 ∙ h.unended;
+        unended = turns-filled (has_ended r) (has_ended r1) next.0 next.1.read.turns next.2 ∙ h.unended;
         read = subst (λ (ps : List (List ℕ)). HasGiven remaining r0 r1 ps 0) (sym lines.same.pieces) now-given;
         written = subst (λ (x : List ℕ). HasTaken contents w0 w1 x 0 0) (sym (lines-since u lines.more lines.given)) (taken-sent contents w0 w w1 (listed s.given) (listed (o ∷ lines.more)) h.written lines.sent);
       }
@@ -427,7 +411,7 @@ module _ {R W : Type 0} (remaining : R → Option (List ℕ)) (contents : W → 
     gained-read : (gained : List (List ℕ)) (failed : ℕ) → HasGained remaining s t r r1 gained failed → (t.built ≡ b) × (pieces_of r1 ≡ pieces_of r0 ++ t.pieces)
     gained-read gained failed has = (
       has.built ∙ h.built,
-      has.reader ∙ ap (λ (ps : List (List ℕ)). ps ++ gained) h.read.pieces ∙ append_assoc (pieces_of r0) s.pieces gained ∙ ap (λ (ps : List (List ℕ)). pieces_of r0 ++ ps) (sym has.pieces),
+      has.read.pieces ∙ ap (λ (ps : List (List ℕ)). ps ++ gained) h.read.pieces ∙ append_assoc (pieces_of r0) s.pieces gained ∙ ap (λ (ps : List (List ℕ)). pieces_of r0 ++ ps) (sym has.pieces),
     )
 
     pub stopped-read : (error : StreamError) → NextGives remaining s t r r1 (Some (Err error)) → (t.built ≡ b) × (pieces_of r1 ≡ pieces_of r0 ++ t.pieces)
@@ -460,6 +444,7 @@ module _ (settings : Settings) (rules : List Rule) (b : Built) (built : b.dictio
     cut = length x;
     is_cut = subst (λ (m : Dictionary). IsCut m x (length x)) built (end-cut b x);
     near = omega arith;
+    listed = λ _. refl;
     front = is ∙ lines-output x ∙ ap (output_of settings rules) (sym (take_all (length x) x (omega arith)));
   }
 

@@ -81,6 +81,7 @@ replaced-front b settings rules x text is mode f =
       cut = f.cut;
       is_cut = subst (λ (m : Dictionary). IsCut m x f.cut) is f.is_cut;
       near = subst (λ (m : Dictionary). length x ≤ f.cut + kept_for (longest m.patterns)) is f.near;
+      listed = λ other. let apart : modes.Replace ≡ modes.List = sym mode ∙ other in absurd (cc);
       front = f.front ∙ replaced-output b settings rules (take f.cut x) is mode;
     }
 

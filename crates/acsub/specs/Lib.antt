@@ -6,6 +6,7 @@ pub mod Run
 pub mod Command
 pub mod Words
 pub mod Tool
+pub mod Outcome
 pub mod Finder
 pub mod Plan
 pub mod Transformed

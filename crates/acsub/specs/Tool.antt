@@ -1,10 +1,8 @@
 -- The lines that the program writes where something is wrong, and the statuses with which it ends.
-use Rattle.std.specs.Prelude.{◌≡◌, ℕ, List, ◌++◌, ◌⊎◌, Option, Ok, Err, codes, decimal}
+use Rattle.std.specs.Prelude.{◌≡◌, ℕ, List, ◌++◌, Result, Ok, Err, codes, decimal}
 use Rattle.std.specs.declared.io.ErrorKind.{ErrorKind}
 use Rattle.std.specs.declared.io.ErrorKind.TheVariants as kind
-use Rattle.clap.specs.declared.error.Error.{Error}
 use Rattle.ac_input.specs.Pairing.{twice_of}
-use Rattle.ac_automaton.specs.declared.watched.Watched.{Watched}
 use Rattle.ac_noncontiguous.specs.declared.error.BuildErrorKind.{BuildErrorKind}
 use Rattle.ac_noncontiguous.specs.declared.error.BuildErrorKind.TheVariants as limits
 use Rattle.acsub.specs.declared.error.RunError.{RunError}
@@ -13,11 +11,6 @@ use Rattle.acsub.specs.declared.rules.RuleError.{RuleError}
 use Rattle.acsub.specs.declared.rules.RuleError.TheVariants as rule_errors
 use Rattle.acsub.specs.declared.settings.SettingError.{SettingError}
 use Rattle.acsub.specs.declared.settings.SettingError.TheVariants.{OverlapLeftmost, PackedStandard, PackedFold, PackedEmpty, PackedCount}
-use Rattle.acsub.specs.declared.words.Words.{Words}
-use Rattle.acsub.specs.declared.words.WordsFault.TheVariants.{Help}
-use Rattle.ac_automaton.specs.Moved.{Moved, HasMoved}
-use Rattle.acsub.specs.Run.{RanWhole}
-use Rattle.acsub.specs.Words.{Reads}
 use Rattle.acsub.specs.declared.tool.Fault.{Fault}
 use Rattle.acsub.specs.declared.tool.Fault.TheVariants as faults
 
@@ -74,18 +67,16 @@ status_of faults.RuleFile = 3
 status_of (faults.Run e) = run_status e
 status_of faults.Flush = 6
 
--- 0, or that of a fault
-abbrev pub IsStatus : ℕ → Type 0
-IsStatus status = (status ≡ 0) ⊎ ((fault : Fault) × (status ≡ status_of fault))
+-- the line of a fault
+abbrev pub line_of : Fault → List ℕ
+line_of fault = codes "acsub: " ++ fault_text fault ++ codes "\n"
+
+-- the status with which the program ends, by its outcome
+abbrev pub exit_of : Result (Unit {0}) Fault → ℕ
+exit_of (Ok done) = 0
+exit_of (Err fault) = status_of fault
 
 -- what is told of an error of the system: want of memory, or this
 abbrev pub IsFaultOf : ErrorKind → Fault → Fault → Type 0
 IsFaultOf kind.OutOfMemory other fault = fault ≡ faults.Run errors.Memory
 IsFaultOf _ other fault = fault ≡ other
-
--- The words ask for a run, the rule file gave some bytes, and for them the run wrote the text of all that was read; or help
--- was asked for, and nothing was read.
-abbrev pub IsDone : {R W : Type 0} → (R → Option (List ℕ)) → (W → Option (List ℕ)) → List (List ℕ) → Watched R → Watched R → Watched W → Watched W → Type 0
-IsDone remaining contents words reader_before reader_after writer_before writer_after =
-    ((w : Words) × Reads words (Ok w) × (file : List ℕ) × (m : Moved) × HasMoved remaining contents reader_before reader_after writer_before writer_after m × RanWhole w.settings file m)
-    ⊎ ((help : Error) × Reads words (Err (Help help)) × (reader_after ≡ reader_before))

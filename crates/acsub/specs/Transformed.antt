@@ -39,10 +39,12 @@ abbrev pub stream_room : List Rule → ℕ
 stream_room rules = room_for (kept_for (longest (patterns_of rules)))
 
 -- The text of the front of an input, up to a cut: no more of the input is left than its longest pattern has bytes, or one byte.
+-- Where matches are listed nothing is left: the text is the list of all matches that end within the input.
 pub record IsOutputFront (settings : Settings) (rules : List Rule) (x text : List ℕ) : Type 0 where
   pub cut : ℕ
   pub is_cut : IsCut (dictionary_for settings (patterns_of rules)) x cut
   pub near : length x ≤ cut + kept_for (longest (patterns_of rules))
+  pub listed : settings.mode ≡ modes.List → cut ≡ length x
   pub front : text ≡ output_of settings rules (take cut x)
 
 -- at least that was written of an input which could be written before the last of its pieces was read

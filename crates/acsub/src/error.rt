@@ -13,7 +13,7 @@ use std::{fmt, io};
 /// Why a run stopped.
 #[derive(Debug, Drop)]
 pub enum RunError {
-    /// The rules are no rule file. Want of memory for them is [`RunError::Memory`], and stands in no other kind.
+    /// The rules are no rule file. Out of memory is [`RunError::Memory`], and stands in no other kind.
     Rule(RuleError),
     /// The settings exclude one another, or don't go with the rules.
     Setting(SettingError),

@@ -1,7 +1,7 @@
 //! The lines of a list.
 //!
 //! A line tells a match: the number of its pattern, its start and its end, in decimal, with a space between two of them and
-//! a line feed behind the last. It is put together in an array, from its end, so that nothing is moved.
+//! a line feed after the last. It is put together in an array, from its end, so that nothing is moved.
 ghost use Rattle.std.specs.Prelude.{◌≡◌, ◌+◌, ◌<◌, ◌≤◌, ◌∷◌, ◌++◌, drop, length, decimal};
 ghost use Rattle.ac_input.specs.Text.{line};
 

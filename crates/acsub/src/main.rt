@@ -5,8 +5,6 @@
 //! by the mode, the kind of match and the pairing of bytes, and by nothing else.
 #![tactic(auto)]
 
-#[cfg(test)]
-mod below;
 mod error;
 mod finder;
 mod input;
@@ -24,30 +22,22 @@ mod tool;
 mod words;
 
 use ac_automaton::watched::Watched;
+use std::env;
+use std::io::{Stderr, Stdin, Stdout};
 use std::process::ExitCode;
-use std::{env, io};
 
+/// Hands [`tool::program`] the words and the standard streams, which their types keep apart: no contract can say which is which.
 fn main(rt: HostRuntime) -> ExitCode {
-    let mut errors = rt.stderr();
-    let status = match command_line(&rt) {
-        Ok(words) => tool::tool(
-            &rt,
-            rt.alloc(),
-            words.as_slice(),
-            &mut Watched::new(rt.stdin()),
-            &mut Watched::new(rt.stdout()),
-            &mut errors,
-        ),
-        Err(error) => tool::tell(&tool::words_fault(&error), &mut errors),
-    };
-    ExitCode::from(status)
-}
-
-/// The words with which the program was started, its name first.
-fn command_line(rt: &HostRuntime) -> io::Result<Vec<String>> {
-    let mut words = Vec::new(rt.alloc());
-    for word in env::args(rt)? {
-        words.push(word)?;
-    }
-    Ok(words)
+    let mut reader: Watched<Stdin> = Watched::new(rt.stdin());
+    let mut writer: Watched<Stdout> = Watched::new(rt.stdout());
+    let mut errors: Stderr = rt.stderr();
+    let alloc = rt.alloc();
+    tool::program(
+        &rt,
+        alloc,
+        env::args(&rt),
+        &mut reader,
+        &mut writer,
+        &mut errors,
+    )
 }

@@ -4,7 +4,7 @@
 //! writes while it reads: all that is decided is written before each read, and what is kept back is no longer than the longest
 //! pattern. Any other run holds its input: it takes all the memory that it needs before the read that finds the end, then searches,
 //! by packed search where the settings name it and by an automaton otherwise, and writes the text as it is found. On either road
-//! want of memory is answered while nothing is written yet. The engine and its settings change nothing of the text.
+//! a run that is out of memory stops before anything is written. The engine and its settings change nothing of the text.
 ghost use Rattle.std.specs.Prelude.{◌≡◌, List, [], false, IfErr, OnOk, OnErr};
 ghost use Rattle.ac_automaton.specs.Watched.{IsOfWrite, has_ended};
 ghost use Rattle.ac_automaton.specs.Output.{Sent, Stopped};
@@ -50,7 +50,7 @@ pub fn run<R: Read, W: Write>(
     ensures bad_line { AnswersBadLine rules.now result }
     // A refusal has touched nothing: bad rules, settings that don't go together, an automaton that isn't built.
     ensures untouched { IsRefusal result → NoneTouched reader.old reader.new writer.old writer.new }
-    // Nor has want of memory, where the text is written while the input is read.
+    // Nor has a run out of memory, where the text is written while the input is read.
     ensures memory { result ≡ Err Memory → IsFoundBefore settings.now rules.now
         reader.old reader.new writer.old writer.new }
     // There no read gives more bytes than the buffer has room for.

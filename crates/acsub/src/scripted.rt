@@ -1,14 +1,87 @@
-//! Readers and writers that do as they are told, for tests.
-use std::alloc::Global;
+//! What tests tell a run, and readers and writers that do as they are told.
+//!
+//! A device stops once and would then go on. So a body that tries a call again, or reads after an empty read, ends with another
+//! text and with other counts.
+use crate::settings::{Engine, Mode, Settings};
+use ac_input::pairing::{Pairing, PairingError};
+use ac_input::search::MatchKind;
+use std::alloc::{AllocError, Global};
 use std::io;
 use std::io::{ErrorKind, Read, Write};
 
-/// A reader that gives its bytes in small pieces, and then ends or fails. Asked again, it would give what comes after.
+/// Which bytes are the same.
+#[derive(Clone, Copy)]
+pub enum Same {
+    /// Each byte is only the same as itself.
+    Kept,
+    /// ASCII letters are the same in both cases.
+    Folded,
+    /// The bytes of each pair are the same.
+    Pairs(&'static [(u8, u8)]),
+}
+
+/// Settings, in a form that a constant can have.
+#[derive(Clone, Copy)]
+pub struct Told {
+    pub mode: Mode,
+    pub kind: MatchKind,
+    pub same: Same,
+    pub engine: Engine,
+    pub prefilter: bool,
+    pub dense_depth: Option<usize>,
+    pub byte_classes: bool,
+}
+
+impl Told {
+    /// The settings.
+    pub fn settings(&self) -> Result<Settings, PairingError> {
+        let pairing = match self.same {
+            Same::Kept => Pairing::none(),
+            Same::Folded => Pairing::ascii(),
+            Same::Pairs(pairs) => Pairing::new(pairs)?,
+        };
+        Ok(Settings {
+            mode: self.mode,
+            kind: self.kind,
+            pairing,
+            engine: self.engine,
+            prefilter: self.prefilter,
+            dense_depth: self.dense_depth,
+            byte_classes: self.byte_classes,
+        })
+    }
+}
+
+/// What a command line with no option asks for.
+pub const PLAIN: Told = Told {
+    mode: Mode::Replace,
+    kind: MatchKind::Standard,
+    same: Same::Kept,
+    engine: Engine::Auto,
+    prefilter: true,
+    dense_depth: None,
+    byte_classes: true,
+};
+
+/// The words of a command line, as the system hands them over: the program's name, and these.
+pub fn command_line(alloc: Global, words: &[&str]) -> Result<Vec<String>, AllocError> {
+    let mut line = Vec::new(alloc);
+    line.push(String::from_str(alloc, "acsub")?)?;
+    for word in words {
+        line.push(String::from_str(alloc, word)?)?;
+    }
+    Ok(line)
+}
+
+/// A reader that gives its bytes in pieces, then stops once, by a failed read or an empty one, and would then go on.
 #[derive(Drop)]
 pub struct Source<'a> {
     pub bytes: &'a [u8],
+    /// The most that a read gives.
     pub most: usize,
+    /// Whether it stops by a failed read.
     pub fails: bool,
+    /// What reads after that would give.
     pub after: &'a [u8],
     pub reads: usize,
 }
@@ -43,78 +116,79 @@ pub fn whole(bytes: &[u8], most: usize) -> Source<'_> {
     }
 }
 
-/// A writer that takes a few bytes a write while it has room, and then fails or takes none.
+/// A writer that compares what it takes with a text, and takes no memory. After so many bytes it stops once, by a failed write or
+/// by one that takes nothing, and would then go on.
 #[derive(Drop)]
-pub struct Sink {
-    pub taken: Vec<u8>,
+pub struct Sink<'a> {
+    /// What is left of the text.
+    pub left: &'a [u8],
+    /// Whether all that was taken is the front of the text, and how much that is.
+    pub alike: bool,
+    pub taken: usize,
+    /// The most that a write takes.
     pub most: usize,
+    /// How many bytes it takes before it stops.
     pub room: usize,
+    /// Whether it stops by a failed write.
     pub fails: bool,
-    pub flushes: bool,
     pub writes: usize,
+    /// Whether it can be flushed.
+    pub can_flush: bool,
+    pub flushes: usize,
+    /// How much had been taken when it was last flushed.
+    pub flushed: usize,
 }
 
-impl Write for Sink {
+impl Sink<'_> {
+    /// How much of the text was taken; none where something else was.
+    pub fn written(&self) -> Option<usize> {
+        if self.alike { Some(self.taken) } else { None }
+    }
+}
+
+impl Write for Sink<'_> {
     fn write(&mut self, buf: &[u8]) -> io::Result<usize> {
         self.writes = self.writes.saturating_add(1);
-        if self.room == 0 && self.fails {
-            return Err(io::Error::from(ErrorKind::Interrupted));
+        if self.room == 0 {
+            self.room = usize::MAX;
+            return if self.fails {
+                Err(io::Error::from(ErrorKind::Interrupted))
+            } else {
+                Ok(0)
+            };
         }
-        let most = buf.len().min(self.most).min(self.room);
-        let n = self.taken.write(&buf[..most])?;
+        let n = buf.len().min(self.most).min(self.room);
+        match self.left.strip_prefix(&buf[..n]) {
+            Some(left) => self.left = left,
+            None => self.alike = false,
+        }
         self.room -= n;
+        self.taken = self.taken.saturating_add(n);
         Ok(n)
     }
 
     fn flush(&mut self) -> io::Result<()> {
-        if self.flushes {
-            Ok(())
-        } else {
-            Err(io::Error::from(ErrorKind::BrokenPipe))
+        self.flushes = self.flushes.saturating_add(1);
+        if !self.can_flush {
+            return Err(io::Error::from(ErrorKind::BrokenPipe));
         }
-    }
-}
-
-/// A writer with room for so many bytes.
-pub fn room_for(alloc: Global, room: usize, most: usize, fails: bool) -> Sink {
-    Sink {
-        taken: Vec::new(alloc),
-        most,
-        room,
-        fails,
-        flushes: true,
-        writes: 0,
-    }
-}
-
-/// A writer that takes all that it is handed, and no memory: it compares the bytes with a text.
-#[derive(Drop)]
-pub struct Compared<'a> {
-    pub left: &'a [u8],
-    pub alike: bool,
-    pub writes: usize,
-}
-
-impl Write for Compared<'_> {
-    fn write(&mut self, buf: &[u8]) -> io::Result<usize> {
-        self.writes = self.writes.saturating_add(1);
-        match self.left.strip_prefix(buf) {
-            Some(left) => self.left = left,
-            None => self.alike = false,
-        }
-        Ok(buf.len())
-    }
-
-    fn flush(&mut self) -> io::Result<()> {
+        self.flushed = self.taken;
         Ok(())
     }
 }
 
-/// A writer that expects a text.
-pub fn expecting(text: &[u8]) -> Compared<'_> {
-    Compared {
+/// A writer that expects a text and takes all that it is handed.
+pub fn expecting(text: &[u8]) -> Sink<'_> {
+    Sink {
         left: text,
         alike: true,
+        taken: 0,
+        most: usize::MAX,
+        room: usize::MAX,
+        fails: false,
         writes: 0,
+        can_flush: true,
+        flushes: 0,
+        flushed: 0,
     }
 }

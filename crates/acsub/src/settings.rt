@@ -142,6 +142,3 @@ fn has_empty_pattern(rules: &Rules) -> bool
     }
     false
 }
-
-#[cfg(test)]
-mod tests;

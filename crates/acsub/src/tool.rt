@@ -1,21 +1,27 @@
 //! The whole program: words in, a status out.
 //!
-//! [`tool`] reads the words, then the rule file whole, then runs over a reader and a writer, and flushes the writer. What is
-//! wrong is told by one line on the error stream, and by the status. Faults are found in this order: words, rule file, run,
-//! flush. After a fault of the run the writer is still flushed, and the fault that is told is that of the run.
+//! [`program`] takes the words as the system hands them over, and [`tool`] does the rest: it reads the words, then the rule file
+//! whole, then runs over a reader and a writer, and flushes the writer. Help that is asked for is written and flushed like the text
+//! of a run. A fault is told by one line on the error stream, and by the status. Faults are found in this order: words, rule file,
+//! run, flush. After a fault of the run the writer is still flushed, and the fault that is told is that of the run.
 ghost use Rattle.std.specs.Prelude.{◌≡◌, false, map, string_bytes, OnOk};
+ghost use Rattle.std.specs.Io.KnownBytes.{Appends};
 ghost use Rattle.std.specs.IoError.{error_kind};
+ghost use Rattle.std.specs.Process.{exit_status};
 ghost use Rattle.ac_automaton.specs.Watched.{has_ended};
-ghost use Rattle.acsub.specs.Tool.{status_of, IsStatus, IsDone, IsFaultOf};
+ghost use Rattle.acsub.specs.Outcome.{AnswersFile, AnswersHelp, AnswersTool, Collects, EndsProgram, EndsTool, Finishes, ReadsFile, WritesText};
+ghost use Rattle.acsub.specs.Tool.{IsFaultOf, line_of, status_of};
 
 use crate::error::RunError;
 use crate::run::run;
-use crate::words::{WordsFault, read_words};
-use ac_automaton::error::StreamError;
+use crate::stream::told;
+use crate::words::{Words, WordsFault, read_words};
 use ac_automaton::watched::{Watched, write_whole};
 use ac_input::pairing::PairingError;
 use std::alloc::Global;
+use std::env::Args;
 use std::io::{ErrorKind, Read, Write};
+use std::process::ExitCode;
 use std::rt::Files;
 use std::{fmt, fs, io};
 
@@ -72,8 +78,45 @@ impl fmt::Display for Fault {
     }
 }
 
-/// Runs the program, of which the first word is the name, and answers its status. A fault is told by one line on the error
-/// stream; where that can't be written, the status stands alone.
+/// The program, on the words that the system hands over: the whole of `main` but the standard streams.
+///
+/// Words that are no text are bad words.
+pub fn program<F: Files, R: Read, W: Write, E: Write>(
+    rt: &F,
+    alloc: Global,
+    words: io::Result<Args>,
+    reader: &mut Watched<R>,
+    writer: &mut Watched<W>,
+    errors: &mut E,
+) -> ExitCode
+    requires { has_ended reader.old ≡ false }
+    ensures ended { EndsProgram F.File.remaining R.remaining W.contents words
+        reader.old reader.new writer.old writer.new (exit_status result) }
+    ensures quiet { exit_status result ≡ 0 → errors.new ≡ errors.old }
+{
+    let status = match collect(alloc, words) {
+        Ok(words) => tool(rt, alloc, words.as_slice(), reader, writer, errors),
+        Err(why) => tell(&why, errors),
+    };
+    ExitCode::from(status)
+}
+
+/// The words in their order.
+fn collect(alloc: Global, words: io::Result<Args>) -> Result<Vec<String>, Fault>
+    ensures { Collects words result }
+{
+    let words = match words {
+        Ok(words) => words,
+        Err(error) => return Err(fault_of(&error, Fault::Words)),
+    };
+    match words.collect(alloc) {
+        Ok(words) => Ok(words),
+        Err(_) => Err(Fault::Run(RunError::Memory)),
+    }
+}
+
+/// Runs the program, of which the first word is the name, and returns its status. A fault is one line on the error stream; where
+/// that can't be written, the status stands alone.
 pub fn tool<F: Files, R: Read, W: Write, E: Write>(
     rt: &F,
     alloc: Global,
@@ -83,11 +126,10 @@ pub fn tool<F: Files, R: Read, W: Write, E: Write>(
     errors: &mut E,
 ) -> u8
     requires { has_ended reader.old ≡ false }
-    ensures status { IsStatus result }
-    // At status 0 the words ask for help, and nothing was read; or the text was written that the words and the bytes of the rule
-    // file ask for.
-    ensures done { result ≡ 0 → IsDone R.remaining W.contents (map string_bytes words.now)
-        reader.old reader.new writer.old writer.new }
+    // The status is that of an outcome, which goes with the words, with what was read and written, and with the flush.
+    ensures ended { EndsTool F.File.remaining R.remaining W.contents words.now
+        reader.old reader.new writer.old writer.new result }
+    ensures quiet { result ≡ 0 → errors.new ≡ errors.old }
 {
     match work(rt, alloc, words, reader, writer) {
         Ok(()) => 0,
@@ -95,12 +137,22 @@ pub fn tool<F: Files, R: Read, W: Write, E: Write>(
     }
 }
 
-/// Tells a fault by its line, and answers its status.
+/// Writes the line of a fault, and returns its status.
+///
+/// No contract says what was written where a write of the line fails, since std's `Write` says nothing of that.
 pub fn tell<E: Write>(fault: &Fault, errors: &mut E) -> u8
     ensures { result ≡ status_of fault.now }
 {
-    let _ = writeln!(errors, "acsub: {fault}");
+    let _ = write_line(fault, errors);
     fault.status()
+}
+
+/// Writes the line of a fault.
+fn write_line<E: Write>(fault: &Fault, errors: &mut E) -> io::Result<()>
+    ensures { OnOk result (Appends (E.contents errors.old) (E.contents errors.new)
+        (line_of fault.now)) }
+{
+    writeln!(errors, "acsub: {fault}")
 }
 
 /// The program but for its last line.
@@ -112,18 +164,64 @@ fn work<F: Files, R: Read, W: Write>(
     writer: &mut Watched<W>,
 ) -> Result<(), Fault>
     requires { has_ended reader.old ≡ false }
-    ensures { OnOk result (IsDone R.remaining W.contents (map string_bytes words.now)
-        reader.old reader.new writer.old writer.new) }
+    ensures { AnswersTool F.File.remaining R.remaining W.contents (map string_bytes words.now)
+        reader.old reader.new writer.old writer.new result }
 {
-    let words = match read_words(alloc, words) {
-        Ok(words) => words,
-        Err(WordsFault::Help(help)) => return show_help(alloc, &help, writer),
-        Err(WordsFault::Bad) => return Err(Fault::Words),
-        Err(WordsFault::Memory) => return Err(Fault::Run(RunError::Memory)),
-        Err(WordsFault::Pairing(error)) => return Err(Fault::Pairs(error)),
-    };
+    match read_words(alloc, words) {
+        Ok(words) => run_file(rt, alloc, &words, reader, writer),
+        Err(WordsFault::Help(help)) => show_help(alloc, &help, writer),
+        Err(WordsFault::Bad) => Err(Fault::Words),
+        Err(WordsFault::Memory) => Err(Fault::Run(RunError::Memory)),
+        Err(WordsFault::Pairing(error)) => Err(Fault::Pairs(error)),
+    }
+}
+
+/// Reads the rule file, runs, and flushes.
+fn run_file<F: Files, R: Read, W: Write>(
+    rt: &F,
+    alloc: Global,
+    words: &Words<'_>,
+    reader: &mut Watched<R>,
+    writer: &mut Watched<W>,
+) -> Result<(), Fault>
+    requires { has_ended reader.old ≡ false }
+    ensures { AnswersFile F.File.remaining R.remaining W.contents words.now.settings
+        reader.old reader.new writer.old writer.new result }
+{
     let rules = read_file(rt, alloc, words.rules)?;
     let ran = run(alloc, &words.settings, rules.as_slice(), reader, writer);
+    finish(ran, writer)
+}
+
+/// Shows the help, and flushes. Which text it is no contract of clap says.
+fn show_help<W: Write>(
+    alloc: Global,
+    help: &clap::Error,
+    writer: &mut Watched<W>,
+) -> Result<(), Fault>
+    ensures { AnswersHelp W.contents writer.old writer.new result }
+{
+    let Ok(text) = help.to_string(alloc) else {
+        return Err(Fault::Run(RunError::Memory));
+    };
+    let shown = write_text(text.as_str(), writer);
+    finish(shown, writer)
+}
+
+/// Writes a whole text.
+fn write_text<W: Write>(text: &str, writer: &mut Watched<W>) -> Result<(), RunError>
+    ensures { WritesText W.contents text.now writer.old writer.new result }
+{
+    match write_whole(writer, text.as_bytes()) {
+        Ok(()) => Ok(()),
+        Err(error) => Err(told(error)),
+    }
+}
+
+/// Flushes the writer after a run. A fault of the run is told before one of the flush.
+fn finish<W: Write>(ran: Result<(), RunError>, writer: &mut Watched<W>) -> Result<(), Fault>
+    ensures { Finishes W.contents ran writer.old writer.new result }
+{
     let flushed = writer.flush();
     match ran {
         Ok(()) => {}
@@ -135,28 +233,10 @@ fn work<F: Files, R: Read, W: Write>(
     }
 }
 
-/// Writes the help to the writer.
-fn show_help<W: Write>(
-    alloc: Global,
-    help: &clap::Error,
-    writer: &mut Watched<W>,
-) -> Result<(), Fault> {
-    let Ok(text) = help.to_string(alloc) else {
-        return Err(Fault::Run(RunError::Memory));
-    };
-    match write_whole(writer, text.as_bytes()) {
-        Ok(()) => {}
-        Err(StreamError::Write(error)) => return Err(Fault::Run(RunError::Write(error))),
-        Err(_) => return Err(Fault::Run(RunError::WriteZero)),
-    }
-    match writer.flush() {
-        Ok(()) => Ok(()),
-        Err(_) => Err(Fault::Flush),
-    }
-}
-
 /// All bytes of a file.
-fn read_file<F: Files>(rt: &F, alloc: Global, path: &str) -> Result<Vec<u8>, Fault> {
+fn read_file<F: Files>(rt: &F, alloc: Global, path: &str) -> Result<Vec<u8>, Fault>
+    ensures { ReadsFile F.File.remaining result }
+{
     let mut bytes = Vec::new(alloc);
     match fs::open(rt, path) {
         Ok(mut file) => match file.read_to_end(&mut bytes) {
@@ -167,14 +247,7 @@ fn read_file<F: Files>(rt: &F, alloc: Global, path: &str) -> Result<Vec<u8>, Fau
     }
 }
 
-/// Why the words were not handed over: there is no memory for them, or they are no text.
-pub fn words_fault(error: &io::Error) -> Fault
-    ensures { IsFaultOf (error_kind error.now) Fault.Words result }
-{
-    fault_of(error, Fault::Words)
-}
-
-/// What is told of an error of the system: want of memory as such, and else the other fault.
+/// The fault for an error of the system: out of memory as such, and else the other fault.
 fn fault_of(error: &io::Error, other: Fault) -> Fault
     ensures { IsFaultOf (error_kind error.now) other result }
 {

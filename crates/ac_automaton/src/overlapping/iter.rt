@@ -20,6 +20,7 @@ use std::marker::Model;
 /// The overlapping matches of an input that are left to come. From [`Automaton::try_find_overlapping_iter`].
 ///
 /// Once it has answered `None` it answers nothing else, and does nothing.
+/// A caller: `uses::callers::overlap::all_occurrences`.
 #[derive(Drop)]
 pub struct FindOverlappingIter<'a, 'h, A: Automaton> {
     automaton: &'a A,
@@ -80,6 +81,7 @@ pub fn find_overlapping_iter<'a, 'h, A: Automaton>(
 
 impl<'a, 'h, A: Automaton> FindOverlappingIter<'a, 'h, A> {
     /// The next match, as `next` gives it; and counts what it does.
+    /// A caller: `uses::callers::overlap::pass_occurrences`.
     pub fn next_counted(&mut self, steps: &mut Steps) -> Option<Match>
         ensures yields { YieldsFirst rest_of self.old result self.new }
         ensures run { IsRunAfter self.old result self.new }

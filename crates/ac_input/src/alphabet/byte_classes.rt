@@ -4,7 +4,7 @@
 //! numbers of their classes costs a load a byte, and makes each state's row of transitions as long as there are classes, in
 //! place of 256. To find the classes, mark the range of each byte that patterns have in a [`ByteClassSet`], and ask it for the
 //! [`ByteClasses`].
-ghost use Rattle.std.specs.Prelude.{◌≡◌, ℕ, ◌+◌, ◌^◌, ◌<◌, ◌≤◌, ◌↔◌, ◌||◌, false, IsTrue};
+ghost use Rattle.std.specs.Prelude.{◌≡◌, ℕ, ◌+◌, ◌<◌, ◌≤◌, ◌↔◌, ◌||◌, false, IsTrue};
 ghost use Rattle.ac_input.specs.Alphabet.{has, is_edge, HoldsJustOne, AreClassesOf, class, alphabet_len, IsClasses, IsLeastExponent, IsLeastPowerOfTwo, elements, runs};
 ghost use Rattle.std.specs.List.{range_with_len};
 ghost use Rattle.std.specs.Iterator.{YieldsFirst, item_count};

@@ -1,5 +1,5 @@
 //! Builders and searchers of packed search.
-ghost use Rattle.std.specs.Prelude.{◌≡◌, ◌↔◌, ℕ, ◌≤◌, [], ◌∷◌, length, IfOk, OnOk, OnErr, IsSome, IfSome};
+ghost use Rattle.std.specs.Prelude.{◌≡◌, ◌↔◌, ◌≤◌, [], length, IfOk, OnOk, OnErr, IsSome, IfSome};
 ghost use Rattle.std.specs.Iterator.{YieldsFirst, item_count};
 ghost use Rattle.ac_literal.specs.Packed.{fresh, added, added_all, built, least_len, bytes_of, leftmost_first, matches_of, HasBeginning, AreServed, IsBestIn, IsBestOf};
 
@@ -57,6 +57,7 @@ impl Default for Config {
 
 impl Config {
     /// Leftmost-first matches.
+    /// A caller: `uses::callers::packed::longest_match`.
     pub fn new() -> Config
         ensures { result ≡ MatchKind.LeftmostFirst }
     {
@@ -66,6 +67,7 @@ impl Config {
     }
 
     /// A builder of such searchers. It takes no memory yet, and takes it from `alloc` later.
+    /// A caller: `uses::callers::packed::longest_match`.
     pub fn builder(&self, alloc: Global) -> Builder
         ensures { result ≡ fresh self.now }
     {
@@ -77,6 +79,7 @@ impl Config {
     }
 
     /// Sets which occurrence is the match.
+    /// A caller: `uses::callers::packed::longest_match`.
     pub fn match_kind(&mut self, kind: MatchKind) -> &mut Config
         ensures same { result.ghost_name ≡ self.entry.ghost_name }
         ensures value { result.now ≡ kind }
@@ -173,6 +176,7 @@ impl Builder {
     }
 
     /// The same as [`Builder::extend`], for a caller that goes on where memory ended.
+    /// A caller: `uses::callers::packed::longest_match`.
     pub fn try_extend(&mut self, patterns: &[&[u8]]) -> Result<(), AllocError>
         ensures ok { OnOk result (self.new ≡ added_all self.old (bytes_of patterns.now)) }
         ensures err { OnErr result (HasBeginning self.old (bytes_of patterns.now) self.new) }
@@ -198,6 +202,7 @@ impl Builder {
     }
 
     /// A searcher for the patterns, with copies of them; none where there is no pattern.
+    /// A caller: `uses::callers::packed::longest_match`.
     pub fn build(&self) -> Result<Option<Searcher>, AllocError>
         ensures value { IfOk result (λ made. made ≡ built self.now.kind self.now.patterns) }
         ensures served { IfOk result (λ made. IfSome made (λ s. AreServed s.patterns)) }
@@ -233,6 +238,7 @@ impl Model for Searcher {
 
 impl Searcher {
     /// A leftmost-first searcher for the patterns, with copies of them; none where they are not 1 to 128, or one is empty.
+    /// A caller: `uses::callers::packed::can_serve`.
     pub fn new(alloc: Global, patterns: &[&[u8]]) -> Result<Option<Searcher>, AllocError>
         ensures served { IfOk result (λ made. IsSome made ↔ AreServed (bytes_of patterns.now)) }
         ensures value { IfOk result
@@ -268,6 +274,7 @@ impl Searcher {
     }
 
     /// The first match in the haystack, if it has one. It takes no memory.
+    /// A caller: `uses::callers::packed::first_match`.
     pub fn find(&self, haystack: &[u8]) -> Option<Match>
         ensures best { IsBestOf self.now haystack.now result }
         ensures served { AreServed self.now.patterns }
@@ -282,6 +289,7 @@ impl Searcher {
     }
 
     /// The first match of those that lie in the span, if there is one. Nothing outside the span is looked at.
+    /// A caller: `uses::callers::packed::match_in`.
     pub fn find_in(&self, haystack: &[u8], span: Span) -> Option<Match>
         requires order { span.start ≤ span.end }
         requires within { span.end ≤ length haystack.now }
@@ -304,6 +312,7 @@ impl Searcher {
     /// All matches that don't overlap, from the first to the last.
     ///
     /// To go over all of them looks at each byte once, but for the comparisons.
+    /// A caller: `uses::callers::packed::all_matches`.
     pub fn find_iter<'s, 'h>(&'s self, haystack: &'h [u8]) -> FindIter<'s, 'h>
         ensures { result ≡ matches_of self.now haystack.now }
     {

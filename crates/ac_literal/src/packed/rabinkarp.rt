@@ -11,7 +11,7 @@
 //! one load; with fifty patterns that is so at nineteen places of twenty, and the processor guesses it well. Elsewhere the hashes
 //! of the bucket are compared, and a pattern only where its hash is that of the place. The first pattern that lies there is the
 //! one that the kind prefers. A table takes a kilobyte, and 16 bytes a pattern.
-ghost use Rattle.std.specs.Prelude.{◌≡◌, ℕ, ◌+◌, ◌-◌, ◌*◌, ◌%◌, ◌^◌, ◌<◌, ◌≤◌, length, slice_range, IfOk, MatchOption};
+ghost use Rattle.std.specs.Prelude.{◌≡◌, ◌+◌, ◌-◌, ◌*◌, ◌%◌, ◌^◌, ◌<◌, ◌≤◌, length, slice_range, IfOk, MatchOption};
 ghost use Rattle.ac_input.specs.Occurrence.{Occurs};
 ghost use Rattle.ac_literal.specs.Packed.{AreServed, in_span};
 ghost use Rattle.ac_literal.specs.RabinKarp.{hash_of, bucket_of, lying, entry_at, IsTable, IsTableOf, IsSameTable, NoneBefore, IsMatchAt, IsMatchBefore};

@@ -283,6 +283,7 @@ impl Model for PrefilterBuilder {
 impl PrefilterBuilder {
     /// A builder with no pattern, for searches of this kind, where no byte is paired. It takes no memory yet, and takes it from
     /// `alloc` later.
+    /// A caller: `uses::callers::packed::prefilter_of`.
     pub fn new(alloc: Global, kind: MatchKind) -> PrefilterBuilder
         ensures kind { result.kind ≡ kind }
         ensures patterns { result.patterns ≡ [] }
@@ -342,6 +343,7 @@ impl PrefilterBuilder {
     }
 
     /// The same as [`PrefilterBuilder::add`], for a caller that goes on where memory ended.
+    /// A caller: `uses::callers::packed::prefilter_of`.
     pub fn try_add(&mut self, pattern: &[u8]) -> Result<(), AllocError>
         ensures ok { OnOk result (self.new ≡ with_pattern self.old pattern.now) }
         ensures err { OnErr result (self.new ≡ self.old) }
@@ -358,6 +360,7 @@ impl PrefilterBuilder {
     /// The prefilter of the patterns, if there is one that serves.
     ///
     /// It takes memory for a copy of the patterns that the prefilter searches for, and none where it scans for bytes.
+    /// A caller: `uses::callers::packed::prefilter_of`.
     pub fn build(&self) -> Result<Option<Prefilter>, AllocError>
         ensures dictionary { IfOk result (λ made. IfSome made (λ p. p.dictionary ≡ self.now)) }
         ensures admissible { IfOk result (λ made. IsSome made → IsAdmissible self.now) }

@@ -1,8 +1,8 @@
 //! The rows of the states that few bytes lead to.
 //!
 //! A row has the next state for each class of bytes. Most of a search's steps are near to the start, where states have most
-//! children, so a row for each state of little depth makes a step there two loads; elsewhere rows would be mostly empty.
-ghost use Rattle.std.specs.Prelude.{◌≡◌, ℕ, ◌+◌, ◌<◌, ◌≢◌, ◌||◌, length, true, IfOk};
+//! children, so a row for each state of little depth makes a step there three loads; elsewhere rows would be mostly empty.
+ghost use Rattle.std.specs.Prelude.{◌≡◌, ℕ, ◌+◌, ◌<◌, ◌||◌, length, true, IfOk};
 ghost use Rattle.ac_input.specs.Alphabet.{has, is_edge, alphabet_len};
 ghost use Rattle.ac_noncontiguous.specs.Numbering.{IsNumbering};
 ghost use Rattle.ac_noncontiguous.specs.Layout.{IsParted, AreAlone, AreClassesOfTrie, LeadAlike, KeepsRows, IsRowAppended, IsRowOf, AreRowsOf};

@@ -13,7 +13,6 @@ use crate::compiler::edges::edges;
 use crate::compiler::numbering::Numbering;
 use crate::nfa::tables::Transition;
 use crate::trie::Trie;
-use ac_input::live_laws::pairing_is_own_inverse;
 use ac_input::primitives::StateID;
 use std::alloc::{AllocError, Global};
 
@@ -108,7 +107,6 @@ fn push_state(
     if state == 1 {
         return Ok(());
     }
-    pairing_is_own_inverse();
     let all = has_all(numbering, state);
     let of = numbering.at[state];
     if !all && has_one_at_most(trie, of) {

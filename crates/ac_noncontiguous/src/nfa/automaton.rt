@@ -1,5 +1,5 @@
 //! Searching with the automaton.
-ghost use Rattle.std.specs.Prelude.{◌≡◌, ◌<◌, take, length, IsTrue};
+ghost use Rattle.std.specs.Prelude.{◌<◌, take, length, IsTrue};
 ghost use Rattle.ac_automaton.specs.Automaton.{IsReached, Leads, IsReadCost, TakesSome, PassesPlain, is_matching};
 ghost use Rattle.ac_noncontiguous.specs.Reads.{built_as, matches_at, IsRead};
 ghost use Rattle.ac_noncontiguous.specs.Idle.{PassesIdle};

@@ -1,6 +1,6 @@
 //! The patterns as an automaton remembers them.
 ghost use Rattle.std.specs.Prelude.{◌≡◌, ◌++◌, [], ◌∷◌, ◌≤◌, map, length, IfOk, OnOk};
-ghost use Rattle.ac_input.specs.Limits.{greatest};
+ghost use Rattle.ac_input.specs.declared.primitives.number.TheConstants.{GREATEST};
 ghost use Rattle.ac_input.specs.Work.{longest, shortest};
 ghost use Rattle.ac_noncontiguous.specs.Nfa.{lens_of, AreShort};
 
@@ -34,7 +34,7 @@ impl Lens {
 
     /// Of one pattern more.
     pub(crate) fn add(&mut self, pattern: &[u8]) -> Result<(), AllocError>
-        requires { length pattern.now ≤ greatest }
+        requires { length pattern.now ≤ GREATEST }
         ensures { OnOk result (self.new.patterns.items ≡
             self.old.patterns.items ++ pattern.now ∷ []) }
     {

@@ -91,7 +91,7 @@ impl<'a> Iterator for TransIter<'a> {
 }
 
 impl NFA {
-    ghost use Rattle.ac_noncontiguous.specs.Reads.{dictionary, matches_at};
+    ghost use Rattle.ac_noncontiguous.specs.Reads.{matches_at};
     ghost use Rattle.ac_noncontiguous.specs.ReadCalls.{state_len, fail_in, depth_in, edges_in, classes_in, special_in, ClassesAreThose, CountsIn, FailsIn, IsDeepIn, ListsIn, EdgesLeadIn, SpecialIn, StandForSome, TextsBegin, IsCopy};
 
     /// How many states there are.
@@ -121,6 +121,7 @@ impl NFA {
     }
 
     /// The patterns that match at the state.
+    /// A caller: `uses::callers::states::count_by_both`.
     pub fn match_list(&self, sid: StateID) -> &[PatternID]
         requires { sid < state_len self.now }
         ensures value { result.now ≡ matches_at self.now sid }
@@ -135,6 +136,7 @@ impl NFA {
     }
 
     /// The patterns that match at the state, one after another.
+    /// A caller: `uses::callers::states::count_by_both`.
     pub fn iter_matches(&self, sid: StateID) -> MatchIter<'_>
         requires { sid < state_len self.now }
         ensures value { result ≡ matches_at self.now sid }
@@ -146,6 +148,7 @@ impl NFA {
     }
 
     /// The transitions of the state, in rising order of byte.
+    /// A caller: `uses::callers::states::transitions`.
     pub fn iter_trans(&self, sid: StateID) -> TransIter<'_>
         requires { sid < state_len self.now }
         ensures value { result ≡ edges_in self.now sid }
@@ -198,6 +201,7 @@ impl NFA {
     }
 
     /// The same automaton once more, in memory from `alloc`.
+    /// A caller: `uses::callers::build::copy`.
     pub fn clone(&self, alloc: Global) -> Result<NFA, AllocError>
         ensures { IfOk result (IsCopy self.now) }
     {

@@ -3,7 +3,6 @@
 //! Over every other byte a search that stands in the start stays there. So where no more than three bytes lead on, it finds the next
 //! of them by `memchr`, many bytes at a time, and passes over all before it. Where there are more, or where the start matches, it
 //! goes from byte to byte.
-ghost use Rattle.std.specs.Prelude.{ℕ};
 ghost use Rattle.memchr.specs.Find.{IsFirstByte};
 ghost use Rattle.ac_noncontiguous.specs.Lookups.{IsKept};
 ghost use Rattle.ac_noncontiguous.specs.Starters.{is_starter, AddsStarter, SkipsIdle, IsIdleFront};

@@ -2,7 +2,8 @@
 //!
 //! The transitions of a state are one range of one vector, in rising order of byte, and so are its patterns; a state without
 //! patterns of its own shares the range of the state to which it fails. States that few bytes lead to keep a row as well, with the
-//! next state for each class of bytes: there a look-up is two loads, elsewhere it halves the range.
+//! next state for each class of bytes: there a look-up is three loads (where the row begins, the class of the byte, and
+//! the next state), elsewhere it halves the range.
 ghost use Rattle.std.specs.Prelude.{◌≡◌, ◌≤◌, ◌+◌, false, length, take, drop, IfOk};
 ghost use Rattle.ac_input.specs.Input.{is_anchored};
 ghost use Rattle.ac_noncontiguous.specs.Nfa.{fail_of};

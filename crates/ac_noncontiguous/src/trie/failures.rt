@@ -6,7 +6,7 @@
 //!
 //! Each step from a failure to the next one is paid by a byte of the pattern by which the states were added: the time is in
 //! proportion to the bytes of the patterns.
-ghost use Rattle.std.specs.Prelude.{◌≡◌, ℕ, ◌+◌, ◌∷◌, ◌++◌, ◌<◌, ◌≤◌, [], false, length, Some, IfOk};
+ghost use Rattle.std.specs.Prelude.{◌≡◌, ℕ, ◌+◌, ◌<◌, length, Some, IfOk};
 ghost use Rattle.ac_input.specs.Dictionary.{Dictionary};
 ghost use Rattle.ac_noncontiguous.specs.Tree.{depth};
 ghost use Rattle.ac_noncontiguous.specs.Kept.{IsTrieOf};
@@ -17,17 +17,8 @@ ghost use Rattle.ac_noncontiguous.specs.Failures.{IsChildOf, IsToldBy, AreShallo
 
 use super::Trie;
 use super::children::Children;
-use ac_input::failure_laws::{
-    canonical_bytes_are_the_same, empty_has_no_failure, empty_pattern_leaves_no_failure,
-    match_has_no_failure, no_failure_stays,
-};
-use ac_input::live_laws::{canonical_bytes_tell_texts, pairing_is_own_inverse};
 use ac_input::primitives::StateID;
 use ac_input::search::MatchKind;
-use ac_input::state_laws::{
-    child_is_next, dead_is_next, failure_tells_failure, failure_tells_next, first_fails_to_start,
-    start_is_next,
-};
 use std::alloc::{AllocError, Global};
 
 impl Trie {
@@ -72,13 +63,6 @@ impl Trie {
             (depth self.now.states.items from + 1) result }
         ensures leads { IsNextByFails self.now fails.now from byte result }
     {
-        canonical_bytes_tell_texts();
-        canonical_bytes_are_the_same();
-        pairing_is_own_inverse();
-        child_is_next();
-        start_is_next();
-        failure_tells_next();
-        dead_is_next();
         let mut at = Some(from);
         while let Some(id) = at {
             let told = self.told_by(children, id, byte);
@@ -113,15 +97,6 @@ impl Trie {
             (depth self.now.states.items f < depth self.now.states.items id) }
         ensures fails { IsFailureByFails self.now fails.now id result }
     {
-        canonical_bytes_tell_texts();
-        canonical_bytes_are_the_same();
-        pairing_is_own_inverse();
-        empty_has_no_failure();
-        empty_pattern_leaves_no_failure();
-        match_has_no_failure();
-        no_failure_stays();
-        first_fails_to_start();
-        failure_tells_failure();
         if id == StateID::ZERO || self.is_final(id) {
             return None;
         }

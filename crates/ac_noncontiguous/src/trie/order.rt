@@ -4,7 +4,7 @@
 //! one pattern after another; here they are put in order of their depth. A pass from the last state back makes a list of the
 //! states of each depth, and the lists are read one after another: the time is in proportion to the states, and what it takes
 //! besides the order, eight bytes a state, is given back.
-ghost use Rattle.std.specs.Prelude.{◌≡◌, ◌+◌, ◌<◌, ◌≤◌, length, IfOk};
+ghost use Rattle.std.specs.Prelude.{◌+◌, ◌<◌, length, IfOk};
 ghost use Rattle.ac_noncontiguous.specs.Order.{AreLevels, AreInOrder, IsBreadthFirst};
 
 use super::Trie;

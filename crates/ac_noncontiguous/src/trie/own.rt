@@ -2,7 +2,7 @@
 //!
 //! A trie knows of each pattern in which state it ends. A pass from the last pattern back makes a list for each state, in rising
 //! order of number; it takes four bytes a state and four a pattern, and time in proportion to both.
-ghost use Rattle.std.specs.Prelude.{◌≡◌, ◌+◌, ◌<◌, ◌≤◌, length, IfOk};
+ghost use Rattle.std.specs.Prelude.{◌<◌, length, IfOk};
 ghost use Rattle.ac_noncontiguous.specs.Own.{AreOwn, AppendsOwn};
 
 use super::Trie;

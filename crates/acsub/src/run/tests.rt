@@ -1,23 +1,18 @@
-//! Runs over scripted readers and writers, with what other implementations write.
+//! Runs over scripted readers and writers.
 //!
-//! What is written stands in `texts`, `pairings` and `repeated`, each text by every engine that takes the settings, and beside
-//! the plain program in `alike`; what is answered where settings, rules or a device fail, in `refusals` and `devices`.
-ghost use Rattle.std.specs.Prelude.{◌<◌};
-
+//! What is written stands in `texts`, and in `repeated` for letters that stand many times over. What is refused stands in
+//! `refusals`, and what becomes of a reader or a writer that stops in `devices`.
 use super::run;
 use crate::error::RunError;
 use crate::rules::RuleError;
-use crate::scripted::{Sink, Source, room_for, whole};
-use crate::settings::{Engine, Mode, SettingError, Settings};
+use crate::scripted::{Same, Sink, Source, Told, expecting, whole};
+use crate::settings::{Engine, SettingError, Settings};
 use ac_automaton::watched::Watched;
-use ac_input::pairing::Pairing;
 use ac_input::search::MatchKind;
 use std::alloc::{AllocError, Global};
 use std::process::Abort;
 
-mod alike;
 mod devices;
-mod pairings;
 mod refusals;
 mod repeated;
 mod texts;
@@ -49,12 +44,14 @@ fn answer_of(outcome: &Result<(), RunError>) -> Answer {
 }
 
 /// What a run did.
-#[derive(Drop)]
-struct Trial {
+#[derive(Clone, Copy)]
+struct Did {
     answer: Answer,
-    taken: Vec<u8>,
+    /// How much of the text was written; none where something else was.
+    written: Option<usize>,
     reads: usize,
     writes: usize,
+    flushes: usize,
 }
 
 fn try_run(
@@ -62,123 +59,238 @@ fn try_run(
     settings: &Settings,
     rules: &str,
     source: Source<'_>,
-    sink: Sink,
-) -> Trial {
+    sink: Sink<'_>,
+) -> Did {
     let mut reader = Watched::new(source);
     let mut writer = Watched::new(sink);
     let outcome = run(alloc, settings, rules.as_bytes(), &mut reader, &mut writer);
     let sink = writer.into_inner();
-    Trial {
+    Did {
         answer: answer_of(&outcome),
-        taken: sink.taken,
+        written: sink.written(),
         reads: reader.into_inner().reads,
         writes: sink.writes,
+        flushes: sink.flushes,
     }
 }
 
-/// What the runs below are told to do, but for the mode, the kind and what a test says.
-fn settings_for(mode: Mode, kind: MatchKind) -> Settings {
-    Settings {
-        mode,
-        kind,
-        pairing: Pairing::none(),
-        engine: Engine::Auto,
-        prefilter: true,
-        dense_depth: None,
-        byte_classes: true,
+/// Asserts that a run by these rules did that.
+fn shows(rt: &impl Abort, rules: &str, did: &Did, want: &Did) {
+    let rules = if rules.len() < 200 {
+        rules
+    } else {
+        "long ones"
+    };
+    assert_eq!(rt; did.answer, want.answer, "by {rules:?}");
+    assert_eq!(rt; did.written, want.written, "by {rules:?}");
+    let calls = (did.reads, did.writes, did.flushes);
+    assert_eq!(rt;
+        calls,
+        (want.reads, want.writes, want.flushes),
+        "by {rules:?}"
+    );
+}
+
+/// How often an input is read, with so many bytes a read and an empty one.
+fn reads_of(input: &[u8], most: usize) -> usize {
+    input.len().div_ceil(most.max(1)).saturating_add(1)
+}
+
+/// A text, so many times over.
+#[derive(Clone, Copy)]
+struct Times(usize, &'static str);
+
+fn push_parts(text: &mut String, parts: &[Times]) -> Result<(), AllocError> {
+    for Times(count, part) in parts {
+        for _ in 0..*count {
+            text.push_str(part)?;
+        }
     }
+    Ok(())
+}
+
+/// The rules of a run.
+#[derive(Clone, Copy)]
+enum Rules {
+    /// A rule for each pattern, which takes it away.
+    Find(&'static [&'static [u8]]),
+    /// Patterns and their replacements.
+    Swap(&'static [(&'static [u8], &'static [u8])]),
+    /// Rules that take away the letter `a` once, twice, and so on up to so many times.
+    Rising(usize),
+    /// A rule file, put together of parts.
+    File(&'static [Times]),
 }
 
 fn push_rule(
-    rules: &mut String,
+    file: &mut String,
     alloc: Global,
-    pattern: &str,
-    replacement: &str,
+    pattern: &[u8],
+    replacement: &[u8],
 ) -> Result<(), AllocError> {
-    rules.push_str(hex::encode(alloc, pattern)?.as_str())?;
-    rules.push_str("\t")?;
-    rules.push_str(hex::encode(alloc, replacement)?.as_str())?;
-    rules.push_str("\n")
+    file.push_str(hex::encode(alloc, pattern)?.as_str())?;
+    file.push_str("\t")?;
+    file.push_str(hex::encode(alloc, replacement)?.as_str())?;
+    file.push_str("\n")
 }
 
-/// A rule file that takes these patterns away.
-fn patterns_file(alloc: Global, patterns: &[&str]) -> Result<String, AllocError> {
-    let mut rules = String::new(alloc);
-    for pattern in patterns {
-        push_rule(&mut rules, alloc, *pattern, "")?;
-    }
-    Ok(rules)
-}
-
-/// A rule file of these sides.
-fn rules_file(alloc: Global, sides: &[(&str, &str)]) -> Result<String, AllocError> {
-    let mut rules = String::new(alloc);
-    for (pattern, replacement) in sides {
-        push_rule(&mut rules, alloc, *pattern, *replacement)?;
-    }
-    Ok(rules)
-}
-
-/// Room for any text.
-fn ample(alloc: Global) -> Sink {
-    room_for(alloc, usize::MAX, 4096, false)
-}
-
-/// Runs over so many bytes a read, and asserts that this text is written.
-fn writes_in(
-    rt: &impl Abort,
-    alloc: Global,
-    settings: &Settings,
-    rules: &str,
-    input: &[u8],
-    most: usize,
-    want: &[u8],
-)
-    requires { 0 < most }
-{
-    let did = try_run(alloc, settings, rules, whole(input, most), ample(alloc));
-    assert_eq!(rt; did.answer, Answer::Done, "{rules:?} over {input:?}");
-    assert_eq!(rt; did.taken.as_slice(), want, "{rules:?} over {input:?}");
-    assert_eq!(rt; did.reads, input.len().div_ceil(most).saturating_add(1));
-}
-
-/// Runs with a prefilter and without it, by states with rows up to each of these depths, over one, two and seven bytes a read,
-/// and asserts that the same text is written.
-fn writes_alike(
-    rt: &impl Abort,
-    alloc: Global,
-    settings: &Settings,
-    rules: &str,
-    input: &[u8],
-    want: &[u8],
-) {
-    for prefilter in [true, false] {
-        for dense_depth in [None, Some(0), Some(1), Some(100)] {
-            let mut settings = *settings;
-            settings.prefilter = prefilter;
-            settings.dense_depth = dense_depth;
-            for most in [1usize, 2, 7] {
-                writes_in(rt, alloc, &settings, rules, input, most, want);
+fn push_rules(file: &mut String, alloc: Global, rules: &Rules) -> Result<(), AllocError> {
+    match rules {
+        Rules::Find(patterns) => {
+            for pattern in *patterns {
+                push_rule(file, alloc, pattern, b"")?;
             }
+        }
+        Rules::Swap(sides) => {
+            for (pattern, replacement) in *sides {
+                push_rule(file, alloc, pattern, replacement)?;
+            }
+        }
+        Rules::Rising(most) => {
+            for len in 1..=*most {
+                push_parts(file, &[Times(len, "61"), Times(1, "\t\n")])?;
+            }
+        }
+        Rules::File(parts) => push_parts(file, parts)?,
+    }
+    Ok(())
+}
+
+/// A rule file, an input, and the text that a run writes.
+#[derive(Clone, Copy)]
+struct Case<'a> {
+    rules: &'a str,
+    input: &'a [u8],
+    writes: &'a [u8],
+    /// How many writes that takes, where each can take all; none where each takes a little.
+    calls: Option<usize>,
+}
+
+/// An input that is no longer is never read by less than a read gives, since a run has that much room at first.
+const LEAST_ROOM: usize = 65_536;
+
+/// Runs over so many bytes a read, and asserts that the text is written, that the first empty read is the last, and that nothing
+/// is flushed.
+fn writes_in(rt: &impl Abort, alloc: Global, settings: &Settings, case: &Case<'_>, most: usize) {
+    let takes = if case.calls.is_none() {
+        4096
+    } else {
+        usize::MAX
+    };
+    let sink = Sink {
+        most: takes,
+        ..expecting(case.writes)
+    };
+    let did = try_run(alloc, settings, case.rules, whole(case.input, most), sink);
+    let reads = if most == 1 || case.input.len() <= LEAST_ROOM {
+        reads_of(case.input, most)
+    } else {
+        did.reads
+    };
+    let want = Did {
+        answer: Answer::Done,
+        written: Some(case.writes.len()),
+        reads,
+        writes: case.calls.unwrap_or(did.writes),
+        flushes: 0,
+    };
+    shows(rt, case.rules, &did, &want);
+}
+
+/// The same by each of these kinds and engines.
+fn writes_by(
+    rt: &impl Abort,
+    alloc: Global,
+    settings: &Settings,
+    by: &[By],
+    case: &Case<'_>,
+    most: usize,
+) {
+    for by in by {
+        for engine in by.engines {
+            let settings = Settings {
+                kind: by.kind,
+                engine: *engine,
+                ..*settings
+            };
+            writes_in(rt, alloc, &settings, case, most);
         }
     }
 }
 
-/// Runs by each of these engines, and asserts that the same text is written, whatever else they are told.
-fn writes(
-    rt: &impl Abort,
-    alloc: Global,
-    engines: &[Engine],
-    settings: &Settings,
-    rules: &str,
-    input: &[u8],
-    want: &[u8],
-) {
-    for engine in engines {
-        let mut settings = *settings;
-        settings.engine = *engine;
-        writes_alike(rt, alloc, &settings, rules, input, want);
+/// How many bytes a read gives.
+const PIECES: &[usize] = &[1, 2, 7];
+
+/// Settings that change nothing of a text.
+struct Tuning {
+    prefilter: bool,
+    dense_depth: Option<usize>,
+    byte_classes: bool,
+}
+
+const TUNINGS: &[Tuning] = &[
+    Tuning {
+        prefilter: true,
+        dense_depth: None,
+        byte_classes: true,
+    },
+    Tuning {
+        prefilter: true,
+        dense_depth: Some(0),
+        byte_classes: false,
+    },
+    Tuning {
+        prefilter: true,
+        dense_depth: Some(1),
+        byte_classes: true,
+    },
+    Tuning {
+        prefilter: true,
+        dense_depth: Some(100),
+        byte_classes: true,
+    },
+    Tuning {
+        prefilter: false,
+        dense_depth: None,
+        byte_classes: false,
+    },
+    Tuning {
+        prefilter: false,
+        dense_depth: Some(0),
+        byte_classes: true,
+    },
+    Tuning {
+        prefilter: false,
+        dense_depth: Some(1),
+        byte_classes: false,
+    },
+    Tuning {
+        prefilter: false,
+        dense_depth: Some(100),
+        byte_classes: true,
+    },
+];
+
+/// Asserts that a text is written whatever else the settings say.
+fn writes_alike(rt: &impl Abort, alloc: Global, settings: &Settings, by: &[By], case: &Case<'_>) {
+    for tuning in TUNINGS {
+        let settings = Settings {
+            prefilter: tuning.prefilter,
+            dense_depth: tuning.dense_depth,
+            byte_classes: tuning.byte_classes,
+            ..*settings
+        };
+        for most in PIECES {
+            writes_by(rt, alloc, &settings, by, case, *most);
+        }
     }
+}
+
+/// A kind, and the engines that serve it.
+#[derive(Clone, Copy)]
+struct By {
+    kind: MatchKind,
+    engines: &'static [Engine],
 }
 
 /// The engines that take any rules.
@@ -197,3 +309,30 @@ const ENGINES: &[Engine] = &[
     Engine::Dfa,
     Engine::Packed,
 ];
+
+const STANDARD: By = By {
+    kind: MatchKind::Standard,
+    engines: AUTOMATA,
+};
+
+const FIRST: By = By {
+    kind: MatchKind::LeftmostFirst,
+    engines: ENGINES,
+};
+
+const LONGEST: By = By {
+    kind: MatchKind::LeftmostLongest,
+    engines: ENGINES,
+};
+
+/// For rules or a pairing that packed search doesn't take.
+const FIRST_BY_AUTOMATA: By = By {
+    kind: MatchKind::LeftmostFirst,
+    engines: AUTOMATA,
+};
+
+/// The same.
+const LONGEST_BY_AUTOMATA: By = By {
+    kind: MatchKind::LeftmostLongest,
+    engines: AUTOMATA,
+};

@@ -170,6 +170,3 @@ pub(crate) fn stream_list<A: Automaton, R: Read, W: Write>(
         Err(error) => Err(told(error)),
     }
 }
-
-#[cfg(test)]
-mod tests;

@@ -1,282 +1,448 @@
 //! The whole program over scripted devices: each status, and each line.
-//!
-//! A rule file lies in `out/`, under a name of the test's own, for no longer than a run.
 use super::{Fault, tell, tool};
 use crate::error::RunError;
-use crate::scripted::{Sink, Source, room_for, whole};
+use crate::scripted::{Sink, Source, command_line, expecting, whole};
 use ac_automaton::watched::Watched;
 use ac_input::primitives::PatternID;
 use ac_noncontiguous::error::BuildErrorKind;
 use std::alloc::{AllocError, Global};
 use std::fs;
 use std::process::Abort;
+use std::rt::Files;
 use std::test::Fail;
 
-/// The words after the program's name, as the system hands them over.
-fn line(alloc: Global, words: &[&str]) -> Result<Vec<String>, AllocError> {
-    let mut line = Vec::new(alloc);
-    line.push(String::from_str(alloc, "acsub")?)?;
-    for word in words {
-        line.push(String::from_str(alloc, word)?)?;
-    }
-    Ok(line)
+/// Where the rule file lies while a row is tried.
+const PATH: &str = "out/tool.rules";
+
+/// `b`, `abc` and `abcd`.
+const LETTERS: &str = "62\t\n616263\t\n61626364\t\n";
+
+/// Fox by sloth.
+const SLOTH: &str = "666f78\t736c6f7468\n";
+
+const HELP: &str = "\
+Replaces, or lists, what the patterns of a rule file match in the input
+
+Usage: acsub [OPTIONS] <MODE> <RULES>
+
+Arguments:
+  <MODE>   What to write [possible values: replace, list, overlap]
+  <RULES>  The rule file
+
+Options:
+      --kind <K>         Which match is taken [default: standard] [possible values: standard, leftmost-first, leftmost-longest]
+      --fold             Match ASCII letters in either case
+      --pairs <HEX>      Bytes that match each other
+      --engine <E>       What searches [default: auto] [possible values: auto, noncontiguous, contiguous, dfa, packed]
+      --no-prefilter     Look at each place
+      --dense-depth <N>  States less deep are dense
+      --no-byte-classes  Give each byte its own class
+  -h, --help             Print help
+";
+
+/// A command line, the rule file and the devices; and what the program does.
+struct Row {
+    words: &'static [&'static str],
+    rules: &'static str,
+    /// What is read, and whether a read fails after it.
+    input: &'static [u8],
+    read_fails: bool,
+    /// How many bytes the writer takes before it stops, whether by a failed write, and whether it can be flushed.
+    room: usize,
+    write_fails: bool,
+    can_flush: bool,
+    status: u8,
+    /// What is told on the error stream.
+    told: &'static str,
+    /// What is written: so many bytes of a text, at least and at most.
+    text: &'static str,
+    fewest: usize,
+    most: usize,
+    reads: usize,
+    /// How often is flushed, where that is settled.
+    flushes: Option<usize>,
 }
 
+/// Words that are refused, whose rule file is not even looked for.
+const BAD: Row = Row {
+    words: &[],
+    rules: LETTERS,
+    input: b"abcd",
+    read_fails: false,
+    room: usize::MAX,
+    write_fails: false,
+    can_flush: true,
+    status: 2,
+    told: "acsub: bad words\n",
+    text: "",
+    fewest: 0,
+    most: 0,
+    reads: 0,
+    flushes: Some(0),
+};
+
+/// A run that is refused. The writer is flushed all the same.
+const REFUSED: Row = Row {
+    flushes: Some(1),
+    ..BAD
+};
+
+/// A run that replaces fox by sloth.
+const REPLACED: Row = Row {
+    words: &["replace", PATH],
+    rules: SLOTH,
+    input: b"The fox",
+    text: "The sloth",
+    fewest: 9,
+    most: 9,
+    reads: 2,
+    ..REFUSED
+};
+
+const SHOWN: Row = Row {
+    words: &["--help"],
+    status: 0,
+    told: "",
+    text: HELP,
+    fewest: HELP.len(),
+    most: HELP.len(),
+    ..REFUSED
+};
+
+const ROWS: &[Row] = &[
+    // What the words ask for is listed, and flushed.
+    Row {
+        words: &["list", PATH, "--kind", "leftmost-longest"],
+        status: 0,
+        told: "",
+        text: "2 0 4\n",
+        fewest: 6,
+        most: 6,
+        reads: 2,
+        ..REFUSED
+    },
+    // What the words ask for is replaced, and flushed.
+    Row {
+        status: 0,
+        told: "",
+        ..REPLACED
+    },
+    // Words that are no command line.
+    Row {
+        words: &["list"],
+        ..BAD
+    },
+    Row {
+        words: &["delete", "missing.rules"],
+        ..BAD
+    },
+    Row {
+        words: &["list", "missing.rules", "--pairs", "303"],
+        ..BAD
+    },
+    Row {
+        words: &["list", "missing.rules", "--pairs", "303132"],
+        ..BAD
+    },
+    Row {
+        words: &["list", "missing.rules", "--pairs", "3031", "--fold"],
+        ..BAD
+    },
+    // Pairs that name a byte twice.
+    Row {
+        words: &["list", "missing.rules", "--pairs", "30313132"],
+        told: "acsub: setting: byte 49 is named twice\n",
+        ..BAD
+    },
+    Row {
+        words: &["list", "missing.rules", "--pairs", "3030"],
+        told: "acsub: setting: byte 48 is named twice\n",
+        ..BAD
+    },
+    // Each reason for which settings are refused.
+    Row {
+        words: &["overlap", PATH, "--kind", "leftmost-first"],
+        told: "acsub: setting: overlap needs the standard kind\n",
+        ..REFUSED
+    },
+    Row {
+        words: &["list", PATH, "--engine", "packed"],
+        told: "acsub: setting: packed needs a leftmost kind\n",
+        ..REFUSED
+    },
+    Row {
+        words: &[
+            "list",
+            PATH,
+            "--engine",
+            "packed",
+            "--kind",
+            "leftmost-first",
+            "--fold",
+        ],
+        told: "acsub: setting: packed keeps case\n",
+        ..REFUSED
+    },
+    Row {
+        words: &[
+            "list",
+            PATH,
+            "--engine",
+            "packed",
+            "--kind",
+            "leftmost-first",
+        ],
+        rules: "\t\n",
+        told: "acsub: setting: packed takes no empty pattern\n",
+        ..REFUSED
+    },
+    Row {
+        words: &[
+            "list",
+            PATH,
+            "--engine",
+            "packed",
+            "--kind",
+            "leftmost-first",
+        ],
+        rules: "",
+        told: "acsub: setting: packed takes 1 to 128 patterns\n",
+        ..REFUSED
+    },
+    // A line that is no rule.
+    Row {
+        words: &["replace", PATH],
+        rules: "61\t62\n63\t64",
+        status: 3,
+        told: "acsub: rules: line 2\n",
+        ..REFUSED
+    },
+    // A rule file that isn't there, and one that is a folder.
+    Row {
+        words: &["replace", "missing.rules"],
+        status: 3,
+        told: "acsub: rules: file cannot be read\n",
+        ..BAD
+    },
+    Row {
+        words: &["replace", "out"],
+        status: 3,
+        told: "acsub: rules: file cannot be read\n",
+        ..BAD
+    },
+    // A read that fails: at most the space and the letter after the fox are held back.
+    Row {
+        input: b"The fox r",
+        read_fails: true,
+        status: 5,
+        told: "acsub: read failed\n",
+        text: "The sloth r",
+        most: 11,
+        reads: 3,
+        ..REPLACED
+    },
+    // A write that fails, and one that takes nothing. The fox is written before the next read, so there is none.
+    Row {
+        room: 5,
+        write_fails: true,
+        status: 6,
+        told: "acsub: write failed\n",
+        fewest: 5,
+        most: 5,
+        reads: 1,
+        ..REPLACED
+    },
+    Row {
+        room: 5,
+        status: 6,
+        told: "acsub: write took no byte\n",
+        fewest: 5,
+        most: 5,
+        reads: 1,
+        ..REPLACED
+    },
+    // A flush that fails; after a fault of the run it is that fault that is told.
+    Row {
+        can_flush: false,
+        status: 6,
+        told: "acsub: flush failed\n",
+        ..REPLACED
+    },
+    Row {
+        input: b"The fox r",
+        read_fails: true,
+        can_flush: false,
+        status: 5,
+        told: "acsub: read failed\n",
+        text: "The sloth r",
+        most: 11,
+        reads: 3,
+        ..REPLACED
+    },
+    // Help, whole and flushed; and help that can't be written, or flushed.
+    SHOWN,
+    Row {
+        room: 5,
+        write_fails: true,
+        status: 6,
+        told: "acsub: write failed\n",
+        fewest: 5,
+        most: 5,
+        flushes: None,
+        ..SHOWN
+    },
+    Row {
+        room: 5,
+        status: 6,
+        told: "acsub: write took no byte\n",
+        fewest: 5,
+        most: 5,
+        flushes: None,
+        ..SHOWN
+    },
+    Row {
+        can_flush: false,
+        status: 6,
+        told: "acsub: flush failed\n",
+        ..SHOWN
+    },
+];
+
 /// What the program did.
-#[derive(Drop)]
-struct Trial {
+#[derive(Clone, Copy)]
+struct Did {
     status: u8,
-    written: Vec<u8>,
-    told: Vec<u8>,
+    /// How much of the line was told; none where something else was.
+    told: Option<usize>,
+    /// How much of the text was written; none where something else was.
+    written: Option<usize>,
     reads: usize,
+    flushes: usize,
+    flushed: usize,
 }
 
 fn try_tool(
-    rt: &HostRuntime,
+    rt: &impl Files,
+    alloc: Global,
     words: &[&str],
     source: Source<'_>,
-    sink: Sink,
-) -> Result<Trial, AllocError> {
-    let line = line(rt.alloc(), words)?;
+    sink: Sink<'_>,
+    line: &str,
+) -> Result<Did, AllocError> {
+    let words = command_line(alloc, words)?;
     let mut reader = Watched::new(source);
     let mut writer = Watched::new(sink);
-    let mut told = Vec::new(rt.alloc());
+    let mut errors = expecting(line.as_bytes());
     let status = tool(
         rt,
-        rt.alloc(),
-        line.as_slice(),
+        alloc,
+        words.as_slice(),
         &mut reader,
         &mut writer,
-        &mut told,
+        &mut errors,
     );
-    Ok(Trial {
+    let sink = writer.into_inner();
+    Ok(Did {
         status,
-        written: writer.into_inner().taken,
-        told,
+        told: errors.written(),
+        written: sink.written(),
         reads: reader.into_inner().reads,
+        flushes: sink.flushes,
+        flushed: sink.flushed,
     })
 }
 
-/// Room for any line.
-fn ample(rt: &HostRuntime) -> Sink {
-    room_for(rt.alloc(), 100000, 100000, false)
+/// Asserts what the program did: its status, its line on the error stream and nowhere else, and that what was written was flushed.
+fn shows(rt: &impl Abort, row: &Row, did: &Did) {
+    let words = row.words;
+    let told = Some(row.told.len());
+    assert_eq!(rt; (did.status, did.told), (row.status, told), "by {words:?}");
+    let flushes = row.flushes.unwrap_or(did.flushes);
+    assert_eq!(rt;
+        (did.reads, did.flushes),
+        (row.reads, flushes),
+        "by {words:?}"
+    );
+    let written = did.written.unwrap_or(usize::MAX);
+    assert!(rt;
+        row.fewest <= written && written <= row.most,
+        "by {words:?}"
+    );
+    assert!(rt;
+        !row.can_flush || did.flushes == 0 || did.flushed == written,
+        "by {words:?}"
+    );
 }
 
-/// The program over an input that is read to its end, by a writer that takes all.
-fn try_plain(rt: &HostRuntime, words: &[&str], input: &[u8]) -> Result<Trial, AllocError> {
-    try_tool(rt, words, whole(input, 7), ample(rt))
-}
-
-/// The program, while these rules lie at the path.
-fn try_rules(
-    rt: &HostRuntime,
-    path: &str,
-    rules: &str,
-    words: &[&str],
-    source: Source<'_>,
-    sink: Sink,
-) -> Result<Trial, Fail> {
-    fs::create_dir_all(rt, "out")?;
-    fs::write(rt, path, rules)?;
-    let trial = try_tool(rt, words, source, sink);
-    fs::remove_file(rt, path)?;
-    Ok(trial?)
-}
-
-const LETTERS: &str = "62\t\n616263\t\n61626364\t\n";
-
-const SLOTH: &str = "666f78\t736c6f7468\n";
-
-#[test]
-fn lists_what_matches(rt: HostRuntime) -> Result<(), Fail> {
-    let path = "out/lists.rules";
-    let words = ["list", path, "--kind", "leftmost-longest"];
-    let (source, sink) = (whole(b"abcd", 7), ample(&rt));
-    let trial = try_rules(&rt, path, LETTERS, words.as_slice(), source, sink)?;
-    assert_eq!(rt; trial.status, 0);
-    assert_eq!(rt; trial.written.as_slice(), b"2 0 4\n".as_slice());
-    assert_eq!(rt; trial.told.as_slice(), b"".as_slice());
-    Ok(())
-}
-
-/// Asserts that this is told, with the status of bad words or settings, and that nothing is read or written.
-fn refuses(rt: &impl Abort, alloc: Global, trial: &Trial, told: &str) -> Result<(), AllocError> {
-    assert_eq!(rt; trial.status, 2, "{told}");
-    assert!(rt; is_line(alloc, trial, told)?, "{told}");
-    assert_eq!(rt; trial.reads, 0, "{told}");
-    assert_eq!(rt; trial.written.len(), 0, "{told}");
+fn does<F: Abort + Files>(rt: &F, alloc: Global, row: &Row) -> Result<(), AllocError> {
+    let source = Source {
+        fails: row.read_fails,
+        ..whole(row.input, 7)
+    };
+    let sink = Sink {
+        room: row.room,
+        fails: row.write_fails,
+        can_flush: row.can_flush,
+        ..expecting(row.text.as_bytes())
+    };
+    let did = try_tool(rt, alloc, row.words, source, sink, row.told)?;
+    shows(rt, row, &did);
     Ok(())
 }
 
 #[test]
-fn tells_bad_words(rt: HostRuntime) -> Result<(), Fail> {
-    let cases: [(&[&str], &str); 7] = [
-        (&["list"], "bad words"),
-        (&["delete", "missing.rules"], "bad words"),
-        (&["list", "missing.rules", "--pairs", "303"], "bad words"),
-        (&["list", "missing.rules", "--pairs", "303132"], "bad words"),
-        (
-            &["list", "missing.rules", "--pairs", "3031", "--fold"],
-            "bad words",
-        ),
-        (
-            &["list", "missing.rules", "--pairs", "30313132"],
-            "setting: byte 49 is named twice",
-        ),
-        (
-            &["list", "missing.rules", "--pairs", "3030"],
-            "setting: byte 48 is named twice",
-        ),
-    ];
-    for (words, told) in cases {
-        let trial = try_plain(&rt, words, b"abcd")?;
-        refuses(&rt, rt.alloc(), &trial, told)?;
+fn does_what_the_words_say(rt: HostRuntime) -> Result<(), Fail> {
+    fs::create_dir_all(&rt, "out")?;
+    for row in ROWS {
+        fs::write(&rt, PATH, row.rules)?;
+        does(&rt, rt.alloc(), row)?;
     }
+    fs::remove_file(&rt, PATH)?;
     Ok(())
 }
 
+/// Asserts how a fault is told, and by which status, also where it can't be told.
+fn tells(rt: &impl Abort, fault: &Fault, status: u8, line: &str) {
+    let mut errors = expecting(line.as_bytes());
+    let told = (tell(fault, &mut errors), errors.written());
+    assert_eq!(rt; told, (status, Some(line.len())), "{line:?}");
+    let mut errors = Sink {
+        room: 0,
+        fails: true,
+        ..expecting(line.as_bytes())
+    };
+    assert_eq!(rt; tell(fault, &mut errors), status);
+}
+
+/// The limits of a build are too far away for a test, and memory is ample: told as a run would tell them.
 #[test]
-fn tells_bad_settings(rt: HostRuntime) -> Result<(), Fail> {
-    let path = "out/settings.rules";
-    let (overlap, list, kind, engine) = ("overlap", "list", "--kind", "--engine");
-    let (first, packed) = ("leftmost-first", "packed");
-    let cases: [(&str, &[&str], &str); 5] = [
-        (
-            LETTERS,
-            &[overlap, path, kind, first],
-            "setting: overlap needs the standard kind",
-        ),
-        (
-            LETTERS,
-            &[list, path, engine, packed],
-            "setting: packed needs a leftmost kind",
-        ),
-        (
-            LETTERS,
-            &[list, path, engine, packed, kind, first, "--fold"],
-            "setting: packed keeps case",
-        ),
-        (
-            "\t\n",
-            &[list, path, engine, packed, kind, first],
-            "setting: packed takes no empty pattern",
-        ),
-        (
-            "",
-            &[list, path, engine, packed, kind, first],
-            "setting: packed takes 1 to 128 patterns",
-        ),
-    ];
-    for (rules, words, told) in cases {
-        let (source, sink) = (whole(b"abcd", 7), ample(&rt));
-        let trial = try_rules(&rt, path, rules, words, source, sink)?;
-        refuses(&rt, rt.alloc(), &trial, told)?;
-    }
-    Ok(())
-}
-
-/// Whether just this was told, as the program's line.
-fn is_line(alloc: Global, trial: &Trial, told: &str) -> Result<bool, AllocError> {
-    let line = format!(in alloc; "acsub: {told}\n")?;
-    Ok(trial.told.as_slice() == line.as_bytes())
-}
-
-#[test]
-fn tells_a_bad_rule_file(rt: HostRuntime) -> Result<(), Fail> {
-    let path = "out/bad.rules";
-    let (source, sink) = (whole(b"abcd", 7), ample(&rt));
-    let words = ["replace", path];
-    let trial = try_rules(&rt, path, "61\t62\n63\t64", words.as_slice(), source, sink)?;
-    assert_eq!(rt; trial.status, 3);
-    assert!(rt; is_line(rt.alloc(), &trial, "rules: line 2")?);
-    let trial = try_plain(&rt, &["replace", "missing.rules"], b"abcd")?;
-    assert_eq!(rt; trial.status, 3);
-    assert!(rt; is_line(rt.alloc(), &trial, "rules: file cannot be read")?);
-    assert_eq!(rt; trial.reads, 0);
-    Ok(())
-}
-
-/// Asserts how a fault is told, and by which status.
-fn tells_fault(rt: &impl Abort, alloc: Global, fault: &Fault, status: u8, line: &str) {
-    let mut told = Vec::new(alloc);
-    assert_eq!(rt; tell(fault, &mut told), status, "{line:?}");
-    assert_eq!(rt; told.as_slice(), line.as_bytes(), "{line:?}");
-}
-
-/// Asserts how a limit of a build is told.
-fn tells_build(rt: &impl Abort, alloc: Global, kind: BuildErrorKind, line: &str) {
-    tells_fault(rt, alloc, &Fault::Run(RunError::Build(kind)), 4, line);
-}
-
-/// A limit is too far away for a test, and memory is ample: told as a run would tell them.
-#[test]
-fn tells_a_limit(rt: HostRuntime) {
+fn tells_what_no_run_meets(rt: HostRuntime) {
     let (max, requested_max) = (2147483646, 2147483647);
-    let states = BuildErrorKind::StateIDOverflow { max, requested_max };
-    let patterns = BuildErrorKind::PatternIDOverflow { max, requested_max };
-    let long = BuildErrorKind::PatternTooLong {
+    let states = Fault::Run(RunError::Build(BuildErrorKind::StateIDOverflow {
+        max,
+        requested_max,
+    }));
+    let patterns = Fault::Run(RunError::Build(BuildErrorKind::PatternIDOverflow {
+        max,
+        requested_max,
+    }));
+    let long = Fault::Run(RunError::Build(BuildErrorKind::PatternTooLong {
         pattern: PatternID::must(7),
         len: 2147483647,
-    };
-    let alloc = rt.alloc();
-    tells_build(&rt, alloc, states, "acsub: build: too many states\n");
-    tells_build(&rt, alloc, patterns, "acsub: build: too many patterns\n");
-    tells_build(&rt, alloc, long, "acsub: build: pattern too long\n");
-    let memory = Fault::Run(RunError::Memory);
-    tells_fault(&rt, alloc, &memory, 7, "acsub: out of memory\n");
-    let position = Fault::Run(RunError::Position);
-    tells_fault(&rt, alloc, &position, 8, "acsub: input too long\n");
-}
-
-/// A reader that gives the start of a text, and then fails. Of that text one byte may be held back, and the space behind the fox.
-fn failing() -> Source<'static> {
-    Source {
-        fails: true,
-        ..whole(b"The fox r", 7)
-    }
-}
-
-/// A writer that takes all, and can't be flushed.
-fn unflushed(rt: &HostRuntime) -> Sink {
-    Sink {
-        flushes: false,
-        ..ample(rt)
-    }
-}
-
-#[test]
-fn tells_a_device_that_fails(rt: HostRuntime) -> Result<(), Fail> {
-    let path = "out/devices.rules";
-    let words = ["replace", path];
-    let whole = || whole(b"The fox", 7);
-    let room = |fails: bool| room_for(rt.alloc(), 5, 1000, fails);
-    let cases: [(Source<'_>, Sink, u8, &str, &str); 5] = [
-        (failing(), ample(&rt), 5, "read failed", "The sloth"),
-        (whole(), room(true), 6, "write failed", "The s"),
-        (whole(), room(false), 6, "write took no byte", "The s"),
-        (whole(), unflushed(&rt), 6, "flush failed", "The sloth"),
-        (failing(), unflushed(&rt), 5, "read failed", "The sloth"),
-    ];
-    for (source, sink, status, told, written) in cases {
-        let trial = try_rules(&rt, path, SLOTH, words.as_slice(), source, sink)?;
-        assert_eq!(rt; trial.status, status, "{told}");
-        assert!(rt; is_line(rt.alloc(), &trial, told)?, "{told}");
-        let text = trial.written.as_slice();
-        assert!(rt; text.starts_with(written.as_bytes()), "{told}");
-        assert!(rt; b"The sloth r".as_slice().starts_with(text), "{told}");
-    }
-    Ok(())
-}
-
-#[test]
-fn shows_help(rt: HostRuntime) -> Result<(), Fail> {
-    let trial = try_plain(&rt, &["--help"], b"")?;
-    assert_eq!(rt; trial.status, 0);
-    assert!(rt; !trial.written.is_empty());
-    assert_eq!(rt; trial.told.len(), 0);
-    let sink = room_for(rt.alloc(), 5, 1000, true);
-    let trial = try_tool(&rt, &["--help"], whole(b"", 1), sink)?;
-    assert_eq!(rt; trial.status, 6);
-    assert!(rt; is_line(rt.alloc(), &trial, "write failed")?);
-    Ok(())
+    }));
+    tells(&rt, &states, 4, "acsub: build: too many states\n");
+    tells(&rt, &patterns, 4, "acsub: build: too many patterns\n");
+    tells(&rt, &long, 4, "acsub: build: pattern too long\n");
+    tells(
+        &rt,
+        &Fault::Run(RunError::Memory),
+        7,
+        "acsub: out of memory\n",
+    );
+    tells(
+        &rt,
+        &Fault::Run(RunError::Position),
+        8,
+        "acsub: input too long\n",
+    );
 }

@@ -1,5 +1,5 @@
-use Rattle.std.proofs.Common.{◌≡◌, ◌-◌, ◌<◌, ◌≤◌, ◌∙◌, List, ℕ, length, slice_range, arith}
-use Rattle.ac_input.specs.declared.primitives.state_id.StateID.{StateID}
+use Rattle.std.proofs.Common.{◌<◌, List, ℕ, length, slice_range, arith}
+use Rattle.ac_input.specs.Number.{StateID}
 use Rattle.ac_input.proofs.OrderLemmas.{slice_range-length}
 use Rattle.ac_automaton.specs.Automaton.{searched}
 use Rattle.ac_automaton.proofs.CursorLemmas.{cursor-read, cursor-read_on}

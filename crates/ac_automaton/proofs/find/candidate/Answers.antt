@@ -6,7 +6,7 @@ use Rattle.ac_input.specs.declared.search.candidate.Candidate.TheVariants as can
 use Rattle.ac_input.specs.Dictionary.{Dictionary}
 use Rattle.ac_input.specs.Occurrence.{Search}
 use Rattle.ac_automaton.specs.Automaton.{kind_asked}
-use Rattle.ac_automaton.specs.Find.{search_from, MayGoOnFrom}
+use Rattle.ac_automaton.specs.Find.{search_from}
 use Rattle.ac_automaton.proofs.FindLemmas.{match-goes_on, match-asked_best}
 use Rattle.ac_automaton.proofs.CandidateLemmas.{ahead-same}
 use Rattle.ac_automaton.proofs.find.candidate.Goals as goal

@@ -1,4 +1,4 @@
-use Rattle.std.proofs.Common.{◌≡◌, ◌-◌, IsTrue, false}
+use Rattle.std.proofs.Common.{◌-◌}
 use Rattle.ac_automaton.specs.Automaton.{searched}
 use Rattle.ac_automaton.proofs.FindLemmas.{HasCome}
 use Rattle.ac_automaton.proofs.find.search.Given as goal

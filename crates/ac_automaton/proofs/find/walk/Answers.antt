@@ -1,15 +1,10 @@
 use Rattle.std.proofs.Common.{◌≡◌, ◌∙◌, ◌&&◌, Bool, ℕ, ◌-◌, List, sym, ap, subst, arith, refl}
 use Rattle.std.proofs.lemmas.Bool.{false≢true}
 use Rattle.std.specs.Option.{is_some}
-use Rattle.ac_input.specs.declared.search.Anchored.{Anchored}
-use Rattle.ac_input.specs.declared.search.Anchored.TheVariants.{No}
 use Rattle.ac_input.specs.declared.search.Span.{Span}
-use Rattle.ac_input.specs.declared.steps.Steps.{Steps}
-use Rattle.ac_input.specs.Best.{asked_kind}
 use Rattle.ac_automaton.specs.declared.cursor.End.TheVariants.{Found, Idle}
-use Rattle.ac_automaton.specs.Automaton.{kind_asked, searched}
-use Rattle.ac_automaton.specs.Cursor.{IsQuiet, read_to}
-use Rattle.ac_automaton.specs.Find.{EndSays, IsWalkWork, WalkSays, IsWalkCost, search_from}
+use Rattle.ac_automaton.specs.Automaton.{kind_asked}
+use Rattle.ac_automaton.specs.Find.{WalkSays, IsWalkCost}
 use Rattle.ac_automaton.proofs.CursorLemmas.{alive-from, part-empty}
 use Rattle.ac_automaton.proofs.WalkLemmas.{HasWalked, walked-none, told-best, none-listed, IsDone, Ended, Died, Won, answer-says, answer-work, back-says, back-work, walked-on, won-found, not_won-none, is_none-found}
 use Rattle.ac_automaton.proofs.find.walk.Goals as goal

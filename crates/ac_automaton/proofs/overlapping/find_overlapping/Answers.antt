@@ -1,5 +1,5 @@
 use Rattle.std.proofs.Common.{ℕ, ◌+◌, List, drop, Option, is_some, if◌then◌else◌, inr, sym, ap, subst, ◌∙◌}
-use Rattle.ac_input.specs.declared.primitives.state_id.StateID.{StateID}
+use Rattle.ac_input.specs.Number.{StateID}
 use Rattle.ac_input.specs.Computed.{listing_of}
 use Rattle.ac_input.specs.Input.{search_in}
 use Rattle.ac_input.specs.Occurrence.{Occurrence}

@@ -1,11 +1,10 @@
-use Rattle.std.proofs.Common.{◌≡◌, ◌∙◌, ℕ, ◌+◌, ◌<◌, ◌≤◌, [], List, refl, sym, ap, subst, arith}
-use Rattle.ac_input.specs.declared.primitives.state_id.StateID.{StateID}
-use Rattle.ac_input.specs.declared.search.Anchored.{Anchored}
-use Rattle.ac_input.specs.Occurrence.{Occurrence, starting_at}
+use Rattle.std.proofs.Common.{◌≡◌, ◌∙◌, ℕ, ◌+◌, ◌<◌, [], List, refl, subst, arith}
+use Rattle.ac_input.specs.Number.{StateID}
+use Rattle.ac_input.specs.Occurrence.{starting_at}
 use Rattle.ac_automaton.specs.Automaton.{searched}
 use Rattle.ac_automaton.specs.Cursor.{read_to, walked}
 use Rattle.ac_automaton.specs.Overlapping.{ending_from}
-use Rattle.ac_automaton.proofs.OverlappingLemmas.{IsPlace, place_of-cursor, walked_on-further, read_on-start, ending_from-end, pays-over, pays-back}
+use Rattle.ac_automaton.proofs.OverlappingLemmas.{IsPlace, place_of-cursor, walked_on-further, read_on-start, ending_from-end, pays-over}
 use Rattle.ac_automaton.proofs.CandidateLemmas.{over-reads}
 use Rattle.ac_automaton.proofs.ShowLemmas.{reads-end, pays-end, walked_on-settled}
 use Rattle.ac_automaton.proofs.overlapping.read_to_start.Goals as goal

@@ -1,10 +1,9 @@
-use Rattle.std.proofs.Common.{◌≡◌, ℕ, ◌+◌, ◌≤◌, [], List, Bool, refl, ap, subst, sym, ◌∙◌, arith}
+use Rattle.std.proofs.Common.{◌≡◌, ℕ, ◌+◌, ◌≤◌, [], List, refl, ap, subst, sym, ◌∙◌, arith}
 use Rattle.ac_input.specs.declared.search.Anchored.{Anchored}
 use Rattle.ac_input.specs.declared.search.Anchored.TheVariants.{No}
 use Rattle.ac_input.specs.Input.{is_anchored, search_in}
 use Rattle.ac_input.specs.Occurrence.{Occurrence, starting_at}
 use Rattle.ac_input.specs.Tells.{Tells}
-use Rattle.ac_automaton.specs.declared.cursor.End.TheVariants.{Found}
 use Rattle.ac_automaton.specs.Overlapping.{ending_from, ShowsFirst}
 use Rattle.ac_automaton.specs.Cursor.{read_to, walked}
 use Rattle.ac_automaton.proofs.OverlappingLemmas.{IsPlace}

@@ -1,6 +1,5 @@
 -- What lies between two matches is copied, and each match replaced.
 use Rattle.std.proofs.Common.{◌≡◌}
-use Rattle.std.specs.List.{filter}
 use Rattle.std.proofs.lemmas.Str.{IsCharBoundary-start}
 use Rattle.ac_automaton.specs.Iter.{left_of}
 use Rattle.ac_automaton.specs.Replace.{cuts_none, matches_in}

@@ -1,6 +1,8 @@
 -- The links are those of the trie.
+use Rattle.std.proofs.Common.{sym, subst}
+use Rattle.ac_input.specs.Pairing.{IsPairing}
 use Rattle.ac_noncontiguous.proofs.BuilderLemmas.{if_ok-both}
 use Rattle.ac_noncontiguous.proofs.builder.tables_of.Goals as goal
 
 pub returns : goal.returns
-returns c = if_ok-both c.from_trie.result _ _ _ c.from_trie.ensures.stands c.from_trie.ensures.classed (λ tables stands classed. λ m is. (stands m is (c.in_ok-links.ensures m is), classed m is))
+returns c = if_ok-both c.from_trie.result _ _ _ c.from_trie.ensures.stands c.from_trie.ensures.classed (λ tables stands classed. λ m is. (stands m is (c.in_ok-links.ensures m is), classed m is, subst IsPairing (sym is.pairing) c.args.trie.now.paired))

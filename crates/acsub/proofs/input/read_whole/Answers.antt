@@ -2,8 +2,8 @@
 use Rattle.std.proofs.Common.{◌≡◌, ◌+◌, ◌-◌, ◌≤◌, [], ◌∷◌, ◌++◌, length, take, length-take, length-drop, refl, sym, ap, ◌∙◌, arith}
 use Rattle.std.specs.List.{concat}
 use Rattle.std.proofs.lemmas.List.{append-nil}
-use Rattle.ac_automaton.proofs.StreamReplaceLemmas.{AreFilled-push, given-none}
-use Rattle.acsub.proofs.InputLemmas.{filled-more, filled-same, piece_filled, concat-push, given-push, given-failed, open_after}
+use Rattle.ac_automaton.proofs.MovedLemmas.{AreFilled-push, given-none, given-gave, given-failed, given-push, still-open}
+use Rattle.acsub.proofs.InputLemmas.{filled-more, filled-same, piece_filled, concat-push}
 use Rattle.acsub.proofs.input.read_whole.Goals as goal
 
 pub loop-input-init : goal.loop-input-init
@@ -13,7 +13,9 @@ loop-input-init g c =
 pub returns-in-Err : goal.returns-in-Err
 returns-in-Err g c =
     let before = c.loop-input.invariant in
-    (before.gained ++ [] ∷ [], given-failed g.R.Read.remaining c.args.reader.now c.loop-input.reader c.read.new.self before.gained before.gave c.in-Err.ensures.failed.pieces c.in-Err.ensures.failed.failures c.in-Err.ensures.device)
+    let read = c.in-Err.ensures in
+    let gave = given-failed g.R.Read.remaining c.loop-input.reader c.read.new.self before.open_still read.failed read.writes read.device in
+    (before.gained ++ [] ∷ [], given-push g.R.Read.remaining c.args.reader.now c.loop-input.reader c.read.new.self before.gained [] 1 before.gave gave)
 
 pub returns-then-n-eq0 : goal.returns-then-n-eq0
 returns-then-n-eq0 g c =
@@ -24,7 +26,9 @@ returns-then-n-eq0 g c =
     let len : length buffer ≡ c.make_room.new.input.len = omega (arith, c.deref_mut.ensures.len) in
     let room = c.in_ok-make_room.ensures.room in
     let rest : length c.read.new.buf ≡ length buffer - filled = c.read.auto.buf ∙ simp (length-take, length-drop) (omega arith) in
-    let gave = given-push g.R.Read.remaining c.args.reader.now c.loop-input.reader c.read.new.self before.gained _ before.gave c.in-Ok.ensures.gave.pieces c.in-Ok.ensures.gave.failures c.in-Ok.ensures.device.0 (λ _. c.in-Ok.ensures.device.1 c.if-n-eq0.true (omega arith)) in (
+    let read = c.in-Ok.ensures in
+    let one = given-gave g.R.Read.remaining c.loop-input.reader c.read.new.self c.read.new.buf c.in-Ok.n before.open_still read.gave read.writes read.device.0 (λ _. read.device.1 c.if-n-eq0.true (omega arith)) in
+    let gave = given-push g.R.Read.remaining c.args.reader.now c.loop-input.reader c.read.new.self before.gained _ 0 before.gave one in (
       before.gained ++ take c.in-Ok.n c.read.new.buf ∷ [],
       gave,
       (before.gained, before.filled, ap (λ piece. before.gained ++ piece ∷ []) none),
@@ -44,14 +48,17 @@ loop-input-preserved g c =
     let room = c.in_ok-make_room.ensures.room in
     let within = c.in-Ok.ensures.gave.within in
     let rest : length c.read.new.buf ≡ length buffer - filled = c.read.auto.buf ∙ simp (length-take, length-drop) (omega arith) in
+    let read = c.in-Ok.ensures in
+    let some = piece_filled c.read.new.buf c.in-Ok.n c.if-n-eq0.false within in
+    let one = given-gave g.R.Read.remaining c.loop-input.reader c.read.new.self c.read.new.buf c.in-Ok.n before.open_still read.gave read.writes read.device.0 (λ none. absurd (c.if-n-eq0.false none)) in
     let fits : filled + c.in-Ok.n ≤ c.make_room.new.input.len = omega arith in
     record {
       gained = before.gained ++ piece ∷ [];
-      gave = given-push g.R.Read.remaining c.args.reader.now c.loop-input.reader c.read.new.self before.gained piece before.gave c.in-Ok.ensures.gave.pieces c.in-Ok.ensures.gave.failures c.in-Ok.ensures.device.0 (λ none. absurd (piece_filled c.read.new.buf c.in-Ok.n c.if-n-eq0.false within none));
-      filled = AreFilled-push before.gained piece before.filled (piece_filled c.read.new.buf c.in-Ok.n c.if-n-eq0.false within);
+      gave = given-push g.R.Read.remaining c.args.reader.now c.loop-input.reader c.read.new.self before.gained piece 0 before.gave one;
+      filled = AreFilled-push before.gained piece before.filled some;
       is = filled-more buffer c.read.new.buf _ _ c.make_room.new.input.len filled c.in-Ok.n fits (omega arith) within
           ∙ ap (λ front. front ++ piece) (ap (take filled) c.deref_mut.ensures.value ∙ c.make_room.ensures.kept ∙ before.is)
           ∙ sym (concat-push before.gained piece);
       within = fits;
-      open_still = open_after _ c.in-Ok.n c.in-Ok.ensures.gave.ended c.if-n-eq0.false;
+      open_still = still-open _ piece one.turns.1 some;
     }

@@ -1,182 +1,402 @@
-//! Readers and writers that fail or stop, and memory that may end.
+//! Readers that fail or end, writers that fail or take nothing, and memory that may end.
+//!
+//! Reads, writes and flushes are counted: nothing is read after a failed or an empty read, also not inside one call, nothing is
+//! written after a failed write, and a run flushes nothing.
 use super::*;
-use crate::scripted::expecting;
+use crate::scripted::PLAIN;
+use crate::settings::Mode::{List, Overlap, Replace};
+use std::test::Fail;
 
 /// Fox by sloth, and nothing else.
 const SLOTH: &str = "666f78\t736c6f7468\n";
 
-/// A reader that gives the input by so many bytes, and then fails.
-fn failing(input: &[u8], most: usize) -> Source<'_> {
-    let mut source = whole(input, most);
-    source.fails = true;
-    source.after = b"an";
-    source
+/// What is read, and its text with fox by sloth.
+const FOX: &[u8] = b"The fox ran";
+
+const RAN: &[u8] = b"The sloth ran";
+
+/// `append`, `appendage` and `app`.
+const APPEND: &str = "617070656e64\t\n617070656e64616765\t\n617070\t\n";
+
+const APPENDED: &[u8] = b"append the app to the appendage";
+
+/// What is listed of it under the standard kind.
+const LINES: &[u8] = b"2 0 3\n2 11 14\n2 22 25\n";
+
+/// How much can be listed once so many bytes were read: a line as soon as its match has ended.
+fn known_after(read: usize) -> usize {
+    if read < 3 {
+        0
+    } else if read < 14 {
+        6
+    } else if read < 25 {
+        14
+    } else {
+        22
+    }
 }
 
-/// Whether the bytes are one of these texts.
-fn is_one_of(bytes: &[u8], texts: &[&str]) -> bool {
-    for text in texts {
-        if text.as_bytes() == bytes {
-            return true;
+/// How many bytes a read gives.
+const PIECES: &[usize] = &[1, 2, 3, 7, 64];
+
+/// The run whose writer stops.
+const SLOTH_RAN: Case<'static> = Case {
+    rules: SLOTH,
+    input: FOX,
+    writes: RAN,
+    calls: None,
+};
+
+/// How a reader stops after its input.
+#[derive(Clone, Copy)]
+enum Stop {
+    Fails,
+    /// By an empty read, after which it would give this.
+    Ends(&'static [u8]),
+}
+
+/// A reader that stops, and how much of a text is written by then.
+#[derive(Clone, Copy)]
+struct Row<'a> {
+    told: Told,
+    engines: &'static [Engine],
+    rules: &'static str,
+    input: &'a [u8],
+    stop: Stop,
+    text: &'static [u8],
+    /// The lengths, of which any may be.
+    lengths: &'a [usize],
+}
+
+/// Fox by sloth under the standard kind, and a read that fails.
+const FAILS: Row<'static> = Row {
+    told: PLAIN,
+    engines: AUTOMATA,
+    rules: SLOTH,
+    input: b"",
+    stop: Stop::Fails,
+    text: b"",
+    lengths: &[],
+};
+
+const LISTING: Told = Told {
+    mode: List,
+    ..PLAIN
+};
+
+const ROWS: &[Row<'static>] = &[
+    // A reader that fails at once leaves nothing written.
+    Row {
+        lengths: &[0],
+        ..FAILS
+    },
+    // No more than the last three bytes are held back, since the longest pattern has three.
+    Row {
+        input: b"T",
+        text: b"T",
+        lengths: &[0, 1],
+        ..FAILS
+    },
+    Row {
+        input: b"Th",
+        text: b"Th",
+        lengths: &[0, 1, 2],
+        ..FAILS
+    },
+    Row {
+        input: b"The",
+        text: b"The",
+        lengths: &[0, 1, 2, 3],
+        ..FAILS
+    },
+    Row {
+        input: b"The ",
+        text: b"The ",
+        lengths: &[1, 2, 3, 4],
+        ..FAILS
+    },
+    Row {
+        input: b"The f",
+        text: b"The f",
+        lengths: &[2, 3, 4, 5],
+        ..FAILS
+    },
+    Row {
+        input: b"The fo",
+        text: b"The fo",
+        lengths: &[3, 4, 5, 6],
+        ..FAILS
+    },
+    // A fox is written whole or not at all.
+    Row {
+        input: b"The fox",
+        text: b"The sloth",
+        lengths: &[4, 9],
+        ..FAILS
+    },
+    Row {
+        input: b"The fox ",
+        text: b"The sloth ",
+        lengths: &[9, 10],
+        ..FAILS
+    },
+    Row {
+        input: b"The fox r",
+        text: b"The sloth r",
+        lengths: &[9, 10, 11],
+        ..FAILS
+    },
+    Row {
+        input: b"The fox ra",
+        text: b"The sloth ra",
+        lengths: &[9, 10, 11, 12],
+        ..FAILS
+    },
+    Row {
+        input: b"The fox ran",
+        text: b"The sloth ran",
+        lengths: &[10, 11, 12, 13],
+        ..FAILS
+    },
+    // An empty read ends the input: what would come after it is neither read nor written.
+    Row {
+        input: b"fo",
+        stop: Stop::Ends(b"x"),
+        text: b"fo",
+        lengths: &[2],
+        ..FAILS
+    },
+    Row {
+        input: b"The fox",
+        stop: Stop::Ends(b" ran"),
+        text: b"The sloth",
+        lengths: &[9],
+        ..FAILS
+    },
+    // A line is written as soon as its match was read.
+    Row {
+        told: LISTING,
+        lengths: &[0],
+        ..FAILS
+    },
+    Row {
+        told: LISTING,
+        input: b"The fo",
+        lengths: &[0],
+        ..FAILS
+    },
+    Row {
+        told: LISTING,
+        input: b"The fox",
+        text: b"0 4 7\n",
+        lengths: &[6],
+        ..FAILS
+    },
+    Row {
+        told: LISTING,
+        input: b"The fox ",
+        text: b"0 4 7\n",
+        lengths: &[6],
+        ..FAILS
+    },
+    Row {
+        told: LISTING,
+        input: b"The fox ran",
+        text: b"0 4 7\n",
+        lengths: &[6],
+        ..FAILS
+    },
+    // A match that an empty read cuts off has no line.
+    Row {
+        told: LISTING,
+        rules: APPEND,
+        input: b"append the app to the ap",
+        stop: Stop::Ends(b"p"),
+        text: b"2 0 3\n2 11 14\n",
+        lengths: &[14],
+        ..FAILS
+    },
+];
+
+/// Asserts what is written by then, that nothing is read after it, and that nothing is flushed.
+fn stops(rt: &impl Abort, alloc: Global, settings: &Settings, row: &Row<'_>, most: usize) {
+    let (fails, after, answer) = match row.stop {
+        Stop::Fails => (true, b"an".as_slice(), Answer::Read),
+        Stop::Ends(after) => (false, after, Answer::Done),
+    };
+    let source = Source {
+        fails,
+        after,
+        ..whole(row.input, most)
+    };
+    let did = try_run(alloc, settings, row.rules, source, expecting(row.text));
+    let want = Did {
+        answer,
+        reads: reads_of(row.input, most),
+        flushes: 0,
+        ..did
+    };
+    shows(rt, row.rules, &did, &want);
+    let (written, input) = (did.written.unwrap_or(usize::MAX), row.input);
+    assert!(rt; row.lengths.contains(&written), "{written} of {input:?}");
+}
+
+/// The same by each engine, over pieces of some lengths.
+fn stops_by_each(rt: &impl Abort, alloc: Global, row: &Row<'_>) -> Result<(), Fail> {
+    for engine in row.engines {
+        let told = Told {
+            engine: *engine,
+            ..row.told
+        };
+        let settings = told.settings()?;
+        for most in PIECES {
+            stops(rt, alloc, &settings, row, *most);
         }
     }
-    false
-}
-
-/// Asserts that one of these texts is written of the beginning of an input, behind which a read fails.
-fn writes_early(rt: &impl Abort, alloc: Global, mode: Mode, input: &str, texts: &[&str]) {
-    let settings = settings_for(mode, MatchKind::Standard);
-    for piece in [1usize, 3, 64] {
-        let source = failing(input.as_bytes(), piece);
-        let did = try_run(alloc, &settings, SLOTH, source, ample(alloc));
-        assert_eq!(rt; did.answer, Answer::Read, "after {input:?}");
-        assert_eq!(rt; did.reads, input.len().div_ceil(piece).saturating_add(1));
-        assert!(rt; is_one_of(did.taken.as_slice(), texts), "after {input:?}");
-    }
-}
-
-/// Of "The fox ran" no more than three bytes are held back, and a fox not at all.
-#[test]
-fn writes_what_is_decided(rt: HostRuntime) {
-    let sloth = "The sloth";
-    let (space, r, ra) = ("The sloth ", "The sloth r", "The sloth ra");
-    let rows: [(&str, &[&str]); 12] = [
-        ("", &[""]),
-        ("T", &["", "T"]),
-        ("Th", &["", "T", "Th"]),
-        ("The", &["", "T", "Th", "The"]),
-        ("The ", &["T", "Th", "The", "The "]),
-        ("The f", &["Th", "The", "The ", "The f"]),
-        ("The fo", &["The", "The ", "The f", "The fo"]),
-        ("The fox", &["The ", sloth]),
-        ("The fox ", &[sloth, space]),
-        ("The fox r", &[sloth, space, r]),
-        ("The fox ra", &[sloth, space, r, ra]),
-        ("The fox ran", &[space, r, ra, "The sloth ran"]),
-    ];
-    for (input, texts) in rows {
-        writes_early(&rt, rt.alloc(), Mode::Replace, input, texts);
-    }
+    Ok(())
 }
 
 #[test]
-fn lists_what_is_decided(rt: HostRuntime) {
-    let line = "0 4 7\n";
-    let rows: [(&str, &[&str]); 5] = [
-        ("", &[""]),
-        ("The fo", &[""]),
-        ("The fox", &["", line]),
-        ("The fox ", &[line]),
-        ("The fox ran", &[line]),
-    ];
-    for (input, texts) in rows {
-        writes_early(&rt, rt.alloc(), Mode::List, input, texts);
+fn writes_what_is_decided(rt: HostRuntime) -> Result<(), Fail> {
+    for row in ROWS {
+        stops_by_each(&rt, rt.alloc(), row)?;
     }
+    Ok(())
 }
 
 /// Under a leftmost kind nothing is written before the input has ended, wherever a read fails.
 #[test]
-fn writes_nothing_before_the_end(rt: HostRuntime) {
-    let input = b"The fox ran".as_slice();
+fn writes_nothing_before_the_end(rt: HostRuntime) -> Result<(), Fail> {
     for kind in [MatchKind::LeftmostFirst, MatchKind::LeftmostLongest] {
-        for engine in ENGINES {
-            let mut settings = settings_for(Mode::Replace, kind);
-            settings.engine = *engine;
-            for read in 0..=input.len() {
-                let source = failing(&input[..read], 1);
-                let did = try_run(rt.alloc(), &settings, SLOTH, source, ample(rt.alloc()));
-                assert_eq!(rt; did.answer, Answer::Read, "after {read} bytes");
-                assert_eq!(rt; did.reads, read.saturating_add(1));
-                assert_eq!(rt; did.writes, 0, "after {read} bytes");
-            }
+        for read in 0..=FOX.len() {
+            let row = Row {
+                told: Told { kind, ..PLAIN },
+                engines: ENGINES,
+                input: &FOX[..read],
+                lengths: &[0],
+                ..FAILS
+            };
+            stops_by_each(&rt, rt.alloc(), &row)?;
         }
     }
+    Ok(())
 }
 
+/// Wherever a read fails, the lines of all matches that end before it were written, and no others.
 #[test]
-fn ends_at_an_empty_read(rt: HostRuntime) {
-    let settings = settings_for(Mode::Replace, MatchKind::Standard);
-    for (input, after, want) in [("fo", "x", "fo"), ("The fox", " ran", "The sloth")] {
-        for most in [1usize, 7] {
-            let mut source = whole(input.as_bytes(), most);
-            source.after = after.as_bytes();
-            let did = try_run(rt.alloc(), &settings, SLOTH, source, ample(rt.alloc()));
-            assert_eq!(rt; did.answer, Answer::Done);
-            assert_eq!(rt; did.taken.as_slice(), want.as_bytes());
-            assert_eq!(rt; did.reads, input.len().div_ceil(most).saturating_add(1));
-        }
+fn lists_up_to_a_failed_read(rt: HostRuntime) -> Result<(), Fail> {
+    for read in 0..=APPENDED.len() {
+        let row = Row {
+            told: LISTING,
+            rules: APPEND,
+            input: &APPENDED[..read],
+            text: LINES,
+            lengths: &[known_after(read)],
+            ..FAILS
+        };
+        stops_by_each(&rt, rt.alloc(), &row)?;
     }
+    Ok(())
 }
 
-/// Whether the text is written while the input is read or behind its end, a writer is handed no byte after one that it didn't take.
-#[test]
-fn stops_where_a_write_fails(rt: HostRuntime) {
-    let text = b"The sloth ran".as_slice();
-    for kind in [MatchKind::Standard, MatchKind::LeftmostFirst] {
-        let settings = settings_for(Mode::Replace, kind);
-        for (fails, want) in [(false, Answer::WriteZero), (true, Answer::Write)] {
-            for room in 0..text.len() {
-                for most in [1usize, 5, 64] {
-                    let sink = room_for(rt.alloc(), room, most, fails);
-                    let did = try_run(rt.alloc(), &settings, SLOTH, whole(b"The fox ran", 1), sink);
-                    assert_eq!(rt; did.answer, want, "with room for {room}");
-                    assert_eq!(rt; did.taken.as_slice(), &text[..room]);
+/// A writer that stops: after how many bytes, how, and how much a write takes.
+#[derive(Clone, Copy)]
+struct Full {
+    room: usize,
+    fails: bool,
+    most: usize,
+}
+
+/// Runs over one byte a read, and asserts that just so many bytes of the text are written, and none after that; the whole text is no
+/// fault.
+fn stops_at(
+    rt: &impl Abort,
+    alloc: Global,
+    settings: &Settings,
+    case: &Case<'_>,
+    full: &Full,
+) -> Did {
+    let sink = Sink {
+        room: full.room,
+        fails: full.fails,
+        most: full.most,
+        ..expecting(case.writes)
+    };
+    let did = try_run(alloc, settings, case.rules, whole(case.input, 1), sink);
+    let answer = if full.room >= case.writes.len() {
+        Answer::Done
+    } else if full.fails {
+        Answer::Write
+    } else {
+        Answer::WriteZero
+    };
+    let want = Did {
+        answer,
+        written: Some(full.room),
+        flushes: 0,
+        ..did
+    };
+    shows(rt, case.rules, &did, &want);
+    did
+}
+
+/// Asserts what is written by a writer that stops anywhere in the text, or after it. One that takes nothing stops the run after reads
+/// between these numbers; one that takes a byte a call is called for each byte.
+fn stops_anywhere(rt: &impl Abort, alloc: Global, settings: &Settings, fewest: usize, last: usize) {
+    for fails in [false, true] {
+        for room in 0..=RAN.len() {
+            for most in [1usize, 5, 64] {
+                let full = Full { room, fails, most };
+                let did = stops_at(rt, alloc, settings, &SLOTH_RAN, &full);
+                if room == 0 {
+                    assert!(rt; did.writes == 1 && fewest <= did.reads && did.reads <= last);
+                }
+                if room == 13 && most == 1 {
+                    assert!(rt; did.writes == 13);
                 }
             }
-            let sink = room_for(rt.alloc(), text.len(), 1, fails);
-            let did = try_run(rt.alloc(), &settings, SLOTH, whole(b"The fox ran", 1), sink);
-            assert_eq!(rt; did.answer, Answer::Done);
-            assert_eq!(rt; did.taken.as_slice(), text);
-            assert_eq!(rt; did.writes, 13);
         }
     }
 }
 
-/// A writer that takes nothing stops the run once there is something to write, and nothing is read behind that.
+/// Whether the text is written while the input is read or after its end, a writer is handed no byte after one that it didn't take.
+/// Where nothing can be written, the first four bytes are read at most, or the whole input under a leftmost kind.
 #[test]
-fn stops_reading_where_a_write_fails(rt: HostRuntime) {
-    for (kind, fewest, most) in [
-        (MatchKind::Standard, 1, 4),
-        (MatchKind::LeftmostFirst, 12, 12),
-    ] {
-        let settings = settings_for(Mode::Replace, kind);
-        for (fails, want) in [(false, Answer::WriteZero), (true, Answer::Write)] {
-            let sink = room_for(rt.alloc(), 0, 64, fails);
-            let did = try_run(rt.alloc(), &settings, SLOTH, whole(b"The fox ran", 1), sink);
-            assert_eq!(rt; did.answer, want);
-            assert_eq!(rt; did.writes, 1);
-            assert!(rt; fewest <= did.reads && did.reads <= most, "{kind:?}");
+fn stops_where_a_write_fails(rt: HostRuntime) -> Result<(), Fail> {
+    for (by, fewest, last) in [(STANDARD, 1, 4), (FIRST, 12, 12)] {
+        for engine in by.engines {
+            let told = Told {
+                kind: by.kind,
+                engine: *engine,
+                ..PLAIN
+            };
+            stops_anywhere(&rt, rt.alloc(), &told.settings()?, fewest, last);
         }
     }
+    Ok(())
 }
 
-/// Asserts what is written before a read that fails, before a write that fails, and up to an empty read.
-fn stops_early(rt: &impl Abort, alloc: Global, settings: &Settings, most: usize) {
-    let source = failing(b"The fox r", most);
-    let did = try_run(alloc, settings, SLOTH, source, ample(alloc));
-    assert_eq!(rt; did.answer, Answer::Read);
-    let texts: &[&str] = &["The sloth", "The sloth ", "The sloth r"];
-    assert!(rt; is_one_of(did.taken.as_slice(), texts));
-    let sink = room_for(alloc, 5, 64, true);
-    let did = try_run(alloc, settings, SLOTH, whole(b"The fox", most), sink);
-    assert_eq!(rt; did.answer, Answer::Write);
-    assert_eq!(rt; did.taken.as_slice(), b"The s".as_slice());
-    let mut source = whole(b"fo", most);
-    source.after = b"x";
-    let did = try_run(alloc, settings, SLOTH, source, ample(alloc));
-    assert_eq!(rt; did.answer, Answer::Done);
-    assert_eq!(rt; did.taken.as_slice(), b"fo".as_slice());
-}
-
+/// A write that fails, or takes nothing, is made as soon as the line is known: no byte is read that the line doesn't need.
 #[test]
-fn stops_early_by_each_engine(rt: HostRuntime) {
-    for engine in AUTOMATA {
-        let mut settings = settings_for(Mode::Replace, MatchKind::Standard);
-        settings.engine = *engine;
-        for most in [1usize, 2, 7] {
-            stops_early(&rt, rt.alloc(), &settings, most);
+fn reads_no_further_than_the_line_that_fails(rt: HostRuntime) -> Result<(), Fail> {
+    let settings = LISTING.settings()?;
+    let case = Case {
+        rules: APPEND,
+        input: APPENDED,
+        writes: LINES,
+        calls: None,
+    };
+    for fails in [false, true] {
+        for room in 0..LINES.len() {
+            for most in [1usize, 5, 64] {
+                let full = Full { room, fails, most };
+                let did = stops_at(&rt, rt.alloc(), &settings, &case, &full);
+                let before = known_after(did.reads.saturating_sub(1));
+                assert!(rt; before <= room && room < known_after(did.reads));
+            }
         }
     }
+    Ok(())
 }
 
 /// Asserts that a text is written; or that there was no memory, and then nothing was written, and no more was read than so many
@@ -185,38 +405,52 @@ fn writes_where_there_is_memory(
     rt: &impl Abort,
     alloc: Global,
     settings: &Settings,
-    want: &[u8],
+    text: &[u8],
     pieces: usize,
 ) {
-    let mut reader = Watched::new(whole(b"The fox ran", 3));
-    let mut writer = Watched::new(expecting(want));
-    let outcome = run(alloc, settings, SLOTH.as_bytes(), &mut reader, &mut writer);
-    let (reads, sink) = (reader.into_inner().reads, writer.into_inner());
-    if answer_of(&outcome) == Answer::Memory {
-        assert_eq!(rt; sink.writes, 0);
-        assert!(rt; reads <= pieces);
+    let did = try_run(alloc, settings, SLOTH, whole(FOX, 3), expecting(text));
+    let want = if did.answer == Answer::Memory {
+        assert!(rt; did.reads <= pieces);
+        Did { writes: 0, ..did }
     } else {
-        assert_eq!(rt; answer_of(&outcome), Answer::Done);
-        assert_eq!(rt; reads, 5);
-        assert!(rt; sink.alike && sink.left.is_empty());
-    }
+        Did {
+            answer: Answer::Done,
+            written: Some(text.len()),
+            reads: 5,
+            ..did
+        }
+    };
+    shows(rt, SLOTH, &did, &want);
 }
 
 /// `rt try --test --fail-alloc N -- in_memory_that_may_end` refuses the Nth allocation. Where the text is written while the input
-/// is read, nothing was read then; where the input is held, its end wasn't.
+/// is read, nothing was read then; where the input is held, its end wasn't. A bad line is reported whatever memory does.
 #[test]
-fn in_memory_that_may_end(rt: HostRuntime) {
-    let (text, line) = (b"The sloth ran".as_slice(), b"0 4 7\n".as_slice());
+fn in_memory_that_may_end(rt: HostRuntime) -> Result<(), Fail> {
+    let line = b"0 4 7\n".as_slice();
     let (standard, longest) = (MatchKind::Standard, MatchKind::LeftmostLongest);
-    for (mode, kind, engine, want, pieces) in [
-        (Mode::Replace, standard, Engine::Auto, text, 0),
-        (Mode::List, standard, Engine::Auto, line, 0),
-        (Mode::Replace, longest, Engine::Auto, text, 4),
-        (Mode::Replace, longest, Engine::Packed, text, 4),
-        (Mode::Overlap, standard, Engine::Auto, line, 4),
+    for (mode, kind, engine, text, pieces) in [
+        (Replace, standard, Engine::Auto, RAN, 0),
+        (List, standard, Engine::Auto, line, 0),
+        (Replace, longest, Engine::Auto, RAN, 4),
+        (Replace, longest, Engine::Packed, RAN, 4),
+        (Overlap, standard, Engine::Auto, line, 4),
     ] {
-        let mut settings = settings_for(mode, kind);
-        settings.engine = engine;
-        writes_where_there_is_memory(&rt, rt.alloc(), &settings, want, pieces);
+        let told = Told {
+            mode,
+            kind,
+            engine,
+            ..PLAIN
+        };
+        writes_where_there_is_memory(&rt, rt.alloc(), &told.settings()?, text, pieces);
     }
+    let settings = PLAIN.settings()?;
+    let (source, sink) = (whole(FOX, 3), expecting(b""));
+    let did = try_run(rt.alloc(), &settings, "7a7\t\n", source, sink);
+    let want = Did {
+        answer: Answer::Line(1),
+        ..did
+    };
+    shows(&rt, "7a7\t\n", &did, &want);
+    Ok(())
 }

@@ -1,64 +1,319 @@
-//! Rules and settings that are refused before anything is read or written.
+//! Rule files and settings that are refused before anything is read or written, and those that are taken.
 use super::*;
+use crate::rules::{self, read_rules};
+use crate::scripted::PLAIN;
+use crate::settings::Mode::{List, Overlap, Replace};
+use crate::settings::SettingError::{
+    OverlapLeftmost, PackedCount, PackedEmpty, PackedFold, PackedStandard,
+};
+use crate::settings::check;
+use ac_input::search::MatchKind::{LeftmostFirst, LeftmostLongest, Standard};
 use std::test::Fail;
 
-/// Asserts that a run is refused, and touches neither the reader nor the writer.
-fn refuses(rt: &impl Abort, alloc: Global, settings: &Settings, rules: &str, want: Answer) {
-    let did = try_run(alloc, settings, rules, whole(b"ab", 2), ample(alloc));
-    assert_eq!(rt; did.answer, want, "{rules:?}");
-    assert_eq!(rt; did.reads, 0, "{rules:?}");
-    assert_eq!(rt; did.writes, 0, "{rules:?}");
-}
-
-#[test]
-fn refuses_rules(rt: HostRuntime) {
-    for (rules, line) in [
-        ("7a7\t\n", 1),
-        ("61\t62\n63\t64", 2),
-        ("61\t62\n\n", 2),
-        ("61\t62\r\n", 1),
-        ("61\t62\t63\n", 1),
-    ] {
-        for mode in [Mode::Replace, Mode::List] {
-            let settings = settings_for(mode, MatchKind::Standard);
-            refuses(&rt, rt.alloc(), &settings, rules, Answer::Line(line));
-        }
+/// What the rule file and the settings are refused for, if they are.
+fn refusal(alloc: Global, settings: &Settings, file: &str) -> Answer {
+    match read_rules(alloc, file.as_bytes()) {
+        Ok(rules) => match check(settings, &rules) {
+            Ok(()) => Answer::Done,
+            Err(error) => Answer::Setting(error),
+        },
+        Err(RuleError::Line(line)) => Answer::Line(line),
+        Err(RuleError::Memory) => Answer::Memory,
     }
 }
 
+/// Asserts that rule file and settings are refused, and that a run then touches neither the reader nor the writer; or that they are
+/// taken.
+fn refuses(rt: &impl Abort, alloc: Global, settings: &Settings, file: &str, answer: Answer) {
+    assert_eq!(rt; refusal(alloc, settings, file), answer, "by {file:?}");
+    if answer == Answer::Done {
+        return;
+    }
+    let did = try_run(alloc, settings, file, whole(b"ab", 2), expecting(b""));
+    let want = Did {
+        answer,
+        written: Some(0),
+        reads: 0,
+        writes: 0,
+        flushes: 0,
+    };
+    shows(rt, file, &did, &want);
+}
+
+/// A rule file, and its first line that is no rule.
+struct Bad(&'static str, usize);
+
+const BAD: &[Bad] = &[
+    // An odd number of digits.
+    Bad("7a7\t\n", 1),
+    // A last line without a line feed.
+    Bad("61\t62\n63\t64", 2),
+    // An empty line.
+    Bad("61\t62\n\n", 2),
+    // A carriage return.
+    Bad("61\t62\r\n", 1),
+    // A third column.
+    Bad("61\t62\t63\n", 1),
+    // A space.
+    Bad("61 \t62\n", 1),
+    // One column.
+    Bad("61\n62\t63\n", 1),
+    // The first of two bad lines: it has a letter that is no digit.
+    Bad("61\t62\n61\t6g\n6\t62\n", 2),
+];
+
+/// A bad line is reported by its number, whatever the run is for.
+#[test]
+fn refuses_bad_lines(rt: HostRuntime) -> Result<(), Fail> {
+    for told in [PLAIN, PACKED] {
+        let settings = told.settings()?;
+        for Bad(file, line) in BAD {
+            refuses(&rt, rt.alloc(), &settings, file, Answer::Line(*line));
+        }
+    }
+    Ok(())
+}
+
+/// A rule file, and its rules.
+struct Good(&'static str, &'static [(&'static [u8], &'static [u8])]);
+
+const GOOD: &[Good] = &[
+    // No line, no rule.
+    Good("", &[]),
+    // Either side may be empty.
+    Good("\t\n", &[(b"", b"")]),
+    Good("666f6f\t626172\n\t2d\n", &[(b"foo", b"bar"), (b"", b"-")]),
+    // Digits may be of either case.
+    Good("6F\t4f\n", &[(b"o", b"O")]),
+    // Rules that stand twice are kept.
+    Good("61\t\n61\t\n", &[(b"a", b""), (b"a", b"")]),
+];
+
+/// Asserts that these are the rules.
+fn has_sides(rt: &impl Abort, rules: &rules::Rules, sides: &[(&[u8], &[u8])]) {
+    assert_eq!(rt;
+        (rules.len(), rules.is_empty()),
+        (sides.len(), sides.is_empty())
+    );
+    for (i, (pattern, replacement)) in sides.iter().enumerate() {
+        assert_eq!(rt;
+            (rules.pattern(i), rules.replacement(i)),
+            (*pattern, *replacement)
+        );
+    }
+}
+
+/// Rules are read in the order of their lines.
+#[test]
+fn reads_rules(rt: HostRuntime) -> Result<(), Fail> {
+    for Good(file, sides) in GOOD {
+        let rules = read_rules(rt.alloc(), file.as_bytes())?;
+        has_sides(&rt, &rules, sides);
+    }
+    Ok(())
+}
+
+/// Settings and rules, and what is answered: why they don't go together, if they don't.
+struct Row {
+    told: Told,
+    /// The lines of the rule file, and how often they stand in it.
+    lines: &'static str,
+    times: usize,
+    answer: Answer,
+}
+
+const PACKED: Told = Told {
+    mode: List,
+    kind: LeftmostFirst,
+    engine: Engine::Packed,
+    ..PLAIN
+};
+
+/// One pattern, by packed search.
+const TAKEN: Row = Row {
+    told: PACKED,
+    lines: "61\t\n",
+    times: 1,
+    answer: Answer::Done,
+};
+
+const DIGITS: Same = Same::Pairs(&[(0x30, 0x31)]);
+
+const ROWS: &[Row] = &[
+    // All that overlap is only found under the standard kind.
+    Row {
+        told: Told {
+            mode: Overlap,
+            engine: Engine::Auto,
+            ..PACKED
+        },
+        answer: Answer::Setting(OverlapLeftmost),
+        ..TAKEN
+    },
+    // That is reported before any fault of packed search.
+    Row {
+        told: Told {
+            mode: Overlap,
+            kind: LeftmostLongest,
+            ..PACKED
+        },
+        lines: "\t\n",
+        answer: Answer::Setting(OverlapLeftmost),
+        ..TAKEN
+    },
+    Row {
+        told: Told {
+            mode: Overlap,
+            kind: LeftmostLongest,
+            same: DIGITS,
+            ..PACKED
+        },
+        lines: "\t\n",
+        answer: Answer::Setting(OverlapLeftmost),
+        ..TAKEN
+    },
+    // Packed search needs a leftmost kind, and that is reported before the pairing, an empty pattern and the number of patterns.
+    Row {
+        told: Told {
+            kind: Standard,
+            ..PACKED
+        },
+        answer: Answer::Setting(PackedStandard),
+        ..TAKEN
+    },
+    Row {
+        told: Told {
+            mode: Overlap,
+            kind: Standard,
+            ..PACKED
+        },
+        lines: "\t\n",
+        answer: Answer::Setting(PackedStandard),
+        ..TAKEN
+    },
+    Row {
+        told: Told {
+            kind: Standard,
+            same: DIGITS,
+            ..PACKED
+        },
+        lines: "\t\n",
+        answer: Answer::Setting(PackedStandard),
+        ..TAKEN
+    },
+    Row {
+        told: Told {
+            kind: Standard,
+            same: DIGITS,
+            ..PACKED
+        },
+        answer: Answer::Setting(PackedStandard),
+        ..TAKEN
+    },
+    // It takes no pairing, and that is reported before an empty pattern.
+    Row {
+        told: Told {
+            same: DIGITS,
+            ..PACKED
+        },
+        answer: Answer::Setting(PackedFold),
+        ..TAKEN
+    },
+    Row {
+        told: Told {
+            same: Same::Folded,
+            ..PACKED
+        },
+        answer: Answer::Setting(PackedFold),
+        ..TAKEN
+    },
+    Row {
+        told: Told {
+            same: DIGITS,
+            ..PACKED
+        },
+        lines: "\t\n",
+        answer: Answer::Setting(PackedFold),
+        ..TAKEN
+    },
+    Row {
+        told: Told {
+            mode: Replace,
+            kind: LeftmostLongest,
+            same: DIGITS,
+            ..PACKED
+        },
+        lines: "\t\n",
+        answer: Answer::Setting(PackedFold),
+        ..TAKEN
+    },
+    // It takes no empty pattern.
+    Row {
+        lines: "61\t\n\t\n",
+        answer: Answer::Setting(PackedEmpty),
+        ..TAKEN
+    },
+    // It takes 1 to 128 patterns.
+    Row {
+        times: 0,
+        answer: Answer::Setting(PackedCount),
+        ..TAKEN
+    },
+    TAKEN,
+    Row {
+        told: Told {
+            kind: LeftmostLongest,
+            ..PACKED
+        },
+        ..TAKEN
+    },
+    Row {
+        times: 128,
+        ..TAKEN
+    },
+    Row {
+        times: 129,
+        answer: Answer::Setting(PackedCount),
+        ..TAKEN
+    },
+    Row {
+        told: Told {
+            mode: Replace,
+            kind: LeftmostLongest,
+            ..PACKED
+        },
+        times: 129,
+        answer: Answer::Setting(PackedCount),
+        ..TAKEN
+    },
+    // The automata take all of that.
+    Row {
+        told: Told {
+            mode: Overlap,
+            kind: Standard,
+            engine: Engine::Dfa,
+            ..PACKED
+        },
+        lines: "\t\n",
+        ..TAKEN
+    },
+    Row {
+        told: Told {
+            mode: Replace,
+            engine: Engine::Contiguous,
+            ..PACKED
+        },
+        times: 0,
+        ..TAKEN
+    },
+];
+
 #[test]
 fn refuses_settings(rt: HostRuntime) -> Result<(), Fail> {
-    let alloc = rt.alloc();
-    let (none, digits) = (Pairing::none(), Pairing::new(&[(0x30, 0x31)])?);
-    let many = "61\t62\n".repeat(alloc, 129)?;
-    let (replace, list, overlap) = (Mode::Replace, Mode::List, Mode::Overlap);
-    let (standard, first, longest) = (
-        MatchKind::Standard,
-        MatchKind::LeftmostFirst,
-        MatchKind::LeftmostLongest,
-    );
-    let (auto, packed) = (Engine::Auto, Engine::Packed);
-    let overlap_leftmost = SettingError::OverlapLeftmost;
-    let packed_standard = SettingError::PackedStandard;
-    let packed_fold = SettingError::PackedFold;
-    let packed_empty = SettingError::PackedEmpty;
-    let packed_count = SettingError::PackedCount;
-    let rows: [(Mode, MatchKind, Engine, Pairing, &str, SettingError); 9] = [
-        (overlap, first, auto, none, "61\t\n", overlap_leftmost),
-        (list, standard, packed, none, "61\t\n", packed_standard),
-        (list, standard, packed, digits, "61\t\n", packed_standard),
-        (list, first, packed, digits, "61\t\n", packed_fold),
-        (list, first, packed, none, "61\t\n\t\n", packed_empty),
-        (list, first, packed, none, "", packed_count),
-        (replace, longest, packed, none, many.as_str(), packed_count),
-        (overlap, longest, packed, digits, "\t\n", overlap_leftmost),
-        (replace, longest, packed, digits, "\t\n", packed_fold),
-    ];
-    for (mode, kind, engine, pairing, rules, error) in rows {
-        let mut settings = settings_for(mode, kind);
-        settings.engine = engine;
-        settings.pairing = pairing;
-        refuses(&rt, alloc, &settings, rules, Answer::Setting(error));
+    for row in ROWS {
+        let settings = row.told.settings()?;
+        let file = row.lines.repeat(rt.alloc(), row.times)?;
+        refuses(&rt, rt.alloc(), &settings, file.as_str(), row.answer);
     }
     Ok(())
 }

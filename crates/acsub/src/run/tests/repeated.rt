@@ -1,240 +1,357 @@
-//! Patterns and inputs of one letter over and over, where a search has most to look at and to go back for.
+//! Letters that stand many times over, where a search has most to look at and to go back for.
 use super::*;
+use crate::scripted::PLAIN;
+use crate::settings::Mode::{List, Overlap};
 use std::test::Fail;
 
-/// So many letters `a`, and what stands behind them.
-fn letters(alloc: Global, count: usize, last: &str) -> Result<String, AllocError> {
-    let mut text = "a".repeat(alloc, count)?;
-    text.push_str(last)?;
-    Ok(text)
+/// What is written.
+#[derive(Clone, Copy)]
+enum Writes {
+    /// A text, put together of parts.
+    Text(&'static [Times]),
+    /// A line for each occurrence of so many rising patterns in an input of one letter: by their ends, and of those with one end
+    /// the longest first. There are so many lines.
+    Occurrences { patterns: usize, lines: usize },
 }
 
-/// Rules for a pattern of one letter `a`, one of two, and so on up to one of so many.
-fn rising_file(alloc: Global, count: usize) -> Result<String, AllocError> {
-    let mut rules = String::new(alloc);
-    for len in 0..count {
-        push_rule(&mut rules, alloc, letters(alloc, len, "a")?.as_str(), "")?;
-    }
-    Ok(rules)
-}
-
-fn push_line(
-    lines: &mut String,
-    alloc: Global,
-    pattern: usize,
-    start: usize,
-    end: usize,
-) -> Result<(), AllocError> {
-    lines.push_str(format!(in alloc; "{pattern} {start} {end}\n")?.as_str())
-}
-
-/// A line for pattern 0 at each of so many letters.
-fn each_letter(alloc: Global, count: usize) -> Result<String, AllocError> {
-    let mut lines = String::new(alloc);
-    for start in 0..count {
-        push_line(&mut lines, alloc, 0, start, start + 1)?;
-    }
-    Ok(lines)
-}
-
-/// All occurrences of the patterns of [`rising_file`] in so many letters: by their ends, and of those with one end the longest
-/// first.
-fn each_occurrence(
+/// Pushes the lines of [`Writes::Occurrences`], and returns their number.
+fn push_occurrences(
+    text: &mut String,
     alloc: Global,
     letters: usize,
     patterns: usize,
-) -> Result<(String, usize), AllocError> {
-    let mut lines = String::new(alloc);
+) -> Result<usize, AllocError> {
     let mut count: usize = 0;
     for last in 0..letters {
         for start in (last + 1).saturating_sub(patterns)..last + 1 {
-            push_line(&mut lines, alloc, last - start, start, last + 1)?;
+            let (pattern, end) = (last - start, last + 1);
+            text.push_str(format!(in alloc; "{pattern} {start} {end}\n")?.as_str())?;
             count = count.saturating_add(1);
         }
     }
-    Ok((lines, count))
+    Ok(count)
 }
 
-/// Runs once by each of these engines.
-fn writes_once(
-    rt: &impl Abort,
-    alloc: Global,
-    engines: &[Engine],
-    settings: &Settings,
-    rules: &str,
-    input: &str,
-    want: &str,
-) {
-    for engine in engines {
-        let mut settings = *settings;
-        settings.engine = *engine;
-        let (input, want) = (input.as_bytes(), want.as_bytes());
-        writes_in(rt, alloc, &settings, rules, input, 600, want);
-    }
+/// A run over letters.
+#[derive(Clone, Copy)]
+struct Row {
+    told: Told,
+    by: &'static [By],
+    rules: Rules,
+    input: &'static [Times],
+    /// The most that a read gives.
+    most: usize,
+    /// Whether it is run over pieces of one, two and seven bytes too, whatever else the settings say.
+    tuned: bool,
+    writes: Writes,
+    /// How many writes that takes, where each can take all.
+    calls: Option<usize>,
 }
 
-#[test]
-fn takes_the_longest_of_many(rt: HostRuntime) -> Result<(), Fail> {
-    let alloc = rt.alloc();
-    let input = letters(alloc, 1000, "")?;
-    let ones = each_letter(alloc, 1000)?;
-    let eight =
-        "127 0 128\n127 128 256\n127 256 384\n127 384 512\n127 512 640\n127 640 768\n127 768 896\n103 896 1000\n";
-    let more =
-        "128 0 129\n128 129 258\n128 258 387\n128 387 516\n128 516 645\n128 645 774\n128 774 903\n96 903 1000\n";
-    let (standard, longest) = (MatchKind::Standard, MatchKind::LeftmostLongest);
-    let rows: [(usize, MatchKind, &[Engine], &str); 6] = [
-        (1, standard, AUTOMATA, ones.as_str()),
-        (1, longest, ENGINES, ones.as_str()),
-        (128, standard, AUTOMATA, ones.as_str()),
-        (128, longest, ENGINES, eight),
-        (129, standard, AUTOMATA, ones.as_str()),
-        (129, longest, AUTOMATA, more),
-    ];
-    for (patterns, kind, engines, want) in rows {
-        let rules = rising_file(alloc, patterns)?;
-        let settings = settings_for(Mode::List, kind);
-        writes_once(
-            &rt,
-            alloc,
-            engines,
-            &settings,
-            rules.as_str(),
-            input.as_str(),
-            want,
-        );
-    }
-    Ok(())
+const FOLDED: Told = Told {
+    mode: List,
+    same: Same::Folded,
+    ..PLAIN
+};
+
+const THOUSAND: &[Times] = &[Times(1000, "a")];
+
+const LATE: &[Times] = &[Times(300, "a"), Times(1, "z")];
+
+/// A list of what is in a thousand letters, none of it a match.
+const LISTED: Row = Row {
+    told: Told {
+        mode: List,
+        ..PLAIN
+    },
+    by: &[],
+    rules: Rules::File(&[]),
+    input: THOUSAND,
+    most: 600,
+    tuned: false,
+    writes: Writes::Text(&[]),
+    calls: None,
+};
+
+const EACH_LETTER: Writes = Writes::Occurrences {
+    patterns: 1,
+    lines: 1000,
+};
+
+const MATCHES: &[Row] = &[
+    // One letter at each place.
+    Row {
+        by: &[STANDARD, LONGEST],
+        rules: Rules::Rising(1),
+        writes: EACH_LETTER,
+        ..LISTED
+    },
+    // The lines of one read are written together, and more of them than the buffer holds are written in parts: 257,784 bytes.
+    Row {
+        by: &[STANDARD],
+        rules: Rules::Rising(1),
+        input: &[Times(20_000, "a")],
+        most: 20_000,
+        writes: Writes::Occurrences {
+            patterns: 1,
+            lines: 20_000,
+        },
+        calls: Some(4),
+        ..LISTED
+    },
+    // The shortest of 128 patterns ends first, and stands first in the file.
+    Row {
+        by: &[STANDARD, FIRST],
+        rules: Rules::Rising(128),
+        writes: EACH_LETTER,
+        ..LISTED
+    },
+    // The longest of 128 patterns is taken as often as it fits, and then the longest that fits the rest.
+    Row {
+        by: &[LONGEST],
+        rules: Rules::Rising(128),
+        writes: Writes::Text(&[
+            Times(1, "127 0 128\n127 128 256\n127 256 384\n127 384 512\n"),
+            Times(1, "127 512 640\n127 640 768\n127 768 896\n103 896 1000\n"),
+        ]),
+        ..LISTED
+    },
+    // So with one pattern more, which packed search doesn't take.
+    Row {
+        by: &[STANDARD],
+        rules: Rules::Rising(129),
+        writes: EACH_LETTER,
+        ..LISTED
+    },
+    Row {
+        by: &[LONGEST_BY_AUTOMATA],
+        rules: Rules::Rising(129),
+        writes: Writes::Text(&[
+            Times(1, "128 0 129\n128 129 258\n128 258 387\n128 387 516\n"),
+            Times(1, "128 516 645\n128 645 774\n128 774 903\n96 903 1000\n"),
+        ]),
+        ..LISTED
+    },
+    // The pattern's last byte decides, 254 or 255 bytes after the place where it begins: both sides of what a byte can count.
+    Row {
+        told: FOLDED,
+        by: &[STANDARD, FIRST_BY_AUTOMATA, LONGEST_BY_AUTOMATA],
+        rules: Rules::File(&[Times(254, "61"), Times(1, "7a\t\n")]),
+        input: LATE,
+        tuned: true,
+        writes: Writes::Text(&[Times(1, "0 46 301\n")]),
+        ..LISTED
+    },
+    Row {
+        told: FOLDED,
+        by: &[STANDARD, FIRST_BY_AUTOMATA, LONGEST_BY_AUTOMATA],
+        rules: Rules::File(&[Times(255, "61"), Times(1, "7a\t\n")]),
+        input: LATE,
+        tuned: true,
+        writes: Writes::Text(&[Times(1, "0 45 301\n")]),
+        ..LISTED
+    },
+    // Two patterns that end alike: the letters before the end decide.
+    Row {
+        by: &[STANDARD, FIRST, LONGEST],
+        rules: Rules::File(&[
+            Times(254, "61"),
+            Times(1, "7a\t\n"),
+            Times(254, "62"),
+            Times(1, "7a\t\n"),
+        ]),
+        input: LATE,
+        tuned: true,
+        writes: Writes::Text(&[Times(1, "0 46 301\n")]),
+        ..LISTED
+    },
+    // What begins a match at each place and never ends one has no line.
+    Row {
+        by: &[STANDARD, FIRST, LONGEST],
+        rules: Rules::File(&[Times(20, "61"), Times(1, "62\t\n")]),
+        ..LISTED
+    },
+    // A longer pattern that begins at each place and never ends leaves the matches of the shorter one.
+    Row {
+        by: &[STANDARD, FIRST, LONGEST],
+        rules: Rules::File(&[Times(1, "61\t\n"), Times(20, "61"), Times(1, "62\t\n")]),
+        writes: EACH_LETTER,
+        ..LISTED
+    },
+    // 99 of 100 letters are no match.
+    Row {
+        by: &[STANDARD, FIRST, LONGEST],
+        rules: Rules::File(&[Times(100, "71"), Times(1, "\t\n")]),
+        input: &[Times(99, "q"), Times(1, "r"), Times(100, "q")],
+        tuned: true,
+        writes: Writes::Text(&[Times(1, "0 100 200\n")]),
+        ..LISTED
+    },
+    // 128 equal patterns are kept, and packed search takes them.
+    Row {
+        told: PLAIN,
+        by: &[STANDARD, FIRST, LONGEST],
+        rules: Rules::File(&[Times(128, "61\t62\n")]),
+        input: &[Times(1, "ab")],
+        tuned: true,
+        writes: Writes::Text(&[Times(1, "bb")]),
+        ..LISTED
+    },
+    // Many matches, read byte by byte.
+    Row {
+        told: PLAIN,
+        by: &[STANDARD],
+        rules: Rules::File(&[Times(1, "6162\t63\n")]),
+        input: &[Times(100_000, "ab")],
+        most: 1,
+        writes: Writes::Text(&[Times(100_000, "c")]),
+        ..LISTED
+    },
+    // Reads that fill the buffer but for one byte.
+    Row {
+        told: PLAIN,
+        by: &[STANDARD],
+        rules: Rules::File(&[Times(9000, "61"), Times(1, "\t2d\n")]),
+        input: &[Times(90_000, "a")],
+        most: 71_999,
+        writes: Writes::Text(&[Times(10, "-")]),
+        ..LISTED
+    },
+];
+
+const OCCURRENCES: &[Row] = &[
+    // Each of up to 129 that end at one place has its line.
+    Row {
+        told: Told {
+            mode: Overlap,
+            ..PLAIN
+        },
+        by: &[STANDARD],
+        rules: Rules::Rising(1),
+        writes: EACH_LETTER,
+        ..LISTED
+    },
+    Row {
+        told: Told {
+            mode: Overlap,
+            ..PLAIN
+        },
+        by: &[STANDARD],
+        rules: Rules::Rising(128),
+        writes: Writes::Occurrences {
+            patterns: 128,
+            lines: 119872,
+        },
+        ..LISTED
+    },
+    Row {
+        told: Told {
+            mode: Overlap,
+            ..PLAIN
+        },
+        by: &[STANDARD],
+        rules: Rules::Rising(129),
+        writes: Writes::Occurrences {
+            patterns: 129,
+            lines: 120744,
+        },
+        ..LISTED
+    },
+];
+
+/// A row, put together.
+#[derive(Drop)]
+struct Built {
+    rules: String,
+    input: String,
+    text: String,
 }
 
-#[test]
-fn lists_all_of_many(rt: HostRuntime) -> Result<(), Fail> {
-    let alloc = rt.alloc();
-    let input = letters(alloc, 1000, "")?;
-    let rows: [(usize, usize); 3] = [(1, 1000), (128, 119872), (129, 120744)];
-    for (patterns, count) in rows {
-        let rules = rising_file(alloc, patterns)?;
-        let (want, lines) = each_occurrence(alloc, 1000, patterns)?;
-        assert_eq!(rt; lines, count, "{patterns} patterns");
-        let settings = settings_for(Mode::Overlap, MatchKind::Standard);
-        writes_once(
-            &rt,
-            alloc,
-            AUTOMATA,
-            &settings,
-            rules.as_str(),
-            input.as_str(),
-            want.as_str(),
-        );
-    }
-    Ok(())
-}
-
-#[test]
-fn finds_what_ends_many(rt: HostRuntime) -> Result<(), Fail> {
-    let alloc = rt.alloc();
-    let late = letters(alloc, 300, "z")?;
-    for (count, want) in [(254, "0 46 301\n"), (255, "0 45 301\n")] {
-        let rules = patterns_file(alloc, &[letters(alloc, count, "z")?.as_str()])?;
-        for kind in [
-            MatchKind::Standard,
-            MatchKind::LeftmostFirst,
-            MatchKind::LeftmostLongest,
-        ] {
-            let mut settings = settings_for(Mode::List, kind);
-            settings.pairing = Pairing::ascii();
-            writes(
-                &rt,
-                alloc,
-                AUTOMATA,
-                &settings,
-                rules.as_str(),
-                late.as_bytes(),
-                want.as_bytes(),
-            );
+/// Puts a row together.
+fn build(rt: &impl Abort, alloc: Global, row: &Row, built: &mut Built) -> Result<(), AllocError> {
+    push_rules(&mut built.rules, alloc, &row.rules)?;
+    push_parts(&mut built.input, row.input)?;
+    match row.writes {
+        Writes::Text(parts) => push_parts(&mut built.text, parts)?,
+        Writes::Occurrences { patterns, lines } => {
+            let letters = built.input.len();
+            let count = push_occurrences(&mut built.text, alloc, letters, patterns)?;
+            assert_eq!(rt; count, lines);
         }
     }
     Ok(())
 }
 
-#[test]
-fn tells_apart_what_begins_many(rt: HostRuntime) -> Result<(), Fail> {
-    let alloc = rt.alloc();
-    let (late, thousand) = (letters(alloc, 300, "z")?, letters(alloc, 1000, "")?);
-    let (az, ab) = (letters(alloc, 254, "z")?, letters(alloc, 20, "b")?);
-    let bz = format!(in alloc; "{}z", "b".repeat(alloc, 254)?)?;
-    let two = patterns_file(alloc, &[az.as_str(), bz.as_str()])?;
-    let one = patterns_file(alloc, &[ab.as_str()])?;
-    let short = patterns_file(alloc, &["a", ab.as_str()])?;
-    let ones = each_letter(alloc, 1000)?;
-    let rows: [(&str, &str, &str); 3] = [
-        (two.as_str(), late.as_str(), "0 46 301\n"),
-        (one.as_str(), thousand.as_str(), ""),
-        (short.as_str(), thousand.as_str(), ones.as_str()),
-    ];
-    for (rules, input, want) in rows {
-        for (kind, engines) in [
-            (MatchKind::Standard, AUTOMATA),
-            (MatchKind::LeftmostFirst, ENGINES),
-            (MatchKind::LeftmostLongest, ENGINES),
-        ] {
-            let settings = settings_for(Mode::List, kind);
-            writes_once(&rt, alloc, engines, &settings, rules, input, want);
-        }
+/// Asserts that a row's text is written.
+fn writes_built(rt: &impl Abort, alloc: Global, row: &Row, built: &Built) -> Result<(), Fail> {
+    let settings = row.told.settings()?;
+    let case = Case {
+        rules: built.rules.as_str(),
+        input: built.input.as_bytes(),
+        writes: built.text.as_bytes(),
+        calls: row.calls,
+    };
+    writes_by(rt, alloc, &settings, row.by, &case, row.most);
+    if row.tuned {
+        writes_alike(rt, alloc, &settings, row.by, &case);
+    }
+    Ok(())
+}
+
+/// The same of rows, each put together for it.
+fn writes_rows(rt: &impl Abort, alloc: Global, rows: &[Row]) -> Result<(), Fail> {
+    for row in rows {
+        let mut built = Built {
+            rules: String::new(alloc),
+            input: String::new(alloc),
+            text: String::new(alloc),
+        };
+        build(rt, alloc, row, &mut built)?;
+        writes_built(rt, alloc, row, &built)?;
     }
     Ok(())
 }
 
 #[test]
-fn skips_what_nearly_matches(rt: HostRuntime) -> Result<(), Fail> {
-    let alloc = rt.alloc();
-    let rules = format!(in alloc; "{}\t\n", "71".repeat(alloc, 100)?)?;
-    let long = "q".repeat(alloc, 100)?;
-    let input = format!(in alloc; "{}r{long}", "q".repeat(alloc, 99)?)?;
-    for kind in [MatchKind::LeftmostFirst, MatchKind::LeftmostLongest] {
-        let settings = settings_for(Mode::List, kind);
-        let want = "0 100 200\n";
-        writes_once(
-            &rt,
-            alloc,
-            ENGINES,
-            &settings,
-            rules.as_str(),
-            input.as_str(),
-            want,
-        );
-    }
-    Ok(())
+fn finds_letters_over_and_over(rt: HostRuntime) -> Result<(), Fail> {
+    writes_rows(&rt, rt.alloc(), MATCHES)
 }
 
-/// A rule that takes a pattern away: so many letters `a`, then `b`, and the letters again.
-fn long_rule(alloc: Global, letters: usize) -> Result<String, AllocError> {
-    let mut rule = "61".repeat(alloc, letters)?;
-    rule.push_str("62")?;
-    rule.push_str("61".repeat(alloc, letters)?.as_str())?;
-    rule.push_str("\t\n")?;
-    Ok(rule)
+#[test]
+fn lists_all_of_letters_over_and_over(rt: HostRuntime) -> Result<(), Fail> {
+    writes_rows(&rt, rt.alloc(), OCCURRENCES)
 }
-
-/// The engine of the longest runs.
-const ONE: &[Engine] = &[Engine::Auto];
 
 /// One folded pattern of 400,001 bytes over 2,000,000 that never end it. A body that compares at every place, from either end of
-/// the pattern, doesn't end in time.
+/// the pattern, doesn't end in time. One engine is enough: today one automaton serves them all.
 #[test]
 fn ends_over_a_pattern_that_never_ends(rt: HostRuntime) -> Result<(), Fail> {
-    let alloc = rt.alloc();
-    let rule = long_rule(alloc, 200_000)?;
-    let input = letters(alloc, 2_000_000, "")?;
-    for kind in [
-        MatchKind::Standard,
-        MatchKind::LeftmostFirst,
-        MatchKind::LeftmostLongest,
-    ] {
-        let mut settings = settings_for(Mode::List, kind);
-        settings.pairing = Pairing::ascii();
-        let (rules, input) = (rule.as_str(), input.as_str());
-        writes_once(&rt, alloc, ONE, &settings, rules, input, "");
-    }
-    Ok(())
+    const AUTO: &[Engine] = &[Engine::Auto];
+    const ROWS: &[Row] = &[Row {
+        told: FOLDED,
+        by: &[
+            By {
+                kind: MatchKind::Standard,
+                engines: AUTO,
+            },
+            By {
+                kind: MatchKind::LeftmostFirst,
+                engines: AUTO,
+            },
+            By {
+                kind: MatchKind::LeftmostLongest,
+                engines: AUTO,
+            },
+        ],
+        rules: Rules::File(&[
+            Times(200_000, "61"),
+            Times(1, "62"),
+            Times(200_000, "61"),
+            Times(1, "\t\n"),
+        ]),
+        input: &[Times(2_000_000, "a")],
+        most: 65_536,
+        ..LISTED
+    }];
+    writes_rows(&rt, rt.alloc(), ROWS)
 }

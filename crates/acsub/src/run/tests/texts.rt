@@ -1,180 +1,348 @@
-//! Texts with the bytes kept as they are: what each mode writes, under each kind.
+//! What is written, by every engine that takes the settings, whatever else they say, over pieces of one, two and seven bytes.
+use super::Rules::{File, Find, Swap};
 use super::*;
+use crate::scripted::PLAIN;
+use crate::settings::Mode::{List, Overlap, Replace};
 use std::test::Fail;
 
-#[test]
-fn replaces(rt: HostRuntime) -> Result<(), Fail> {
-    let alloc = rt.alloc();
-    let speech: &[(&str, &str)] = &[("fox", "sloth"), ("brown", "grey"), ("quick", "slow")];
-    let words: &[(&str, &str)] = &[("append", "x"), ("appendage", "y"), ("app", "z")];
-    let empty: &[(&str, &str)] = &[("ab", "X"), ("", "-")];
-    let append = "append the app to the appendage";
-    let (standard, first, longest) = (
-        MatchKind::Standard,
-        MatchKind::LeftmostFirst,
-        MatchKind::LeftmostLongest,
-    );
-    let (quick, slow) = ("The quick brown fox.", "The slow grey sloth.");
-    let rows: [(&[Engine], MatchKind, &[(&str, &str)], &str, &str); 8] = [
-        (AUTOMATA, standard, speech, quick, slow),
-        (AUTOMATA, standard, &[("", "-")], "ab", "-a-b-"),
-        (AUTOMATA, standard, empty, "aab", "-a-a-b-"),
-        (AUTOMATA, first, empty, "aab", "-aX"),
-        (AUTOMATA, standard, &[("o", "O")], "foo", "fOO"),
-        (AUTOMATA, standard, &[], "ab", "ab"),
-        (ENGINES, longest, &[("a", "")], "aaa", ""),
-        (ENGINES, first, words, append, "x the z to the xage"),
-    ];
-    for (engines, kind, sides, input, want) in rows {
-        let rules = rules_file(alloc, sides)?;
-        let settings = settings_for(Mode::Replace, kind);
-        writes(
-            &rt,
-            alloc,
-            engines,
-            &settings,
-            rules.as_str(),
-            input.as_bytes(),
-            want.as_bytes(),
-        );
+/// Rules, an input, and the text that is written.
+struct Row(Rules, &'static [u8], &'static [u8]);
+
+/// Rows of one mode, each for these kinds.
+struct Table {
+    told: Told,
+    by: &'static [By],
+    rows: &'static [Row],
+}
+
+const NESTED: Rules = Find(&[b"b", b"abc", b"abcd"]);
+
+const APPEND: Rules = Find(&[b"append", b"appendage", b"app"]);
+
+const APPENDED: &[u8] = b"append the app to the appendage";
+
+const NOBODY: &[u8] = b"Nobody likes maple in their apple flavored Snapple.";
+
+const REPLACED: &[Table] = &[
+    Table {
+        told: PLAIN,
+        by: &[STANDARD],
+        rows: &[
+            // Each match is exchanged for the replacement of its own rule.
+            Row(
+                Swap(&[(b"fox", b"sloth"), (b"brown", b"grey"), (b"quick", b"slow")]),
+                b"The quick brown fox.",
+                b"The slow grey sloth.",
+            ),
+            // Hex digits may be of either case.
+            Row(File(&[Times(1, "6F\t4f\n")]), b"foo", b"fOO"),
+            // An empty rule file leaves the input as it is.
+            Row(File(&[]), b"ab", b"ab"),
+            // An empty pattern matches at every place, the end too.
+            Row(Swap(&[(b"", b"-")]), b"ab", b"-a-b-"),
+            // Under the standard kind an empty pattern comes before a longer one.
+            Row(Swap(&[(b"ab", b"X"), (b"", b"-")]), b"aab", b"-a-a-b-"),
+        ],
+    },
+    Table {
+        told: PLAIN,
+        by: &[FIRST_BY_AUTOMATA],
+        rows: &[
+            // The first rule comes before an empty one at its place; no empty match stands at a match's end.
+            Row(Swap(&[(b"ab", b"X"), (b"", b"-")]), b"aab", b"-aX"),
+        ],
+    },
+    Table {
+        told: PLAIN,
+        by: &[FIRST],
+        rows: &[
+            // Of two that begin alike the first rule's is taken, not the longer.
+            Row(
+                Swap(&[(b"append", b"x"), (b"appendage", b"y"), (b"app", b"z")]),
+                APPENDED,
+                b"x the z to the xage",
+            ),
+            Row(
+                Swap(&[(b"a", b"1"), (b"ab", b"2")]),
+                b"xayabbbz",
+                b"x1y1bbbz",
+            ),
+        ],
+    },
+    Table {
+        told: PLAIN,
+        by: &[LONGEST],
+        rows: &[
+            // Of two that begin alike the longer is taken.
+            Row(
+                Swap(&[(b"a", b"1"), (b"ab", b"2")]),
+                b"xayabbbz",
+                b"x1y2bbz",
+            ),
+            // An empty replacement takes its match away.
+            Row(Swap(&[(b"a", b"")]), b"aaa", b""),
+        ],
+    },
+    Table {
+        told: PLAIN,
+        by: &[STANDARD, FIRST, LONGEST],
+        rows: &[
+            // A match may begin within a character.
+            Row(Swap(&[(b"\xa9", b"x")]), b"a\xc3\xa9", b"a\xc3x"),
+        ],
+    },
+];
+
+const LISTED: &[Table] = &[
+    Table {
+        told: Told {
+            mode: List,
+            ..PLAIN
+        },
+        by: &[STANDARD],
+        rows: &[
+            // Of three that overlap the one that ends first is taken.
+            Row(NESTED, b"abcd", b"0 1 2\n"),
+            Row(APPEND, APPENDED, b"2 0 3\n2 11 14\n2 22 25\n"),
+            // Samwise ends after Sam.
+            Row(Find(&[b"Samwise", b"Sam"]), b"Samwise", b"1 0 3\n"),
+            // No rules: no lines.
+            Row(File(&[]), b"ab", b""),
+            // An empty pattern matches an empty input.
+            Row(File(&[Times(1, "\t\n")]), b"", b"0 0 0\n"),
+            // Of two equal patterns the first is taken.
+            Row(Find(&[b"a", b"a"]), b"a", b"0 0 1\n"),
+            // The next match begins where the last one ended, and one that is cut off is none.
+            Row(Find(&[b"aa"]), b"aaaaa", b"0 0 2\n0 2 4\n"),
+            // Three patterns in a sentence.
+            Row(
+                Find(&[b"apple", b"maple", b"Snapple"]),
+                NOBODY,
+                b"1 13 18\n0 28 33\n2 43 50\n",
+            ),
+            // No match, no line.
+            Row(Find(&[b"fox"]), b"The quick", b""),
+        ],
+    },
+    Table {
+        told: Told {
+            mode: List,
+            ..PLAIN
+        },
+        by: &[FIRST_BY_AUTOMATA],
+        rows: &[
+            // An empty pattern is taken where no earlier rule matches, and not at the end of a match.
+            Row(Find(&[b"ab", b""]), b"aab", b"1 0 0\n0 1 3\n"),
+        ],
+    },
+    Table {
+        told: Told {
+            mode: List,
+            ..PLAIN
+        },
+        by: &[FIRST],
+        rows: &[
+            // Of three that overlap the leftmost are left, and of those the first rule's is taken.
+            Row(NESTED, b"abcd", b"1 0 3\n"),
+            // The search goes on at the end of a match: ce begins there.
+            Row(
+                Find(&[b"abcd", b"b", b"bce", b"ce"]),
+                b"abce",
+                b"1 1 2\n3 2 4\n",
+            ),
+            // The first rule is taken, be it the shorter or the longer.
+            Row(Find(&[b"Sam", b"Samwise"]), b"Samwise", b"0 0 3\n"),
+            Row(Find(&[b"Samwise", b"Sam"]), b"Samwise", b"0 0 7\n"),
+        ],
+    },
+    Table {
+        told: Told {
+            mode: List,
+            ..PLAIN
+        },
+        by: &[LONGEST],
+        rows: &[
+            // Of three that overlap the leftmost are left, and of those the longest is taken.
+            Row(NESTED, b"abcd", b"2 0 4\n"),
+            Row(APPEND, APPENDED, b"0 0 6\n2 11 14\n1 22 31\n"),
+            // The longest at each place, of a pattern that begins another.
+            Row(Find(&[b"a", b"ab"]), b"xayabbbz", b"0 1 2\n1 3 5\n"),
+        ],
+    },
+    Table {
+        told: Told {
+            mode: List,
+            ..PLAIN
+        },
+        by: &[FIRST, LONGEST],
+        rows: &[
+            // hz overlaps abcdefgh, which begins before it, so z is what comes after.
+            Row(
+                Find(&[b"z", b"abcdefghi", b"hz", b"abcdefgh"]),
+                b"abcdefghz",
+                b"3 0 8\n0 8 9\n",
+            ),
+        ],
+    },
+    Table {
+        told: Told {
+            mode: Overlap,
+            ..PLAIN
+        },
+        by: &[STANDARD],
+        rows: &[
+            // Each of three that overlap has its line.
+            Row(NESTED, b"abcd", b"0 1 2\n1 0 3\n2 0 4\n"),
+            Row(
+                APPEND,
+                APPENDED,
+                b"2 0 3\n0 0 6\n2 11 14\n2 22 25\n0 22 28\n1 22 31\n",
+            ),
+            // Of those that end at one place the one that begins first comes first, so an empty pattern comes last.
+            Row(Find(&[b"", b"ab"]), b"ab", b"0 0 0\n0 1 1\n1 0 2\n0 2 2\n"),
+            // No rules: no lines.
+            Row(File(&[]), b"ab", b""),
+            // Equal patterns come in the order of their rules.
+            Row(Find(&[b"a", b"a"]), b"a", b"0 0 1\n1 0 1\n"),
+        ],
+    },
+];
+
+const PAIRED: &[Table] = &[
+    Table {
+        told: Told {
+            mode: List,
+            same: Same::Folded,
+            ..PLAIN
+        },
+        by: &[STANDARD],
+        rows: &[
+            // Letters of pattern and input match in either case.
+            Row(
+                Find(&[b"FOO", b"bAr", b"BaZ"]),
+                b"foo bar baz",
+                b"0 0 3\n1 4 7\n2 8 11\n",
+            ),
+            Row(
+                Find(&[b"apple", b"maple", b"snapple"]),
+                NOBODY,
+                b"1 13 18\n0 28 33\n2 43 50\n",
+            ),
+            // A bracket is no letter: it does not match the brace that stands 32 further on.
+            Row(Find(&[b"["]), b"{[", b"0 1 2\n"),
+        ],
+    },
+    Table {
+        told: Told {
+            same: Same::Folded,
+            ..PLAIN
+        },
+        by: &[STANDARD],
+        rows: &[
+            // Both spellings are exchanged.
+            Row(Swap(&[(b"FOO", b"x")]), b"foo Foo", b"x x"),
+            // The brace is kept as it is.
+            Row(Swap(&[(b"[", b"-")]), b"{[", b"{-"),
+        ],
+    },
+    Table {
+        told: Told {
+            same: Same::Pairs(&[(0x30, 0x31)]),
+            ..PLAIN
+        },
+        by: &[STANDARD],
+        rows: &[
+            // Either digit of the pair stands for the other.
+            Row(Swap(&[(b"0a", b"x")]), b"1a0a", b"xx"),
+        ],
+    },
+    Table {
+        told: Told {
+            mode: List,
+            same: Same::Pairs(&[(0x30, 0x31)]),
+            ..PLAIN
+        },
+        by: &[STANDARD],
+        rows: &[
+            // Of two patterns that the pairing makes equal the first is taken.
+            Row(Find(&[b"0a", b"1a"]), b"1a", b"0 0 2\n"),
+        ],
+    },
+    Table {
+        told: Told {
+            mode: Overlap,
+            same: Same::Pairs(&[(0x30, 0x31)]),
+            ..PLAIN
+        },
+        by: &[STANDARD],
+        rows: &[
+            // And each has its line.
+            Row(Find(&[b"0a", b"1a"]), b"1a", b"0 0 2\n1 0 2\n"),
+        ],
+    },
+    Table {
+        told: Told {
+            mode: List,
+            same: Same::Pairs(&[(0x30, 0x31)]),
+            ..PLAIN
+        },
+        by: &[FIRST_BY_AUTOMATA],
+        rows: &[
+            // A pattern that begins another by the pairing alone hides it.
+            Row(Find(&[b"0", b"1a"]), b"1a", b"0 0 1\n"),
+        ],
+    },
+    Table {
+        told: Told {
+            mode: List,
+            same: Same::Pairs(&[(0xc9, 0xe9)]),
+            ..PLAIN
+        },
+        by: &[STANDARD],
+        rows: &[
+            // Bytes above ASCII can be paired.
+            Row(Find(&[b"\xc9"]), b"a\xe9", b"0 1 2\n"),
+        ],
+    },
+];
+
+/// Asserts that the text of each row is written.
+fn writes(rt: &impl Abort, alloc: Global, table: &Table) -> Result<(), Fail> {
+    let settings = table.told.settings()?;
+    for Row(rules, input, text) in table.rows {
+        let mut file = String::new(alloc);
+        push_rules(&mut file, alloc, rules)?;
+        let case = Case {
+            rules: file.as_str(),
+            input,
+            writes: text,
+            calls: None,
+        };
+        writes_alike(rt, alloc, &settings, table.by, &case);
     }
     Ok(())
 }
 
-/// A match may begin and end within a character.
 #[test]
-fn replaces_bytes(rt: HostRuntime) {
-    for (kind, engines) in [
-        (MatchKind::Standard, AUTOMATA),
-        (MatchKind::LeftmostFirst, ENGINES),
-        (MatchKind::LeftmostLongest, ENGINES),
-    ] {
-        let settings = settings_for(Mode::Replace, kind);
-        let want = b"a\xc3x";
-        writes(
-            &rt,
-            rt.alloc(),
-            engines,
-            &settings,
-            "a9\t78\n",
-            b"a\xc3\xa9",
-            want,
-        );
+fn replaces(rt: HostRuntime) -> Result<(), Fail> {
+    for table in REPLACED {
+        writes(&rt, rt.alloc(), table)?;
     }
+    Ok(())
 }
 
 #[test]
 fn lists(rt: HostRuntime) -> Result<(), Fail> {
-    let alloc = rt.alloc();
-    let nested: &[&str] = &["b", "abc", "abcd"];
-    let bees: &[&str] = &["abcd", "b", "bce", "ce"];
-    let words: &[&str] = &["append", "appendage", "app"];
-    let tails: &[&str] = &["z", "abcdefghi", "hz", "abcdefgh"];
-    let tree: &[&str] = &["apple", "maple", "Snapple"];
-    let (sam, wise): (&[&str], &[&str]) = (&["Sam", "Samwise"], &["Samwise", "Sam"]);
-    let append = "append the app to the appendage";
-    let nobody = "Nobody likes maple in their apple flavored Snapple.";
-    let flavors = "1 13 18\n0 28 33\n2 43 50\n";
-    let (standard, first, longest) = (
-        MatchKind::Standard,
-        MatchKind::LeftmostFirst,
-        MatchKind::LeftmostLongest,
-    );
-    let rows: [(&[Engine], MatchKind, &[&str], &str, &str); 19] = [
-        (AUTOMATA, standard, nested, "abcd", "0 1 2\n"),
-        (ENGINES, first, nested, "abcd", "1 0 3\n"),
-        (ENGINES, longest, nested, "abcd", "2 0 4\n"),
-        (AUTOMATA, first, &["ab", ""], "aab", "1 0 0\n0 1 3\n"),
-        (ENGINES, first, bees, "abce", "1 1 2\n3 2 4\n"),
-        (AUTOMATA, standard, &[], "ab", ""),
-        (AUTOMATA, standard, &[""], "", "0 0 0\n"),
-        (AUTOMATA, standard, &["a", "a"], "a", "0 0 1\n"),
-        (ENGINES, first, tails, "abcdefghz", "3 0 8\n0 8 9\n"),
-        (ENGINES, longest, tails, "abcdefghz", "3 0 8\n0 8 9\n"),
-        (ENGINES, longest, &["a", "ab"], "xayabbbz", "0 1 2\n1 3 5\n"),
-        (
-            AUTOMATA,
-            standard,
-            words,
-            append,
-            "2 0 3\n2 11 14\n2 22 25\n",
-        ),
-        (ENGINES, longest, words, append, "0 0 6\n2 11 14\n1 22 31\n"),
-        (ENGINES, first, sam, "Samwise", "0 0 3\n"),
-        (ENGINES, first, wise, "Samwise", "0 0 7\n"),
-        (AUTOMATA, standard, wise, "Samwise", "1 0 3\n"),
-        (AUTOMATA, standard, tree, nobody, flavors),
-        (AUTOMATA, standard, &["aa"], "aaaaa", "0 0 2\n0 2 4\n"),
-        (AUTOMATA, standard, &["fox"], "The quick", ""),
-    ];
-    for (engines, kind, patterns, input, want) in rows {
-        let rules = patterns_file(alloc, patterns)?;
-        let settings = settings_for(Mode::List, kind);
-        writes(
-            &rt,
-            alloc,
-            engines,
-            &settings,
-            rules.as_str(),
-            input.as_bytes(),
-            want.as_bytes(),
-        );
+    for table in LISTED {
+        writes(&rt, rt.alloc(), table)?;
     }
     Ok(())
 }
 
 #[test]
-fn lists_overlapping(rt: HostRuntime) -> Result<(), Fail> {
-    let alloc = rt.alloc();
-    let rows: [(&[&str], &str, &str); 5] = [
-        (&["b", "abc", "abcd"], "abcd", "0 1 2\n1 0 3\n2 0 4\n"),
-        (&["", "ab"], "ab", "0 0 0\n0 1 1\n1 0 2\n0 2 2\n"),
-        (&[], "ab", ""),
-        (&["a", "a"], "a", "0 0 1\n1 0 1\n"),
-        (
-            &["append", "appendage", "app"],
-            "append the app to the appendage",
-            "2 0 3\n0 0 6\n2 11 14\n2 22 25\n0 22 28\n1 22 31\n",
-        ),
-    ];
-    let settings = settings_for(Mode::Overlap, MatchKind::Standard);
-    for (patterns, input, want) in rows {
-        let rules = patterns_file(alloc, patterns)?;
-        writes(
-            &rt,
-            alloc,
-            AUTOMATA,
-            &settings,
-            rules.as_str(),
-            input.as_bytes(),
-            want.as_bytes(),
-        );
-    }
-    Ok(())
-}
-
-#[test]
-fn packs(rt: HostRuntime) -> Result<(), Fail> {
-    let alloc = rt.alloc();
-    let replacing = "61\t31\n6162\t32\n";
-    let most = "61\t62\n".repeat(alloc, 128)?;
-    let (first, longest) = (MatchKind::LeftmostFirst, MatchKind::LeftmostLongest);
-    let rows: [(MatchKind, &str, &str, &str); 3] = [
-        (longest, replacing, "xayabbbz", "x1y2bbz"),
-        (first, replacing, "xayabbbz", "x1y1bbbz"),
-        (first, most.as_str(), "ab", "bb"),
-    ];
-    for (kind, rules, input, want) in rows {
-        let settings = settings_for(Mode::Replace, kind);
-        writes(
-            &rt,
-            alloc,
-            ENGINES,
-            &settings,
-            rules,
-            input.as_bytes(),
-            want.as_bytes(),
-        );
+fn takes_pairs_for_the_same(rt: HostRuntime) -> Result<(), Fail> {
+    for table in PAIRED {
+        writes(&rt, rt.alloc(), table)?;
     }
     Ok(())
 }

@@ -1,4 +1,3 @@
-use Rattle.std.proofs.Common.{◌≡◌}
 use Rattle.ac_automaton.proofs.CursorLemmas.{HasAdvanced}
 use Rattle.ac_automaton.proofs.automaton.Automaton.advance.Given as goal
 

@@ -3,6 +3,7 @@ use Rattle.std.proofs.Common.{◌≡◌, ◌+◌, ◌-◌, ◌≤◌, length, ta
 use Rattle.std.proofs.lemmas.List.{length-take-le}
 use Rattle.ac_automaton.specs.Buffer.{Held}
 use Rattle.ac_automaton.proofs.BufferLemmas.{filled-by, front-more}
+use Rattle.ac_automaton.proofs.MovedLemmas.{given-gave}
 use Rattle.ac_automaton.proofs.buffer.Buffer.fill.Goals as goal
 
 pub returns-clause-gave : goal.returns-clause-gave
@@ -18,7 +19,8 @@ returns-clause-gave g c =
     let front : length c.args.self.now.bytes ≡ filled = sym (ap (λ (h : Held). length h.bytes) is) ∙ ap (λ (l : List ℕ). length (take filled l)) (sym c.deref_mut.ensures.value) ∙ length-take-le filled buffer (omega arith) in
     let room : c.self.inside.bytes.len ≡ c.args.self.now.room = ap (λ (h : Held). h.room) is in
     let open_ = c.requires.room in
-    filled-by _ c.args.self.now _ _ _ c.read.new.buf (take filled buffer) n c.in_ok-n.ensures.gave c.in_ok-n.ensures.device.0 (λ z. c.in_ok-n.ensures.device.1 z (omega arith))
+    filled-by _ c.args.self.now _ _ _ c.read.new.buf (take filled buffer) n within
+    (given-gave g.R.Read.remaining c.args.reader.now c.read.new.self c.read.new.buf n c.requires.open c.in_ok-n.ensures.gave c.read.ensures.writes c.in_ok-n.ensures.device.0 (λ z. c.in_ok-n.ensures.device.1 z (omega arith)))
     (sym (ap (λ (h : Held). h.bytes) is) ∙ ap (take filled) (sym c.deref_mut.ensures.value))
     (front-more buffer c.read.new.buf _ _ c.self.inside.bytes.len filled n (omega arith) (omega arith) within)
     (ap (λ (h : Held). h.room) is)

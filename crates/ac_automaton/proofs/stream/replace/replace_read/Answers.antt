@@ -1,7 +1,7 @@
 -- Before each read all that is decided is written, and at the end what is left.
-use Rattle.std.proofs.Common.{◌≡◌, ◌≤◌, [], length, map, arith, refl, sym, subst, ◌∙◌, Ok}
+use Rattle.std.proofs.Common.{◌≤◌, map, arith, sym, subst, ◌∙◌}
 use Rattle.std.proofs.lemmas.Result.{err_from_is_err_and}
-use Rattle.ac_automaton.specs.Stream.{IsOnCourse, Scanned, fresh_scan}
+use Rattle.ac_automaton.specs.Stream.{IsOnCourse, Scanned}
 use Rattle.ac_automaton.specs.StreamReplace.{HasReplaced}
 use Rattle.ac_automaton.proofs.StreamCountLemmas.{ScanCounts-none, ScanCounts-then}
 use Rattle.ac_automaton.proofs.StreamReplaceLemmas.{all-filled, given-more, less-left, on-ok, piece-some, read-kept, read-stopped, reading, replaced-fresh, replaced-more, rest-answers, rest-read, rest-searched, sending-stopped, still-open}
@@ -78,7 +78,7 @@ loop-scan-preserved g c =
     record {
       replaced = replaced-more _ _ _ _ _ _ _ _ _ _ _ now given c.send_decided.new.scan c.in_ok-at.at (all-filled _ _ _ _ c.loop-scan.scan c.read_more.new.self _ _ _ _ _ _ read.0 0 before read.1 some) sent.0 sent.1;
       empty = c.in_ok-at.ensures.none;
-      more = still-open _ read.0 read.1.ended some;
+      more = still-open _ read.0 read.1.read.turns.1 some;
       counted = ScanCounts-then c.args.scan.now c.read_more.new.self c.send_decided.new.scan c.args.steps.now c.read_more.new.steps c.send_decided.new.steps first c.send_decided.ensures.counts;
     }
 

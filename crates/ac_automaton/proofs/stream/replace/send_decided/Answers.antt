@@ -1,5 +1,5 @@
 -- One match after another, and then what stands before the cut.
-use Rattle.std.proofs.Common.{◌≡◌, ◌≤◌, ◌<◌, ◌+◌, [], length, map, arith, refl}
+use Rattle.std.proofs.Common.{◌≤◌, map, arith, refl}
 use Rattle.std.proofs.lemmas.Result.{err_from_is_err_and}
 use Rattle.ac_automaton.proofs.StreamCountLemmas.{ScanCounts-none, ScanCounts-then}
 use Rattle.ac_automaton.proofs.StreamSendLemmas.{SendsTo-none, SendsTo-then, StopsSending-then, part-read, plain-sent, plain-stopped}

@@ -41,7 +41,7 @@ loop-scan-preserved g c =
     record {
       replaced = goes-on-with g.W.Write.contents g.F.FnMut g.R.Read.remaining c.args.scan.now.built c.loop-scan.scan c.read_more.new.self c.loop-scan.at c.args.reader.now c.loop-scan.reader c.read_more.new.reader c.args.replace_with.now c.loop-scan.replace_with c.args.writer.now c.loop-scan.writer read.0 0
           c.loop-scan.invariant.replaced read.1 c.replace_decided.new.scan c.in_ok-at.at c.replace_decided.new.replace_with c.replace_decided.new.writer refl some c.in_ok-at.ensures.goes_on c.in_ok-at.ensures.at_cut;
-      more = still-open _ read.0 read.1.ended some;
+      more = still-open _ read.0 read.1.read.turns.1 some;
     }
 
 pub returns : goal.returns
@@ -53,4 +53,4 @@ returns g c =
     let le : c.from-from.result ≤ c.loop-scan.at = let is = c.from-from.ensures.from in let held = placed.held in omega arith in
     let bytes = rest-read t _ _ _ _ c.held.ensures.held c.from-from.ensures.from le c.rest.ensures in
     rest-answered g.W.Write.contents g.F.FnMut g.R.Read.remaining c.args.scan.now.built c.loop-scan.scan t c.loop-scan.at c.args.reader.now c.loop-scan.reader c.read_more.new.reader c.args.replace_with.now c.loop-scan.replace_with c.args.writer.now c.loop-scan.writer read.0 0 h read.1
-    c.write_whole.new.writer _ c.write_whole.result c.in_ok-read_more.ensures.kept read.3 refl (piece-none read.0 _ read.2 c.if-branch-gt0.false) bytes c.write_whole.ensures.all c.write_whole.ensures.front c.write_whole.ensures.kind c.write_whole.ensures.device
+    c.write_whole.new.writer _ c.write_whole.result c.in_ok-read_more.ensures.kept read.3 refl (piece-none read.0 _ read.2 c.if-branch-gt0.false) bytes c.write_whole.ensures.all c.write_whole.ensures.front c.write_whole.ensures.reads c.write_whole.ensures.kind c.write_whole.ensures.device

@@ -2,6 +2,7 @@
 use Rattle.std.proofs.Common.{◌<◌, List, length, sym, subst, arith}
 use Rattle.std.proofs.lemmas.List.{get_or_read}
 use Rattle.std.proofs.lemmas.Result.{IfOk-weaker}
+use Rattle.ac_input.proofs.SameLemmas.{own_inverse-pairing}
 use Rattle.ac_noncontiguous.specs.declared.nfa.tables.Transition.{Transition}
 use Rattle.ac_noncontiguous.specs.Layout.{HasAll, IsAppended}
 use Rattle.ac_noncontiguous.proofs.LayoutLemmas.{laid-edges, laid-fail}
@@ -26,7 +27,7 @@ returns-then-has_one_at_most c =
     let one = c.has_one_at_most.ensures c.if-has_one_at_most.true in
     IfOk-weaker c.push_only.result _ _
     (λ _ items. subst (λ (xs : List Transition). IsAppended c.args.trie.now c.args.numbering.now c.args.back c.args.state c.args.transitions.now.items xs) (sym items)
-    (laid-only c.args.trie.now c.args.numbering.now c.args.back c.args.state c.index-of.result.now c.args.transitions.now.items (c.pairing_is_own_inverse.ensures _ c.args.trie.now.paired) c.requires.numbering c.if-state-eq1.false part within read one))
+    (laid-only c.args.trie.now c.args.numbering.now c.args.back c.args.state c.index-of.result.now c.args.transitions.now.items (own_inverse-pairing _ c.args.trie.now.paired) c.requires.numbering c.if-state-eq1.false part within read one))
     c.push_only.ensures
 
 pub returns : goal.returns

@@ -51,12 +51,12 @@ loop-id-preserved c =
     (record {
       room = room-more states _ _ _ _ id c.rest-rest.result c.in_ok-range.range room within above.1 c.in_ok-range.ensures;
       known = λ m t leads.
-          let s = stands-of c.canonical_bytes_tell_texts.ensures c.canonical_bytes_are_the_same.ensures c.pairing_is_own_inverse.ensures c.args.trie.now m t in
-          lists-more c.own_patterns_are_list.ensures c.failure_tells_list.ensures m states _ _ _ _ _ order k id c.rest-rest.result c.in_ok-range.range s leads c.requires.shallower c.requires.order lt is room rest c.in_ok-range.ensures
+          let s = stands-of c.args.trie.now m t in
+          lists-more m states _ _ _ _ _ order k id c.rest-rest.result c.in_ok-range.range s leads c.requires.shallower c.requires.order lt is room rest c.in_ok-range.ensures
           (c.loop-id.invariant.known m t leads);
     })
 
 pub returns : goal.returns
 returns c m t leads =
-    let s = stands-of c.canonical_bytes_tell_texts.ensures c.canonical_bytes_are_the_same.ensures c.pairing_is_own_inverse.ensures c.args.trie.now m t in
+    let s = stands-of c.args.trie.now m t in
     record { fails = leads; lists = lists-all m _ _ _ _ c.args.order.now c.loop-id.id-index s c.requires.order (omega arith) c.loop-id.invariant.room (c.loop-id.invariant.known m t leads) }

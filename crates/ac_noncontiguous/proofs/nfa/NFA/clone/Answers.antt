@@ -14,4 +14,5 @@ from_parts-requires c =
           subst (λ (patterns : List (List ℕ)). ∥ AreByteClasses (dictionary_from patterns a.pairing a.kind) c.in_ok-tables.tables.classes ∥₁) same
           (subst (λ (classes : List ℕ). ∥ AreByteClasses (dictionary a) classes ∥₁) (sym c.in_ok-tables.ensures.classes) a.classed);
       held = λ f is. a.held f (sym c.in_ok-prefilter.ensures ∙ is) ∙ ap (λ (patterns : List (List ℕ)). dictionary_from patterns a.pairing a.kind) same;
+      paired = a.paired;
     }

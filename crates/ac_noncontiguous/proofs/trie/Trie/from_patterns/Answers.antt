@@ -6,6 +6,7 @@ use Rattle.std.specs.Borrow.{Bor}
 use Rattle.ac_input.specs.Dictionary.{Dictionary}
 use Rattle.ac_noncontiguous.specs.Standing.{dictionary_of}
 use Rattle.ac_noncontiguous.specs.Kept.{IsTrieOf}
+use Rattle.ac_noncontiguous.proofs.TrieLemmas.{trie-within}
 use Rattle.ac_noncontiguous.proofs.BuildLemmas.{first-more, first-all, refused-at, pattern-at}
 use Rattle.ac_noncontiguous.proofs.trie.Trie.from_patterns.Goals as goal
 
@@ -23,7 +24,7 @@ returns-in_err-add-clause-refused c =
     let m = dictionary_of c.args.patterns.now c.args.pairing c.args.kind in
     let p = err_from_is_err_and c.from_residual-in_err-add.result c.from_residual-in_err-add.ensures.1 in
     rw (p.1, p.2)
-    (refused-at m c.loop-pattern.pattern-index _ c.in_err-add.field-0.0 (pattern-at c.args.patterns.now c.args.pairing c.args.kind c.loop-pattern.pattern-index _ c.loop-pattern-test.true) (c.is_within_limits.ensures _ c.loop-pattern.invariant) (c.in_err-add.ensures.refused _ c.loop-pattern.invariant))
+    (refused-at m c.loop-pattern.pattern-index _ c.in_err-add.field-0.0 (pattern-at c.args.patterns.now c.args.pairing c.args.kind c.loop-pattern.pattern-index _ c.loop-pattern-test.true) (trie-within _ c.loop-pattern.trie c.loop-pattern.invariant) (c.in_err-add.ensures.refused _ c.loop-pattern.invariant))
 
 pub returns-clause-made : goal.returns-clause-made
 returns-clause-made c =

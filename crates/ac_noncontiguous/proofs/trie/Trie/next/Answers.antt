@@ -11,8 +11,8 @@ told_by-told-requires-clause-within c = (c.loop-at.invariant.shallow c.in-Some.i
 pub returns-then-is_some-clause-leads : goal.returns-then-is_some-clause-leads
 returns-then-is_some-clause-leads c m t goes settled known =
     let at = c.loop-at.invariant.shallow c.in-Some.id c.in-Some.is in
-    let s = stands-of c.canonical_bytes_tell_texts.ensures c.canonical_bytes_are_the_same.ensures c.pairing_is_own_inverse.ensures c.args.self.now m t in
-    told-returns c.child_is_next.ensures c.start_is_next.ensures m _ _ s goes c.args.byte c.args.from c.in-Some.id c.told_by-told.result at.0 settled
+    let s = stands-of c.args.self.now m t in
+    told-returns m _ _ s goes c.args.byte c.args.from c.in-Some.id c.told_by-told.result at.0 settled
     (sym c.is_some.ensures ∙ c.if-is_some.true) c.told_by-told.ensures (rw c.in-Some.is at (c.loop-at.invariant.follows m t goes settled known))
 
 pub bounds-fails-as_usize : goal.bounds-fails-as_usize
@@ -39,7 +39,7 @@ loop-at-preserved c =
     record {
       shallow = failure-within states fails _ c.in-Some.id _ c.requires.shallower at.1 given;
       follows = λ m t goes settled known.
-          let s = stands-of c.canonical_bytes_tell_texts.ensures c.canonical_bytes_are_the_same.ensures c.pairing_is_own_inverse.ensures c.args.self.now m t in
-          follows-more c.failure_tells_next.ensures c.dead_is_next.ensures m states _ fails s c.args.byte c.args.from c.in-Some.id _ at.0 at.1 settled known given untold
+          let s = stands-of c.args.self.now m t in
+          follows-more m states _ fails s c.args.byte c.args.from c.in-Some.id _ at.0 at.1 settled known given untold
           (rw c.in-Some.is at (c.loop-at.invariant.follows m t goes settled known));
     }

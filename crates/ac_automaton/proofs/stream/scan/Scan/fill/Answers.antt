@@ -1,9 +1,9 @@
 -- What a read gave is kept behind what was held.
-use Rattle.std.proofs.Common.{◌≡◌, ℕ, List, length, sym, subst, refl, ◌∙◌, arith, true, false}
+use Rattle.std.proofs.Common.{subst, arith}
 use Rattle.std.proofs.lemmas.List.{take_rest}
 use Rattle.ac_input.specs.declared.search.Anchored.TheVariants.{No}
-use Rattle.ac_automaton.specs.Scan.{IsScan, scanned_at, since_last}
-use Rattle.ac_automaton.specs.Stream.{HasRead, ReadsMore, Scanned}
+use Rattle.ac_automaton.specs.Scan.{scanned_at, since_last}
+use Rattle.ac_automaton.specs.Stream.{HasRead, Scanned}
 use Rattle.ac_automaton.proofs.ScanLemmas.{read-failed, read-gave}
 use Rattle.ac_automaton.proofs.stream.scan.Scan.fill.Goals as goal
 
@@ -16,7 +16,7 @@ invariant_of-self g c =
     let inv = c.self.invariant in
     let live = g.met.A.Automaton.lives a No (since_last s) i.progress.sid inv.stands.reads in
     let all = read-failed g.R.Read.remaining c.args.reader.now c.fill.new.reader b (g.A.Automaton.Reads a No) i.start i.pieces.items c.and-self-inside.result.items i.given.value i.progress i.buffer c.fill.new.self i.sums i.over inv live
-    c.in-Err.ensures.kept c.in-Err.ensures.paid c.and-self-inside.ensures c.in-Err.ensures.failed c.in-Err.ensures.writes c.in-Err.ensures.device in
+    c.in-Err.ensures.kept c.in-Err.ensures.paid c.and-self-inside.ensures c.in-Err.ensures.failed in
     all.0
 
 pub returns-in-Err-clause-read : goal.returns-in-Err-clause-read
@@ -28,7 +28,7 @@ returns-in-Err-clause-read g c =
     let inv = c.self.invariant in
     let live = g.met.A.Automaton.lives a No (since_last s) i.progress.sid inv.stands.reads in
     let all = read-failed g.R.Read.remaining c.args.reader.now c.fill.new.reader b (g.A.Automaton.Reads a No) i.start i.pieces.items c.and-self-inside.result.items i.given.value i.progress i.buffer c.fill.new.self i.sums i.over inv live
-    c.in-Err.ensures.kept c.in-Err.ensures.paid c.and-self-inside.ensures c.in-Err.ensures.failed c.in-Err.ensures.writes c.in-Err.ensures.device in
+    c.in-Err.ensures.kept c.in-Err.ensures.paid c.and-self-inside.ensures c.in-Err.ensures.failed in
     subst (λ (t : Scanned). HasRead g.R.Read.remaining t (scanned_at b c.and-self-inside.result.items i.given.value i.progress c.fill.new.self i.sums) c.args.reader.now c.fill.new.reader _ _) c.self.view_is all.1
 
 pub returns-in-Err-clause-kept : goal.returns-in-Err-clause-kept
@@ -40,7 +40,7 @@ returns-in-Err-clause-kept g c =
     let inv = c.self.invariant in
     let live = g.met.A.Automaton.lives a No (since_last s) i.progress.sid inv.stands.reads in
     let all = read-failed g.R.Read.remaining c.args.reader.now c.fill.new.reader b (g.A.Automaton.Reads a No) i.start i.pieces.items c.and-self-inside.result.items i.given.value i.progress i.buffer c.fill.new.self i.sums i.over inv live
-    c.in-Err.ensures.kept c.in-Err.ensures.paid c.and-self-inside.ensures c.in-Err.ensures.failed c.in-Err.ensures.writes c.in-Err.ensures.device in
+    c.in-Err.ensures.kept c.in-Err.ensures.paid c.and-self-inside.ensures c.in-Err.ensures.failed in
     all.0.stands.course
 
 pub invariant_of-self-then-self : goal.invariant_of-self-then-self
@@ -53,7 +53,7 @@ invariant_of-self-then-self g c =
     let live = g.met.A.Automaton.lives a No (since_last s) i.progress.sid inv.stands.reads in
     let more = rw take_rest at c.and-self-inside-2.ensures in
     let all = read-gave g.R.Read.remaining c.args.reader.now c.fill.new.reader b (g.A.Automaton.Reads a No) i.start i.pieces.items c.and-self-inside-2.result.items i.given.value i.progress i.buffer c.fill.new.self i.sums i.over c.in-Ok.n c.held-held.result.now inv live
-    c.in-Ok.ensures.gave c.in-Ok.ensures.paid c.in-Ok.ensures.writes c.held-held.ensures more (omega arith) in
+    c.in-Ok.ensures.gave c.in-Ok.ensures.paid c.held-held.ensures more (omega arith) in
     all.0
 
 pub returns-then-self-clause-read : goal.returns-then-self-clause-read
@@ -66,7 +66,7 @@ returns-then-self-clause-read g c =
     let live = g.met.A.Automaton.lives a No (since_last s) i.progress.sid inv.stands.reads in
     let more = rw take_rest at c.and-self-inside-2.ensures in
     let all = read-gave g.R.Read.remaining c.args.reader.now c.fill.new.reader b (g.A.Automaton.Reads a No) i.start i.pieces.items c.and-self-inside-2.result.items i.given.value i.progress i.buffer c.fill.new.self i.sums i.over c.in-Ok.n c.held-held.result.now inv live
-    c.in-Ok.ensures.gave c.in-Ok.ensures.paid c.in-Ok.ensures.writes c.held-held.ensures more (omega arith) in
+    c.in-Ok.ensures.gave c.in-Ok.ensures.paid c.held-held.ensures more (omega arith) in
     (all.1.0, subst (λ (t : Scanned). HasRead g.R.Read.remaining t (scanned_at b c.and-self-inside-2.result.items i.given.value i.progress c.fill.new.self i.sums) c.args.reader.now c.fill.new.reader all.1.0 0) c.self.view_is all.1.1, all.3 c.if-self.true)
 
 pub returns-then-self-clause-kept : goal.returns-then-self-clause-kept
@@ -79,7 +79,7 @@ returns-then-self-clause-kept g c =
     let live = g.met.A.Automaton.lives a No (since_last s) i.progress.sid inv.stands.reads in
     let more = rw take_rest at c.and-self-inside-2.ensures in
     let all = read-gave g.R.Read.remaining c.args.reader.now c.fill.new.reader b (g.A.Automaton.Reads a No) i.start i.pieces.items c.and-self-inside-2.result.items i.given.value i.progress i.buffer c.fill.new.self i.sums i.over c.in-Ok.n c.held-held.result.now inv live
-    c.in-Ok.ensures.gave c.in-Ok.ensures.paid c.in-Ok.ensures.writes c.held-held.ensures more (omega arith) in
+    c.in-Ok.ensures.gave c.in-Ok.ensures.paid c.held-held.ensures more (omega arith) in
     all.0.stands.course
 
 pub invariant_of-self-2 : goal.invariant_of-self-2
@@ -92,7 +92,7 @@ invariant_of-self-2 g c =
     let live = g.met.A.Automaton.lives a No (since_last s) i.progress.sid inv.stands.reads in
     let more = rw take_rest at c.and-self-inside-2.ensures in
     let all = read-gave g.R.Read.remaining c.args.reader.now c.fill.new.reader b (g.A.Automaton.Reads a No) i.start i.pieces.items c.and-self-inside-2.result.items i.given.value i.progress i.buffer c.fill.new.self i.sums i.over c.in-Ok.n c.held-held.result.now inv live
-    c.in-Ok.ensures.gave c.in-Ok.ensures.paid c.in-Ok.ensures.writes c.held-held.ensures more (omega arith) in
+    c.in-Ok.ensures.gave c.in-Ok.ensures.paid c.held-held.ensures more (omega arith) in
     all.0
 
 pub returns-clause-read : goal.returns-clause-read
@@ -105,7 +105,7 @@ returns-clause-read g c =
     let live = g.met.A.Automaton.lives a No (since_last s) i.progress.sid inv.stands.reads in
     let more = rw take_rest at c.and-self-inside-2.ensures in
     let all = read-gave g.R.Read.remaining c.args.reader.now c.fill.new.reader b (g.A.Automaton.Reads a No) i.start i.pieces.items c.and-self-inside-2.result.items i.given.value i.progress i.buffer c.fill.new.self i.sums i.over c.in-Ok.n c.held-held.result.now inv live
-    c.in-Ok.ensures.gave c.in-Ok.ensures.paid c.in-Ok.ensures.writes c.held-held.ensures more (omega arith) in
+    c.in-Ok.ensures.gave c.in-Ok.ensures.paid c.held-held.ensures more (omega arith) in
     (all.1.0, subst (λ (t : Scanned). HasRead g.R.Read.remaining t (scanned_at b c.and-self-inside-2.result.items i.given.value i.progress c.fill.new.self i.sums) c.args.reader.now c.fill.new.reader all.1.0 0) c.self.view_is all.1.1, all.1.2, all.2 c.if-self.false)
 
 pub returns-clause-kept : goal.returns-clause-kept
@@ -118,5 +118,5 @@ returns-clause-kept g c =
     let live = g.met.A.Automaton.lives a No (since_last s) i.progress.sid inv.stands.reads in
     let more = rw take_rest at c.and-self-inside-2.ensures in
     let all = read-gave g.R.Read.remaining c.args.reader.now c.fill.new.reader b (g.A.Automaton.Reads a No) i.start i.pieces.items c.and-self-inside-2.result.items i.given.value i.progress i.buffer c.fill.new.self i.sums i.over c.in-Ok.n c.held-held.result.now inv live
-    c.in-Ok.ensures.gave c.in-Ok.ensures.paid c.in-Ok.ensures.writes c.held-held.ensures more (omega arith) in
+    c.in-Ok.ensures.gave c.in-Ok.ensures.paid c.held-held.ensures more (omega arith) in
     all.0.stands.course

@@ -1,8 +1,7 @@
 -- The next match of what was read is that of the search over what is held.
-use Rattle.std.proofs.Common.{◌≡◌, ℕ, length, sym, subst, refl, ◌∙◌}
+use Rattle.std.proofs.Common.{sym, subst, refl, ◌∙◌}
 use Rattle.ac_input.specs.declared.search.Anchored.TheVariants.{No}
-use Rattle.ac_input.specs.declared.steps.Steps.{Steps}
-use Rattle.ac_automaton.specs.Scan.{IsHeldAt, IsScan, SearchesOn, after_search, scanned_at, some_of}
+use Rattle.ac_automaton.specs.Scan.{IsScan, SearchesOn, scanned_at}
 use Rattle.ac_automaton.specs.Stream.{FindsHeld, IsOnCourse, ScanCounts, Scanned}
 use Rattle.ac_automaton.proofs.ScanLemmas.{added-done, counts-none, next-counts, next-scan, next-view}
 use Rattle.ac_automaton.proofs.stream.scan.Scan.next_held.Goals as goal

@@ -1,0 +1,129 @@
+-- What the program did, by its outcome.
+use Rattle.std.specs.Prelude.{◌≡◌, ℕ, ◌+◌, List, ◌⊎◌, Option, IfSome, Result, Ok, Err, String, Vec, map, string_bytes}
+use Rattle.std.specs.Io.KnownBytes.{Keeps}
+use Rattle.std.specs.IoError.{error_kind}
+use Rattle.std.specs.declared.io.Error.{Error}
+use Rattle.std.specs.Vec.Iter.{into_iter_items}
+use Rattle.std.specs.declared.vec.IntoIter.{IntoIter}
+use Rattle.clap.specs.Words.{Text}
+use Rattle.ac_automaton.specs.Moved.{HasTaken, NoneTouched}
+use Rattle.ac_automaton.specs.Watched.{IsOfWrite, NoneRead, TookFront, failures_of, flushed_of, inner_of, stalls_of, taken_of}
+use Rattle.ac_automaton.specs.declared.error.StreamError.{StreamError}
+use Rattle.ac_automaton.specs.declared.watched.Watched.{Watched}
+use Rattle.acsub.specs.declared.error.RunError.{RunError}
+use Rattle.acsub.specs.declared.error.RunError.TheVariants as errors
+use Rattle.acsub.specs.declared.settings.Settings.{Settings}
+use Rattle.acsub.specs.declared.tool.Fault.{Fault}
+use Rattle.acsub.specs.declared.tool.Fault.TheVariants as faults
+use Rattle.acsub.specs.declared.words.Words.{Words}
+use Rattle.acsub.specs.declared.words.WordsFault.{WordsFault}
+use Rattle.acsub.specs.declared.words.WordsFault.TheVariants.{Help, Bad, Memory, Pairing}
+use Rattle.acsub.specs.Run.{AnswersBadLine, IsRefusal, Ran}
+use Rattle.acsub.specs.Stream.{IsToldAs}
+use Rattle.acsub.specs.Tool.{IsFaultOf, exit_of, status_of}
+use Rattle.acsub.specs.Words.{Reads}
+
+-- ---- the rule file
+
+-- some opened file gave all these bytes, if it tells what it holds
+abbrev pub IsFile : {F : Type 0} → (F → Option (List ℕ)) → List ℕ → Type 0
+IsFile {F} held bytes = (file : F) × IfSome (held file) (λ all. bytes ≡ all)
+
+-- the bytes of a file; or it can't be read, or there is no memory for it
+abbrev pub ReadsFile : {F Z : Type 0} → (F → Option (List ℕ)) → Result (Vec ℕ Z) Fault → Type 0
+ReadsFile held (Ok bytes) = IsFile held bytes.items
+ReadsFile held (Err fault) = (fault ≡ faults.RuleFile) ⊎ (fault ≡ faults.Run errors.Memory)
+
+-- ---- what was written, and the flush after it
+
+-- A flush, before and after, of which so many failed: none or one. Where none did, all that was taken is flushed.
+pub record Flushes {W : Type 0} (contents : W → Option (List ℕ)) (before after : Watched W) (failed : ℕ) : Type 0 where
+  pub flushed : failed ≡ 0 → flushed_of after ≡ taken_of after
+  pub taken : taken_of after ≡ taken_of before
+  pub failures : failures_of after ≡ failures_of before + failed
+  pub stalls : stalls_of after ≡ stalls_of before
+  pub reads : NoneRead before after
+  pub device : Keeps (contents (inner_of before)) (contents (inner_of after))
+
+module _ {W : Type 0} (contents : W → Option (List ℕ)) where
+  -- A text was written whole; or a write failed or took no byte, and a beginning of the text was written.
+  abbrev pub WritesText : List ℕ → Watched W → Watched W → Result (Unit {0}) RunError → Type 0
+  WritesText text before after (Ok done) = HasTaken contents before after text 0 0
+  WritesText text before after (Err e) = TookFront contents before after text × ((error : StreamError) × IsOfWrite before after error × IsToldAs error e)
+
+  -- what is told of a run that answered this, and of the flush after it
+  abbrev pub Finishes : Result (Unit {0}) RunError → Watched W → Watched W → Result (Unit {0}) Fault → Type 0
+  Finishes (Ok ran) before after (Ok done) = Flushes contents before after 0
+  Finishes (Ok ran) before after (Err fault) = (fault ≡ faults.Flush) × Flushes contents before after 1
+  Finishes (Err e) before after (Ok done) = ⊥
+  Finishes (Err e) before after (Err fault) = (fault ≡ faults.Run e) × (Flushes contents before after 0 ⊎ Flushes contents before after 1)
+
+  module _ (before after : Watched W) where
+    -- Some text was written, with this answer; then the writer was flushed, and so many flushes failed.
+    abbrev pub Shown : Result (Unit {0}) RunError → ℕ → Type 0
+    Shown answer failed = (text : List ℕ) × (between : Watched W) × WritesText text before between answer × Flushes contents between after failed
+
+    -- What an outcome says of the help that was asked for.
+    abbrev pub AnswersHelp : Result (Unit {0}) Fault → Type 0
+    AnswersHelp (Ok done) = Shown (Ok tt) 0
+    AnswersHelp (Err faults.Words) = ⊥
+    AnswersHelp (Err (faults.Pairs e)) = ⊥
+    AnswersHelp (Err faults.RuleFile) = ⊥
+    AnswersHelp (Err (faults.Run e)) = Shown (Err e) 0 ⊎ Shown (Err e) 1 ⊎ ((e ≡ errors.Memory) × (after ≡ before))
+    AnswersHelp (Err faults.Flush) = Shown (Ok tt) 1
+
+-- ---- the whole program
+
+-- The rule file held these bytes, and for them `run` answered this.
+pub record RanFile {F R W : Type 0} (held : F → Option (List ℕ)) (remaining : R → Option (List ℕ)) (contents : W → Option (List ℕ)) (settings : Settings) (reader_before reader_after : Watched R) (writer_before writer_after : Watched W) (answer : Result (Unit {0}) RunError) : Type 0 where
+  pub file : List ℕ
+  pub is_file : IsFile held file
+  pub ran : Ran remaining contents reader_before reader_after writer_before writer_after settings file answer
+  pub bad_line : AnswersBadLine file answer
+  pub untouched : IsRefusal answer → NoneTouched reader_before reader_after writer_before writer_after
+
+module _ {F R W : Type 0} (held : F → Option (List ℕ)) (remaining : R → Option (List ℕ)) (contents : W → Option (List ℕ)) where
+  module _ (settings : Settings) (reader_before reader_after : Watched R) (writer_before writer_after : Watched W) where
+    -- `run` answered this for the rule file; then the writer was flushed, and so many flushes failed.
+    abbrev pub RanAndFlushed : Result (Unit {0}) RunError → ℕ → Type 0
+    RanAndFlushed answer failed = (between : Watched W) × RanFile held remaining contents settings reader_before reader_after writer_before between answer × Flushes contents between writer_after failed
+
+    -- What an outcome says of the run that was asked for.
+    abbrev pub AnswersFile : Result (Unit {0}) Fault → Type 0
+    AnswersFile (Ok done) = RanAndFlushed (Ok tt) 0
+    AnswersFile (Err faults.Words) = ⊥
+    AnswersFile (Err (faults.Pairs e)) = ⊥
+    AnswersFile (Err faults.RuleFile) = NoneTouched reader_before reader_after writer_before writer_after
+    AnswersFile (Err (faults.Run e)) = RanAndFlushed (Err e) 0 ⊎ RanAndFlushed (Err e) 1 ⊎ ((e ≡ errors.Memory) × NoneTouched reader_before reader_after writer_before writer_after)
+    AnswersFile (Err faults.Flush) = RanAndFlushed (Ok tt) 1
+
+  module _ (words : List Text) (reader_before reader_after : Watched R) (writer_before writer_after : Watched W) (outcome : Result (Unit {0}) Fault) where
+    -- what an outcome says where the words are read so
+    abbrev pub AnswersRead : Result Words WordsFault → Type 0
+    AnswersRead (Ok asked) = AnswersFile asked.settings reader_before reader_after writer_before writer_after outcome
+    AnswersRead (Err (Help help)) = (reader_after ≡ reader_before) × AnswersHelp contents writer_before writer_after outcome
+    AnswersRead (Err Bad) = (outcome ≡ Err faults.Words) × NoneTouched reader_before reader_after writer_before writer_after
+    AnswersRead (Err Memory) = (outcome ≡ Err (faults.Run errors.Memory)) × NoneTouched reader_before reader_after writer_before writer_after
+    AnswersRead (Err (Pairing e)) = (outcome ≡ Err (faults.Pairs e)) × NoneTouched reader_before reader_after writer_before writer_after
+
+    -- What an outcome says of the words, of the rule file, of what was read and written, and of the flush.
+    abbrev pub AnswersTool : Type 0
+    AnswersTool = (asked : Result Words WordsFault) × Reads words asked × AnswersRead asked
+
+  -- The status is that of an outcome, which says all that.
+  abbrev pub EndsTool : {Z : Type 0} → List (String Z) → Watched R → Watched R → Watched W → Watched W → ℕ → Type 0
+  EndsTool words reader_before reader_after writer_before writer_after status =
+      (outcome : Result (Unit {0}) Fault) × (status ≡ exit_of outcome) × AnswersTool (map string_bytes words) reader_before reader_after writer_before writer_after outcome
+
+  -- The same of the words that the system hands over; or it hands none over, which is told, and neither device is touched.
+  abbrev pub EndsProgram : {Z A : Type 0} → Result (IntoIter (String Z) A) Error → Watched R → Watched R → Watched W → Watched W → ℕ → Type 0
+  EndsProgram (Ok words) reader_before reader_after writer_before writer_after status = EndsTool (into_iter_items words) reader_before reader_after writer_before writer_after status
+  EndsProgram (Err error) reader_before reader_after writer_before writer_after status =
+      (fault : Fault) × (status ≡ status_of fault) × IsFaultOf (error_kind error) faults.Words fault × NoneTouched reader_before reader_after writer_before writer_after
+
+-- all words that the system hands over, in their order; or why they were not collected
+abbrev pub Collects : {X Y A : Type 0} → Result (IntoIter X A) Error → Result (Vec X Y) Fault → Type 0
+Collects (Ok words) (Ok all) = all.items ≡ into_iter_items words
+Collects (Ok words) (Err fault) = fault ≡ faults.Run errors.Memory
+Collects (Err error) (Ok all) = ⊥
+Collects (Err error) (Err fault) = IsFaultOf (error_kind error) faults.Words fault

@@ -1,0 +1,10 @@
+use Rattle.ac_input.specs.Input.{whole_of}
+use Rattle.uses.proofs.FindLemmas.{found-for}
+use Rattle.uses.proofs.PackedLemmas.{packed-alike}
+use Rattle.uses.proofs.callers.packed.find_by_both.Goals as goal
+
+pub returns : goal.returns
+returns g c =
+    let b = g.A.Automaton.built c.args.automaton.now in
+    packed-alike c.args.searcher.now b.dictionary c.args.text.now _ _ c.requires.kind c.requires.same c.requires.unpaired c.find.ensures.best
+    (found-for b _ (whole_of c.args.text.now) _ _ c.try_find.ensures.found c.unwrap-found.ensures c.new.ensures)

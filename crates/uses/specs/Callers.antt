@@ -1,0 +1,57 @@
+-- What the callers conclude.
+use Rattle.std.specs.Prelude.{◌≡◌, ℕ, ◌+◌, ◌-◌, ◌≤◌, true, false, List, [], ◌∷◌, ◌++◌, length, take, drop, Option, Some, None}
+use Rattle.ac_input.specs.declared.search.MatchKind.TheVariants.{Standard, LeftmostFirst}
+use Rattle.ac_input.specs.declared.search.Span.{Span}
+use Rattle.ac_input.specs.Computed.{best_of}
+use Rattle.ac_input.specs.Dictionary.{Dictionary, IsPattern, Begins, whole}
+use Rattle.ac_input.specs.Occurrence.{Search, Occurrence, Occurs}
+use Rattle.ac_input.specs.Pairing.{IsFolded}
+use Rattle.ac_input.specs.Same.{IsUnpaired}
+
+-- the search has an occurrence
+abbrev pub HasOccurrence : Search → Type 0
+HasOccurrence s = (o : Occurrence) × Occurs s o
+
+-- the match of a text
+abbrev pub first_in : Dictionary → List ℕ → Option Occurrence
+first_in m text = best_of m.kind (whole m text false)
+
+-- a pattern begins the text
+abbrev pub BeginsWithPattern : Dictionary → List ℕ → Type 0
+BeginsWithPattern m text = (n : ℕ) × (p : List ℕ) × IsPattern m n p × Begins m.pairing p text
+
+-- an occurrence ends at the place, and none before it; none where there is no occurrence
+abbrev pub IsFirstEnd : Search → Option ℕ → Type 0
+IsFirstEnd s None = ¬ HasOccurrence s
+IsFirstEnd s (Some end) = ((o : Occurrence) × Occurs s o × (o.end ≡ end)) × ((o : Occurrence) → Occurs s o → end ≤ o.end)
+
+-- an occurrence lies in a span
+abbrev pub LiesIn : Span → Occurrence → Type 0
+LiesIn span o = (span.start ≤ o.start) × (o.end ≤ span.end)
+
+-- how many bytes lie in these occurrences
+abbrev pub bytes_in : List Occurrence → ℕ
+bytes_in [] = 0
+bytes_in (o ∷ os) = (o.end - o.start) + bytes_in os
+
+-- the text with the first of its matches exchanged for the replacement
+abbrev pub with_first : List ℕ → List ℕ → List Occurrence → List ℕ
+with_first text replacement [] = text
+with_first text replacement (o ∷ os) = take o.start text ++ replacement ++ drop o.end text
+
+-- no occurrence begins before the place, and there is none where there is no place
+abbrev pub IsSkip : Search → Option ℕ → Type 0
+IsSkip s None = ¬ HasOccurrence s
+IsSkip s (Some place) = (o : Occurrence) → Occurs s o → place ≤ o.start
+
+-- a pattern ends where the text ends
+abbrev pub EndsWithPattern : Dictionary → List ℕ → Type 0
+EndsWithPattern m text = (o : Occurrence) × Occurs (whole m text false) o × (o.end ≡ length text)
+
+-- these patterns are found by standard matches, byte for byte
+abbrev pub FindsBytes : List (List ℕ) → Dictionary → Type 0
+FindsBytes patterns m = (m.patterns ≡ patterns) × (m.kind ≡ Standard) × IsUnpaired m.pairing
+
+-- these patterns are found by leftmost-first matches, with ASCII letters the same in both cases
+abbrev pub FindsFolded : List (List ℕ) → Dictionary → Type 0
+FindsFolded patterns m = (m.patterns ≡ patterns) × (m.kind ≡ LeftmostFirst) × IsFolded true m.pairing

@@ -1,0 +1,249 @@
+//! What the noncontiguous automaton keeps of its states: their order, their transitions, their failure links and their patterns.
+ghost use Rattle.std.specs.Prelude.{◌<◌, IfSome};
+ghost use Rattle.ac_noncontiguous.specs.ReadCalls.{state_len};
+
+use crate::answers::same;
+use crate::engines::{Asked, Letters, Setting, noncontiguous};
+use ac_input::primitives::StateID;
+use ac_input::search::MatchKind;
+use ac_noncontiguous::{Automaton, ByteClasses, NFA};
+use std::alloc::{AllocError, Global};
+use std::process::Abort;
+use std::test::Fail;
+
+mod kinds;
+mod order;
+mod pairs;
+
+/// Where the bytes lead from a state.
+#[derive(Clone, Copy)]
+pub enum Leads {
+    /// These bytes lead to these states, and no other byte leads on.
+    Only(&'static [(u8, usize)]),
+    /// All bytes lead to this state, but for these.
+    All(usize, &'static [(u8, usize)]),
+}
+
+/// A state by its number: how many bytes lead to it, to which state it fails, which patterns match there, and where its bytes lead.
+pub struct State {
+    pub number: usize,
+    pub depth: usize,
+    pub fails_to: usize,
+    pub matches: &'static [usize],
+    pub leads: Leads,
+}
+
+/// How many states there are, and the numbers that stand between their parts.
+pub struct Bounds {
+    pub last_match: usize,
+    pub last_special: usize,
+    pub start: usize,
+    pub anchored_start: usize,
+    pub states: usize,
+}
+
+/// Some patterns, and what the automaton keeps of them.
+pub struct Kept {
+    pub shows: &'static str,
+    pub patterns: &'static [&'static [u8]],
+    pub kind: MatchKind,
+    pub letters: Letters,
+    /// Whether a prefilter is wanted, and whether there is one.
+    pub prefilter: (bool, bool),
+    pub bounds: Bounds,
+    pub states: &'static [State],
+    /// The classes of some bytes.
+    pub classes: &'static [(u8, u8)],
+}
+
+/// How many states there are, and the numbers that stand between their parts.
+fn bounds_of(nfa: &NFA) -> [usize; 5] {
+    let special = nfa.special();
+    [
+        special.max_match_id.as_usize(),
+        special.max_special_id.as_usize(),
+        special.start_unanchored_id.as_usize(),
+        special.start_anchored_id.as_usize(),
+        nfa.state_len(),
+    ]
+}
+
+/// The same numbers.
+fn listed(bounds: &Bounds) -> [usize; 5] {
+    [
+        bounds.last_match,
+        bounds.last_special,
+        bounds.start,
+        bounds.anchored_start,
+        bounds.states,
+    ]
+}
+
+/// Where a byte leads, if all lead to one state, but for some.
+fn led(byte: u8, rest: usize, but: &[(u8, usize)]) -> usize {
+    for (other, state) in but {
+        if *other == byte {
+            return *state;
+        }
+    }
+    rest
+}
+
+/// All transitions of a state.
+fn transitions(alloc: Global, leads: Leads) -> Result<Vec<(u8, usize)>, AllocError> {
+    match leads {
+        Leads::Only(those) => those.iter().copied().collect(alloc),
+        Leads::All(rest, but) => (0..=255u8)
+            .map(|byte| (byte, led(byte, rest, but)))
+            .collect(alloc),
+    }
+}
+
+/// Asserts where the bytes lead from a state.
+fn state_leads<T: Abort>(
+    rt: &T,
+    alloc: Global,
+    nfa: &NFA,
+    sid: StateID,
+    leads: Leads,
+    shows: &str,
+) -> Result<(), AllocError>
+    requires { sid < state_len nfa.now }
+{
+    let want = transitions(alloc, leads)?;
+    let found: Vec<(u8, usize)> = nfa
+        .iter_trans(sid)
+        .map(|(byte, next)| (byte, next.as_usize()))
+        .collect(alloc)?;
+    same(rt, &found, &want, shows);
+    Ok(())
+}
+
+/// Asserts which patterns match at a state, by the list that is lent and by the iterator.
+fn state_lists<T: Abort>(
+    rt: &T,
+    alloc: Global,
+    nfa: &NFA,
+    sid: StateID,
+    want: &[usize],
+    shows: &str,
+) -> Result<(), AllocError>
+    requires { sid < state_len nfa.now }
+{
+    let lent: Vec<usize> = nfa
+        .match_list(sid)
+        .iter()
+        .map(|it| it.as_usize())
+        .collect(alloc)?;
+    same(rt, &lent, want, shows);
+    let given: Vec<usize> = nfa
+        .iter_matches(sid)
+        .map(|it| it.as_usize())
+        .collect(alloc)?;
+    same(rt, &given, want, shows);
+    Ok(())
+}
+
+/// The state of this number, if there is one.
+fn numbered(nfa: &NFA, number: usize) -> Option<StateID>
+    ensures { IfSome result (λ sid. sid < state_len nfa.now) }
+{
+    let sid = StateID::new(number).ok()?;
+    if sid.as_usize() < nfa.state_len() {
+        Some(sid)
+    } else {
+        None
+    }
+}
+
+/// Asserts what is kept of a state.
+fn state_is<T: Abort>(
+    rt: &T,
+    alloc: Global,
+    nfa: &NFA,
+    state: &State,
+    shows: &str,
+) -> Result<(), Fail> {
+    let sid = numbered(nfa, state.number).ok_or("no such state")?;
+    let found = [nfa.depth(sid), nfa.fail(sid).as_usize()];
+    same(rt, &found, &[state.depth, state.fails_to], shows);
+    state_leads(rt, alloc, nfa, sid, state.leads, shows)?;
+    state_lists(rt, alloc, nfa, sid, state.matches, shows)?;
+    Ok(())
+}
+
+/// Asserts the classes of some bytes.
+fn classes_so<T: Abort>(rt: &T, classes: &ByteClasses, want: &[(u8, u8)]) {
+    for (byte, class) in want {
+        assert_eq!(rt; classes.get(*byte), *class, "of {byte}");
+    }
+}
+
+/// Asserts what is kept.
+fn is_kept<T: Abort>(rt: &T, alloc: Global, nfa: &NFA, kept: &Kept) -> Result<(), Fail> {
+    let shows = kept.shows;
+    same(rt, &bounds_of(nfa), &listed(&kept.bounds), shows);
+    same(rt, &[nfa.prefilter().is_some()], &[kept.prefilter.1], shows);
+    classes_so(rt, nfa.byte_classes(), kept.classes);
+    for state in kept.states {
+        state_is(rt, alloc, nfa, state, shows)?;
+    }
+    Ok(())
+}
+
+/// Asserts that a copy takes as much memory, and what it keeps.
+fn copy_is_kept<T: Abort>(
+    rt: &T,
+    alloc: Global,
+    nfa: &NFA,
+    copy: &NFA,
+    kept: &Kept,
+) -> Result<(), Fail> {
+    assert_eq!(rt; copy.memory_usage(), nfa.memory_usage());
+    is_kept(rt, alloc, copy, kept)
+}
+
+/// Asserts what the automaton keeps, and a copy of it.
+fn keeps<T: Abort>(rt: &T, alloc: Global, nfa: &NFA, kept: &Kept) -> Result<(), Fail> {
+    is_kept(rt, alloc, nfa, kept)?;
+    let copy = nfa.clone(alloc)?;
+    copy_is_kept(rt, alloc, nfa, &copy, kept)
+}
+
+/// Asserts what the automaton of these patterns keeps of them.
+fn holds<T: Abort>(rt: &T, alloc: Global, kept: &Kept) -> Result<(), Fail> {
+    let asked = Asked {
+        patterns: kept.patterns,
+        kind: kept.kind,
+        letters: kept.letters,
+    };
+    let setting = Setting {
+        prefilter: kept.prefilter.0,
+        dense_depth: 3,
+    };
+    let nfa = noncontiguous(alloc, asked, setting)?;
+    keeps(rt, alloc, &nfa, kept)
+}
+
+/// Asserts what automata keep.
+fn each_holds<T: Abort>(rt: &T, alloc: Global, each: &[Kept]) -> Result<(), Fail> {
+    for kept in each {
+        holds(rt, alloc, kept)?;
+    }
+    Ok(())
+}
+
+#[test]
+fn states_in_order(rt: HostRuntime) -> Result<(), Fail> {
+    each_holds(&rt, rt.alloc(), order::KEPT)
+}
+
+#[test]
+fn states_of_each_kind(rt: HostRuntime) -> Result<(), Fail> {
+    each_holds(&rt, rt.alloc(), kinds::KEPT)
+}
+
+#[test]
+fn states_of_paired_bytes(rt: HostRuntime) -> Result<(), Fail> {
+    each_holds(&rt, rt.alloc(), pairs::KEPT)
+}

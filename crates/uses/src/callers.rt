@@ -1,0 +1,12 @@
+//! Callers of the libraries, each with a contract that says what a user can conclude.
+//!
+//! Each is a few lines that call one part of the library. Its contract follows from that part's contract alone, in the words of the
+//! definitions. So a reader sees how a call is used, and what is known after it.
+pub mod build;
+pub mod find;
+pub mod iterate;
+pub mod overlap;
+pub mod packed;
+pub mod replace;
+pub mod states;
+pub mod stream;

@@ -1,0 +1,77 @@
+//! Building automata.
+ghost use Rattle.std.specs.Prelude.{◌≡◌, ◌↔◌, false, IfOk, IfErr, IsTrue, None};
+ghost use Rattle.ac_input.specs.Dictionary.{Dictionary, whole};
+ghost use Rattle.ac_literal.specs.Packed.{bytes_of};
+ghost use Rattle.ac_noncontiguous.specs.Reads.{built_as};
+ghost use Rattle.ac_noncontiguous.specs.Standing.{dictionary_of};
+ghost use Rattle.ac_noncontiguous.specs.declared.error.BuildErrorKind.TheVariants.{Memory};
+ghost use Rattle.uses.specs.Callers.{FindsBytes, FindsFolded, HasOccurrence};
+
+use ac_automaton::automaton::Automaton;
+use ac_input::pairing::Pairing;
+use ac_input::search::{Input, MatchKind};
+use ac_noncontiguous::builder::Builder;
+use ac_noncontiguous::error::BuildError;
+use ac_noncontiguous::nfa::NFA;
+use std::alloc::{AllocError, Global};
+
+/// An automaton of the patterns under the settings that a builder has at first: standard matches, byte for byte.
+pub fn of_bytes(alloc: Global, patterns: &[&[u8]]) -> Result<NFA, BuildError>
+    ensures { IfOk result (λ nfa. FindsBytes (bytes_of patterns.now) (built_as nfa).dictionary) }
+{
+    NFA::new(alloc, patterns)
+}
+
+/// An automaton that prefers the pattern that was given first, and takes the two cases of an ASCII letter for the same.
+pub fn folded(alloc: Global, patterns: &[&[u8]]) -> Result<NFA, BuildError>
+    ensures { IfOk result (λ nfa. FindsFolded (bytes_of patterns.now) (built_as nfa).dictionary) }
+{
+    let mut builder = Builder::new();
+    builder
+        .match_kind(MatchKind::LeftmostFirst)
+        .ascii_case_insensitive(true);
+    builder.build(alloc, patterns)
+}
+
+/// An automaton without rows and without a prefilter, which finds the same as another one of its kind and pairing.
+pub fn thrifty(
+    alloc: Global,
+    patterns: &[&[u8]],
+    kind: MatchKind,
+    pairing: Pairing,
+) -> Result<NFA, BuildError>
+    ensures dictionary { IfOk result (λ nfa. (built_as nfa).dictionary
+        ≡ dictionary_of patterns.now pairing kind) }
+    ensures prefilter { IfOk result (λ nfa. (built_as nfa).prefilter ≡ None) }
+{
+    let mut builder = NFA::builder();
+    builder
+        .match_kind(kind)
+        .pairing(pairing)
+        .dense_depth(0)
+        .prefilter(false);
+    builder.build(alloc, patterns)
+}
+
+/// An automaton of no patterns. Its build is refused for want of memory alone.
+pub fn of_nothing(alloc: Global) -> Result<NFA, BuildError>
+    ensures { IfErr result (λ error. error ≡ Memory) }
+{
+    NFA::new(alloc, &[])
+}
+
+/// Whether one of the patterns occurs in the text, from the patterns to the answer.
+pub fn occurs_in(alloc: Global, patterns: &[&[u8]], text: &[u8]) -> Result<bool, BuildError>
+    ensures { IfOk result (λ found. (m : Dictionary) × FindsBytes (bytes_of patterns.now) m
+        × (IsTrue found ↔ HasOccurrence (whole m text.now false))) }
+{
+    let nfa = NFA::new(alloc, patterns)?;
+    Ok(nfa.try_find(&Input::new(text)).unwrap().is_some())
+}
+
+/// The automaton once more. It finds the same.
+pub fn copy(nfa: &NFA, alloc: Global) -> Result<NFA, AllocError>
+    ensures { IfOk result (λ copy. (built_as copy).dictionary ≡ (built_as nfa.now).dictionary) }
+{
+    nfa.clone(alloc)
+}

@@ -1,0 +1,106 @@
+//! Searches for one match.
+ghost use Rattle.std.specs.Prelude.{◌≡◌, ◌↔◌, ◌+◌, ◌-◌, ◌*◌, ◌≤◌, false, length, option_map, IfOk, IfSome, IsTrue};
+ghost use Rattle.ac_input.specs.declared.search.MatchKind.TheVariants.{Standard};
+ghost use Rattle.ac_input.specs.Dictionary.{whole};
+ghost use Rattle.ac_input.specs.Input.{IsSpanOf};
+ghost use Rattle.ac_input.specs.Steps.{looked_of};
+ghost use Rattle.uses.specs.Callers.{BeginsWithPattern, HasOccurrence, IsFirstEnd, LiesIn, first_in};
+
+use ac_automaton::automaton::Automaton;
+use ac_automaton::error::MatchError;
+use ac_input::search::{Anchored, Input, Match, Span};
+use ac_input::steps::Steps;
+
+/// Whether any of the patterns occurs in the text.
+pub fn contains_any<A: Automaton>(automaton: &A, text: &[u8]) -> Result<bool, MatchError>
+    ensures { IfOk result (λ found. IsTrue found
+        ↔ HasOccurrence (whole (A.built automaton.now).dictionary text.now false)) }
+{
+    Ok(automaton.try_find(&Input::new(text))?.is_some())
+}
+
+/// The match of the text, where the automaton can search from any place.
+pub fn first_match<A: Automaton>(automaton: &A, text: &[u8]) -> Option<Match>
+    requires { A.supports automaton.now Anchored.No }
+    ensures { result ≡ first_in (A.built automaton.now).dictionary text.now }
+{
+    automaton.try_find(&Input::new(text)).unwrap()
+}
+
+/// Whether one of the patterns begins the text, by an anchored search.
+pub fn begins_with_any<A: Automaton>(automaton: &A, text: &[u8]) -> bool
+    requires { A.supports automaton.now Anchored.Yes }
+    ensures { IsTrue result
+        ↔ BeginsWithPattern (A.built automaton.now).dictionary text.now }
+{
+    let input = Input::new(text).anchored(Anchored::Yes);
+    automaton.try_find(&input).unwrap().is_some()
+}
+
+/// The least place at which an occurrence ends, by an earliest search.
+pub fn first_end<A: Automaton>(automaton: &A, text: &[u8]) -> Option<usize>
+    requires { A.supports automaton.now Anchored.No }
+    ensures { IsFirstEnd (whole (A.built automaton.now).dictionary text.now false) result }
+{
+    let input = Input::new(text).earliest(true);
+    let found = automaton.try_find(&input).unwrap()?;
+    Some(found.end())
+}
+
+/// The match of a part of the text. It lies in that part.
+pub fn match_in<A: Automaton>(automaton: &A, text: &[u8], part: Span) -> Option<Match>
+    requires supports { A.supports automaton.now Anchored.No }
+    requires span { IsSpanOf text.now part }
+    ensures { IfSome result (LiesIn part) }
+{
+    automaton.try_find(&Input::new(text).span(part)).unwrap()
+}
+
+/// The match of the text, and what it costs: two looks at states for each byte of the text at most, and under the standard kind
+/// for each byte up to the match's end.
+pub fn first_match_counted<A: Automaton>(
+    automaton: &A,
+    text: &[u8],
+    steps: &mut Steps,
+) -> Option<Match>
+    requires { A.supports automaton.now Anchored.No }
+    ensures linear { looked_of steps.new ≤ looked_of steps.old + 2 * length text.now }
+    ensures early { (A.built automaton.now).dictionary.kind ≡ Standard
+        → IfSome result (λ o. looked_of steps.new ≤ looked_of steps.old + 2 * o.end) }
+{
+    automaton
+        .try_find_counted(&Input::new(text), steps)
+        .unwrap()
+}
+
+/// Whether the text is long enough for a match: no pattern occurs in a text that is shorter than the shortest one.
+pub fn may_match<A: Automaton>(automaton: &A, text: &[u8]) -> bool
+    ensures { HasOccurrence (whole (A.built automaton.now).dictionary text.now false)
+        → IsTrue result }
+{
+    text.len() >= automaton.min_pattern_len()
+}
+
+/// How many bytes the first match has, as many as its pattern.
+pub fn match_len<A: Automaton>(automaton: &A, text: &[u8]) -> Option<usize>
+    requires { A.supports automaton.now Anchored.No }
+    ensures { result ≡ option_map (λ o. o.end - o.start)
+        (first_in (A.built automaton.now).dictionary text.now) }
+{
+    let found = first_match(automaton, text)?;
+    Some(automaton.pattern_len(found.pattern()))
+}
+
+/// The match of the text by two automata of the same patterns, pairing and kind. It is the same, with a prefilter or without.
+pub fn find_by_both<A: Automaton, B: Automaton>(
+    one: &A,
+    other: &B,
+    text: &[u8],
+) -> (Option<Match>, Option<Match>)
+    requires same { (A.built one.now).dictionary ≡ (B.built other.now).dictionary }
+    requires one { A.supports one.now Anchored.No }
+    requires other { B.supports other.now Anchored.No }
+    ensures { result.0 ≡ result.1 }
+{
+    (first_match(one, text), first_match(other, text))
+}

@@ -1,0 +1,58 @@
+//! Overlapping searches.
+ghost use Rattle.std.specs.Prelude.{◌≡◌, ◌+◌, ◌*◌, ◌≤◌, false, length, slice_get, IfOk};
+ghost use Rattle.ac_input.specs.declared.search.MatchKind.TheVariants.{Standard};
+ghost use Rattle.ac_input.specs.Dictionary.{whole};
+ghost use Rattle.ac_input.specs.Input.{whole_of};
+ghost use Rattle.ac_input.specs.Listing.{IsListing};
+ghost use Rattle.ac_input.specs.Steps.{looked_of};
+ghost use Rattle.ac_automaton.specs.Automaton.{listing_in};
+
+use ac_automaton::automaton::Automaton;
+use ac_automaton::overlapping::OverlappingState;
+use ac_input::search::{Anchored, Input, Match};
+use ac_input::steps::Steps;
+use std::alloc::{AllocError, Global};
+
+/// All occurrences in the text, overlapping ones too, each once, by end, start and number.
+pub fn all_occurrences<A: Automaton>(
+    automaton: &A,
+    alloc: Global,
+    text: &[u8],
+) -> Result<Vec<Match>, AllocError>
+    requires supports { A.supports automaton.now Anchored.No }
+    requires standard { (A.built automaton.now).dictionary.kind ≡ Standard }
+    ensures { IfOk result (λ v. IsListing
+        (whole (A.built automaton.now).dictionary text.now false) v.items) }
+{
+    automaton
+        .try_find_overlapping_iter(Input::new(text))
+        .unwrap()
+        .collect(alloc)
+}
+
+/// The occurrence of this index, counted from 0, by calls that go on from where the last one stood.
+pub fn occurrence<A: Automaton>(automaton: &A, text: &[u8], index: usize) -> Option<Match>
+    requires supports { A.supports automaton.now Anchored.No }
+    requires standard { (A.built automaton.now).dictionary.kind ≡ Standard }
+    ensures { result ≡ slice_get (listing_in (A.built automaton.now) (whole_of text.now)) index }
+{
+    let input = Input::new(text);
+    let mut state = OverlappingState::start();
+    for _ in 0..index {
+        automaton.try_find_overlapping(&input, &mut state).unwrap();
+    }
+    automaton.try_find_overlapping(&input, &mut state).unwrap();
+    state.get_match()
+}
+
+/// Goes over all occurrences in the text. That takes two looks at states for each byte at most, however many there are.
+pub fn pass_occurrences<A: Automaton>(automaton: &A, text: &[u8], steps: &mut Steps)
+    requires supports { A.supports automaton.now Anchored.No }
+    requires standard { (A.built automaton.now).dictionary.kind ≡ Standard }
+    ensures { looked_of steps.new ≤ looked_of steps.old + 2 * length text.now }
+{
+    let mut occurrences = automaton
+        .try_find_overlapping_iter(Input::new(text))
+        .unwrap();
+    while let Some(_) = occurrences.next_counted(steps) {}
+}

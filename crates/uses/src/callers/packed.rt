@@ -1,0 +1,129 @@
+//! Packed search and prefilters.
+ghost use Rattle.std.specs.Prelude.{◌≡◌, ◌↔◌, ◌+◌, ◌<◌, ◌≤◌, false, [], ◌∷◌, length, IfOk, IfSome, IsTrue};
+ghost use Rattle.ac_input.specs.declared.search.MatchKind.TheVariants.{LeftmostFirst, LeftmostLongest};
+ghost use Rattle.ac_input.specs.Computed.{best_of};
+ghost use Rattle.ac_input.specs.Dictionary.{whole};
+ghost use Rattle.ac_input.specs.Same.{IsUnpaired};
+ghost use Rattle.ac_input.specs.Steps.{scanned_of};
+ghost use Rattle.ac_literal.specs.Packed.{AreServed, bytes_of, in_whole, matches_of, search_kind};
+ghost use Rattle.uses.specs.Callers.{IsSkip, LiesIn};
+
+use ac_automaton::automaton::Automaton;
+use ac_input::search::{Anchored, Input, Match, MatchKind, Span};
+use ac_input::steps::Steps;
+use ac_literal::packed::{self, Config, Searcher};
+use ac_literal::prefilter::{Candidate, Prefilter, PrefilterBuilder};
+use std::alloc::{AllocError, Global};
+
+/// The leftmost-first match of the text, of patterns that packed search serves.
+pub fn first_match(
+    alloc: Global,
+    patterns: &[&[u8]],
+    text: &[u8],
+) -> Result<Option<Match>, AllocError>
+    requires { AreServed (bytes_of patterns.now) }
+    ensures { IfOk result (λ found. found
+        ≡ best_of LeftmostFirst (in_whole (bytes_of patterns.now) text.now)) }
+{
+    let searcher = Searcher::new(alloc, patterns)?.unwrap();
+    Ok(searcher.find(text))
+}
+
+/// Whether packed search serves the patterns.
+pub fn can_serve(alloc: Global, patterns: &[&[u8]]) -> Result<bool, AllocError>
+    ensures { IfOk result (λ yes. IsTrue yes ↔ AreServed (bytes_of patterns.now)) }
+{
+    Ok(Searcher::new(alloc, patterns)?.is_some())
+}
+
+/// The leftmost-longest match.
+pub fn longest_match(
+    alloc: Global,
+    patterns: &[&[u8]],
+    text: &[u8],
+) -> Result<Option<Match>, AllocError>
+    requires { AreServed (bytes_of patterns.now) }
+    ensures { IfOk result (λ found. found
+        ≡ best_of LeftmostLongest (in_whole (bytes_of patterns.now) text.now)) }
+{
+    let mut config = Config::new();
+    let mut builder = config
+        .match_kind(packed::MatchKind::LeftmostLongest)
+        .builder(alloc);
+    builder.try_extend(patterns)?;
+    let searcher = builder.build()?.unwrap();
+    Ok(searcher.find(text))
+}
+
+/// The match of a part of the text. It lies in that part.
+pub fn match_in(searcher: &Searcher, text: &[u8], part: Span) -> Option<Match>
+    requires order { part.start ≤ part.end }
+    requires within { part.end ≤ length text.now }
+    ensures { IfSome result (LiesIn part) }
+{
+    searcher.find_in(text, part)
+}
+
+/// All matches of the text, one after another.
+pub fn all_matches(
+    searcher: &Searcher,
+    alloc: Global,
+    text: &[u8],
+) -> Result<Vec<Match>, AllocError>
+    ensures { IfOk result (λ v. v.items ≡ matches_of searcher.now text.now) }
+{
+    searcher.find_iter(text).collect(alloc)
+}
+
+/// The match of the text by packed search, and by an automaton of the same patterns and kind that pairs no byte. It is the same.
+pub fn find_by_both<A: Automaton>(
+    searcher: &Searcher,
+    automaton: &A,
+    text: &[u8],
+) -> (Option<Match>, Option<Match>)
+    requires supports { A.supports automaton.now Anchored.No }
+    requires kind { search_kind searcher.now.kind ≡ (A.built automaton.now).dictionary.kind }
+    requires same { searcher.now.patterns ≡ (A.built automaton.now).dictionary.patterns }
+    requires unpaired { IsUnpaired (A.built automaton.now).dictionary.pairing }
+    ensures { result.0 ≡ result.1 }
+{
+    let found = automaton.try_find(&Input::new(text)).unwrap();
+    (searcher.find(text), found)
+}
+
+/// How many bytes a search may skip: no occurrence begins before, and there is none where there is no place.
+pub fn skip(prefilter: &Prefilter, text: &[u8]) -> Option<usize>
+    ensures { IsSkip (whole prefilter.now.dictionary text.now false) result }
+{
+    let span = Span {
+        start: 0,
+        end: text.len(),
+    };
+    match prefilter.find_in(text, span) {
+        Candidate::None => None,
+        Candidate::Match(found) => Some(found.start()),
+        Candidate::PossibleStartOfMatch(place) => Some(place),
+    }
+}
+
+/// Asks a prefilter, which scans for a byte at no place twice.
+pub fn ask_counted(prefilter: &Prefilter, text: &[u8], steps: &mut Steps) -> Candidate
+    ensures { scanned_of steps.new ≤ scanned_of steps.old + length text.now }
+{
+    let span = Span {
+        start: 0,
+        end: text.len(),
+    };
+    prefilter.find_in_counted(text, span, steps)
+}
+
+/// A prefilter for searches for one pattern: there is one, unless the pattern is empty.
+pub fn prefilter_of(alloc: Global, pattern: &[u8]) -> Result<Prefilter, AllocError>
+    requires { 0 < length pattern.now }
+    ensures { IfOk result (λ p. p.dictionary.patterns ≡ pattern.now ∷ []) }
+{
+    let mut builder = PrefilterBuilder::new(alloc, MatchKind::LeftmostFirst);
+    builder.try_add(pattern)?;
+    let made = builder.build()?;
+    Ok(made.unwrap())
+}

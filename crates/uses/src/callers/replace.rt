@@ -1,0 +1,71 @@
+//! Replacement in memory.
+ghost use Rattle.std.specs.Prelude.{◌≡◌, ◌++◌, false, length, map, IfOk, OnOk};
+ghost use Rattle.std.specs.String.{string_bytes};
+ghost use Rattle.ac_input.specs.Dictionary.{whole};
+ghost use Rattle.ac_input.specs.Same.{IsUnpaired};
+ghost use Rattle.ac_automaton.specs.Replace.{text_matches_in};
+ghost use Rattle.uses.specs.Callers.{HasOccurrence, with_first};
+
+use ac_automaton::automaton::Automaton;
+use ac_automaton::error::ReplaceError;
+use std::alloc::Global;
+
+/// The bytes with each match exchanged for its pattern. Where no byte is paired, they stay as they are.
+pub fn replaced_by_itself<A: Automaton>(
+    automaton: &A,
+    alloc: Global,
+    bytes: &[u8],
+    patterns: &[&[u8]],
+) -> Result<Vec<u8>, ReplaceError>
+    requires same { map (λ p. p.now) patterns.now ≡ (A.built automaton.now).dictionary.patterns }
+    requires unpaired { IsUnpaired (A.built automaton.now).dictionary.pairing }
+    ensures { IfOk result (λ replaced. replaced.items ≡ bytes.now) }
+{
+    automaton.try_replace_all_bytes(alloc, bytes, patterns)
+}
+
+/// The text with each match replaced. A text in which no pattern occurs stays as it is.
+pub fn replaced_text<A: Automaton>(
+    automaton: &A,
+    alloc: Global,
+    text: &str,
+    replacements: &[&str],
+) -> Result<String, ReplaceError>
+    requires { length replacements.now ≡ length (A.built automaton.now).dictionary.patterns }
+    ensures { ¬ HasOccurrence (whole (A.built automaton.now).dictionary text.now false)
+        → IfOk result (λ replaced. string_bytes replaced ≡ text.now) }
+{
+    automaton.try_replace_all(alloc, text, replacements)
+}
+
+/// Appends the text to the destination, with its first match exchanged for the replacement: the closure ends the replacement there.
+pub fn append_first_replaced<A: Automaton>(
+    automaton: &A,
+    alloc: Global,
+    text: &str,
+    replacement: &str,
+    dst: &mut String,
+) -> Result<(), ReplaceError>
+    ensures { OnOk result (string_bytes dst.new ≡ string_bytes dst.old
+        ++ with_first text.now replacement.now (text_matches_in (A.built automaton.now) text.now)) }
+{
+    automaton.try_replace_all_with(alloc, text, dst, |_, _, dst| {
+        dst.push_str(replacement)?;
+        Ok(false)
+    })
+}
+
+/// Appends the bytes to the destination, each match by a closure that appends what matched.
+pub fn append_matched<A: Automaton>(
+    automaton: &A,
+    alloc: Global,
+    bytes: &[u8],
+    dst: &mut Vec<u8>,
+) -> Result<(), ReplaceError>
+    ensures { OnOk result (dst.new.items ≡ dst.old.items ++ bytes.now) }
+{
+    automaton.try_replace_all_with_bytes(alloc, bytes, dst, |_, matched, dst| {
+        dst.extend_from_slice(matched)?;
+        Ok(true)
+    })
+}

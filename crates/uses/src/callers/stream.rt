@@ -1,0 +1,127 @@
+//! Streams. Readers and writers here are slices and `Vec`s, whose bytes a contract can name.
+ghost use Rattle.std.specs.Prelude.{◌≡◌, ◌↔◌, ◌+◌, ◌*◌, ◌<◌, ◌≤◌, ◌++◌, length, map, take, IfOk, IsTrue, OnOk};
+ghost use Rattle.std.specs.List.{concat};
+ghost use Rattle.ac_input.specs.Steps.{looked_of};
+ghost use Rattle.ac_automaton.specs.Replace.{matches_in};
+ghost use Rattle.ac_automaton.specs.StreamReplace.{replaced_in};
+ghost use Rattle.ac_automaton.specs.Watched.{failures_of, inner_of};
+
+use ac_automaton::automaton::Automaton;
+use ac_automaton::error::StreamError;
+use ac_automaton::output::Output;
+use ac_automaton::watched::{Watched, write_whole};
+use ac_input::search::Match;
+use ac_input::steps::Steps;
+use std::alloc::{AllocError, Global};
+use std::io;
+use std::io::Write;
+
+/// All matches of what a reader gives, one after another.
+pub fn all_matches<A: Automaton>(
+    automaton: &A,
+    alloc: Global,
+    text: &[u8],
+) -> Result<Vec<Match>, StreamError>
+    ensures { IfOk result (λ v. v.items ≡ matches_in (A.built automaton.now) text.now) }
+{
+    let mut reader = Watched::new(text);
+    let mut found = Vec::new(alloc);
+    let mut matches = automaton.try_stream_find_iter(alloc, &mut reader)?;
+    let mut steps = Steps::new();
+    while let Some(next) = matches.next_counted(&mut steps) {
+        found.push(next?).map_err(AllocError::from)?;
+    }
+    Ok(found)
+}
+
+/// Reads the text and writes it with each match exchanged for its pattern's replacement.
+pub fn replaced<A: Automaton>(
+    automaton: &A,
+    alloc: Global,
+    text: &[u8],
+    writer: &mut Watched<Vec<u8>>,
+    replacements: &[&[u8]],
+) -> Result<(), StreamError>
+    requires { length replacements.now ≡ length (A.built automaton.now).dictionary.patterns }
+    ensures { OnOk result ((inner_of writer.new).items ≡ (inner_of writer.old).items
+        ++ replaced_in (A.built automaton.now) (map (λ r. r.now) replacements.now) text.now) }
+{
+    let mut reader = Watched::new(text);
+    automaton.try_stream_replace_all(alloc, &mut reader, writer, replacements)
+}
+
+/// The same, counted: two looks at states for each byte at most, also where it fails.
+pub fn replaced_counted<A: Automaton>(
+    automaton: &A,
+    alloc: Global,
+    text: &[u8],
+    writer: &mut Watched<Vec<u8>>,
+    replacements: &[&[u8]],
+    steps: &mut Steps,
+) -> Result<(), StreamError>
+    requires { length replacements.now ≡ length (A.built automaton.now).dictionary.patterns }
+    ensures { looked_of steps.new ≤ looked_of steps.old + 2 * length text.now }
+{
+    let mut reader = Watched::new(text);
+    automaton.try_stream_replace_all_counted(alloc, &mut reader, writer, replacements, steps)
+}
+
+/// Reads the text and writes it, each match by a closure that writes what matched.
+pub fn copied<A: Automaton>(
+    automaton: &A,
+    alloc: Global,
+    text: &[u8],
+    writer: &mut Watched<Vec<u8>>,
+) -> Result<(), StreamError>
+    ensures { OnOk result ((inner_of writer.new).items
+        ≡ (inner_of writer.old).items ++ text.now) }
+{
+    let mut reader = Watched::new(text);
+    automaton.try_stream_replace_all_with(alloc, &mut reader, writer, |_, matched, writer| {
+        write_whole(writer, matched)
+    })
+}
+
+/// The first bytes of the text, as many as one read gives.
+pub fn read_front(text: &[u8], buffer: &mut [u8]) -> io::Result<usize>
+    requires { 0 < length buffer.old }
+    ensures { IfOk result (λ n. take n buffer.new ≡ take n text.now) }
+{
+    Watched::new(text).read(buffer)
+}
+
+/// Whether all the bytes could be written: where no call of the writer failed.
+pub fn is_written<W: Write>(writer: &mut Watched<W>, bytes: &[u8]) -> bool
+    ensures { IsTrue result ↔ (failures_of writer.new ≡ failures_of writer.old) }
+{
+    write_whole(writer, bytes).is_ok()
+}
+
+/// The pieces one after another, in as few writes as their length allows.
+pub fn joined(alloc: Global, pieces: &[&[u8]]) -> Result<Vec<u8>, StreamError>
+    ensures { IfOk result (λ v. v.items ≡ concat (map (λ piece. piece.now) pieces.now)) }
+{
+    let mut writer = Watched::new(Vec::new(alloc));
+    let mut output = Output::new(alloc)?;
+    for piece in pieces {
+        output.send(&mut writer, piece)?;
+    }
+    output.send_held(&mut writer)?;
+    Ok(writer.into_inner())
+}
+
+/// A replacement between what stands before it and what stands after it.
+pub fn exchanged(
+    alloc: Global,
+    before: &[u8],
+    replacement: &[u8],
+    after: &[u8],
+) -> Result<Vec<u8>, StreamError>
+    ensures { IfOk result (λ v. v.items ≡ before.now ++ replacement.now ++ after.now) }
+{
+    let mut writer = Watched::new(Vec::new(alloc));
+    let mut output = Output::new(alloc)?;
+    output.send_exchanged(&mut writer, before, replacement)?;
+    output.send_all(&mut writer, after)?;
+    Ok(writer.into_inner())
+}

@@ -1,0 +1,215 @@
+//! Searches that are refused, in which order the reasons count, and that nothing else is refused.
+use crate::answers::same;
+use crate::engines::{Asked, Case, Letters, all};
+use crate::one_start::OneStart;
+use ac_input::search::{Anchored, Input, MatchKind, StartKind};
+use ac_noncontiguous::{Automaton, MatchError, MatchErrorKind, OverlappingState};
+use std::alloc::Global;
+use std::process::Abort;
+use std::test::Fail;
+
+/// Why the calls of a search are refused, if they are: those that find and walk, the overlapping one, and its iterator.
+#[derive(Clone, Copy, Debug, PartialEq, Eq)]
+struct Refusals {
+    find: Option<MatchErrorKind>,
+    walk: Option<MatchErrorKind>,
+    overlap: Option<MatchErrorKind>,
+    list: Option<MatchErrorKind>,
+}
+
+/// A search of a text by an automaton with these starts, and why it is refused.
+struct Row {
+    shows: &'static str,
+    kind: MatchKind,
+    starts: StartKind,
+    anchored: Anchored,
+    refused: Refusals,
+}
+
+/// Why it is refused.
+fn reason(error: MatchError) -> MatchErrorKind {
+    *error.kind()
+}
+
+/// Why a search is refused by each call.
+fn refusals_of<A: Automaton>(automaton: &A, input: &Input<'_>) -> Result<Refusals, Fail> {
+    let mut state = OverlappingState::start();
+    let overlap = automaton.try_find_overlapping(input, &mut state).err();
+    Ok(Refusals {
+        find: automaton.try_find(input).err().map(reason),
+        walk: automaton.try_find_iter(input.clone()?).err().map(reason),
+        overlap: overlap.map(reason),
+        list: automaton
+            .try_find_overlapping_iter(input.clone()?)
+            .err()
+            .map(reason),
+    })
+}
+
+/// Asserts why a search is refused, also one that would be over at once.
+fn is_refused<T: Abort, A: Automaton>(rt: &T, automaton: &A, row: &Row) -> Result<(), Fail> {
+    let input = Input::new(b"a").anchored(row.anchored);
+    let found = refusals_of(automaton, &input)?;
+    let over = refusals_of(automaton, &input.range(1..0))?;
+    same(rt, &[found, over], &[row.refused; 2], row.shows);
+    Ok(())
+}
+
+impl Case for Row {
+    fn asked(&self) -> Asked<'_> {
+        Asked {
+            patterns: &[b"a"],
+            kind: self.kind,
+            letters: Letters::Cased,
+        }
+    }
+
+    fn check<T: Abort, A: Automaton>(
+        &self,
+        rt: &T,
+        _alloc: Global,
+        automaton: &A,
+    ) -> Result<(), Fail> {
+        let anchored = match self.starts {
+            StartKind::Both => return is_refused(rt, automaton, self),
+            StartKind::Unanchored => Anchored::No,
+            StartKind::Anchored => Anchored::Yes,
+        };
+        is_refused(
+            rt,
+            &OneStart {
+                automaton,
+                anchored,
+            },
+            self,
+        )
+    }
+}
+
+const NONE: Refusals = Refusals {
+    find: None,
+    walk: None,
+    overlap: None,
+    list: None,
+};
+
+const NO_START: Refusals = Refusals {
+    find: Some(MatchErrorKind::InvalidInputUnanchored),
+    walk: Some(MatchErrorKind::InvalidInputUnanchored),
+    overlap: Some(MatchErrorKind::InvalidInputUnanchored),
+    list: Some(MatchErrorKind::InvalidInputUnanchored),
+};
+
+const NO_ANCHORED_START: Refusals = Refusals {
+    find: Some(MatchErrorKind::InvalidInputAnchored),
+    walk: Some(MatchErrorKind::InvalidInputAnchored),
+    overlap: Some(MatchErrorKind::InvalidInputAnchored),
+    list: Some(MatchErrorKind::InvalidInputAnchored),
+};
+
+const ANCHORED_LIST: Refusals = Refusals {
+    find: None,
+    walk: None,
+    overlap: None,
+    list: Some(MatchErrorKind::InvalidInputAnchored),
+};
+
+const FIRST: Refusals = Refusals {
+    find: None,
+    walk: None,
+    overlap: Some(MatchErrorKind::UnsupportedOverlapping {
+        got: MatchKind::LeftmostFirst,
+    }),
+    list: Some(MatchErrorKind::UnsupportedOverlapping {
+        got: MatchKind::LeftmostFirst,
+    }),
+};
+
+const LONGEST: Refusals = Refusals {
+    find: None,
+    walk: None,
+    overlap: Some(MatchErrorKind::UnsupportedOverlapping {
+        got: MatchKind::LeftmostLongest,
+    }),
+    list: Some(MatchErrorKind::UnsupportedOverlapping {
+        got: MatchKind::LeftmostLongest,
+    }),
+};
+
+const ROWS: &[Row] = &[
+    Row {
+        shows: "nothing is refused for the standard kind",
+        kind: MatchKind::Standard,
+        starts: StartKind::Both,
+        anchored: Anchored::No,
+        refused: NONE,
+    },
+    Row {
+        shows: "the overlapping iterator takes no anchored input",
+        kind: MatchKind::Standard,
+        starts: StartKind::Both,
+        anchored: Anchored::Yes,
+        refused: ANCHORED_LIST,
+    },
+    Row {
+        shows: "nor does it where the anchored start is there alone",
+        kind: MatchKind::Standard,
+        starts: StartKind::Anchored,
+        anchored: Anchored::Yes,
+        refused: ANCHORED_LIST,
+    },
+    Row {
+        shows: "there is no start for a search that isn't anchored",
+        kind: MatchKind::Standard,
+        starts: StartKind::Anchored,
+        anchored: Anchored::No,
+        refused: NO_START,
+    },
+    Row {
+        shows: "there is no start for an anchored search",
+        kind: MatchKind::Standard,
+        starts: StartKind::Unanchored,
+        anchored: Anchored::Yes,
+        refused: NO_ANCHORED_START,
+    },
+    Row {
+        shows: "the start counts before the kind",
+        kind: MatchKind::LeftmostFirst,
+        starts: StartKind::Anchored,
+        anchored: Anchored::No,
+        refused: NO_START,
+    },
+    Row {
+        shows: "the anchored start counts before the kind",
+        kind: MatchKind::LeftmostFirst,
+        starts: StartKind::Unanchored,
+        anchored: Anchored::Yes,
+        refused: NO_ANCHORED_START,
+    },
+    Row {
+        shows: "overlapping occurrences need the standard kind",
+        kind: MatchKind::LeftmostFirst,
+        starts: StartKind::Both,
+        anchored: Anchored::No,
+        refused: FIRST,
+    },
+    Row {
+        shows: "the kind counts before the anchored iterator",
+        kind: MatchKind::LeftmostFirst,
+        starts: StartKind::Both,
+        anchored: Anchored::Yes,
+        refused: FIRST,
+    },
+    Row {
+        shows: "the longest match is no standard one either",
+        kind: MatchKind::LeftmostLongest,
+        starts: StartKind::Unanchored,
+        anchored: Anchored::No,
+        refused: LONGEST,
+    },
+];
+
+#[test]
+fn what_is_refused(rt: HostRuntime) -> Result<(), Fail> {
+    all(&rt, rt.alloc(), ROWS)
+}

@@ -1,0 +1,367 @@
+//! What replacement in memory makes: of a text and of its bytes, by a list and by a closure that appends the same.
+//!
+//! A match within a character of a text is passed over there, and replaced among bytes.
+use crate::engines::Letters::{Cased, Folded, Paired};
+use crate::engines::{Asked, Case, Letters, all};
+use ac_automaton::error::ReplaceError;
+use ac_input::search::MatchKind::{LeftmostFirst, LeftmostLongest, Standard};
+use ac_input::search::{Match, MatchKind};
+use ac_noncontiguous::Automaton;
+use std::alloc::{AllocError, Global};
+use std::process::Abort;
+use std::test::Fail;
+
+/// What a closure does at a match, in place of going on: it stops after it appended the replacement, or it returns out of memory before
+/// that.
+#[derive(Clone, Copy, Debug, PartialEq, Eq)]
+pub enum At {
+    Stops(usize),
+    Fails(usize),
+}
+
+/// A text, what replaces the matches of each pattern, and what is made of it: by a list, and by a closure that appends the same.
+struct Row {
+    shows: &'static str,
+    patterns: &'static [&'static [u8]],
+    kind: MatchKind,
+    letters: Letters,
+    text: &'static str,
+    replacements: &'static [&'static str],
+    /// At which pattern the closure does not go on, if it is to show that.
+    until: Option<At>,
+    makes: &'static str,
+    /// What is made of the text's bytes.
+    bytes: &'static [u8],
+}
+
+/// The bytes of each text.
+fn bytes_of<'a>(alloc: Global, texts: &[&'a str]) -> Result<Vec<&'a [u8]>, AllocError> {
+    texts.iter().map(|text| text.as_bytes()).collect(alloc)
+}
+
+/// Appends the text, with a closure that appends the replacement of each match's pattern.
+pub fn append<A: Automaton>(
+    automaton: &A,
+    alloc: Global,
+    text: &str,
+    replacements: &[&str],
+    until: Option<At>,
+    dst: &mut String,
+) -> Result<(), ReplaceError> {
+    automaton.try_replace_all_with(
+        alloc,
+        text,
+        dst,
+        |found: &Match, _text: &str, dst: &mut String| -> Result<bool, AllocError> {
+            let number = found.pattern().as_usize();
+            if until == Some(At::Fails(number)) {
+                return Err(AllocError);
+            }
+            dst.push_str(replacements.get(number).ok_or(AllocError)?)?;
+            Ok(until != Some(At::Stops(number)))
+        },
+    )
+}
+
+/// The same among bytes.
+fn append_bytes<A: Automaton>(
+    automaton: &A,
+    alloc: Global,
+    bytes: &[u8],
+    replacements: &[&str],
+    until: Option<At>,
+    dst: &mut Vec<u8>,
+) -> Result<(), ReplaceError> {
+    automaton.try_replace_all_with_bytes(
+        alloc,
+        bytes,
+        dst,
+        |found: &Match, _bytes: &[u8], dst: &mut Vec<u8>| -> Result<bool, AllocError> {
+            let number = found.pattern().as_usize();
+            if until == Some(At::Fails(number)) {
+                return Err(AllocError);
+            }
+            dst.extend_from_slice(replacements.get(number).ok_or(AllocError)?.as_bytes())?;
+            Ok(until != Some(At::Stops(number)))
+        },
+    )
+}
+
+impl Row {
+    /// Asserts what is made by a list.
+    fn is_made<T: Abort, A: Automaton>(
+        &self,
+        rt: &T,
+        alloc: Global,
+        automaton: &A,
+    ) -> Result<(), Fail> {
+        let shows = self.shows;
+        assert_eq!(rt;
+            automaton.patterns_len(),
+            self.replacements.len(),
+            "{shows}"
+        );
+        let made = automaton.try_replace_all(alloc, self.text, self.replacements)?;
+        assert_eq!(rt; made.as_str(), self.makes, "{shows}");
+        let replacements = bytes_of(alloc, self.replacements)?;
+        assert_eq!(rt; automaton.patterns_len(), replacements.len(), "{shows}");
+        let bytes = self.text.as_bytes();
+        let made = automaton.try_replace_all_bytes(alloc, bytes, replacements.as_slice())?;
+        assert_eq!(rt; made.as_slice(), self.bytes, "{shows}");
+        Ok(())
+    }
+
+    /// Asserts what is made by a closure.
+    fn is_appended<T: Abort, A: Automaton>(
+        &self,
+        rt: &T,
+        alloc: Global,
+        automaton: &A,
+    ) -> Result<(), Fail> {
+        let shows = self.shows;
+        let fails = matches!(self.until, Some(At::Fails(_)));
+        let mut made = String::new(alloc);
+        let answer = append(
+            automaton,
+            alloc,
+            self.text,
+            self.replacements,
+            self.until,
+            &mut made,
+        );
+        let memory = matches!(&answer, Err(ReplaceError::Memory));
+        assert_eq!(rt; (answer.is_err(), memory), (fails, fails), "{shows}");
+        assert_eq!(rt; made.as_str(), self.makes, "{shows}");
+        let bytes = self.text.as_bytes();
+        let mut made = Vec::new(alloc);
+        let answer = append_bytes(
+            automaton,
+            alloc,
+            bytes,
+            self.replacements,
+            self.until,
+            &mut made,
+        );
+        let memory = matches!(&answer, Err(ReplaceError::Memory));
+        assert_eq!(rt; (answer.is_err(), memory), (fails, fails), "{shows}");
+        assert_eq!(rt; made.as_slice(), self.bytes, "{shows}");
+        Ok(())
+    }
+}
+
+impl Case for Row {
+    fn asked(&self) -> Asked<'_> {
+        Asked {
+            patterns: self.patterns,
+            kind: self.kind,
+            letters: self.letters,
+        }
+    }
+
+    fn check<T: Abort, A: Automaton>(
+        &self,
+        rt: &T,
+        alloc: Global,
+        automaton: &A,
+    ) -> Result<(), Fail> {
+        if self.until.is_none() {
+            self.is_made(rt, alloc, automaton)?;
+        }
+        self.is_appended(rt, alloc, automaton)
+    }
+}
+
+const ROWS: &[Row] = &[
+    Row {
+        shows: "three words",
+        patterns: &[b"fox", b"brown", b"quick"],
+        kind: Standard,
+        letters: Cased,
+        text: "The quick brown fox.",
+        replacements: &["sloth", "grey", "slow"],
+        until: None,
+        makes: "The slow grey sloth.",
+        bytes: b"The slow grey sloth.",
+    },
+    Row {
+        shows: "the first of several patterns at one place",
+        patterns: &[b"append", b"appendage", b"app"],
+        kind: LeftmostFirst,
+        letters: Cased,
+        text: "append the app to the appendage",
+        replacements: &["x", "y", "z"],
+        until: None,
+        makes: "x the z to the xage",
+        bytes: b"x the z to the xage",
+    },
+    Row {
+        shows: "an empty pattern is replaced at each place",
+        patterns: &[b""],
+        kind: Standard,
+        letters: Cased,
+        text: "ab",
+        replacements: &["-"],
+        until: None,
+        makes: "-a-b-",
+        bytes: b"-a-b-",
+    },
+    Row {
+        shows: "an empty pattern beside another, under the standard kind",
+        patterns: &[b"ab", b""],
+        kind: Standard,
+        letters: Cased,
+        text: "aab",
+        replacements: &["X", "-"],
+        until: None,
+        makes: "-a-a-b-",
+        bytes: b"-a-a-b-",
+    },
+    Row {
+        shows: "an empty pattern after another, under a leftmost kind",
+        patterns: &[b"ab", b""],
+        kind: LeftmostFirst,
+        letters: Cased,
+        text: "aab",
+        replacements: &["X", "-"],
+        until: None,
+        makes: "-aX",
+        bytes: b"-aX",
+    },
+    Row {
+        shows: "no patterns",
+        patterns: &[],
+        kind: Standard,
+        letters: Cased,
+        text: "ab",
+        replacements: &[],
+        until: None,
+        makes: "ab",
+        bytes: b"ab",
+    },
+    Row {
+        shows: "each byte that is a pattern",
+        patterns: &[b"o"],
+        kind: Standard,
+        letters: Cased,
+        text: "foo",
+        replacements: &["O"],
+        until: None,
+        makes: "fOO",
+        bytes: b"fOO",
+    },
+    Row {
+        shows: "the longest of several patterns at one place",
+        patterns: &[b"a", b"ab"],
+        kind: LeftmostLongest,
+        letters: Cased,
+        text: "xayabbbz",
+        replacements: &["1", "2"],
+        until: None,
+        makes: "x1y2bbz",
+        bytes: b"x1y2bbz",
+    },
+    Row {
+        shows: "the shorter pattern, which comes first",
+        patterns: &[b"a", b"ab"],
+        kind: LeftmostFirst,
+        letters: Cased,
+        text: "xayabbbz",
+        replacements: &["1", "2"],
+        until: None,
+        makes: "x1y1bbbz",
+        bytes: b"x1y1bbbz",
+    },
+    Row {
+        shows: "letters in both cases",
+        patterns: &[b"FOO"],
+        kind: Standard,
+        letters: Folded,
+        text: "foo Foo",
+        replacements: &["x"],
+        until: None,
+        makes: "x x",
+        bytes: b"x x",
+    },
+    Row {
+        shows: "a byte that is no letter has one case",
+        patterns: &[b"["],
+        kind: Standard,
+        letters: Folded,
+        text: "{[",
+        replacements: &["-"],
+        until: None,
+        makes: "{-",
+        bytes: b"{-",
+    },
+    Row {
+        shows: "paired digits",
+        patterns: &[b"0a"],
+        kind: Standard,
+        letters: Paired(&[(b'0', b'1')]),
+        text: "1a0a",
+        replacements: &["x"],
+        until: None,
+        makes: "xx",
+        bytes: b"xx",
+    },
+    Row {
+        shows: "a match within a character is replaced among bytes alone",
+        patterns: &[b"\xa9"],
+        kind: Standard,
+        letters: Cased,
+        text: "aé",
+        replacements: &["x"],
+        until: None,
+        makes: "aé",
+        bytes: b"a\xc3x",
+    },
+    Row {
+        shows: "the number of each pattern",
+        patterns: &[b"append", b"appendage", b"app"],
+        kind: LeftmostFirst,
+        letters: Cased,
+        text: "append the app to the appendage",
+        replacements: &["0", "1", "2"],
+        until: None,
+        makes: "0 the 2 to the 0age",
+        bytes: b"0 the 2 to the 0age",
+    },
+    Row {
+        shows: "the rest is copied after a closure stopped",
+        patterns: &[b"append", b"appendage", b"app"],
+        kind: LeftmostFirst,
+        letters: Cased,
+        text: "append the app to the appendage",
+        replacements: &["0", "1", "2"],
+        until: Some(At::Stops(2)),
+        makes: "0 the 2 to the appendage",
+        bytes: b"0 the 2 to the appendage",
+    },
+    Row {
+        shows: "what was appended stays where a closure returns out of memory",
+        patterns: &[b"append", b"appendage", b"app"],
+        kind: LeftmostFirst,
+        letters: Cased,
+        text: "append the app to the appendage",
+        replacements: &["0", "1", "2"],
+        until: Some(At::Fails(2)),
+        makes: "0 the ",
+        bytes: b"0 the ",
+    },
+    Row {
+        shows: "a closure is not called for a match within a character, but for one among bytes",
+        patterns: &[b"\xa9"],
+        kind: Standard,
+        letters: Cased,
+        text: "aé",
+        replacements: &["0"],
+        until: Some(At::Stops(0)),
+        makes: "aé",
+        bytes: b"a\xc30",
+    },
+];
+
+#[test]
+fn replaced(rt: HostRuntime) -> Result<(), Fail> {
+    all(&rt, rt.alloc(), ROWS)
+}

@@ -1,0 +1,228 @@
+//! Searches of small texts, row by row, and what they give.
+//!
+//! The rows stand in tables, one for each list of patterns, by subject. Each row is run by the plain program, by packed search where
+//! that serves, and by each automaton: by its own calls, by a reference to it, and by an automaton over it that has a start for the row's
+//! search alone.
+use crate::answers::{
+    Asks, Text, by_plain, collected, input, same, searcher, shows_in_turn, walks_on,
+};
+use crate::engines::{Asked, Case, Letters, Pick, each, pick};
+use crate::one_start::OneStart;
+use ac_input::search::{Input, MatchKind, Span};
+use ac_literal::packed::{self, Searcher};
+use ac_noncontiguous::{Automaton, OverlappingState};
+use std::alloc::Global;
+use std::process::Abort;
+use std::test::Fail;
+
+mod bytes;
+mod empty;
+mod inside;
+mod several;
+mod words;
+
+/// Some patterns, and what searches for them give.
+#[derive(Drop)]
+pub struct Table<'a> {
+    pub patterns: &'a [&'a [u8]],
+    pub kind: MatchKind,
+    pub letters: Letters,
+    pub rows: &'a [Row<'a>],
+}
+
+/// A search, and what it gives.
+#[derive(Drop)]
+pub struct Row<'a> {
+    pub shows: &'a str,
+    pub asks: Asks,
+    pub text: Text<'a>,
+    pub gives: &'a [Pick],
+}
+
+/// Asserts that this is the first of what the row gives.
+fn is_first<T: Abort>(rt: &T, found: Option<Pick>, row: &Row<'_>) {
+    assert_eq!(rt; found, row.gives.first().copied(), "{}", row.shows);
+}
+
+/// Asserts the matches of a walk, by each of its calls, and that the first of them is the match of the input.
+fn walk_holds<T: Abort, A: Automaton>(
+    rt: &T,
+    alloc: Global,
+    automaton: &A,
+    input: Input<'_>,
+    row: &Row<'_>,
+) -> Result<(), Fail> {
+    is_first(rt, pick(automaton.try_find(&input)?), row);
+    let given = collected(alloc, automaton.try_find_iter(input.clone()?)?)?;
+    same(rt, &given, row.gives, row.shows);
+    walks_on(rt, &mut automaton.try_find_iter(input)?, row.gives);
+    Ok(())
+}
+
+/// Asserts the occurrences that a search shows in turn, and those of an iterator, which an anchored search hasn't.
+fn list_holds<T: Abort, A: Automaton>(
+    rt: &T,
+    alloc: Global,
+    automaton: &A,
+    input: Input<'_>,
+    row: &Row<'_>,
+) -> Result<(), Fail> {
+    let mut state = OverlappingState::start();
+    shows_in_turn(rt, automaton, &input, &mut state, row.gives);
+    if !input.get_anchored().is_anchored() {
+        let given = collected(alloc, automaton.try_find_overlapping_iter(input)?)?;
+        same(rt, &given, row.gives, row.shows);
+    }
+    Ok(())
+}
+
+/// Asserts what the row says of an automaton.
+fn row_holds<T: Abort, A: Automaton>(
+    rt: &T,
+    alloc: Global,
+    automaton: &A,
+    row: &Row<'_>,
+) -> Result<(), Fail> {
+    let input = input(&row.text)?;
+    match row.asks {
+        Asks::Walk => walk_holds(rt, alloc, automaton, input, row),
+        Asks::List => list_holds(rt, alloc, automaton, input, row),
+    }
+}
+
+/// Asserts what the row says of an automaton, of a reference to it, and of one with the start of the row's search alone.
+pub fn row_holds_of_each<T: Abort, A: Automaton>(
+    rt: &T,
+    alloc: Global,
+    automaton: &A,
+    row: &Row<'_>,
+) -> Result<(), Fail> {
+    let one_start = OneStart {
+        automaton,
+        anchored: input(&row.text)?.get_anchored(),
+    };
+    row_holds(rt, alloc, automaton, row)?;
+    row_holds(rt, alloc, &automaton, row)?;
+    row_holds(rt, alloc, &one_start, row)
+}
+
+impl Case for Table<'_> {
+    fn asked(&self) -> Asked<'_> {
+        Asked {
+            patterns: self.patterns,
+            kind: self.kind,
+            letters: self.letters,
+        }
+    }
+
+    fn check<T: Abort, A: Automaton>(
+        &self,
+        rt: &T,
+        alloc: Global,
+        automaton: &A,
+    ) -> Result<(), Fail> {
+        for row in self.rows {
+            row_holds_of_each(rt, alloc, automaton, row)?;
+        }
+        Ok(())
+    }
+}
+
+/// Asserts what the row says of the plain program.
+fn plain_holds<T: Abort>(
+    rt: &T,
+    alloc: Global,
+    asked: Asked<'_>,
+    row: &Row<'_>,
+) -> Result<(), Fail> {
+    let input = input(&row.text)?;
+    let given = by_plain(alloc, asked, row.asks, &input)?;
+    same(rt, &given, row.gives, row.shows);
+    Ok(())
+}
+
+/// Asserts what the row says of packed search: all matches of a whole text, and the first one of a part.
+fn packed_holds<T: Abort>(rt: &T, alloc: Global, searcher: &Searcher, row: &Row<'_>) {
+    match row.text {
+        Text::Whole(text) => {
+            let given = collected(alloc, searcher.find_iter(text)).expect(rt, "there is memory");
+            same(rt, &given, row.gives, row.shows);
+            is_first(rt, pick(searcher.find(text)), row);
+        }
+        Text::Part(text, start, end) if start <= end && end <= text.len() => {
+            is_first(rt, pick(searcher.find_in(text, Span { start, end })), row);
+        }
+        _ => {}
+    }
+}
+
+/// The kind for packed search, where it has it.
+fn packed_kind(table: &Table<'_>) -> Option<packed::MatchKind> {
+    if !matches!(table.letters, Letters::Cased) {
+        return None;
+    }
+    match table.kind {
+        MatchKind::Standard => None,
+        MatchKind::LeftmostFirst => Some(packed::MatchKind::LeftmostFirst),
+        MatchKind::LeftmostLongest => Some(packed::MatchKind::LeftmostLongest),
+    }
+}
+
+/// Whether packed search serves the patterns: one to 128, and none of them empty.
+fn packed_serves(patterns: &[&[u8]]) -> bool {
+    let count = patterns.len();
+    0 < count && count < 129 && patterns.iter().all(|it| !it.is_empty())
+}
+
+/// Asserts what the table says of packed search, where that has its kind and serves its patterns.
+pub fn packed_table_holds<T: Abort>(rt: &T, alloc: Global, table: &Table<'_>) -> Result<(), Fail> {
+    let Some(kind) = packed_kind(table) else {
+        return Ok(());
+    };
+    let made = searcher(alloc, table.patterns, kind)?;
+    same(
+        rt,
+        &[made.is_some()],
+        &[packed_serves(table.patterns)],
+        "it is served",
+    );
+    if let Some(searcher) = &made {
+        for row in table.rows {
+            packed_holds(rt, alloc, searcher, row);
+        }
+    }
+    Ok(())
+}
+
+/// Asserts what each table says: of the plain program, of packed search, and of each automaton.
+pub fn hold<T: Abort>(rt: &T, alloc: Global, tables: &[Table<'_>]) -> Result<(), Fail> {
+    for table in tables {
+        for row in table.rows {
+            plain_holds(rt, alloc, table.asked(), row)?;
+        }
+        packed_table_holds(rt, alloc, table)?;
+        each(rt, alloc, table)?;
+    }
+    Ok(())
+}
+
+#[test]
+fn one_inside_another(rt: HostRuntime) -> Result<(), Fail> {
+    hold(&rt, rt.alloc(), inside::TABLES)
+}
+
+#[test]
+fn which_of_several(rt: HostRuntime) -> Result<(), Fail> {
+    hold(&rt, rt.alloc(), several::TABLES)?;
+    hold(&rt, rt.alloc(), words::TABLES)
+}
+
+#[test]
+fn empty_patterns_and_none(rt: HostRuntime) -> Result<(), Fail> {
+    hold(&rt, rt.alloc(), empty::TABLES)
+}
+
+#[test]
+fn bytes_taken_for_the_same(rt: HostRuntime) -> Result<(), Fail> {
+    hold(&rt, rt.alloc(), bytes::TABLES)
+}

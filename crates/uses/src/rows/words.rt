@@ -1,0 +1,91 @@
+//! Words in sentences.
+use super::{Row, Table};
+use crate::answers::Asks::{List, Walk};
+use crate::answers::Text::{Bound, Whole};
+use crate::engines::Letters::{Cased, Folded};
+use ac_input::search::MatchKind::{LeftmostFirst, LeftmostLongest, Standard};
+
+const APPEND: &[&[u8]] = &[b"append", b"appendage", b"app"];
+
+const SENTENCE: &[u8] = b"append the app to the appendage";
+
+const APPLES: &[u8] = b"Nobody likes maple in their apple flavored Snapple.";
+
+pub const TABLES: &[Table<'static>] = &[
+    Table {
+        patterns: APPEND,
+        kind: Standard,
+        letters: Cased,
+        rows: &[
+            Row {
+                shows: "the shortest of words that begin one another ends first",
+                asks: Walk,
+                text: Whole(SENTENCE),
+                gives: &[(2, 0, 3), (2, 11, 14), (2, 22, 25)],
+            },
+            Row {
+                shows: "all of the words that begin one another occur",
+                asks: List,
+                text: Whole(SENTENCE),
+                gives: &[
+                    (2, 0, 3),
+                    (0, 0, 6),
+                    (2, 11, 14),
+                    (2, 22, 25),
+                    (0, 22, 28),
+                    (1, 22, 31),
+                ],
+            },
+            Row {
+                shows: "anchored, those that begin the sentence occur",
+                asks: List,
+                text: Bound(SENTENCE),
+                gives: &[(2, 0, 3), (0, 0, 6)],
+            },
+        ],
+    },
+    Table {
+        patterns: APPEND,
+        kind: LeftmostFirst,
+        letters: Cased,
+        rows: &[Row {
+            shows: "of words that begin one another the first in the list",
+            asks: Walk,
+            text: Whole(SENTENCE),
+            gives: &[(0, 0, 6), (2, 11, 14), (0, 22, 28)],
+        }],
+    },
+    Table {
+        patterns: APPEND,
+        kind: LeftmostLongest,
+        letters: Cased,
+        rows: &[Row {
+            shows: "of words that begin one another the longest",
+            asks: Walk,
+            text: Whole(SENTENCE),
+            gives: &[(0, 0, 6), (2, 11, 14), (1, 22, 31)],
+        }],
+    },
+    Table {
+        patterns: &[b"apple", b"maple", b"Snapple"],
+        kind: Standard,
+        letters: Cased,
+        rows: &[Row {
+            shows: "words with a letter in upper case",
+            asks: Walk,
+            text: Whole(APPLES),
+            gives: &[(1, 13, 18), (0, 28, 33), (2, 43, 50)],
+        }],
+    },
+    Table {
+        patterns: &[b"apple", b"maple", b"snapple"],
+        kind: Standard,
+        letters: Folded,
+        rows: &[Row {
+            shows: "the same words, whatever their case",
+            asks: Walk,
+            text: Whole(APPLES),
+            gives: &[(1, 13, 18), (0, 28, 33), (2, 43, 50)],
+        }],
+    },
+];

@@ -1,0 +1,101 @@
+//! Streams and replacement in memory that may end.
+//!
+//! `rt try --test --fail-alloc N` refuses the Nth allocation. Where a call is refused memory, nothing was read or written by then; what
+//! was appended to a text stays.
+use crate::devices::{AMPLE, Given, Outcome, Sink, Source, Tally};
+use crate::engines::{Asked, Case, Letters, where_built};
+use crate::replacement::append;
+use crate::streams::search_outcome;
+use ac_automaton::error::ReplaceError;
+use ac_automaton::watched::Watched;
+use ac_input::search::MatchKind;
+use ac_input::steps::Steps;
+use ac_noncontiguous::Automaton;
+use std::alloc::{AllocError, Global};
+use std::process::Abort;
+use std::test::Fail;
+
+/// Streams and replacement of one word.
+struct InMemory;
+
+/// What replaces the word.
+const SLOTH: &[&str] = &["sloth"];
+
+/// What may have been appended: each copy and each call of the closure appends all of its text, or nothing.
+const FRONTS: [&str; 6] = [
+    "",
+    "A ",
+    "A sloth",
+    "A sloth and a ",
+    "A sloth and a sloth",
+    "A sloth and a sloth.",
+];
+
+/// Replacement over a stream: what it comes to.
+fn replacement_outcome<A: Automaton>(
+    alloc: Global,
+    automaton: &A,
+    tally: &Tally,
+) -> Result<Outcome, AllocError> {
+    if automaton.patterns_len() != 1 {
+        return Ok(Outcome::Position);
+    }
+    let mut reader = Watched::new(Source::new(Given::Whole(b"a fox"), 2, &[], tally));
+    let mut writer = Watched::new(Sink::new(alloc, AMPLE, tally)?);
+    let mut steps = Steps::new();
+    let answer = automaton.try_stream_replace_all_counted(
+        alloc,
+        &mut reader,
+        &mut writer,
+        &[b"sloth"],
+        &mut steps,
+    );
+    Ok(Outcome::of(&answer))
+}
+
+/// Asserts what is made of a text, or that there was no memory.
+fn is_made<T: Abort, A: Automaton>(rt: &T, alloc: Global, automaton: &A) {
+    let text = "A fox and a fox.";
+    let mut made = String::new(alloc);
+    let answer = append(automaton, alloc, text, SLOTH, None, &mut made);
+    assert!(rt; FRONTS.contains(&made.as_str()));
+    assert_eq!(rt; answer.is_ok(), made.as_str() == FRONTS[5]);
+    assert_eq!(rt; automaton.patterns_len(), 1);
+    match automaton.try_replace_all(alloc, text, SLOTH) {
+        Ok(made) => assert_eq!(rt; made.as_str(), FRONTS[5]),
+        Err(error) => assert!(rt; matches!(&error, ReplaceError::Memory)),
+    }
+}
+
+impl Case for InMemory {
+    fn asked(&self) -> Asked<'_> {
+        Asked {
+            patterns: &[b"fox"],
+            kind: MatchKind::Standard,
+            letters: Letters::Cased,
+        }
+    }
+
+    fn check<T: Abort, A: Automaton>(
+        &self,
+        rt: &T,
+        alloc: Global,
+        automaton: &A,
+    ) -> Result<(), Fail> {
+        let tally = Tally::new();
+        let outcome = search_outcome(alloc, automaton, &tally);
+        assert!(rt; outcome == Outcome::Done || outcome == Outcome::Memory);
+        assert_eq!(rt; tally.reads.get(), 0);
+        if let Ok(outcome) = replacement_outcome(alloc, automaton, &tally) {
+            let came = (outcome, tally.reads.get(), tally.written.get());
+            assert!(rt; came == (Outcome::Done, 4, 7) || came == (Outcome::Memory, 0, 0));
+        }
+        is_made(rt, alloc, automaton);
+        Ok(())
+    }
+}
+
+#[test]
+fn in_memory_that_may_end(rt: HostRuntime) -> Result<(), Fail> {
+    where_built(&rt, rt.alloc(), &InMemory)
+}

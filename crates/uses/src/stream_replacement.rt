@@ -1,0 +1,597 @@
+//! What replacement over a stream writes, and when; and what it writes where a read or a write fails.
+//!
+//! All that is decided is written before each read, and what is kept back is not longer than the longest pattern. So where a read or
+//! a write fails, one of several fronts of the text was written, and a row names them.
+ghost use Rattle.std.specs.Prelude.{◌≡◌, false};
+ghost use Rattle.ac_automaton.specs.Watched.{has_ended};
+
+use crate::devices::{AMPLE, Given, Outcome, Room, Sink, Source, Tally};
+use crate::engines::Letters::{Cased, Folded, Paired};
+use crate::engines::{Asked, Case, Letters, all, once};
+use ac_automaton::error::{MatchErrorKind, StreamError};
+use ac_automaton::watched::{Watched, write_whole};
+use ac_input::search::Match;
+use ac_input::search::MatchKind::Standard;
+use ac_noncontiguous::Automaton;
+use std::alloc::Global;
+use std::io::{ErrorKind, Read, Write};
+use std::process::Abort;
+use std::test::Fail;
+
+/// How many bytes a read gives at most, and how many reads there are then: at most so many where a write or a closure fails.
+#[derive(Clone, Copy)]
+struct By {
+    most: usize,
+    reads: usize,
+}
+
+/// A stream in which each match is replaced, by a list, and by a closure that writes the same: what the call comes to, and what was
+/// written.
+struct Row {
+    shows: &'static str,
+    patterns: &'static [&'static [u8]],
+    replacements: &'static [&'static [u8]],
+    letters: Letters,
+    given: Given<'static>,
+    by: &'static [By],
+    /// How much must have been written before each read.
+    due: &'static [usize],
+    room: Room,
+    /// At which pattern the closure returns an error, and which, if it is to show that.
+    closure_fails: Option<(usize, Outcome)>,
+    outcome: Outcome,
+    /// One of these was written.
+    written: &'static [&'static [u8]],
+}
+
+/// Whether the text is one of these.
+fn is_among(text: &[u8], those: &[&[u8]]) -> bool {
+    those.iter().any(|it| *it == text)
+}
+
+/// Writes the replacement of each match's pattern by a closure. At one pattern the closure may return an error.
+fn write_by_closure<A: Automaton, R: Read, W: Write>(
+    automaton: &A,
+    alloc: Global,
+    reader: &mut Watched<R>,
+    writer: &mut Watched<W>,
+    replacements: &[&[u8]],
+    fails: Option<(usize, Outcome)>,
+) -> Result<(), StreamError>
+    requires { has_ended reader.old ≡ false }
+{
+    let (at, outcome) = fails.unwrap_or((0, Outcome::Done));
+    automaton.try_stream_replace_all_with(
+        alloc,
+        reader,
+        writer,
+        |found: &Match, _matched: &[u8], writer: &mut Watched<W>| -> Result<(), StreamError> {
+            let number = found.pattern().as_usize();
+            match outcome.error() {
+                Some(error) if number == at => Err(error),
+                _ => write_whole(
+                    writer,
+                    replacements.get(number).ok_or(StreamError::Position)?,
+                ),
+            }
+        },
+    )
+}
+
+impl Row {
+    /// Replaces what is read, at most so many bytes a read, for a writer that has this room: what that comes to, and what was written.
+    fn replaces<A: Automaton>(
+        &self,
+        alloc: Global,
+        automaton: &A,
+        most: usize,
+        room: Room,
+        by_closure: bool,
+        tally: &Tally,
+    ) -> Result<(Outcome, Vec<u8>), Fail> {
+        if automaton.patterns_len() != self.replacements.len() {
+            return Err("a replacement for each pattern".into());
+        }
+        let list = self.replacements;
+        let mut reader = Watched::new(Source::new(self.given, most, self.due, tally));
+        let mut writer = Watched::new(Sink::new(alloc, room, tally)?);
+        let answer = if by_closure {
+            write_by_closure(
+                automaton,
+                alloc,
+                &mut reader,
+                &mut writer,
+                list,
+                self.closure_fails,
+            )
+        } else {
+            automaton.try_stream_replace_all(alloc, &mut reader, &mut writer, list)
+        };
+        Ok((Outcome::of(&answer), writer.into_inner().taken))
+    }
+
+    /// Asserts what the row says, by so many bytes a read, where the writer has this room, and one of these was written.
+    fn writes<T: Abort, A: Automaton>(
+        &self,
+        rt: &T,
+        alloc: Global,
+        automaton: &A,
+        by: By,
+        room: Room,
+        written: &[&[u8]],
+    ) -> Result<(), Fail> {
+        let ways: &[bool] = if self.closure_fails.is_some() {
+            &[true]
+        } else {
+            &[false, true]
+        };
+        for by_closure in ways {
+            let tally = Tally::new();
+            let (outcome, taken) = self.replaces(
+                alloc,
+                automaton,
+                by.most,
+                room,
+                *by_closure,
+                &tally,
+            )?;
+            let mut reads = tally.reads.get();
+            if outcome != Outcome::Done && !matches!(outcome, Outcome::Read(_)) {
+                reads = reads.max(by.reads);
+            }
+            assert_eq!(rt;
+                (outcome, reads),
+                (self.outcome, by.reads),
+                "{}",
+                self.shows
+            );
+            assert!(rt; is_among(&taken, written), "{}", self.shows);
+            let buffer = automaton.max_pattern_len().saturating_mul(8).max(65_536);
+            let asked = (tally.widest.get(), tally.flushes.get());
+            assert_eq!(rt; asked, (buffer, 0), "{}", self.shows);
+        }
+        Ok(())
+    }
+}
+
+impl Case for Row {
+    fn asked(&self) -> Asked<'_> {
+        Asked {
+            patterns: self.patterns,
+            kind: Standard,
+            letters: self.letters,
+        }
+    }
+
+    fn check<T: Abort, A: Automaton>(
+        &self,
+        rt: &T,
+        alloc: Global,
+        automaton: &A,
+    ) -> Result<(), Fail> {
+        for by in self.by {
+            self.writes(rt, alloc, automaton, *by, self.room, self.written)?;
+        }
+        Ok(())
+    }
+}
+
+const ROWS: &[Row] = &[
+    Row {
+        shows: "three words",
+        patterns: &[b"fox", b"brown", b"quick"],
+        replacements: &[b"sloth", b"grey", b"slow"],
+        letters: Cased,
+        given: Given::Whole(b"The quick brown fox."),
+        by: &[
+            By { most: 1, reads: 21 },
+            By { most: 2, reads: 11 },
+            By { most: 7, reads: 4 },
+        ],
+        due: &[],
+        room: AMPLE,
+        closure_fails: None,
+        outcome: Outcome::Done,
+        written: &[b"The slow grey sloth."],
+    },
+    Row {
+        shows: "each byte that is a pattern",
+        patterns: &[b"o"],
+        replacements: &[b"O"],
+        letters: Cased,
+        given: Given::Whole(b"foo"),
+        by: &[By { most: 2, reads: 3 }],
+        due: &[],
+        room: AMPLE,
+        closure_fails: None,
+        outcome: Outcome::Done,
+        written: &[b"fOO"],
+    },
+    Row {
+        shows: "no patterns: one byte is kept back",
+        patterns: &[],
+        replacements: &[],
+        letters: Cased,
+        given: Given::Whole(b"ab"),
+        by: &[By { most: 1, reads: 3 }],
+        due: &[0, 0, 1],
+        room: AMPLE,
+        closure_fails: None,
+        outcome: Outcome::Done,
+        written: &[b"ab"],
+    },
+    Row {
+        shows: "letters in both cases",
+        patterns: &[b"FOO"],
+        replacements: &[b"x"],
+        letters: Folded,
+        given: Given::Whole(b"foo Foo"),
+        by: &[By { most: 1, reads: 8 }, By { most: 7, reads: 2 }],
+        due: &[],
+        room: AMPLE,
+        closure_fails: None,
+        outcome: Outcome::Done,
+        written: &[b"x x"],
+    },
+    Row {
+        shows: "paired digits",
+        patterns: &[b"0a"],
+        replacements: &[b"x"],
+        letters: Paired(&[(b'0', b'1')]),
+        given: Given::Whole(b"1a0a"),
+        by: &[By { most: 1, reads: 5 }, By { most: 3, reads: 3 }],
+        due: &[],
+        room: AMPLE,
+        closure_fails: None,
+        outcome: Outcome::Done,
+        written: &[b"xx"],
+    },
+    Row {
+        shows: "a match is written before the next read, and of the rest no more than three bytes are kept back",
+        patterns: &[b"fox"],
+        replacements: &[b"sloth"],
+        letters: Cased,
+        given: Given::Whole(b"a foxes"),
+        by: &[By { most: 1, reads: 8 }],
+        due: &[0, 0, 0, 0, 1, 7, 7, 7],
+        room: AMPLE,
+        closure_fails: None,
+        outcome: Outcome::Done,
+        written: &[b"a slothes"],
+    },
+    Row {
+        shows: "each of three words is written before the next read, and of the rest no more than five bytes are kept back",
+        patterns: &[b"fox", b"brown", b"quick"],
+        replacements: &[b"sloth", b"grey", b"slow"],
+        letters: Cased,
+        given: Given::Whole(b"The quick brown fox."),
+        by: &[By { most: 1, reads: 21 }],
+        due: &[
+            0, 0, 0, 0, 0, 0, 1, 2, 3, 8, 8, 8, 8, 8, 8, 13, 13, 13, 13, 19, 19,
+        ],
+        room: AMPLE,
+        closure_fails: None,
+        outcome: Outcome::Done,
+        written: &[b"The slow grey sloth."],
+    },
+    Row {
+        shows: "an empty read within a match ends the input",
+        patterns: &[b"fox"],
+        replacements: &[b"sloth"],
+        letters: Cased,
+        given: Given::Pauses(b"fo", b"x"),
+        by: &[By { most: 1, reads: 3 }, By { most: 2, reads: 2 }],
+        due: &[],
+        room: AMPLE,
+        closure_fails: None,
+        outcome: Outcome::Done,
+        written: &[b"fo"],
+    },
+    Row {
+        shows: "an empty read after a match ends the input",
+        patterns: &[b"fox"],
+        replacements: &[b"sloth"],
+        letters: Cased,
+        given: Given::Pauses(b"The fox", b" ran"),
+        by: &[By { most: 1, reads: 8 }, By { most: 7, reads: 2 }],
+        due: &[],
+        room: AMPLE,
+        closure_fails: None,
+        outcome: Outcome::Done,
+        written: &[b"The sloth"],
+    },
+    Row {
+        shows: "a read fails after a match and two bytes more",
+        patterns: &[b"fox"],
+        replacements: &[b"sloth"],
+        letters: Cased,
+        given: Given::Fails(b"The fox r", b"uns"),
+        by: &[By { most: 1, reads: 10 }, By { most: 4, reads: 4 }],
+        due: &[],
+        room: AMPLE,
+        closure_fails: None,
+        outcome: Outcome::Read(ErrorKind::Interrupted),
+        written: &[b"The sloth", b"The sloth ", b"The sloth r"],
+    },
+    Row {
+        shows: "a read fails within a match",
+        patterns: &[b"fox"],
+        replacements: &[b"sloth"],
+        letters: Cased,
+        given: Given::Fails(b"The fo", b"x ran"),
+        by: &[By { most: 1, reads: 7 }, By { most: 7, reads: 2 }],
+        due: &[],
+        room: AMPLE,
+        closure_fails: None,
+        outcome: Outcome::Read(ErrorKind::Interrupted),
+        written: &[b"The", b"The ", b"The f", b"The fo"],
+    },
+    Row {
+        shows: "a read fails next to a match",
+        patterns: &[b"fox"],
+        replacements: &[b"sloth"],
+        letters: Cased,
+        given: Given::Fails(b"The fox", b" ran"),
+        by: &[By { most: 1, reads: 8 }, By { most: 2, reads: 5 }],
+        due: &[],
+        room: AMPLE,
+        closure_fails: None,
+        outcome: Outcome::Read(ErrorKind::Interrupted),
+        written: &[b"The ", b"The sloth"],
+    },
+    Row {
+        shows: "the first read fails",
+        patterns: &[b"fox"],
+        replacements: &[b"sloth"],
+        letters: Cased,
+        given: Given::Fails(b"", b"The fox ran"),
+        by: &[By { most: 1, reads: 1 }],
+        due: &[],
+        room: AMPLE,
+        closure_fails: None,
+        outcome: Outcome::Read(ErrorKind::Interrupted),
+        written: &[b""],
+    },
+    Row {
+        shows: "a writer that takes one byte a call",
+        patterns: &[b"fox"],
+        replacements: &[b"sloth"],
+        letters: Cased,
+        given: Given::Whole(b"The fox ran"),
+        by: &[By { most: 1, reads: 12 }, By { most: 7, reads: 3 }],
+        due: &[],
+        room: Room {
+            bytes: 13,
+            most: 1,
+            fails: false,
+        },
+        closure_fails: None,
+        outcome: Outcome::Done,
+        written: &[b"The sloth ran"],
+    },
+    Row {
+        shows: "a write fails within what replaces a match, after one read of all",
+        patterns: &[b"fox"],
+        replacements: &[b"sloth"],
+        letters: Cased,
+        given: Given::Whole(b"The fox"),
+        by: &[By { most: 20, reads: 2 }],
+        due: &[],
+        room: Room {
+            bytes: 5,
+            most: 20,
+            fails: true,
+        },
+        closure_fails: None,
+        outcome: Outcome::Write(ErrorKind::Interrupted),
+        written: &[b"The s"],
+    },
+    Row {
+        shows: "a write takes none within what replaces a match, after one read of all",
+        patterns: &[b"fox"],
+        replacements: &[b"sloth"],
+        letters: Cased,
+        given: Given::Whole(b"The fox"),
+        by: &[By { most: 20, reads: 2 }],
+        due: &[],
+        room: Room {
+            bytes: 5,
+            most: 20,
+            fails: false,
+        },
+        closure_fails: None,
+        outcome: Outcome::WriteZero,
+        written: &[b"The s"],
+    },
+    Row {
+        shows: "the number of each pattern",
+        patterns: &[b"fox", b"brown", b"quick"],
+        replacements: &[b"0", b"1", b"2"],
+        letters: Cased,
+        given: Given::Whole(b"The quick brown fox."),
+        by: &[
+            By { most: 1, reads: 21 },
+            By { most: 2, reads: 11 },
+            By { most: 7, reads: 4 },
+        ],
+        due: &[],
+        room: AMPLE,
+        closure_fails: None,
+        outcome: Outcome::Done,
+        written: &[b"The 2 1 0."],
+    },
+    Row {
+        shows: "a closure's error at the first match is returned unchanged, and what comes before the match was written",
+        patterns: &[b"fox", b"brown", b"quick"],
+        replacements: &[b"0", b"1", b"2"],
+        letters: Cased,
+        given: Given::Whole(b"The quick brown fox."),
+        by: &[
+            By { most: 1, reads: 21 },
+            By { most: 2, reads: 11 },
+            By { most: 7, reads: 4 },
+        ],
+        due: &[],
+        room: AMPLE,
+        closure_fails: Some((2, Outcome::Memory)),
+        outcome: Outcome::Memory,
+        written: &[b"The "],
+    },
+    Row {
+        shows: "a closure's error at the second match, of a kind that a writer's would have",
+        patterns: &[b"fox", b"brown", b"quick"],
+        replacements: &[b"0", b"1", b"2"],
+        letters: Cased,
+        given: Given::Whole(b"The quick brown fox."),
+        by: &[
+            By { most: 1, reads: 21 },
+            By { most: 2, reads: 11 },
+            By { most: 7, reads: 4 },
+        ],
+        due: &[],
+        room: AMPLE,
+        closure_fails: Some((1, Outcome::WriteZero)),
+        outcome: Outcome::WriteZero,
+        written: &[b"The 2 "],
+    },
+    Row {
+        shows: "a closure's error at the last match, as if the search were refused",
+        patterns: &[b"fox", b"brown", b"quick"],
+        replacements: &[b"0", b"1", b"2"],
+        letters: Cased,
+        given: Given::Whole(b"The quick brown fox."),
+        by: &[
+            By { most: 1, reads: 21 },
+            By { most: 2, reads: 11 },
+            By { most: 7, reads: 4 },
+        ],
+        due: &[],
+        room: AMPLE,
+        closure_fails: Some((0, Outcome::Config(MatchErrorKind::UnsupportedEmpty))),
+        outcome: Outcome::Config(MatchErrorKind::UnsupportedEmpty),
+        written: &[b"The 2 1 "],
+    },
+];
+
+/// Long streams.
+const LONG: &[Row] = &[
+    Row {
+        shows: "100,000 matches, byte by byte",
+        patterns: &[b"ab"],
+        replacements: &[b"c"],
+        letters: Cased,
+        given: Given::Repeated(b"ab", 100_000),
+        by: &[By {
+            most: 1,
+            reads: 200_001,
+        }],
+        due: &[],
+        room: AMPLE,
+        closure_fails: None,
+        outcome: Outcome::Done,
+        written: &[&[b'c'; 100_000]],
+    },
+    Row {
+        shows: "a buffer for 72,000 bytes: the second read is for the one byte that is left free, then what is held is moved",
+        patterns: &[&[b'a'; 9_000]],
+        replacements: &[b"-"],
+        letters: Cased,
+        given: Given::Whole(&[b'a'; 90_000]),
+        by: &[By {
+            most: 71_999,
+            reads: 4,
+        }],
+        due: &[],
+        room: AMPLE,
+        closure_fails: None,
+        outcome: Outcome::Done,
+        written: &[b"----------"],
+    },
+];
+
+/// A stream that is replaced for a writer which has room for a front of the text alone: of no bytes, of one, and so on. That front is
+/// written. There are so many reads at most as the row has for each front.
+struct Fronts(Row);
+
+impl Case for Fronts {
+    fn asked(&self) -> Asked<'_> {
+        self.0.asked()
+    }
+
+    fn check<T: Abort, A: Automaton>(
+        &self,
+        rt: &T,
+        alloc: Global,
+        automaton: &A,
+    ) -> Result<(), Fail> {
+        let whole = self.0.written.first().ok_or("a text")?;
+        for (bytes, by) in self.0.by.iter().enumerate() {
+            let front = whole.get(..bytes).ok_or("a front of the text")?;
+            let room = Room {
+                bytes,
+                ..self.0.room
+            };
+            self.0.writes(rt, alloc, automaton, *by, room, &[front])?;
+        }
+        Ok(())
+    }
+}
+
+/// No more than three bytes are kept back, and what replaces a match is written as soon as the match was read.
+const FRONTS_BY: &[By] = &[
+    By { most: 1, reads: 4 },
+    By { most: 1, reads: 5 },
+    By { most: 1, reads: 6 },
+    By { most: 1, reads: 7 },
+    By { most: 1, reads: 8 },
+    By { most: 1, reads: 8 },
+    By { most: 1, reads: 8 },
+    By { most: 1, reads: 8 },
+    By { most: 1, reads: 8 },
+    By { most: 1, reads: 11 },
+    By { most: 1, reads: 12 },
+    By { most: 1, reads: 12 },
+    By { most: 1, reads: 12 },
+];
+
+const FRONTS: &[Fronts] = &[
+    Fronts(Row {
+        shows: "a writer that has room for a front of the text, and then takes none",
+        patterns: &[b"fox"],
+        replacements: &[b"sloth"],
+        letters: Cased,
+        given: Given::Whole(b"The fox ran"),
+        by: FRONTS_BY,
+        due: &[],
+        room: AMPLE,
+        closure_fails: None,
+        outcome: Outcome::WriteZero,
+        written: &[b"The sloth ran"],
+    }),
+    Fronts(Row {
+        shows: "a writer that has room for a front of the text, and then fails",
+        patterns: &[b"fox"],
+        replacements: &[b"sloth"],
+        letters: Cased,
+        given: Given::Whole(b"The fox ran"),
+        by: FRONTS_BY,
+        due: &[],
+        room: Room {
+            bytes: 0,
+            most: 20,
+            fails: true,
+        },
+        closure_fails: None,
+        outcome: Outcome::Write(ErrorKind::Interrupted),
+        written: &[b"The sloth ran"],
+    }),
+];
+
+#[test]
+fn written(rt: HostRuntime) -> Result<(), Fail> {
+    all(&rt, rt.alloc(), ROWS)?;
+    for row in LONG {
+        once(&rt, rt.alloc(), row)?;
+    }
+    all(&rt, rt.alloc(), FRONTS)
+}

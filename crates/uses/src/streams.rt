@@ -1,0 +1,569 @@
+//! What a search of a stream gives, and after how many reads; and what is refused before the first read.
+//!
+//! The matches are those of the whole text, whatever the pieces are. Each piece is searched before the next one is read: so a match
+//! is given after the read that gave its last byte, and a test counts the reads at each match.
+ghost use Rattle.std.specs.Prelude.{◌≡◌, false};
+ghost use Rattle.ac_automaton.specs.Watched.{has_ended};
+
+use crate::devices::{AMPLE, Given, Outcome, Sink, Source, Tally};
+use crate::engines::Letters::{Cased, Folded, Paired};
+use crate::engines::{Asked, Case, Letters, Pick, all, once, pick};
+use crate::one_start::OneStart;
+use ac_automaton::error::{MatchErrorKind, StreamError};
+use ac_automaton::stream::StreamFindIter;
+use ac_automaton::watched::Watched;
+use ac_input::search::{Anchored, MatchKind};
+use ac_input::steps::Steps;
+use ac_noncontiguous::Automaton;
+use std::alloc::Global;
+use std::io::{ErrorKind, Read};
+use std::process::Abort;
+use std::test::Fail;
+
+/// The next match of a stream; or where that is asked, the next one that is held, and after the last of these the next one.
+fn next_pick<A: Automaton, R: Read>(
+    matches: &mut StreamFindIter<'_, A, R>,
+    held: bool,
+) -> Result<Option<Pick>, Outcome> {
+    let mut steps = Steps::new();
+    if held {
+        let found = matches.next_held_counted(&mut steps);
+        if found.is_some() {
+            return Ok(pick(found));
+        }
+    }
+    match matches.next() {
+        Some(Err(error)) => Err(Outcome::of(&Err(error))),
+        Some(Ok(found)) => Ok(pick(Some(found))),
+        None => Ok(None),
+    }
+}
+
+/// A text, by so many bytes a read, and its matches.
+struct Row {
+    shows: &'static str,
+    patterns: &'static [&'static [u8]],
+    letters: Letters,
+    /// The parts of the text, which follow one another.
+    text: &'static [&'static [u8]],
+    /// What comes after an empty read at the end of the text, if the reader is asked again.
+    after: &'static [u8],
+    /// Whether there is a failed read in its place.
+    fails: bool,
+    most: &'static [usize],
+    finds: &'static [Pick],
+}
+
+impl Row {
+    /// Asserts what the automaton gives of it: the matches, each after the read that gave its last byte, then the error of a failed
+    /// read, and nothing for good. There is one read more than the text needs.
+    fn gives<T: Abort, A: Automaton>(
+        &self,
+        rt: &T,
+        alloc: Global,
+        automaton: &A,
+        text: &[u8],
+        most: usize,
+        held: bool,
+    ) -> Result<(), Fail> {
+        let shows = self.shows;
+        let given = if self.fails {
+            Given::Fails(text, self.after)
+        } else {
+            Given::Pauses(text, self.after)
+        };
+        let tally = Tally::new();
+        let mut reader = Watched::new(Source::new(given, most, &[], &tally));
+        let mut matches = automaton.try_stream_find_iter(alloc, &mut reader)?;
+        for want in self.finds {
+            assert_eq!(rt; next_pick(&mut matches, held), Ok(Some(*want)), "{shows}");
+            let reads = want.2.div_ceil(most.max(1));
+            assert_eq!(rt; tally.reads.get(), reads, "{shows}");
+        }
+        if self.fails {
+            let failed = Err(Outcome::Read(ErrorKind::Interrupted));
+            assert_eq!(rt; next_pick(&mut matches, held), failed, "{shows}");
+        }
+        assert_eq!(rt; next_pick(&mut matches, held), Ok(None), "{shows}");
+        assert_eq!(rt; next_pick(&mut matches, held), Ok(None), "{shows}");
+        let reads = text.len().div_ceil(most.max(1)).saturating_add(1);
+        assert_eq!(rt; tally.reads.get(), reads, "{shows}");
+        Ok(())
+    }
+}
+
+impl Case for Row {
+    fn asked(&self) -> Asked<'_> {
+        Asked {
+            patterns: self.patterns,
+            kind: MatchKind::Standard,
+            letters: self.letters,
+        }
+    }
+
+    fn check<T: Abort, A: Automaton>(
+        &self,
+        rt: &T,
+        alloc: Global,
+        automaton: &A,
+    ) -> Result<(), Fail> {
+        let text = self.text.concat(alloc)?;
+        let free = OneStart {
+            automaton,
+            anchored: Anchored::No,
+        };
+        for most in self.most {
+            self.gives(rt, alloc, automaton, &text, *most, false)?;
+            self.gives(rt, alloc, automaton, &text, *most, true)?;
+            self.gives(rt, alloc, &free, &text, *most, false)?;
+        }
+        Ok(())
+    }
+}
+
+/// Pieces of a few bytes, and one that has all of a short text.
+const SMALL: &[usize] = &[1, 2, 7, 100];
+
+/// A run of bytes that begin no pattern.
+const POINTS: &[u8] = &[b'.'; 198];
+
+const ROWS: &[Row] = &[
+    Row {
+        shows: "three words",
+        patterns: &[b"fox", b"brown", b"quick"],
+        letters: Cased,
+        text: &[b"The quick brown fox."],
+        after: b"",
+        fails: false,
+        most: SMALL,
+        finds: &[(2, 4, 9), (1, 10, 15), (0, 16, 19)],
+    },
+    Row {
+        shows: "one match after another, none of which overlap",
+        patterns: &[b"aa"],
+        letters: Cased,
+        text: &[b"aaaaa"],
+        after: b"",
+        fails: false,
+        most: SMALL,
+        finds: &[(0, 0, 2), (0, 2, 4)],
+    },
+    Row {
+        shows: "what ends first, where one pattern begins another",
+        patterns: &[b"append", b"appendage", b"app"],
+        letters: Cased,
+        text: &[b"append the app to the appendage"],
+        after: b"",
+        fails: false,
+        most: SMALL,
+        finds: &[(2, 0, 3), (2, 11, 14), (2, 22, 25)],
+    },
+    Row {
+        shows: "what ends first, where one pattern is inside another",
+        patterns: &[b"b", b"abc", b"abcd"],
+        letters: Cased,
+        text: &[b"abcd"],
+        after: b"",
+        fails: false,
+        most: SMALL,
+        finds: &[(0, 1, 2)],
+    },
+    Row {
+        shows: "the first of two equal patterns",
+        patterns: &[b"a", b"a"],
+        letters: Cased,
+        text: &[b"a"],
+        after: b"",
+        fails: false,
+        most: SMALL,
+        finds: &[(0, 0, 1)],
+    },
+    Row {
+        shows: "a pattern that another begins",
+        patterns: &[b"Samwise", b"Sam"],
+        letters: Cased,
+        text: &[b"Samwise"],
+        after: b"",
+        fails: false,
+        most: SMALL,
+        finds: &[(1, 0, 3)],
+    },
+    Row {
+        shows: "letters in both cases",
+        patterns: &[b"FOO", b"bAr", b"BaZ"],
+        letters: Folded,
+        text: &[b"foo bar baz"],
+        after: b"",
+        fails: false,
+        most: SMALL,
+        finds: &[(0, 0, 3), (1, 4, 7), (2, 8, 11)],
+    },
+    Row {
+        shows: "a byte that is no letter has one case",
+        patterns: &[b"["],
+        letters: Folded,
+        text: &[b"{["],
+        after: b"",
+        fails: false,
+        most: SMALL,
+        finds: &[(0, 1, 2)],
+    },
+    Row {
+        shows: "paired digits",
+        patterns: &[b"0a"],
+        letters: Paired(&[(b'0', b'1')]),
+        text: &[b"1a0a"],
+        after: b"",
+        fails: false,
+        most: SMALL,
+        finds: &[(0, 0, 2), (0, 2, 4)],
+    },
+    Row {
+        shows: "no patterns",
+        patterns: &[],
+        letters: Cased,
+        text: &[b"ab"],
+        after: b"",
+        fails: false,
+        most: SMALL,
+        finds: &[],
+    },
+    Row {
+        shows: "a long beginning that never comes to a match",
+        patterns: &[b"aaaaaaaaaaaaaaaaaaaab"],
+        letters: Cased,
+        text: &[&[b'a'; 1000]],
+        after: b"",
+        fails: false,
+        most: SMALL,
+        finds: &[],
+    },
+    Row {
+        shows: "a match across the end of the buffer, which one read fills",
+        patterns: &[b"fox"],
+        letters: Cased,
+        text: &[&[b'-'; 65_534], b"fox"],
+        after: b"",
+        fails: false,
+        most: &[65_536],
+        finds: &[(0, 65_534, 65_537)],
+    },
+];
+
+/// Streams in which a search stands in the start most of the time. It passes over bytes that leave it there: one to three bytes lead
+/// on, or too many to be looked for.
+const STARTS: &[Row] = &[
+    Row {
+        shows: "one first byte",
+        patterns: &[b"qx"],
+        letters: Cased,
+        text: &[b"qx", POINTS, b"qq", POINTS, b"qxqx", POINTS, b"qqx"],
+        after: b"",
+        fails: false,
+        most: &[1, 7, 1000],
+        finds: &[(0, 0, 2), (0, 400, 402), (0, 402, 404), (0, 603, 605)],
+    },
+    Row {
+        shows: "two first bytes",
+        patterns: &[b"qx", b"zx"],
+        letters: Cased,
+        text: &[b"qx", POINTS, b"qz", POINTS, b"zxqx", POINTS, b"qzx"],
+        after: b"",
+        fails: false,
+        most: &[1, 7, 1000],
+        finds: &[(0, 0, 2), (1, 400, 402), (0, 402, 404), (1, 603, 605)],
+    },
+    Row {
+        shows: "three first bytes, the greatest of all and the first pattern's",
+        patterns: &[b"qx", b"\xFFx", b"\x00x"],
+        letters: Cased,
+        text: &[
+            b"\xFFx", POINTS, b"\xFFq", POINTS, b"qx\xFFx", POINTS, b"\xFFqx",
+        ],
+        after: b"",
+        fails: false,
+        most: &[1, 7, 1000],
+        finds: &[(1, 0, 2), (0, 400, 402), (1, 402, 404), (0, 603, 605)],
+    },
+    Row {
+        shows: "three first bytes, the least of all and the greatest",
+        patterns: &[b"qx", b"\xFFx", b"\x00x"],
+        letters: Cased,
+        text: &[
+            b"\x00x",
+            POINTS,
+            b"\x00\xFF",
+            POINTS,
+            b"\xFFx\x00x",
+            POINTS,
+            b"\x00\xFFx",
+        ],
+        after: b"",
+        fails: false,
+        most: &[1, 7, 1000],
+        finds: &[(2, 0, 2), (1, 400, 402), (2, 402, 404), (1, 603, 605)],
+    },
+    Row {
+        shows: "four first bytes, one of which no text has, the greatest of all and the first pattern's",
+        patterns: &[b"qx", b"\xFFx", b"\x00x", b"kx"],
+        letters: Cased,
+        text: &[
+            b"\xFFx", POINTS, b"\xFFq", POINTS, b"qx\xFFx", POINTS, b"\xFFqx",
+        ],
+        after: b"",
+        fails: false,
+        most: &[1, 7, 1000],
+        finds: &[(1, 0, 2), (0, 400, 402), (1, 402, 404), (0, 603, 605)],
+    },
+    Row {
+        shows: "four first bytes, the least of all and the greatest",
+        patterns: &[b"qx", b"\xFFx", b"\x00x", b"kx"],
+        letters: Cased,
+        text: &[
+            b"\x00x",
+            POINTS,
+            b"\x00\xFF",
+            POINTS,
+            b"\xFFx\x00x",
+            POINTS,
+            b"\x00\xFFx",
+        ],
+        after: b"",
+        fails: false,
+        most: &[1, 7, 1000],
+        finds: &[(2, 0, 2), (1, 400, 402), (2, 402, 404), (1, 603, 605)],
+    },
+    Row {
+        shows: "a letter in both cases and a digit: three first bytes",
+        patterns: &[b"qX", b"7x"],
+        letters: Folded,
+        text: &[b"Qx", POINTS, b"Q7", POINTS, b"7XQx", POINTS, b"Q7X"],
+        after: b"",
+        fails: false,
+        most: &[1, 7, 1000],
+        finds: &[(0, 0, 2), (1, 400, 402), (0, 402, 404), (1, 603, 605)],
+    },
+    Row {
+        shows: "two letters in both cases: four first bytes",
+        patterns: &[b"qX", b"Kx"],
+        letters: Folded,
+        text: &[b"qx", POINTS, b"qk", POINTS, b"kXqx", POINTS, b"qkX"],
+        after: b"",
+        fails: false,
+        most: &[1, 7, 1000],
+        finds: &[(0, 0, 2), (1, 400, 402), (0, 402, 404), (1, 603, 605)],
+    },
+];
+
+/// A buffer that is filled twice. Four bytes are kept each time, so that each read gives four.
+const LONG: Row = Row {
+    shows: "a match across the end of the buffer, and one where it is full again",
+    patterns: &[b"lynx"],
+    letters: Cased,
+    text: &[&[b'-'; 65_534], b"lynx", &[b'-'; 65_528], b"lynx"],
+    after: b"",
+    fails: false,
+    most: &[4],
+    finds: &[(0, 65_534, 65_538), (0, 131_066, 131_070)],
+};
+
+/// Readers that end or fail, and one whose reads give more than one match.
+const SCRIPTED: &[Row] = &[
+    Row {
+        shows: "a read that fails after a match",
+        patterns: &[b"fox"],
+        letters: Cased,
+        text: &[b"The fox r"],
+        after: b"uns",
+        fails: true,
+        most: &[1, 9],
+        finds: &[(0, 4, 7)],
+    },
+    Row {
+        shows: "a read that fails next to a match",
+        patterns: &[b"fox"],
+        letters: Cased,
+        text: &[b"The fox"],
+        after: b" ran",
+        fails: true,
+        most: &[1, 7],
+        finds: &[(0, 4, 7)],
+    },
+    Row {
+        shows: "a read that fails within a match",
+        patterns: &[b"fox"],
+        letters: Cased,
+        text: &[b"The fo"],
+        after: b"x ran",
+        fails: true,
+        most: &[1, 2],
+        finds: &[],
+    },
+    Row {
+        shows: "a first read that fails",
+        patterns: &[b"fox"],
+        letters: Cased,
+        text: &[b""],
+        after: b"fox",
+        fails: true,
+        most: &[1],
+        finds: &[],
+    },
+    Row {
+        shows: "an empty read within a match ends the input",
+        patterns: &[b"fox"],
+        letters: Cased,
+        text: &[b"fo"],
+        after: b"x",
+        fails: false,
+        most: &[1, 2],
+        finds: &[],
+    },
+    Row {
+        shows: "an empty read between two matches ends the input",
+        patterns: &[b"fox"],
+        letters: Cased,
+        text: &[b"a fox"],
+        after: b" fox",
+        fails: false,
+        most: &[1, 2],
+        finds: &[(0, 2, 5)],
+    },
+    Row {
+        shows: "a second match that was read with the first is given before the next read",
+        patterns: &[b"fox"],
+        letters: Cased,
+        text: &[b"fox fox fox"],
+        after: b"fox",
+        fails: false,
+        most: &[7],
+        finds: &[(0, 0, 3), (0, 4, 7), (0, 8, 11)],
+    },
+];
+
+#[test]
+fn streams(rt: HostRuntime) -> Result<(), Fail> {
+    all(&rt, rt.alloc(), ROWS)?;
+    all(&rt, rt.alloc(), STARTS)?;
+    all(&rt, rt.alloc(), SCRIPTED)?;
+    once(&rt, rt.alloc(), &LONG)
+}
+
+/// Makes a search of a stream, and drops it.
+fn try_stream<'a, A: Automaton, R: Read>(
+    alloc: Global,
+    automaton: &'a A,
+    reader: &'a mut Watched<R>,
+) -> Result<(), StreamError>
+    requires { has_ended reader.old ≡ false }
+{
+    automaton.try_stream_find_iter(alloc, reader)?;
+    Ok(())
+}
+
+/// What a search of a stream comes to that asks for no match.
+pub fn search_outcome<A: Automaton>(alloc: Global, automaton: &A, tally: &Tally) -> Outcome {
+    let mut reader = Watched::new(Source::new(Given::Whole(b"ab"), 1, &[], tally));
+    Outcome::of(&try_stream(alloc, automaton, &mut reader))
+}
+
+/// What replacement over a stream comes to, for two patterns.
+fn replacement_outcome<A: Automaton>(
+    alloc: Global,
+    automaton: &A,
+    tally: &Tally,
+) -> Result<Outcome, Fail> {
+    if automaton.patterns_len() != 2 {
+        return Err("two patterns".into());
+    }
+    let mut reader = Watched::new(Source::new(Given::Whole(b"ab"), 1, &[], tally));
+    let mut writer = Watched::new(Sink::new(alloc, AMPLE, tally)?);
+    let answer = automaton.try_stream_replace_all(alloc, &mut reader, &mut writer, &[b"-", b"+"]);
+    Ok(Outcome::of(&answer))
+}
+
+/// Asserts that a stream is refused for this reason, and that nothing was read or written.
+fn is_refused<T: Abort, A: Automaton>(
+    rt: &T,
+    alloc: Global,
+    automaton: &A,
+    why: MatchErrorKind,
+    shows: &str,
+) -> Result<(), Fail> {
+    let tally = Tally::new();
+    let outcomes = (
+        search_outcome(alloc, automaton, &tally),
+        replacement_outcome(alloc, automaton, &tally)?,
+    );
+    assert_eq!(rt;
+        outcomes,
+        (Outcome::Config(why), Outcome::Config(why)),
+        "{shows}"
+    );
+    assert_eq!(rt; (tally.reads.get(), tally.writes.get()), (0, 0), "{shows}");
+    Ok(())
+}
+
+/// An automaton of two patterns that can't search a stream, and why. Where it has no start for a search that isn't anchored, that is
+/// the reason, before any other.
+struct Refused {
+    shows: &'static str,
+    patterns: [&'static [u8]; 2],
+    kind: MatchKind,
+    why: MatchErrorKind,
+}
+
+impl Case for Refused {
+    fn asked(&self) -> Asked<'_> {
+        Asked {
+            patterns: &self.patterns,
+            kind: self.kind,
+            letters: Cased,
+        }
+    }
+
+    fn check<T: Abort, A: Automaton>(
+        &self,
+        rt: &T,
+        alloc: Global,
+        automaton: &A,
+    ) -> Result<(), Fail> {
+        let bound = OneStart {
+            automaton,
+            anchored: Anchored::Yes,
+        };
+        let unanchored = MatchErrorKind::InvalidInputUnanchored;
+        is_refused(rt, alloc, automaton, self.why, self.shows)?;
+        is_refused(rt, alloc, &bound, unanchored, self.shows)
+    }
+}
+
+const REFUSED: &[Refused] = &[
+    Refused {
+        shows: "a leftmost kind is refused before an empty pattern",
+        patterns: [b"ab", b""],
+        kind: MatchKind::LeftmostFirst,
+        why: MatchErrorKind::UnsupportedStream {
+            got: MatchKind::LeftmostFirst,
+        },
+    },
+    Refused {
+        shows: "the refusal names the kind",
+        patterns: [b"ab", b"c"],
+        kind: MatchKind::LeftmostLongest,
+        why: MatchErrorKind::UnsupportedStream {
+            got: MatchKind::LeftmostLongest,
+        },
+    },
+    Refused {
+        shows: "an empty pattern is refused under the standard kind",
+        patterns: [b"ab", b""],
+        kind: MatchKind::Standard,
+        why: MatchErrorKind::UnsupportedEmpty,
+    },
+];
+
+#[test]
+fn refused_unread(rt: HostRuntime) -> Result<(), Fail> {
+    all(&rt, rt.alloc(), REFUSED)
+}

@@ -1,0 +1,79 @@
+//! What errors say.
+use ac_input::pairing::PairingError;
+use ac_input::primitives::{PatternID, SmallIndex, StateID};
+use ac_input::search::MatchKind;
+use ac_noncontiguous::{
+    BuildError, BuildErrorKind, MatchError, MatchErrorKind, ReplaceError, StreamError,
+};
+use std::alloc::{AllocError, Global};
+use std::fmt::Display;
+use std::process::Abort;
+
+/// Asserts what the error says.
+fn says<T: Abort, E: Display>(rt: &T, alloc: Global, error: &E, want: &str) {
+    let said = error.to_string(alloc).expect(rt, "there is memory");
+    assert_eq!(rt; said.as_str(), want);
+}
+
+/// Asserts what a refused search says, by itself, and as the refusal of a replacement and of a stream.
+fn refusal_says<T: Abort>(rt: &T, alloc: Global, kind: MatchErrorKind, want: &str) {
+    let error = MatchError::new(kind);
+    assert!(rt; *error.kind() == kind);
+    says(rt, alloc, &error, want);
+    says(rt, alloc, &ReplaceError::Match(MatchError::new(kind)), want);
+    says(rt, alloc, &StreamError::Config(error), want);
+}
+
+/// Why a search is refused, and what the refusal says.
+const REFUSALS: [(MatchErrorKind, &str); 5] = [
+    (
+        MatchErrorKind::InvalidInputAnchored,
+        "anchored search is not supported",
+    ),
+    (
+        MatchErrorKind::InvalidInputUnanchored,
+        "unanchored search is not supported",
+    ),
+    (
+        MatchErrorKind::UnsupportedStream {
+            got: MatchKind::LeftmostFirst,
+        },
+        "stream search needs the standard kind",
+    ),
+    (
+        MatchErrorKind::UnsupportedOverlapping {
+            got: MatchKind::LeftmostLongest,
+        },
+        "overlapping search needs the standard kind",
+    ),
+    (
+        MatchErrorKind::UnsupportedEmpty,
+        "stream search takes no empty pattern",
+    ),
+];
+
+/// Asserts what the number past the greatest one is refused with.
+fn past_says<T: Abort, E: Display + Drop>(rt: &T, alloc: Global, refused: Option<E>) {
+    let error = refused.expect(rt, "it is past the greatest number");
+    says(rt, alloc, &error, "number 2147483647 is past 2147483646");
+}
+
+#[test]
+fn what_errors_say(rt: HostRuntime) {
+    let alloc = rt.alloc();
+    for (kind, text) in REFUSALS {
+        refusal_says(&rt, alloc, kind, text);
+    }
+    says(&rt, alloc, &ReplaceError::Memory, "out of memory");
+    says(&rt, alloc, &StreamError::Memory, "out of memory");
+    says(&rt, alloc, &BuildError::from(AllocError), "out of memory");
+    says(
+        &rt,
+        alloc,
+        &PairingError::Twice(49),
+        "byte 49 is named twice",
+    );
+    past_says(&rt, alloc, SmallIndex::new(2147483647).err());
+    past_says(&rt, alloc, PatternID::new(2147483647).err());
+    past_says(&rt, alloc, StateID::new(2147483647).err());
+}

@@ -24,17 +24,19 @@ use Rattle.ac_input.proofs.ShiftLemmas.{back_by}
 use Rattle.ac_input.proofs.SpanLemmas.{occurs-in_whole_of_span}
 use Rattle.ac_input.proofs.StateLemmas.{standard-entered}
 use Rattle.ac_automaton.specs.Find.{MayGoOnFrom}
-use Rattle.ac_automaton.specs.declared.overlapping.Place.{Place}
-use Rattle.ac_automaton.specs.declared.overlapping.Place.TheVariants.{At, Over}
+use Rattle.ac_automaton.specs.declared.overlapping.Position.{Position}
+use Rattle.ac_automaton.specs.declared.overlapping.Position.TheVariants.{At, Over}
 use Rattle.ac_automaton.specs.declared.cursor.Cursor.{Cursor}
 use Rattle.ac_automaton.specs.declared.cursor.End.{End}
 use Rattle.ac_automaton.specs.declared.cursor.End.TheVariants.{Found, Idle}
 use Rattle.ac_automaton.specs.declared.overlapping.Shown.{Shown}
-use Rattle.ac_automaton.specs.Overlapping.{ending_from, told_from, counts, TellsFirst, ShowsFirst, ReadsOn, IsBehind, IsPaidTo, IsPaidAt, IsPaidBy, IsSkipCost, KeepsBudget, OnlyLooked, come_to, read_on_to}
-use Rattle.ac_automaton.specs.Cursor.{read_to, walked, IsCursor}
+use Rattle.ac_automaton.specs.Overlapping.{ending_from, told_from, TellsFirst, ShowsFirst, ReadsOn, IsBehind, IsPaidTo, IsPaidAt, IsPaidBy, IsSkipCost, KeepsBudget, OnlyLooked, come_to, read_on_to}
+use Rattle.ac_automaton.specs.Cursor.{read_to, walked, IsCursor, counts}
 use Rattle.ac_automaton.proofs.FindLemmas.{occurs_before, occurs_behind, leftmost-goes_on}
 use Rattle.ac_automaton.proofs.CursorLemmas.{slice_range-split}
-use Rattle.ac_automaton.proofs.OverlappingLemmas.{IsPlace, ListsAll-like, ending_from-lists, ending_from-start, ending_from-split, read_to-length, read_to-start, paid-start, paid-to, shows-none, shows-some, told_from-empty}
+use Rattle.ac_automaton.proofs.OverlappingLemmas.{IsPlace, ListsAll-like, ending_from-lists, ending_from-start, ending_from-split, read_to-length}
+use Rattle.ac_automaton.proofs.OverlappingStateLemmas.{read_to-start}
+use Rattle.ac_automaton.proofs.OverlappingReadLemmas.{paid-start, paid-to, shows-none, shows-some, told_from-empty}
 
 -- ---- where the walk is back at the start
 
@@ -92,16 +94,16 @@ told_from-nil m s at (n ∷ ns) free none =
 -- ---- where reading on ends
 
 -- where nothing is left, the search is over
-pub over-reads : (Reads : List ℕ → StateID → Type 0) (matches : StateID → List ℕ) (m : Dictionary) (s : Search) (at : ℕ) (left : List Occurrence) (r : Shown) → left ≡ [] → r.found ≡ None → r.place ≡ Over → ReadsOn Reads matches m s at left (Found r)
-over-reads Reads matches m s at left r none found place = (shows-none Reads matches m s left r none found place, subst (IsBehind at) (sym place) tt)
+pub over-reads : (Reaches : List ℕ → StateID → Type 0) (matches : StateID → List ℕ) (m : Dictionary) (s : Search) (at : ℕ) (left : List Occurrence) (r : Shown) → left ≡ [] → r.found ≡ None → r.place ≡ Over → ReadsOn Reaches matches m s at left (Found r)
+over-reads Reaches matches m s at left r none found place = (shows-none Reaches matches m s left r none found place, subst (IsBehind at) (sym place) tt)
 
 -- where a state that was reached further on tells something, that is shown
-pub some-reads : (Reads : List ℕ → StateID → Type 0) (matches : StateID → List ℕ) (m : Dictionary) (s : Search) (at : ℕ) (left : List Occurrence) (cursor : Cursor) (index : ℕ) (r : Shown)
-    → at < cursor.at → IsCursor Reads s cursor
+pub some-reads : (Reaches : List ℕ → StateID → Type 0) (matches : StateID → List ℕ) (m : Dictionary) (s : Search) (at : ℕ) (left : List Occurrence) (cursor : Cursor) (index : ℕ) (r : Shown)
+    → at < cursor.at → IsCursor Reaches s cursor
     → left ≡ told_from m (walked s cursor) cursor.at (matches cursor.sid) index ++ ending_from (walked s cursor) (cursor.at + 1)
-    → TellsFirst matches m s cursor index (Some r) → ReadsOn Reads matches m s at left (Found r)
-some-reads Reads matches m s at left cursor index r lt is e (o, next, found, place, told) =
-    (shows-some Reads matches m s left cursor index r is e (o, next, found, place, told), subst (IsBehind at) (sym place) lt)
+    → TellsFirst matches m s cursor index (Some r) → ReadsOn Reaches matches m s at left (Found r)
+some-reads Reaches matches m s at left cursor index r lt is e (o, next, found, place, told) =
+    (shows-some Reaches matches m s left cursor index r is e (o, next, found, place, told), subst (IsBehind at) (sym place) lt)
 
 -- ---- where a prefilter points
 
@@ -182,40 +184,40 @@ paid-further true s at to looks le h = omega arith
 paid-further false s at to looks le h = omega arith
 
 -- and so it is by a search that is behind it
-pub come-behind : (s : Search) (at : ℕ) (place : Place) → at ≤ s.end → IsBehind at place → at ≤ come_to s place
+pub come-behind : (s : Search) (at : ℕ) (place : Position) → at ≤ s.end → IsBehind at place → at ≤ come_to s place
 come-behind s at (At sid from place index) le h = omega arith
 come-behind s at Over le h = le
 
 -- ---- by candidates
 
 -- a search that is behind a place is behind an earlier one
-behind-earlier : (at from : ℕ) (place : Place) → at ≤ from → IsBehind from place → IsBehind at place
+behind-earlier : (at from : ℕ) (place : Position) → at ≤ from → IsBehind from place → IsBehind at place
 behind-earlier at from (At sid start to index) le h = omega arith
 behind-earlier at from Over le h = h
 
 -- what is read on from a place is read on from an earlier one, where what is left is the same
-pub reads_on-earlier : (Reads : List ℕ → StateID → Type 0) (matches : StateID → List ℕ) (m : Dictionary) (s : Search) (at from : ℕ) (one other : List Occurrence) (reading : End Shown) → at ≤ from → other ≡ one → ReadsOn Reads matches m s from other reading → ReadsOn Reads matches m s at one reading
-reads_on-earlier Reads matches m s at from one other (Found shown) le same h = (subst (λ (left : List Occurrence). ShowsFirst Reads matches m s left shown) same h.0, behind-earlier at from shown.place le h.1)
-reads_on-earlier Reads matches m s at from one other (Idle to) le same h = (omega (arith, h.0), h.1, sym same ∙ h.2)
+pub reads_on-earlier : (Reaches : List ℕ → StateID → Type 0) (matches : StateID → List ℕ) (m : Dictionary) (s : Search) (at from : ℕ) (one other : List Occurrence) (reading : End Shown) → at ≤ from → other ≡ one → ReadsOn Reaches matches m s from other reading → ReadsOn Reaches matches m s at one reading
+reads_on-earlier Reaches matches m s at from one other (Found shown) le same h = (subst (λ (left : List Occurrence). ShowsFirst Reaches matches m s left shown) same h.0, behind-earlier at from shown.place le h.1)
+reads_on-earlier Reaches matches m s at from one other (Idle to) le same h = (omega (arith, h.0), h.1, sym same ∙ h.2)
 
 -- what was scanned to be told a place, where a search shows something behind it
-scans-shown : (s : Search) (at from places : ℕ) (place : Place) → at ≤ from → at + places ≤ s.end → at + places ≤ from + 255 → IsBehind from place → places ≤ 256 * (come_to s place - at)
+scans-shown : (s : Search) (at from places : ℕ) (place : Position) → at ≤ from → at + places ≤ s.end → at + places ≤ from + 255 → IsBehind from place → places ≤ 256 * (come_to s place - at)
 scans-shown s at from places (At sid start to index) le within near h = omega arith
 scans-shown s at from places Over le within near h = omega arith
 
 -- The places that were scanned to be told a place are paid for by the bytes up to where reading on from there ends.
-scans-paid : (Reads : List ℕ → StateID → Type 0) (matches : StateID → List ℕ) (m : Dictionary) (s : Search) (at from places : ℕ) (left : List Occurrence) (reading : End Shown) → at ≤ from → at + places ≤ s.end → at + places ≤ from + 255 → ReadsOn Reads matches m s from left reading → places ≤ 256 * (read_on_to s reading - at)
-scans-paid Reads matches m s at from places left (Found shown) le within near h = scans-shown s at from places shown.place le within near h.1
-scans-paid Reads matches m s at from places left (Idle to) le within near h = let lt = h.0 in omega arith
+scans-paid : (Reaches : List ℕ → StateID → Type 0) (matches : StateID → List ℕ) (m : Dictionary) (s : Search) (at from places : ℕ) (left : List Occurrence) (reading : End Shown) → at ≤ from → at + places ≤ s.end → at + places ≤ from + 255 → ReadsOn Reaches matches m s from left reading → places ≤ 256 * (read_on_to s reading - at)
+scans-paid Reaches matches m s at from places left (Found shown) le within near h = scans-shown s at from places shown.place le within near h.1
+scans-paid Reaches matches m s at from places left (Idle to) le within near h = let lt = h.0 in omega arith
 
 -- a search costs the scans for the candidate, and the walk from there on
-pub candidate-read : (Reads : List ℕ → StateID → Type 0) (matches : StateID → List ℕ) (m : Dictionary) (deterministic : Bool) (s : Search) (at from places : ℕ) (left : List Occurrence) (reading : End Shown) (x y z : Steps)
+pub candidate-read : (Reaches : List ℕ → StateID → Type 0) (matches : StateID → List ℕ) (m : Dictionary) (deterministic : Bool) (s : Search) (at from places : ℕ) (left : List Occurrence) (reading : End Shown) (x y z : Steps)
     → s.start ≤ at → at ≤ from → from ≤ s.end → s.end ≤ length s.haystack
     → Done 0 places 0 x y → at + places ≤ s.end → at + places ≤ from + 255
-    → ReadsOn Reads matches m s from left reading
+    → ReadsOn Reaches matches m s from left reading
     → ((looks more : ℕ) → IsPaidAt m deterministic s from from looks → looks + looked_of z ≡ more + looked_of y → IsPaidBy m deterministic s reading more)
     → OnlyLooked y z → IsSkipCost m deterministic s at reading x z
-candidate-read Reads matches m deterministic s at from places left reading x y z g le inside fits done scan near reads pays only =
+candidate-read Reaches matches m deterministic s at from places left reading x y z g le inside fits done scan near reads pays only =
     let looked = done.looked in
     let scanned = done.scanned in
     let moved = done.moved in
@@ -225,7 +227,7 @@ candidate-read Reads matches m deterministic s at from places left reading x y z
     record {
       rose = omega arith;
       looks = λ looks more paid e. pays looks more (paid-start m deterministic s from looks (omega arith) inside fits (paid-further deterministic s at from looks le paid)) (omega arith);
-      scans = let bound = scans-paid Reads matches m s at from places left reading le scan near reads in omega arith;
+      scans = let bound = scans-paid Reaches matches m s at from places left reading le scan near reads in omega arith;
       moved = omega arith;
     }
 
@@ -252,9 +254,9 @@ searched_on-first deterministic s at x le = record {
 }
 
 -- one search more takes it to where the walk is back
-pub searched_on-further : (Reads : List ℕ → StateID → Type 0) (matches : StateID → List ℕ) (m : Dictionary) (deterministic : Bool) (s : Search) (at place to : ℕ) (x y z : Steps)
-    → HasSearched deterministic s at place x y → ReadsOn Reads matches m s place (listing_of (starting_at s place)) (Idle to) → IsSkipCost m deterministic s place (Idle to) y z → HasSearched deterministic s at to x z
-searched_on-further Reads matches m deterministic s at place to x y z searched_on reads cost =
+pub searched_on-further : (Reaches : List ℕ → StateID → Type 0) (matches : StateID → List ℕ) (m : Dictionary) (deterministic : Bool) (s : Search) (at place to : ℕ) (x y z : Steps)
+    → HasSearched deterministic s at place x y → ReadsOn Reaches matches m s place (listing_of (starting_at s place)) (Idle to) → IsSkipCost m deterministic s place (Idle to) y z → HasSearched deterministic s at to x z
+searched_on-further Reaches matches m deterministic s at place to x y z searched_on reads cost =
     let le = searched_on.behind in
     let lt = reads.0 in
     let one = searched_on.rose in
@@ -272,9 +274,9 @@ searched_on-further Reads matches m deterministic s at place to x y z searched_o
     }
 
 -- the last search shows what is shown
-pub searched_on-shows : (Reads : List ℕ → StateID → Type 0) (matches : StateID → List ℕ) (m : Dictionary) (deterministic : Bool) (s : Search) (at place : ℕ) (shown : Shown) (x y z : Steps)
-    → HasSearched deterministic s at place x y → ReadsOn Reads matches m s place (listing_of (starting_at s place)) (Found shown) → IsSkipCost m deterministic s place (Found shown) y z → IsSkipCost m deterministic s at (Found shown) x z
-searched_on-shows Reads matches m deterministic s at place shown x y z searched_on reads cost =
+pub searched_on-shows : (Reaches : List ℕ → StateID → Type 0) (matches : StateID → List ℕ) (m : Dictionary) (deterministic : Bool) (s : Search) (at place : ℕ) (shown : Shown) (x y z : Steps)
+    → HasSearched deterministic s at place x y → ReadsOn Reaches matches m s place (listing_of (starting_at s place)) (Found shown) → IsSkipCost m deterministic s place (Found shown) y z → IsSkipCost m deterministic s at (Found shown) x z
+searched_on-shows Reaches matches m deterministic s at place shown x y z searched_on reads cost =
     let le = searched_on.behind in
     let come = come-behind s place shown.place searched_on.within reads.1 in
     let one = searched_on.rose in

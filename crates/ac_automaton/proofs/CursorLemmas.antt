@@ -1,5 +1,6 @@
 -- What is known of a text as it grows, and what it costs to read on over it.
 use Rattle.std.proofs.Common.{◌≡◌, ◌≢◌, ◌↔◌, ⊎_elim, ℕ, zero, suc, ◌+◌, ◌-◌, ◌<◌, ◌≤◌, Bool, IsTrue, List, [], ◌∷◌, ◌++◌, length, take, drop, Option, Some, None, get_or, slice_get, slice_range, sym, ap, subst, refl, inl, inr, ◌∙◌, arith, length-append, take-append-drop, ap₂}
+use Rattle.std.proofs.Math.Logic.{∥∥₁_map}
 use Rattle.std.proofs.lemmas.Bool.{cases_lt}
 use Rattle.std.proofs.lemmas.List.{take-take, drop-take, drop-drop, append-nil, append_assoc}
 use Rattle.std.proofs.lemmas.Option.{slice_get-get_or}
@@ -13,7 +14,7 @@ use Rattle.ac_input.specs.Tells.{Tells}
 use Rattle.ac_input.specs.Work.{IsLookups}
 use Rattle.ac_input.proofs.OrderLemmas.{slice_range-length}
 use Rattle.ac_input.proofs.StateLemmas.{live-one}
-use Rattle.ac_automaton.specs.Automaton.{Built, IsSpecial, Leads, IsReadCost, PassesPlain}
+use Rattle.ac_automaton.specs.Automaton.{Built, IsSpecial, Leads, IsReadCost, Advances, PassesPlain, IsReached, IsState}
 use Rattle.ac_automaton.specs.Cursor.{IsCursor, IsQuiet, HasReadOn, read_to, walked}
 use Rattle.ac_automaton.specs.declared.cursor.Cursor.{Cursor}
 
@@ -102,20 +103,30 @@ alive-from m anchored text (Some from) is alive = (from, is)
 pub quiet-from : (m : Dictionary) (anchored : Anchored) (text ns : List ℕ) → Tells m anchored text ns → ¬ (ns ≢ []) → ((from : Option ℕ) × IsLive m (is_anchored anchored) text from) → ¬ IsLive m (is_anchored anchored) text None → IsQuiet m anchored text
 quiet-from m anchored text ns tells none lives alive = record { nothing = subst (λ (l : List ℕ). Tells m anchored text l) (list-none ns none) tells; alive = alive-from m (is_anchored anchored) text lives.0 lives.1 alive }
 
+-- ---- which states are reached
+
+-- what a reached state leads to is reached
+pub reached-on : (Reaches : List ℕ → StateID → Type 0) (from : StateID) (bytes : List ℕ) (to : StateID) → IsReached Reaches from → Leads Reaches from bytes to → IsReached Reaches to
+reached-on Reaches from bytes to h leads = ∥∥₁_map h (λ w. (w.0 ++ bytes, leads w.0 w.1))
+
+-- what is reached from one start is a state
+pub reached-state : (Reaches : Anchored → List ℕ → StateID → Type 0) (anchored : Anchored) (sid : StateID) → IsReached (Reaches anchored) sid → IsState Reaches sid
+reached-state Reaches anchored sid h = ∥∥₁_map h (λ w. (anchored, w.0, w.1))
+
 -- ---- one look-up after another
 
 -- what is known of a state to which so many bytes led, where none on the way was special
-pub record HasAdvanced (b : Built) (Reads : Anchored → List ℕ → StateID → Type 0) (anchored : Anchored) (special : StateID → Bool) (sid : StateID) (bytes : List ℕ) (n : ℕ) (current : StateID) (before after : Steps) : Type 0 where
-  pub reads : Leads (Reads anchored) sid (take n bytes) current
-  pub plain : PassesPlain (Reads anchored) special sid bytes (n + 1)
-  pub cost : IsReadCost b Reads anchored sid (take n bytes) before after
+pub record HasAdvanced (b : Built) (Reaches : Anchored → List ℕ → StateID → Type 0) (anchored : Anchored) (special : StateID → Bool) (sid : StateID) (bytes : List ℕ) (n : ℕ) (current : StateID) (before after : Steps) : Type 0 where
+  pub reads : Leads (Reaches anchored) sid (take n bytes) current
+  pub plain : PassesPlain (Reaches anchored) special sid bytes (n + 1)
+  pub cost : IsReadCost b Reaches anchored sid (take n bytes) before after
 
 -- reading nothing leads nowhere else, and costs nothing
-pub leads-none : (Reads : List ℕ → StateID → Type 0) (sid : StateID) → Leads Reads sid [] sid
-leads-none Reads sid = λ text reads. subst (λ (t : List ℕ). Reads t sid) (sym (append-nil text)) reads
+pub leads-none : (Reaches : List ℕ → StateID → Type 0) (sid : StateID) → Leads Reaches sid [] sid
+leads-none Reaches sid = λ text reads. subst (λ (t : List ℕ). Reaches t sid) (sym (append-nil text)) reads
 
-pub cost-none : (b : Built) (Reads : Anchored → List ℕ → StateID → Type 0) (anchored : Anchored) (sid : StateID) (s : Steps) → IsReadCost b Reads anchored sid [] s s
-cost-none b Reads anchored sid s = λ text p q reads g h.
+pub cost-none : (b : Built) (Reaches : Anchored → List ℕ → StateID → Type 0) (anchored : Anchored) (sid : StateID) (s : Steps) → IsReadCost b Reaches anchored sid [] s s
+cost-none b Reaches anchored sid s = λ text p q reads g h.
     let e = append-nil text in
     let there : IsLive b.dictionary (is_anchored anchored) text q = subst (λ (t : List ℕ). IsLive b.dictionary (is_anchored anchored) t q) e h in
     let one : p ≡ q = live-one b.dictionary (is_anchored anchored) text p q g there in
@@ -123,28 +134,28 @@ cost-none b Reads anchored sid s = λ text p q reads g h.
     (subst (λ (x : Option ℕ). IsLookups b.deterministic 0 (live_len text p) (live_len text x) s s) one (lookups-none b.deterministic (live_len text p) s))
 
 -- at first
-pub advanced-none : (b : Built) (Reads : Anchored → List ℕ → StateID → Type 0) (anchored : Anchored) (special : StateID → Bool) (sid : StateID) (bytes : List ℕ) (s : Steps) → HasAdvanced b Reads anchored special sid bytes 0 sid s s
-advanced-none b Reads anchored special sid bytes s = record {
-  reads = leads-none (Reads anchored) sid;
+pub advanced-none : (b : Built) (Reaches : Anchored → List ℕ → StateID → Type 0) (anchored : Anchored) (special : StateID → Bool) (sid : StateID) (bytes : List ℕ) (s : Steps) → HasAdvanced b Reaches anchored special sid bytes 0 sid s s
+advanced-none b Reaches anchored special sid bytes s = record {
+  reads = leads-none (Reaches anchored) sid;
   plain = λ at lt le. absurd (omega arith);
-  cost = cost-none b Reads anchored sid s;
+  cost = cost-none b Reaches anchored sid s;
 }
 
 -- the state after one byte more
-pub advanced-reads : (b : Built) (Reads : Anchored → List ℕ → StateID → Type 0) (anchored : Anchored) (special : StateID → Bool) (sid : StateID) (bytes : List ℕ) (n byte : ℕ) (current next : StateID) (s t : Steps)
-    → slice_get bytes n ≡ Some byte → HasAdvanced b Reads anchored special sid bytes n current s t → Leads (Reads anchored) current (byte ∷ []) next → Leads (Reads anchored) sid (take (n + 1) bytes) next
-advanced-reads b Reads anchored special sid bytes n byte current next s t is has leads = λ text reads.
+pub advanced-reads : (b : Built) (Reaches : Anchored → List ℕ → StateID → Type 0) (anchored : Anchored) (special : StateID → Bool) (sid : StateID) (bytes : List ℕ) (n byte : ℕ) (current next : StateID) (s t : Steps)
+    → slice_get bytes n ≡ Some byte → HasAdvanced b Reaches anchored special sid bytes n current s t → Leads (Reaches anchored) current (byte ∷ []) next → Leads (Reaches anchored) sid (take (n + 1) bytes) next
+advanced-reads b Reaches anchored special sid bytes n byte current next s t is has leads = λ text reads.
     let longer : n + 1 ≡ suc n = omega arith in
     let more : take (n + 1) bytes ≡ take n bytes ++ byte ∷ [] = ap (λ (k : ℕ). take k bytes) longer ∙ take-more bytes n byte is in
     let whole : (text ++ take n bytes) ++ byte ∷ [] ≡ text ++ take (n + 1) bytes = append_assoc text (take n bytes) (byte ∷ []) ∙ ap (λ (l : List ℕ). text ++ l) (sym more) in
-    subst (λ (l : List ℕ). Reads anchored l next) whole (leads (text ++ take n bytes) (has.reads text reads))
+    subst (λ (l : List ℕ). Reaches anchored l next) whole (leads (text ++ take n bytes) (has.reads text reads))
 
 -- what it cost
-pub advanced-cost : (b : Built) (Reads : Anchored → List ℕ → StateID → Type 0) (anchored : Anchored) (special : StateID → Bool) (sid : StateID) (bytes : List ℕ) (n byte : ℕ) (current : StateID) (s t u : Steps)
-    → slice_get bytes n ≡ Some byte → HasAdvanced b Reads anchored special sid bytes n current s t
-    → ((text : List ℕ) → Reads anchored text current → (live : Option ℕ) × IsLive b.dictionary (is_anchored anchored) text live)
-    → IsReadCost b Reads anchored current (byte ∷ []) t u → IsReadCost b Reads anchored sid (take (n + 1) bytes) s u
-advanced-cost b Reads anchored special sid bytes n byte current s t u is has lives cost = λ text p q reads g h.
+pub advanced-cost : (b : Built) (Reaches : Anchored → List ℕ → StateID → Type 0) (anchored : Anchored) (special : StateID → Bool) (sid : StateID) (bytes : List ℕ) (n byte : ℕ) (current : StateID) (s t u : Steps)
+    → slice_get bytes n ≡ Some byte → HasAdvanced b Reaches anchored special sid bytes n current s t
+    → ((text : List ℕ) → Reaches anchored text current → (live : Option ℕ) × IsLive b.dictionary (is_anchored anchored) text live)
+    → IsReadCost b Reaches anchored current (byte ∷ []) t u → IsReadCost b Reaches anchored sid (take (n + 1) bytes) s u
+advanced-cost b Reaches anchored special sid bytes n byte current s t u is has lives cost = λ text p q reads g h.
     let m = b.dictionary in
     let a = is_anchored anchored in
     let longer : n + 1 ≡ suc n = omega arith in
@@ -161,22 +172,49 @@ advanced-cost b Reads anchored special sid bytes n byte current s t u is has liv
     (subst (λ (l : List ℕ). IsLookups b.deterministic (length (take n bytes) + 1) (live_len text p) (live_len l q) s u) whole both)
 
 -- one byte more, whose state is not special
-pub advanced-more : (b : Built) (Reads : Anchored → List ℕ → StateID → Type 0) (anchored : Anchored) (special : StateID → Bool) (sid : StateID) (bytes : List ℕ) (n byte : ℕ) (current next : StateID) (s t u : Steps)
-    → slice_get bytes n ≡ Some byte → HasAdvanced b Reads anchored special sid bytes n current s t
-    → ((text : List ℕ) → Reads anchored text current → (live : Option ℕ) × IsLive b.dictionary (is_anchored anchored) text live)
-    → Leads (Reads anchored) current (byte ∷ []) next → IsReadCost b Reads anchored current (byte ∷ []) t u → ¬ IsTrue (special next)
-    → HasAdvanced b Reads anchored special sid bytes (n + 1) next s u
-advanced-more b Reads anchored special sid bytes n byte current next s t u is has lives leads cost none =
-    let reads = advanced-reads b Reads anchored special sid bytes n byte current next s t is has leads in
+pub advanced-more : (b : Built) (Reaches : Anchored → List ℕ → StateID → Type 0) (anchored : Anchored) (special : StateID → Bool) (sid : StateID) (bytes : List ℕ) (n byte : ℕ) (current next : StateID) (s t u : Steps)
+    → slice_get bytes n ≡ Some byte → HasAdvanced b Reaches anchored special sid bytes n current s t
+    → ((text : List ℕ) → Reaches anchored text current → (live : Option ℕ) × IsLive b.dictionary (is_anchored anchored) text live)
+    → Leads (Reaches anchored) current (byte ∷ []) next → IsReadCost b Reaches anchored current (byte ∷ []) t u → ¬ IsTrue (special next)
+    → HasAdvanced b Reaches anchored special sid bytes (n + 1) next s u
+advanced-more b Reaches anchored special sid bytes n byte current next s t u is has lives leads cost none =
+    let reads = advanced-reads b Reaches anchored special sid bytes n byte current next s t is has leads in
     record {
       reads = reads;
       plain = λ at lt le. ⊎_elim
           (λ (sooner : at < n + 1). has.plain at lt sooner)
           (λ (here : n + 1 ≤ at). let e : n + 1 ≡ at = omega arith in
-          subst (λ (k : ℕ). (mid : StateID) × Leads (Reads anchored) sid (take k bytes) mid × ¬ IsTrue (special mid)) e (next, reads, none))
+          subst (λ (k : ℕ). (mid : StateID) × Leads (Reaches anchored) sid (take k bytes) mid × ¬ IsTrue (special mid)) e (next, reads, none))
           (cases_lt at (n + 1));
-      cost = advanced-cost b Reads anchored special sid bytes n byte current s t u is has lives cost;
+      cost = advanced-cost b Reaches anchored special sid bytes n byte current s t u is has lives cost;
     }
+
+-- where reading on stops: at the first state that is special,
+pub advances-there : (b : Built) (Reaches : Anchored → List ℕ → StateID → Type 0) (anchored : Anchored) (special : StateID → Bool) (sid : StateID) (bytes : List ℕ) (n byte : ℕ) (current next : StateID) (s t : Steps)
+    → slice_get bytes n ≡ Some byte → n < length bytes → HasAdvanced b Reaches anchored special sid bytes n current s t
+    → Leads (Reaches anchored) current (byte ∷ []) next → IsTrue (special next)
+    → Advances (Reaches anchored) special sid bytes (record { sid = next; taken = n + 1 })
+advances-there b Reaches anchored special sid bytes n byte current next s t is within has leads there = record {
+  taken = (omega (arith, within), λ some. omega arith);
+  reads = advanced-reads b Reaches anchored special sid bytes n byte current next s t is has leads;
+  plain = has.plain;
+  stops = λ lt. there;
+}
+
+-- or after the last byte
+pub advances-all : (b : Built) (Reaches : Anchored → List ℕ → StateID → Type 0) (anchored : Anchored) (special : StateID → Bool) (sid : StateID) (bytes : List ℕ) (n taken : ℕ) (current : StateID) (s t : Steps)
+    → n ≡ taken → taken ≡ length bytes → HasAdvanced b Reaches anchored special sid bytes n current s t
+    → Advances (Reaches anchored) special sid bytes (record { sid = current; taken = taken })
+advances-all b Reaches anchored special sid bytes n taken current s t is all has = record {
+  taken = (omega (arith, all), λ some. omega (arith, all, some));
+  reads = subst (λ (k : ℕ). Leads (Reaches anchored) sid (take k bytes) current) is has.reads;
+  plain = λ at some lt. has.plain at some (omega (arith, is, lt));
+  stops = λ lt. absurd (omega (arith, all, lt));
+}
+
+pub advanced-all_cost : (b : Built) (Reaches : Anchored → List ℕ → StateID → Type 0) (anchored : Anchored) (special : StateID → Bool) (sid : StateID) (bytes : List ℕ) (n taken : ℕ) (current : StateID) (s t : Steps)
+    → n ≡ taken → HasAdvanced b Reaches anchored special sid bytes n current s t → IsReadCost b Reaches anchored sid (take taken bytes) s t
+advanced-all_cost b Reaches anchored special sid bytes n taken current s t is has = subst (λ (k : ℕ). IsReadCost b Reaches anchored sid (take k bytes) s t) is has.cost
 
 -- ---- a cursor that reads on
 
@@ -194,11 +232,11 @@ plain-quiet b anchored text ns start special tells lives stops none =
     quiet-from b.dictionary anchored text ns tells (λ some. none (stops.1 (inr (inl some)))) lives (λ dead. none (stops.1 (inl dead)))
 
 -- where the cursor stands then
-pub cursor-read : (Reads : List ℕ → StateID → Type 0) (s : Search) (cursor : Cursor) (sid : StateID) (taken : ℕ)
-    → IsCursor Reads s cursor → taken ≤ s.end - cursor.at
-    → Leads Reads cursor.sid (take taken (slice_range s.haystack cursor.at s.end)) sid
-    → IsCursor Reads s (record { sid = sid; from = cursor.from; at = cursor.at + taken })
-cursor-read Reads s cursor sid taken is fits leads =
+pub cursor-read : (Reaches : List ℕ → StateID → Type 0) (s : Search) (cursor : Cursor) (sid : StateID) (taken : ℕ)
+    → IsCursor Reaches s cursor → taken ≤ s.end - cursor.at
+    → Leads Reaches cursor.sid (take taken (slice_range s.haystack cursor.at s.end)) sid
+    → IsCursor Reaches s (record { sid = sid; from = cursor.from; at = cursor.at + taken })
+cursor-read Reaches s cursor sid taken is fits leads =
     let within = is.within in
     let ordered = is.ordered in
     record {
@@ -206,19 +244,19 @@ cursor-read Reads s cursor sid taken is fits leads =
       ordered = omega arith;
       within = omega arith;
       inside = is.inside;
-      reads = subst (λ (l : List ℕ). Reads l sid) (part-front s.haystack cursor.from cursor.at s.end taken ordered fits) (leads (read_to (walked s cursor) cursor.at) is.reads);
+      reads = subst (λ (l : List ℕ). Reaches l sid) (part-front s.haystack cursor.from cursor.at s.end taken ordered fits) (leads (read_to (walked s cursor) cursor.at) is.reads);
     }
 
 -- and what is known of its way
-pub cursor-read_on : (b : Built) (Reads : Anchored → List ℕ → StateID → Type 0) (anchored : Anchored) (matches : StateID → List ℕ) (starts special : StateID → Bool) (s : Search) (cursor : Cursor) (sid : StateID) (taken : ℕ) (x y : Steps)
-    → IsCursor (Reads anchored) s cursor → 0 < taken → taken ≤ s.end - cursor.at
-    → ((text : List ℕ) (state : StateID) → Reads anchored text state → Tells b.dictionary anchored text (matches state))
-    → ((text : List ℕ) (state : StateID) → Reads anchored text state → (from : Option ℕ) × IsLive b.dictionary (is_anchored anchored) text from)
-    → ((text : List ℕ) (state : StateID) → Reads anchored text state → (IsTrue (special state) ↔ IsSpecial b (matches state) (starts state) anchored text))
-    → PassesPlain (Reads anchored) special cursor.sid (slice_range s.haystack cursor.at s.end) taken
-    → IsReadCost b Reads anchored cursor.sid (take taken (slice_range s.haystack cursor.at s.end)) x y
+pub cursor-read_on : (b : Built) (Reaches : Anchored → List ℕ → StateID → Type 0) (anchored : Anchored) (matches : StateID → List ℕ) (starts special : StateID → Bool) (s : Search) (cursor : Cursor) (sid : StateID) (taken : ℕ) (x y : Steps)
+    → IsCursor (Reaches anchored) s cursor → 0 < taken → taken ≤ s.end - cursor.at
+    → ((text : List ℕ) (state : StateID) → Reaches anchored text state → Tells b.dictionary anchored text (matches state))
+    → ((text : List ℕ) (state : StateID) → Reaches anchored text state → (from : Option ℕ) × IsLive b.dictionary (is_anchored anchored) text from)
+    → ((text : List ℕ) (state : StateID) → Reaches anchored text state → (IsTrue (special state) ↔ IsSpecial b (matches state) (starts state) anchored text))
+    → PassesPlain (Reaches anchored) special cursor.sid (slice_range s.haystack cursor.at s.end) taken
+    → IsReadCost b Reaches anchored cursor.sid (take taken (slice_range s.haystack cursor.at s.end)) x y
     → HasReadOn b anchored s cursor (record { sid = sid; from = cursor.from; at = cursor.at + taken }) x y
-cursor-read_on b Reads anchored matches starts special s cursor sid taken x y is some fits tells lives stops plain cost =
+cursor-read_on b Reaches anchored matches starts special s cursor sid taken x y is some fits tells lives stops plain cost =
     let m = b.dictionary in
     let h = s.haystack in
     let bytes = slice_range h cursor.at s.end in
@@ -236,7 +274,7 @@ cursor-read_on b Reads anchored matches starts special s cursor sid taken x y is
           let there : cursor.at + k ≡ at = omega arith in
           let mid = plain k (omega arith) (omega arith) in
           let text : slice_range h cursor.from cursor.at ++ take k bytes ≡ slice_range h cursor.from at = part-front h cursor.from cursor.at s.end k ordered (omega arith) ∙ ap (slice_range h cursor.from) there in
-          let reads : Reads anchored (slice_range h cursor.from at) mid.0 = subst (λ (l : List ℕ). Reads anchored l mid.0) text (mid.1 (slice_range h cursor.from cursor.at) here) in
+          let reads : Reaches anchored (slice_range h cursor.from at) mid.0 = subst (λ (l : List ℕ). Reaches anchored l mid.0) text (mid.1 (slice_range h cursor.from cursor.at) here) in
           plain-quiet b anchored (slice_range h cursor.from at) (matches mid.0) (starts mid.0) (special mid.0) (tells _ mid.0 reads) (lives _ mid.0 reads) (stops _ mid.0 reads) mid.2;
       lookups = λ p q g k.
           let after : IsLive m (is_anchored anchored) (slice_range h cursor.from cursor.at ++ take taken bytes) q = subst (λ (l : List ℕ). IsLive m (is_anchored anchored) l q) (sym joined) k in

@@ -4,8 +4,11 @@ pub mod WriteWholeLoop
 pub mod ToldLemmas
 pub mod TakenLemmas
 pub mod WalkLemmas
+pub mod WalkEndLemmas
 pub mod IterLemmas
 pub mod OverlappingLemmas
+pub mod OverlappingReadLemmas
+pub mod OverlappingStateLemmas
 pub mod CandidateLemmas
 pub mod ShowLemmas
 pub mod ReplaceLemmas
@@ -21,7 +24,7 @@ pub mod StreamSendLemmas
 pub mod StreamCountLemmas
 pub mod MovedLemmas
 pub mod StreamReplaceLemmas
-pub mod ScanLemmas
+pub mod StreamSearchLemmas
 pub mod StreamIterLemmas
 pub mod StreamAnswerLemmas
 pub mod WriterChainLemmas

@@ -1,12 +1,15 @@
 -- How sendings follow one another.
-use Rattle.std.proofs.Common.{◌≡◌, ℕ, ◌+◌, Option, List, [], ◌++◌, refl, sym, ap, ◌∙◌, subst, append_assoc, add-zero}
+use Rattle.std.proofs.Common.{◌≡◌, ℕ, ◌+◌, Option, List, [], ◌++◌, Result, Ok, Err, refl, sym, ap, ◌∙◌, subst, append_assoc, add-zero}
 use Rattle.std.proofs.lemmas.List.{append-nil}
 use Rattle.std.specs.Io.KnownBytes.{Appends}
+use Rattle.std.specs.Prelude.{IfErr, OnErr, OnOk}
 use Rattle.std.proofs.KnownBytes.{Appends-nil, Appends-trans}
 use Rattle.ac_automaton.specs.declared.watched.Watched.{Watched}
 use Rattle.ac_automaton.specs.Moved.{HasTaken}
-use Rattle.ac_automaton.specs.Watched.{inner_of, stalls_of, NoneRead, TookAll, TookFront}
-use Rattle.ac_automaton.specs.Output.{Sent, Stopped}
+use Rattle.ac_automaton.specs.Watched.{inner_of, stalls_of, IsOfWrite, NoneRead, TookAll, TookFront, WritesWhole}
+use Rattle.ac_automaton.specs.Output.{Sends, Sent, Stopped}
+use Rattle.ac_automaton.specs.declared.error.StreamError.{StreamError}
+use Rattle.ac_automaton.specs.declared.error.StreamError.TheVariants.{Config, Read, Write, WriteZero, Memory, Position}
 
 -- nothing was read, and nothing then
 NoneRead-then : {W : Type 0} {old mid new : Watched W} → NoneRead old mid → NoneRead mid new → NoneRead old new
@@ -79,3 +82,52 @@ Stopped-held contents old new held s = record { gained = s.gained; lost = s.lost
 -- a write that stopped, where nothing was held back
 pub Stopped-from_front : {W : Type 0} (contents : W → Option (List ℕ)) (old new : Watched W) (bytes : List ℕ) → TookFront contents old new bytes → NoneRead old new → Stopped contents old new [] bytes
 Stopped-from_front contents old new bytes f reads = record { gained = f.front; lost = f.rest; taken = f.taken; flushed = f.flushed; reads = reads; order = sym f.split; failures = f.failures; device = f.device }
+
+-- ---- by the answer
+
+-- the error of a write after a sending is of both
+pub IsOfWrite-then : {W : Type 0} (old mid new : Watched W) (error : StreamError) → stalls_of mid ≡ stalls_of old → IsOfWrite mid new error → IsOfWrite old new error
+IsOfWrite-then old mid new (Config error) same kind = kind
+IsOfWrite-then old mid new (Read error) same kind = kind
+IsOfWrite-then old mid new (Write error) same kind = kind ∙ same
+IsOfWrite-then old mid new WriteZero same kind = kind ∙ ap (λ (n : ℕ). n + 1) same
+IsOfWrite-then old mid new Memory same kind = kind
+IsOfWrite-then old mid new Position same kind = kind
+
+-- a sending after one that did not stop
+pub Sends-then : {W : Type 0} (contents : W → Option (List ℕ)) (old mid new : Watched W) (held between after bytes more : List ℕ) (result : Result (Unit {0}) StreamError) → Sent contents old mid held between bytes → Sends contents more mid new between after result → Sends contents (bytes ++ more) old new held after result
+Sends-then contents old mid new held between after bytes more (Ok done) a b = Sent-then contents old mid new held between after bytes more a b
+Sends-then contents old mid new held between after bytes more (Err error) a b =
+    (Stopped-then contents old mid new held between bytes more a b.0, IsOfWrite-then old mid new error a.fine.stalls b.1, b.2)
+
+-- a sending, and then what was held back
+pub Sends-and_held : {W : Type 0} (contents : W → Option (List ℕ)) (old mid new : Watched W) (held between after bytes : List ℕ) (result : Result (Unit {0}) StreamError) → Sent contents old mid held between bytes → Sends contents [] mid new between after result → Sends contents bytes old new held after result
+Sends-and_held contents old mid new held between after bytes result a b =
+    subst (λ (t : List ℕ). Sends contents t old new held after result) (append-nil bytes) (Sends-then contents old mid new held between after bytes [] result a b)
+
+-- what stopped with some bytes has stopped with more of them
+pub Sends-more : {W : Type 0} (contents : W → Option (List ℕ)) (old new : Watched W) (held after bytes more : List ℕ) (error : StreamError) → Sends contents bytes old new held after (Err error) → Sends contents (bytes ++ more) old new held after (Err error)
+Sends-more contents old new held after bytes more error s = (Stopped-more contents old new held bytes more s.0, s.1, s.2)
+
+-- a write of what was held back
+pub Sends-held : {W : Type 0} (contents : W → Option (List ℕ)) (old new : Watched W) (held : List ℕ) (result : Result (Unit {0}) StreamError) → Sends contents held old new [] [] result → Sends contents [] old new held [] result
+Sends-held contents old new held (Ok done) s = Sent-held contents old new held s
+Sends-held contents old new held (Err error) s = (Stopped-held contents old new held s.0, s.1, refl)
+
+-- a write of all bytes, where nothing was held back
+pub Sends-whole : {W : Type 0} (contents : W → Option (List ℕ)) (old new : Watched W) (bytes : List ℕ) (result : Result (Unit {0}) StreamError) → WritesWhole contents old new bytes result → NoneRead old new → Sends contents bytes old new [] [] result
+Sends-whole contents old new bytes (Ok done) took reads = Sent-from_all contents old new bytes took.0 reads took.1
+Sends-whole contents old new bytes (Err error) took reads = (Stopped-from_front contents old new bytes took.0 reads, took.1, refl)
+
+-- what an answer says where it is a value, and where it is an error
+pub sent-of : {W : Type 0} (contents : W → Option (List ℕ)) (old new : Watched W) (held after bytes : List ℕ) (result : Result (Unit {0}) StreamError) → Sends contents bytes old new held after result → OnOk result (Sent contents old new held after bytes)
+sent-of contents old new held after bytes (Ok done) s = s
+sent-of contents old new held after bytes (Err error) s = tt
+
+pub stopped-of : {W : Type 0} (contents : W → Option (List ℕ)) (old new : Watched W) (held after bytes : List ℕ) (result : Result (Unit {0}) StreamError) → Sends contents bytes old new held after result → OnErr result (Stopped contents old new held bytes)
+stopped-of contents old new held after bytes (Ok done) s = tt
+stopped-of contents old new held after bytes (Err error) s = s.0
+
+pub kind-of : {W : Type 0} (contents : W → Option (List ℕ)) (old new : Watched W) (held after bytes : List ℕ) (result : Result (Unit {0}) StreamError) → Sends contents bytes old new held after result → IfErr result (IsOfWrite old new)
+kind-of contents old new held after bytes (Ok done) s = tt
+kind-of contents old new held after bytes (Err error) s = s.1

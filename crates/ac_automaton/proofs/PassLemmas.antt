@@ -25,23 +25,23 @@ some-matching (n ∷ ns) is = λ e. let d : n ∷ ns ≡ [] = e in cc
 -- ---- where reading on stops
 
 -- Reading on from a state stopped at the first state that matches, or after the last byte.
-pub record StopsAtMatch (b : Built) (Reads : Anchored → List ℕ → StateID → Type 0) (matches : StateID → List ℕ) (sid : StateID) (bytes : List ℕ) (stop : Advance) (matched : Bool) (before after : Steps) : Type 0 where
+pub record StopsAtMatch (b : Built) (Reaches : Anchored → List ℕ → StateID → Type 0) (matches : StateID → List ℕ) (sid : StateID) (bytes : List ℕ) (stop : Advance) (matched : Bool) (before after : Steps) : Type 0 where
   pub within : stop.taken ≤ length bytes
-  pub reads : Leads (Reads No) sid (take stop.taken bytes) stop.sid
-  pub plain : PassesPlain (Reads No) (is_matching matches) sid bytes stop.taken
+  pub reads : Leads (Reaches No) sid (take stop.taken bytes) stop.sid
+  pub plain : PassesPlain (Reaches No) (is_matching matches) sid bytes stop.taken
   pub there : matched ≡ true → matches stop.sid ≢ []
   pub none : matched ≡ false → (stop.taken ≡ length bytes) × (matches stop.sid ≡ [])
-  pub cost : IsReadCost b Reads No sid (take stop.taken bytes) before after
+  pub cost : IsReadCost b Reaches No sid (take stop.taken bytes) before after
 
 -- it stopped at a state that matches
-pub stops-there : (b : Built) (Reads : Anchored → List ℕ → StateID → Type 0) (matches : StateID → List ℕ) (sid : StateID) (bytes : List ℕ) (stop : Advance) (before after : Steps)
+pub stops-there : (b : Built) (Reaches : Anchored → List ℕ → StateID → Type 0) (matches : StateID → List ℕ) (sid : StateID) (bytes : List ℕ) (stop : Advance) (before after : Steps)
     → TakesSome bytes stop.taken
-    → Leads (Reads No) sid (take stop.taken bytes) stop.sid
-    → PassesPlain (Reads No) (is_matching matches) sid bytes stop.taken
-    → IsReadCost b Reads No sid (take stop.taken bytes) before after
+    → Leads (Reaches No) sid (take stop.taken bytes) stop.sid
+    → PassesPlain (Reaches No) (is_matching matches) sid bytes stop.taken
+    → IsReadCost b Reaches No sid (take stop.taken bytes) before after
     → matches stop.sid ≢ []
-    → StopsAtMatch b Reads matches sid bytes stop true before after
-stops-there b Reads matches sid bytes stop before after takes reads plain cost matched = record {
+    → StopsAtMatch b Reaches matches sid bytes stop true before after
+stops-there b Reaches matches sid bytes stop before after takes reads plain cost matched = record {
   within = takes.0;
   reads = reads;
   plain = plain;
@@ -51,15 +51,15 @@ stops-there b Reads matches sid bytes stop before after takes reads plain cost m
 }
 
 -- it read all the bytes, and found none that matches
-pub stops-none : (b : Built) (Reads : Anchored → List ℕ → StateID → Type 0) (matches : StateID → List ℕ) (sid : StateID) (bytes : List ℕ) (stop : Advance) (before after : Steps)
+pub stops-none : (b : Built) (Reaches : Anchored → List ℕ → StateID → Type 0) (matches : StateID → List ℕ) (sid : StateID) (bytes : List ℕ) (stop : Advance) (before after : Steps)
     → TakesSome bytes stop.taken
-    → Leads (Reads No) sid (take stop.taken bytes) stop.sid
-    → PassesPlain (Reads No) (is_matching matches) sid bytes stop.taken
+    → Leads (Reaches No) sid (take stop.taken bytes) stop.sid
+    → PassesPlain (Reaches No) (is_matching matches) sid bytes stop.taken
     → (stop.taken < length bytes → IsTrue (is_matching matches stop.sid))
-    → IsReadCost b Reads No sid (take stop.taken bytes) before after
+    → IsReadCost b Reaches No sid (take stop.taken bytes) before after
     → matches stop.sid ≡ []
-    → StopsAtMatch b Reads matches sid bytes stop false before after
-stops-none b Reads matches sid bytes stop before after takes reads plain stops cost none =
+    → StopsAtMatch b Reaches matches sid bytes stop false before after
+stops-none b Reaches matches sid bytes stop before after takes reads plain stops cost none =
     let within = takes.0 in
     record {
       within = within;

@@ -12,26 +12,25 @@ use Rattle.ac_input.specs.declared.search.MatchKind.TheVariants.{Standard}
 use Rattle.ac_input.specs.declared.steps.Steps.{Steps}
 use Rattle.ac_input.specs.Best.{IsBest}
 use Rattle.ac_input.specs.Dictionary.{Dictionary, IsLive, live_len, whole}
-use Rattle.ac_input.specs.LiveLaws.{shifted}
+use Rattle.ac_input.specs.LiveLaws.{IsOwnInverse, shifted}
 use Rattle.ac_input.specs.Occurrence.{Occurrence, Occurs}
 use Rattle.ac_input.specs.Steps.{Done, looked_of}
-use Rattle.ac_input.specs.Tells.{Tells, TellsUnanchored, ending}
+use Rattle.ac_input.specs.Tells.{Tells, TellsUnanchored, ending, ending_at}
 use Rattle.ac_input.specs.Walk.{IsPick}
 use Rattle.ac_input.specs.Work.{IsLookups, lookups_per_byte, shortest}
 use Rattle.ac_input.proofs.OrderLemmas.{occurrence_from_parts, slice_range-length}
 use Rattle.ac_input.specs.declared.search.MatchKind.{MatchKind}
 use Rattle.ac_automaton.specs.Automaton.{Built}
-use Rattle.ac_automaton.specs.Cursor.{ending_at}
 use Rattle.ac_automaton.specs.Moved.{AllFit}
 use Rattle.ac_automaton.specs.Replace.{matches_in}
-use Rattle.ac_automaton.specs.Scan.{GoesOn, IsHeldAt, IsScanPaid, SearchesOn, StandsInState, after_search, since_last}
-use Rattle.ac_automaton.specs.Stream.{CanBeCounted, IsHeldMatch, IsOnCourse, Scanned, cut_of, read_by, room_of}
+use Rattle.ac_automaton.specs.StreamSearch.{ContinuesWalk, IsHeldAt, IsSearchPaid, SearchesOn, StandsInState, after_search, since_last}
+use Rattle.ac_automaton.specs.Stream.{AllIsDecided, CanBeCounted, FindsHeld, IsHeldMatch, IsOnCourse, NothingIsLive, StreamProgress, cut_of, end_of, read_by, room_of}
 use Rattle.ac_automaton.specs.declared.automaton.Advance.{Advance}
-use Rattle.ac_automaton.specs.declared.stream.scan.Progress.{Progress}
+use Rattle.ac_automaton.specs.declared.stream.search.Progress.{Progress}
 use Rattle.ac_automaton.proofs.CursorLemmas.{part-empty, part-front}
 use Rattle.ac_automaton.proofs.IterLemmas.{occurs-not_empty}
 use Rattle.ac_automaton.proofs.PassLemmas.{StopsAtMatch, matching-none}
-use Rattle.ac_automaton.proofs.StreamLemmas.{all-given, decided-from, goes-match, none-ends_before, nothing-ends, pick-since}
+use Rattle.ac_automaton.proofs.StreamLemmas.{all-given, decided-from, end_of-push, goes-anew, goes-match, none-ends_before, nothing-ends, nothing-later, pick-since}
 use Rattle.ac_automaton.proofs.ToldLemmas.{IsEarlier, ending-fits, told-standard}
 use Rattle.ac_automaton.proofs.WalkLemmas.{occurs-bound}
 
@@ -64,26 +63,27 @@ budget-from true looked live at paid one = let e = one refl in omega arith
 budget-from false looked live at paid one = omega arith
 
 -- where it stands, put together
-pub stands-from : (Reads : List ℕ → StateID → Type 0) (t : Scanned) (start sid : StateID)
+pub stands-from : (Reaches : List ℕ → StateID → Type 0) (t : StreamProgress) (start sid : StateID)
     → t.built.dictionary.kind ≡ Standard
     → 1 ≤ shortest t.built.dictionary.patterns
     → t.last ≤ t.at
     → t.at ≤ length (read_by t)
+    → end_of t.given ≤ t.last
     → t.from ≤ cut_of t
     → t.from ≤ t.at
     → length (read_by t) ≤ t.from + room_of t.built
     → AllFit (room_of t.built) t.pieces
     → t.scanned ≡ 0
     → 7 * t.moved ≤ length (read_by t)
-    → Reads [] start
-    → Reads (since_last t) sid
+    → Reaches [] start
+    → Reaches (since_last t) sid
     → IsBest Standard (whole t.built.dictionary (since_last t) false) None
-    → GoesOn t
-    → IsScanPaid t
+    → ContinuesWalk t
+    → IsSearchPaid t
     → (live : Option ℕ)
     → IsLive t.built.dictionary false (since_last t) live
-    → StandsInState Reads t start sid
-stands-from Reads t start sid standard filled ordered inside kept behind room short scanned moved begins reads quiet goes paid live is =
+    → StandsInState Reaches t start sid
+stands-from Reaches t start sid standard filled ordered inside ended kept behind room short scanned moved begins reads quiet goes paid live is =
     let here = paid live is in
     let decided = decided-from t standard ordered inside quiet goes in
     let rest = decided [] in
@@ -95,6 +95,7 @@ stands-from Reads t start sid standard filled ordered inside kept behind room sh
         kept = (kept, behind, room);
         short = short;
         begun = (rest.0, ap (matches_in t.built) (sym (append-nil (read_by t))) ∙ rest.1);
+        ended = ended;
         decided = decided;
         paid = record {
           some = here.1;
@@ -113,13 +114,13 @@ stands-from Reads t start sid standard filled ordered inside kept behind room sh
 -- ---- reading on
 
 -- on the way the states told nothing
-tells-on : (s : Scanned) (Reads : Anchored → List ℕ → StateID → Type 0) (matches : StateID → List ℕ) (sid : StateID) (stop : Advance) (matched : Bool) (y z : Steps)
-    → ((text : List ℕ) (state : StateID) → Reads No text state → Tells s.built.dictionary No text (matches state))
+tells-on : (s : StreamProgress) (Reaches : Anchored → List ℕ → StateID → Type 0) (matches : StateID → List ℕ) (sid : StateID) (stop : Advance) (matched : Bool) (y z : Steps)
+    → ((text : List ℕ) (state : StateID) → Reaches No text state → Tells s.built.dictionary No text (matches state))
     → s.last ≤ s.at
-    → Reads No (since_last s) sid
-    → StopsAtMatch s.built Reads matches sid (drop s.at (read_by s)) stop matched y z
+    → Reaches No (since_last s) sid
+    → StopsAtMatch s.built Reaches matches sid (drop s.at (read_by s)) stop matched y z
     → (k : ℕ) → s.at < k → k < s.at + stop.taken → Tells s.built.dictionary No (slice_range (read_by s) s.last k) []
-tells-on s Reads matches sid stop matched y z tells ordered here stops k lt less =
+tells-on s Reaches matches sid stop matched y z tells ordered here stops k lt less =
     let x = read_by s in
     let i : ℕ = k - s.at in
     let there : s.at + i ≡ k = omega arith in
@@ -127,18 +128,18 @@ tells-on s Reads matches sid stop matched y z tells ordered here stops k lt less
     let rest = length-drop s.at x in
     let mid = stops.plain i (omega arith) (omega arith) in
     let text : since_last s ++ take i (drop s.at x) ≡ slice_range x s.last k = text-on x s.last s.at i ordered (omega arith) ∙ ap (slice_range x s.last) there in
-    let reads : Reads No (slice_range x s.last k) mid.0 = subst (λ (l : List ℕ). Reads No l mid.0) text (mid.1 (since_last s) here) in
+    let reads : Reaches No (slice_range x s.last k) mid.0 = subst (λ (l : List ℕ). Reaches No l mid.0) text (mid.1 (since_last s) here) in
     subst (λ (ns : List ℕ). Tells s.built.dictionary No (slice_range x s.last k) ns) (matching-none (matches mid.0) mid.2) (tells (slice_range x s.last k) mid.0 reads)
 
 -- what reading on cost
-cost-on : (s : Scanned) (Reads : Anchored → List ℕ → StateID → Type 0) (matches : StateID → List ℕ) (sid : StateID) (stop : Advance) (matched : Bool) (y z : Steps) (before after : Option ℕ)
+cost-on : (s : StreamProgress) (Reaches : Anchored → List ℕ → StateID → Type 0) (matches : StateID → List ℕ) (sid : StateID) (stop : Advance) (matched : Bool) (y z : Steps) (before after : Option ℕ)
     → s.last ≤ s.at
-    → Reads No (since_last s) sid
-    → StopsAtMatch s.built Reads matches sid (drop s.at (read_by s)) stop matched y z
+    → Reaches No (since_last s) sid
+    → StopsAtMatch s.built Reaches matches sid (drop s.at (read_by s)) stop matched y z
     → IsLive s.built.dictionary false (since_last s) before
     → IsLive s.built.dictionary false (slice_range (read_by s) s.last (s.at + stop.taken)) after
     → IsLookups s.built.deterministic stop.taken (live_len (since_last s) before) (live_len (slice_range (read_by s) s.last (s.at + stop.taken)) after) y z
-cost-on s Reads matches sid stop matched y z before after ordered here stops g h =
+cost-on s Reaches matches sid stop matched y z before after ordered here stops g h =
     let x = read_by s in
     let within = stops.within in
     let rest = length-drop s.at x in
@@ -158,15 +159,15 @@ paid-on deterministic looked live at n more y z paid some one run =
     (omega arith, omega arith, λ d. let e = one d in let f = run.one d in omega arith)
 
 -- the state in which reading on stopped was reached by the bytes since the last match
-reads-on : (s : Scanned) (Reads : Anchored → List ℕ → StateID → Type 0) (matches : StateID → List ℕ) (sid : StateID) (stop : Advance) (matched : Bool) (y z : Steps)
+reads-on : (s : StreamProgress) (Reaches : Anchored → List ℕ → StateID → Type 0) (matches : StateID → List ℕ) (sid : StateID) (stop : Advance) (matched : Bool) (y z : Steps)
     → s.last ≤ s.at
-    → Reads No (since_last s) sid
-    → StopsAtMatch s.built Reads matches sid (drop s.at (read_by s)) stop matched y z
-    → Reads No (slice_range (read_by s) s.last (s.at + stop.taken)) stop.sid
-reads-on s Reads matches sid stop matched y z ordered here stops =
+    → Reaches No (since_last s) sid
+    → StopsAtMatch s.built Reaches matches sid (drop s.at (read_by s)) stop matched y z
+    → Reaches No (slice_range (read_by s) s.last (s.at + stop.taken)) stop.sid
+reads-on s Reaches matches sid stop matched y z ordered here stops =
     let within = stops.within in
     let rest = length-drop s.at (read_by s) in
-    subst (λ (l : List ℕ). Reads No l stop.sid) (text-on (read_by s) s.last s.at stop.taken ordered (omega arith)) (stops.reads (since_last s) here)
+    subst (λ (l : List ℕ). Reaches No l stop.sid) (text-on (read_by s) s.last s.at stop.taken ordered (omega arith)) (stops.reads (since_last s) here)
 
 -- ---- to the end
 
@@ -188,50 +189,133 @@ quiet-on m x last at to standard g h inside quiet tells ends = λ o occurs.
     (cases_lt at to))
     (cases_lt (last + o.end) to)
 
+-- nothing is live of no text
+pub live-empty : (x : List ℕ) (at : ℕ) (live : Option ℕ) → live_len (slice_range x at at) live ≡ 0
+live-empty x at None = refl
+live-empty x at (Some from) = let empty = ap length (part-empty x at) in omega arith
+
+-- nothing is in an empty text, where no pattern is empty
+nothing-in_empty : (m : Dictionary) (text : List ℕ) → 1 ≤ shortest m.patterns → text ≡ [] → IsBest Standard (whole m text false) None
+nothing-in_empty m text filled empty = λ q h. let w = h.within in let lt = occurs-not_empty (whole m text false) q (omega arith) filled h in absurd (omega (arith, ap length empty))
+
 -- All that is held was searched, and nothing was found.
-pub search-none : (s : Scanned) (Reads : Anchored → List ℕ → StateID → Type 0) (matches : StateID → List ℕ) (start sid : StateID) (stop : Advance) (y z : Steps)
-    → ((text : List ℕ) (state : StateID) → Reads No text state → Tells s.built.dictionary No text (matches state))
-    → ((text : List ℕ) (state : StateID) → Reads No text state → (live : Option ℕ) × IsLive s.built.dictionary false text live)
-    → StandsInState (Reads No) s start sid
-    → StopsAtMatch s.built Reads matches sid (drop s.at (read_by s)) stop false y z
-    → SearchesOn (Reads No) s start (record { progress = record { sid = stop.sid; from = s.from; at = s.at + stop.taken; last = s.last }; found = None }) y z
-search-none s Reads matches start sid stop y z tells lives stands stops =
-    let m = s.built.dictionary in
-    let x = read_by s in
-    let course = stands.course in
-    let ordered = course.ordered.0 in
-    let inside = course.ordered.1 in
-    let kept = course.kept in
-    let to : ℕ = s.at + stop.taken in
-    let rest = length-drop s.at x in
-    let within = stops.within in
-    let over = stops.none refl in
-    let all : to ≡ length x = omega (arith, over.0) in
-    let before = lives (since_last s) sid stands.reads in
-    let reads = reads-on s Reads matches sid stop false y z ordered stands.reads stops in
-    let after = lives (slice_range x s.last to) stop.sid reads in
-    let looks : ℕ = looked_of z - looked_of y in
-    let paid = stands.lookups before.0 before.1 in
-    let quiet : IsBest Standard (whole m (slice_range x s.last to) false) None =
-    quiet-on m x s.last s.at to course.standard ordered (omega arith) (omega arith) stands.quiet (tells-on s Reads matches sid stop false y z tells ordered stands.reads stops)
-    (λ lt. subst (λ (ns : List ℕ). Tells m No (slice_range x s.last to) ns) over.1 (tells (slice_range x s.last to) stop.sid reads)) in
-    let t : Scanned = after_search s (record { progress = record { sid = stop.sid; from = s.from; at = to; last = s.last }; found = None }) looks in
-    let same : s.given ++ [] ≡ s.given = append-nil s.given in
-    let goes : GoesOn t = subst (λ (l : List Occurrence). GoesOn (record t { given = l })) (sym same) stands.goes in
-    record {
-      looks = looks;
-      done = looks-done s.built.deterministic stop.taken _ _ y z (cost-on s Reads matches sid stop false y z before.0 after.0 ordered stands.reads stops before.1 after.1);
-      from = refl;
-      finds = (
-        record { on = omega arith; built = refl; pieces = refl; from = refl },
-        same,
-        refl,
-        λ countable. (all, same ∙ all-given s course.standard (omega arith) (subst (λ (n : ℕ). IsBest Standard (whole m (slice_range x s.last n) false) None) all quiet) stands.goes),
-      );
-      stands = stands-from (Reads No) t start stop.sid course.standard course.filled (omega arith) (omega arith) (omega arith) (omega arith) kept.2 course.short course.paid.scanned course.paid.moved stands.begins reads quiet goes
-          (λ live is. paid-on s.built.deterministic s.looked (live_len (since_last s) before.0) s.at stop.taken (live_len (slice_range x s.last to) live) y z paid.0 paid.1 paid.2 (cost-on s Reads matches sid stop false y z before.0 live ordered stands.reads stops before.1 is))
-          after.0 after.1;
-    }
+module _ (s : StreamProgress) (Reaches : Anchored → List ℕ → StateID → Type 0) (matches : StateID → List ℕ) (start sid : StateID) (stop : Advance) (y z : Steps)
+    (tells : (text : List ℕ) (state : StateID) → Reaches No text state → Tells s.built.dictionary No text (matches state))
+    (lives : (text : List ℕ) (state : StateID) → Reaches No text state → (live : Option ℕ) × IsLive s.built.dictionary false text live)
+    (stands : StandsInState (Reaches No) s start sid)
+    (stops : StopsAtMatch s.built Reaches matches sid (drop s.at (read_by s)) stop false y z) where
+  -- the place to which the automaton has read
+  abbrev to : ℕ
+  to = s.at + stop.taken
+
+  -- the bytes since the search last began
+  abbrev since : List ℕ
+  since = slice_range (read_by s) s.last to
+
+  -- how often it looked
+  abbrev looks : ℕ
+  looks = looked_of z - looked_of y
+
+  -- all was searched
+  all : to ≡ length (read_by s)
+  all = let rest = length-drop s.at (read_by s) in let within = stops.within in let inside = stands.course.ordered.1 in omega (arith, (stops.none refl).0)
+
+  -- the state was reached by these bytes
+  reads : Reaches No since stop.sid
+  reads = reads-on s Reaches matches sid stop false y z stands.course.ordered.0 stands.reads stops
+
+  -- there is no match in them
+  since-quiet : IsBest Standard (whole s.built.dictionary since false) None
+  since-quiet =
+      let ordered = stands.course.ordered.0 in
+      let end = all in
+      quiet-on s.built.dictionary (read_by s) s.last s.at to stands.course.standard ordered (omega arith) (omega arith) stands.quiet (tells-on s Reaches matches sid stop false y z tells ordered stands.reads stops)
+      (λ lt. subst (λ (ns : List ℕ). Tells s.built.dictionary No since ns) (stops.none refl).1 (tells since stop.sid reads))
+
+  -- all that looking so far has cost is paid for
+  paid : (live : Option ℕ) → IsLive s.built.dictionary false since live → (s.looked + looks + live_len since live ≤ 2 * to) × (to ≤ s.looked + looks) × (IsTrue s.built.deterministic → s.looked + looks ≡ to)
+  paid live is =
+      let before = lives (since_last s) sid stands.reads in
+      let sums = stands.lookups before.0 before.1 in
+      paid-on s.built.deterministic s.looked (live_len (since_last s) before.0) s.at stop.taken (live_len since live) y z sums.0 sums.1 sums.2
+      (cost-on s Reaches matches sid stop false y z before.0 live stands.course.ordered.0 stands.reads stops before.1 is)
+
+  -- what was looked at
+  done : Done looks 0 0 y z
+  done =
+      let before = lives (since_last s) sid stands.reads in
+      let after = lives since stop.sid reads in
+      looks-done s.built.deterministic stop.taken _ _ y z (cost-on s Reaches matches sid stop false y z before.0 after.0 stands.course.ordered.0 stands.reads stops before.1 after.1)
+
+  -- all matches were given
+  given : s.given ++ [] ≡ matches_in s.built (read_by s)
+  given =
+      let ordered = stands.course.ordered.0 in
+      let end = all in
+      append-nil s.given ∙ all-given s stands.course.standard (omega arith) (subst (λ (n : ℕ). IsBest Standard (whole s.built.dictionary (slice_range (read_by s) s.last n) false) None) all since-quiet) stands.goes
+
+  -- where all of what was read is decided, nothing is live of the bytes since the search last began
+  pub decided-empty : AllIsDecided s.built.dictionary (read_by s) → NothingIsLive s.built.dictionary since
+  decided-empty decided =
+      let ordered = stands.course.ordered.0 in
+      let end = all in
+      let ended = stands.course.ended in
+      let same : matches_in s.built (read_by s) ≡ s.given = sym given ∙ append-nil s.given in
+      let here = subst (λ (os : List Occurrence). NothingIsLive s.built.dictionary (drop (end_of os) (read_by s))) same decided in
+      let later = nothing-later s.built.dictionary (read_by s) (end_of s.given) s.last stands.course.standard ended (omega arith) here in
+      let rest : drop s.last (read_by s) ≡ since = sym (take_rest (read_by s) s.last) ∙ ap (λ (n : ℕ). slice_range (read_by s) s.last n) (sym all) in
+      subst (NothingIsLive s.built.dictionary) rest later
+
+  -- the search stands where it has read to
+  none-finds : (sid' : StateID) (last : ℕ) → s.last ≤ last → (AllIsDecided s.built.dictionary (read_by s) → last ≡ to) → FindsHeld s None (after_search s (record { progress = record { sid = sid'; from = s.from; at = to; last = last }; found = None }) looks)
+  none-finds sid' last later anew =
+      (record { on = omega arith; built = refl; pieces = refl; from = refl }, append-nil s.given, later, λ countable. record { searched = all; all = given; anew = anew })
+
+  -- Something is still live: the search goes on in the state that it came to.
+  pub search-none : ¬ NothingIsLive s.built.dictionary since → SearchesOn (Reaches No) s start (record { progress = record { sid = stop.sid; from = s.from; at = to; last = s.last }; found = None }) y z
+  search-none live =
+      let course = stands.course in
+      let ordered = course.ordered.0 in
+      let kept = course.kept in
+      let ended = course.ended in
+      let after = lives since stop.sid reads in
+      let end = all in
+      let t : StreamProgress = after_search s (record { progress = record { sid = stop.sid; from = s.from; at = to; last = s.last }; found = None }) looks in
+      let goes : ContinuesWalk t = subst (λ (l : List Occurrence). ContinuesWalk (record t { given = l })) (sym (append-nil s.given)) stands.goes in
+      record {
+        looks = looks;
+        done = done;
+        from = refl;
+        finds = none-finds stop.sid s.last (omega arith) (λ decided. absurd (live (decided-empty decided)));
+        stands = stands-from (Reaches No) t start stop.sid course.standard course.filled (omega arith) (omega arith) (omega (arith, ap end_of (append-nil s.given))) (omega arith) (omega arith) kept.2 course.short course.paid.scanned course.paid.moved stands.begins reads since-quiet goes paid after.0 after.1;
+      }
+
+  -- Nothing is live: the search begins anew.
+  pub search-anew : IsOwnInverse s.built.dictionary.pairing → NothingIsLive s.built.dictionary since → SearchesOn (Reaches No) s start (record { progress = record { sid = start; from = s.from; at = to; last = to }; found = None }) y z
+  search-anew inverse live =
+      let course = stands.course in
+      let ordered = course.ordered.0 in
+      let kept = course.kept in
+      let ended = course.ended in
+      let end = all in
+      let x = read_by s in
+      let empty = part-empty x to in
+      let begins : Reaches No (slice_range x to to) start = subst (λ (l : List ℕ). Reaches No l start) (sym empty) stands.begins in
+      let none = lives (slice_range x to to) start begins in
+      let sums = paid (Some (length since)) live in
+      let t : StreamProgress = after_search s (record { progress = record { sid = start; from = s.from; at = to; last = to }; found = None }) looks in
+      let goes : ContinuesWalk t = goes-anew (record t { last = s.last }) inverse course.filled (omega arith) (omega arith) since-quiet live (subst (λ (l : List Occurrence). ContinuesWalk (record t { given = l; last = s.last })) (sym (append-nil s.given)) stands.goes) in
+      record {
+        looks = looks;
+        done = done;
+        from = refl;
+        finds = none-finds start to (omega arith) (λ decided. refl);
+        stands = stands-from (Reaches No) t start start course.standard course.filled (omega arith) (omega arith) (omega (arith, ap end_of (append-nil s.given))) (omega arith) (omega arith) kept.2 course.short course.paid.scanned course.paid.moved stands.begins begins
+            (nothing-in_empty s.built.dictionary (slice_range x to to) course.filled empty)
+            goes
+            (λ one alive. let zero = live-empty x to one in (omega arith, sums.1, sums.2))
+            none.0 none.1;
+      }
 
 -- ---- to a match
 
@@ -256,13 +340,8 @@ told-some m text (n ∷ ns) standard tells some quiet =
     let best = told-standard m text (n ∷ ns) earlier all in
     quiet (ending m text n) best.0
 
--- nothing is live of no text
-pub live-empty : (x : List ℕ) (at : ℕ) (live : Option ℕ) → live_len (slice_range x at at) live ≡ 0
-live-empty x at None = refl
-live-empty x at (Some from) = let empty = ap length (part-empty x at) in omega arith
-
 -- a match was found among the bytes that are held
-found-held : (s : Scanned) (b o : Occurrence) (at : ℕ) → IsOnCourse s → s.at < at → at ≤ length (read_by s) → o.end ≡ at → s.last ≤ o.start → Occurs (whole s.built.dictionary (slice_range (read_by s) s.last at) false) b → shifted s.last b ≡ o → IsHeldMatch s o
+found-held : (s : StreamProgress) (b o : Occurrence) (at : ℕ) → IsOnCourse s → s.at < at → at ≤ length (read_by s) → o.end ≡ at → s.last ≤ o.start → Occurs (whole s.built.dictionary (slice_range (read_by s) s.last at) false) b → shifted s.last b ≡ o → IsHeldMatch s o
 found-held s b o at course lt inside ends behind occurs is =
     let m = s.built.dictionary in
     let bound = occurs-bound m false (slice_range (read_by s) s.last at) b occurs in
@@ -282,15 +361,15 @@ found-held s b o at course lt inside ends behind occurs is =
     }
 
 -- The next match among the bytes that are held was found.
-pub search-some : (s : Scanned) (Reads : Anchored → List ℕ → StateID → Type 0) (matches : StateID → List ℕ) (start sid : StateID) (stop : Advance) (o : Occurrence) (y z : Steps)
-    → ((text : List ℕ) (state : StateID) → Reads No text state → Tells s.built.dictionary No text (matches state))
-    → ((text : List ℕ) (state : StateID) → Reads No text state → (live : Option ℕ) × IsLive s.built.dictionary false text live)
-    → StandsInState (Reads No) s start sid
-    → StopsAtMatch s.built Reads matches sid (drop s.at (read_by s)) stop true y z
+pub search-some : (s : StreamProgress) (Reaches : Anchored → List ℕ → StateID → Type 0) (matches : StateID → List ℕ) (start sid : StateID) (stop : Advance) (o : Occurrence) (y z : Steps)
+    → ((text : List ℕ) (state : StateID) → Reaches No text state → Tells s.built.dictionary No text (matches state))
+    → ((text : List ℕ) (state : StateID) → Reaches No text state → (live : Option ℕ) × IsLive s.built.dictionary false text live)
+    → StandsInState (Reaches No) s start sid
+    → StopsAtMatch s.built Reaches matches sid (drop s.at (read_by s)) stop true y z
     → CanBeCounted (read_by s)
     → Some o ≡ option_map (ending_at s.built.dictionary (s.at + stop.taken)) (slice_get (matches stop.sid) 0)
-    → SearchesOn (Reads No) s start (record { progress = record { sid = start; from = s.from; at = s.at + stop.taken; last = s.at + stop.taken }; found = Some o }) y z
-search-some s Reads matches start sid stop o y z tells lives stands stops countable is =
+    → SearchesOn (Reaches No) s start (record { progress = record { sid = start; from = s.from; at = s.at + stop.taken; last = s.at + stop.taken }; found = Some o }) y z
+search-some s Reaches matches start sid stop o y z tells lives stands stops countable is =
     let m = s.built.dictionary in
     let x = read_by s in
     let course = stands.course in
@@ -303,7 +382,7 @@ search-some s Reads matches start sid stop o y z tells lives stands stops counta
     let there = stops.there refl in
     let text = slice_range x s.last to in
     let long = slice_range-length x s.last to (omega arith) (omega arith) in
-    let reads = reads-on s Reads matches sid stop true y z ordered stands.reads stops in
+    let reads = reads-on s Reaches matches sid stop true y z ordered stands.reads stops in
     let still = λ (le : stop.taken ≤ 0).
     let same : s.at ≡ to = omega (arith, le) in
     told-some m text (matches stop.sid) course.standard (tells text stop.sid reads) there (subst (λ (n : ℕ). IsBest Standard (whole m (slice_range x s.last n) false) None) same stands.quiet) in
@@ -312,19 +391,19 @@ search-some s Reads matches start sid stop o y z tells lives stands stops counta
     let after = lives text stop.sid reads in
     let looks : ℕ = looked_of z - looked_of y in
     let paid = stands.lookups before.0 before.1 in
-    let run = cost-on s Reads matches sid stop true y z before.0 after.0 ordered stands.reads stops before.1 after.1 in
+    let run = cost-on s Reaches matches sid stop true y z before.0 after.0 ordered stands.reads stops before.1 after.1 in
     let more = paid-on s.built.deterministic s.looked (live_len (since_last s) before.0) s.at stop.taken (live_len text after.0) y z paid.0 paid.1 paid.2 run in
     let best = told-best_at m text (matches stop.sid) s.last to o course.standard (omega arith)
-    (λ q h lt. none-ends_before m x s.last s.at to q course.standard ordered (omega arith) (omega arith) stands.quiet (tells-on s Reads matches sid stop true y z tells ordered stands.reads stops) h (omega arith))
+    (λ q h lt. none-ends_before m x s.last s.at to q course.standard ordered (omega arith) (omega arith) stands.quiet (tells-on s Reaches matches sid stop true y z tells ordered stands.reads stops) h (omega arith))
     (tells text stop.sid reads) there is in
     let pick = λ (tail : List ℕ). subst (λ (q : Occurrence). IsPick Standard (whole m (x ++ tail) false) s.last (Some s.last) (Some q)) best.2 (pick-since m x tail s.last to best.0 (omega arith) (omega arith) course.filled best.1) in
     let ends = best.3 in
     let starts : s.last + best.0.start ≡ o.start = ap (λ (q : Occurrence). q.start) best.2 in
     let behind : s.last ≤ o.start = omega arith in
-    let goes = subst (λ (n : ℕ). GoesOn (record s { given = s.given ++ o ∷ []; at = n; last = n; looked = s.looked + looks })) ends (goes-match s o (s.looked + looks) stands.goes pick) in
+    let goes = subst (λ (n : ℕ). ContinuesWalk (record s { given = s.given ++ o ∷ []; at = n; last = n; looked = s.looked + looks })) ends (goes-match s o (s.looked + looks) stands.goes pick) in
     let empty = part-empty x to in
-    let t : Scanned = after_search s (record { progress = record { sid = start; from = s.from; at = to; last = to }; found = Some o }) looks in
-    let begins : Reads No (slice_range x to to) start = subst (λ (l : List ℕ). Reads No l start) (sym empty) stands.begins in
+    let t : StreamProgress = after_search s (record { progress = record { sid = start; from = s.from; at = to; last = to }; found = Some o }) looks in
+    let begins : Reaches No (slice_range x to to) start = subst (λ (l : List ℕ). Reaches No l start) (sym empty) stands.begins in
     let live = lives (slice_range x to to) start begins in
     record {
       looks = looks;
@@ -338,8 +417,8 @@ search-some s Reads matches start sid stop o y z tells lives stands stops counta
         found-held s best.0 o to course (omega arith) (omega arith) ends (omega arith) best.1.0 best.2,
         countable,
       );
-      stands = stands-from (Reads No) t start start course.standard course.filled (omega arith) (omega arith) (omega arith) (omega arith) kept.2 course.short course.paid.scanned course.paid.moved stands.begins begins
-          (λ q h. let w = h.within in let lt = occurs-not_empty (whole m (slice_range x to to) false) q (omega arith) course.filled h in absurd (omega (arith, ap length empty)))
+      stands = stands-from (Reaches No) t start start course.standard course.filled (omega arith) (omega arith) (omega (arith, end_of-push s.given o)) (omega arith) (omega arith) kept.2 course.short course.paid.scanned course.paid.moved stands.begins begins
+          (nothing-in_empty s.built.dictionary (slice_range x to to) course.filled empty)
           goes
           (λ one alive. let none = live-empty x to one in (omega arith, more.1, more.2))
           live.0 live.1;
@@ -348,58 +427,78 @@ search-some s Reads matches start sid stop o y z tells lives stands stops counta
 -- ---- the same, told of what the search keeps
 
 -- the places of a search, put together
-progress-same : (s : Scanned) (p : Progress) → p.from ≡ s.from → p.at ≡ s.at → p.last ≡ s.last → record { sid = p.sid; from = s.from; at = s.at; last = s.last } ≡ p
+progress-same : (s : StreamProgress) (p : Progress) → p.from ≡ s.from → p.at ≡ s.at → p.last ≡ s.last → record { sid = p.sid; from = s.from; at = s.at; last = s.last } ≡ p
 progress-same s p f a l = λ i. record { sid = p.sid; from = sym f i; at = sym a i; last = sym l i }
 
 -- where nothing was found
-pub searches-none : (b : Built) (s : Scanned) (Reads : Anchored → List ℕ → StateID → Type 0) (matches : StateID → List ℕ) (start : StateID) (p : Progress) (held : List ℕ) (stop : Advance) (y z : Steps)
-    → ((text : List ℕ) (state : StateID) → Reads No text state → Tells b.dictionary No text (matches state))
-    → ((text : List ℕ) (state : StateID) → Reads No text state → (live : Option ℕ) × IsLive b.dictionary false text live)
-    → IsHeldAt b (Reads No) s start p held
-    → StopsAtMatch b Reads matches p.sid (drop (p.at - p.from) held) stop false y z
-    → SearchesOn (Reads No) s start (record { progress = record { sid = stop.sid; from = p.from; at = p.at + stop.taken; last = p.last }; found = None }) y z
-searches-none b s Reads matches start p held stop y z tells lives is stops =
-    let rest : drop (p.at - p.from) held ≡ drop s.at (read_by s) = rest-held (read_by s) held s.from s.at p.from p.at is.from is.at is.bytes is.stands.course.kept.1 in
-    let here : StopsAtMatch b Reads matches p.sid (drop s.at (read_by s)) stop false y z = subst (λ (l : List ℕ). StopsAtMatch b Reads matches p.sid l stop false y z) rest stops in
-    subst (λ (q : Progress). SearchesOn (Reads No) s start (record { progress = record { sid = stop.sid; from = q.from; at = q.at + stop.taken; last = q.last }; found = None }) y z) (progress-same s p is.from is.at is.last)
-    (search-none s Reads matches start p.sid stop y z
-    (subst (λ (d : Built). (text : List ℕ) (state : StateID) → Reads No text state → Tells d.dictionary No text (matches state)) (sym is.built) tells)
-    (subst (λ (d : Built). (text : List ℕ) (state : StateID) → Reads No text state → (live : Option ℕ) × IsLive d.dictionary false text live) (sym is.built) lives)
-    is.stands
-    (subst (λ (d : Built). StopsAtMatch d Reads matches p.sid (drop s.at (read_by s)) stop false y z) (sym is.built) here))
+module _ (b : Built) (s : StreamProgress) (Reaches : Anchored → List ℕ → StateID → Type 0) (matches : StateID → List ℕ) (start : StateID) (p : Progress) (held : List ℕ) (stop : Advance) (y z : Steps)
+    (tells : (text : List ℕ) (state : StateID) → Reaches No text state → Tells b.dictionary No text (matches state))
+    (lives : (text : List ℕ) (state : StateID) → Reaches No text state → (live : Option ℕ) × IsLive b.dictionary false text live)
+    (is : IsHeldAt b (Reaches No) s start p held)
+    (stops : StopsAtMatch b Reaches matches p.sid (drop (p.at - p.from) held) stop false y z) where
+  tells-here : (text : List ℕ) (state : StateID) → Reaches No text state → Tells s.built.dictionary No text (matches state)
+  tells-here = subst (λ (d : Built). (text : List ℕ) (state : StateID) → Reaches No text state → Tells d.dictionary No text (matches state)) (sym is.built) tells
+
+  lives-here : (text : List ℕ) (state : StateID) → Reaches No text state → (live : Option ℕ) × IsLive s.built.dictionary false text live
+  lives-here = subst (λ (d : Built). (text : List ℕ) (state : StateID) → Reaches No text state → (live : Option ℕ) × IsLive d.dictionary false text live) (sym is.built) lives
+
+  stops-here : StopsAtMatch s.built Reaches matches p.sid (drop s.at (read_by s)) stop false y z
+  stops-here =
+      let rest : drop (p.at - p.from) held ≡ drop s.at (read_by s) = rest-held (read_by s) held s.from s.at p.from p.at is.from is.at is.bytes is.stands.course.kept.1 in
+      subst (λ (d : Built). StopsAtMatch d Reaches matches p.sid (drop s.at (read_by s)) stop false y z) (sym is.built) (subst (λ (l : List ℕ). StopsAtMatch b Reaches matches p.sid l stop false y z) rest stops)
+
+  -- the bytes since the search last began
+  abbrev pub searched-text : List ℕ
+  searched-text = slice_range (read_by s) s.last (s.at + stop.taken)
+
+  -- they lead to the state
+  pub searched-reads : Reaches No searched-text stop.sid
+  searched-reads = reads-on s Reaches matches p.sid stop false y z is.stands.course.ordered.0 is.stands.reads stops-here
+
+  -- and something is still live
+  pub searches-none : ¬ NothingIsLive b.dictionary searched-text → SearchesOn (Reaches No) s start (record { progress = record { sid = stop.sid; from = p.from; at = p.at + stop.taken; last = p.last }; found = None }) y z
+  searches-none live =
+      subst (λ (q : Progress). SearchesOn (Reaches No) s start (record { progress = record { sid = stop.sid; from = q.from; at = q.at + stop.taken; last = q.last }; found = None }) y z) (progress-same s p is.from is.at is.last)
+      (search-none s Reaches matches start p.sid stop y z tells-here lives-here is.stands stops-here (subst (λ (d : Built). ¬ NothingIsLive d.dictionary searched-text) (sym is.built) live))
+
+  -- and nothing is live
+  pub searches-anew : IsOwnInverse b.dictionary.pairing → NothingIsLive b.dictionary searched-text → SearchesOn (Reaches No) s start (record { progress = record { sid = start; from = p.from; at = p.at + stop.taken; last = p.at + stop.taken }; found = None }) y z
+  searches-anew inverse live =
+      subst (λ (q : Progress). SearchesOn (Reaches No) s start (record { progress = record { sid = start; from = q.from; at = q.at + stop.taken; last = q.at + stop.taken }; found = None }) y z) (progress-same s p is.from is.at is.last)
+      (search-anew s Reaches matches start p.sid stop y z tells-here lives-here is.stands stops-here (subst (λ (d : Built). IsOwnInverse d.dictionary.pairing) (sym is.built) inverse) (subst (λ (d : Built). NothingIsLive d.dictionary searched-text) (sym is.built) live))
 
 -- where a match was found
-pub searches-some : (b : Built) (s : Scanned) (Reads : Anchored → List ℕ → StateID → Type 0) (matches : StateID → List ℕ) (start : StateID) (p : Progress) (held : List ℕ) (stop : Advance) (o : Occurrence) (y z : Steps)
-    → ((text : List ℕ) (state : StateID) → Reads No text state → Tells b.dictionary No text (matches state))
-    → ((text : List ℕ) (state : StateID) → Reads No text state → (live : Option ℕ) × IsLive b.dictionary false text live)
-    → IsHeldAt b (Reads No) s start p held
-    → StopsAtMatch b Reads matches p.sid (drop (p.at - p.from) held) stop true y z
+pub searches-some : (b : Built) (s : StreamProgress) (Reaches : Anchored → List ℕ → StateID → Type 0) (matches : StateID → List ℕ) (start : StateID) (p : Progress) (held : List ℕ) (stop : Advance) (o : Occurrence) (y z : Steps)
+    → ((text : List ℕ) (state : StateID) → Reaches No text state → Tells b.dictionary No text (matches state))
+    → ((text : List ℕ) (state : StateID) → Reaches No text state → (live : Option ℕ) × IsLive b.dictionary false text live)
+    → IsHeldAt b (Reaches No) s start p held
+    → StopsAtMatch b Reaches matches p.sid (drop (p.at - p.from) held) stop true y z
     → Some o ≡ option_map (ending_at b.dictionary (p.at + stop.taken)) (slice_get (matches stop.sid) 0)
-    → SearchesOn (Reads No) s start (record { progress = record { sid = start; from = p.from; at = p.at + stop.taken; last = p.at + stop.taken }; found = Some o }) y z
-searches-some b s Reads matches start p held stop o y z tells lives is stops found =
+    → SearchesOn (Reaches No) s start (record { progress = record { sid = start; from = p.from; at = p.at + stop.taken; last = p.at + stop.taken }; found = Some o }) y z
+searches-some b s Reaches matches start p held stop o y z tells lives is stops found =
     let rest : drop (p.at - p.from) held ≡ drop s.at (read_by s) = rest-held (read_by s) held s.from s.at p.from p.at is.from is.at is.bytes is.stands.course.kept.1 in
-    let here : StopsAtMatch b Reads matches p.sid (drop s.at (read_by s)) stop true y z = subst (λ (l : List ℕ). StopsAtMatch b Reads matches p.sid l stop true y z) rest stops in
+    let here : StopsAtMatch b Reaches matches p.sid (drop s.at (read_by s)) stop true y z = subst (λ (l : List ℕ). StopsAtMatch b Reaches matches p.sid l stop true y z) rest stops in
     let at : Some o ≡ option_map (ending_at b.dictionary (s.at + stop.taken)) (slice_get (matches stop.sid) 0) = subst (λ (n : ℕ). Some o ≡ option_map (ending_at b.dictionary (n + stop.taken)) (slice_get (matches stop.sid) 0)) is.at found in
-    subst (λ (q : Progress). SearchesOn (Reads No) s start (record { progress = record { sid = start; from = q.from; at = q.at + stop.taken; last = q.at + stop.taken }; found = Some o }) y z) (progress-same s p is.from is.at is.last)
-    (search-some s Reads matches start p.sid stop o y z
-    (subst (λ (d : Built). (text : List ℕ) (state : StateID) → Reads No text state → Tells d.dictionary No text (matches state)) (sym is.built) tells)
-    (subst (λ (d : Built). (text : List ℕ) (state : StateID) → Reads No text state → (live : Option ℕ) × IsLive d.dictionary false text live) (sym is.built) lives)
+    subst (λ (q : Progress). SearchesOn (Reaches No) s start (record { progress = record { sid = start; from = q.from; at = q.at + stop.taken; last = q.at + stop.taken }; found = Some o }) y z) (progress-same s p is.from is.at is.last)
+    (search-some s Reaches matches start p.sid stop o y z
+    (subst (λ (d : Built). (text : List ℕ) (state : StateID) → Reaches No text state → Tells d.dictionary No text (matches state)) (sym is.built) tells)
+    (subst (λ (d : Built). (text : List ℕ) (state : StateID) → Reaches No text state → (live : Option ℕ) × IsLive d.dictionary false text live) (sym is.built) lives)
     is.stands
-    (subst (λ (d : Built). StopsAtMatch d Reads matches p.sid (drop s.at (read_by s)) stop true y z) (sym is.built) here)
+    (subst (λ (d : Built). StopsAtMatch d Reaches matches p.sid (drop s.at (read_by s)) stop true y z) (sym is.built) here)
     is.countable
     (subst (λ (d : Built). Some o ≡ option_map (ending_at d.dictionary (s.at + stop.taken)) (slice_get (matches stop.sid) 0)) (sym is.built) at))
 
 -- the bytes since the last match are no more than there are places before where the search stands
-pub reached-text : (b : Built) (s : Scanned) (Reads : Anchored → List ℕ → StateID → Type 0) (matches : StateID → List ℕ) (start : StateID) (p : Progress) (held : List ℕ) (stop : Advance) (y z : Steps)
-    → IsHeldAt b (Reads No) s start p held
-    → StopsAtMatch b Reads matches p.sid (drop (p.at - p.from) held) stop true y z
-    → (text : List ℕ) × Reads No text stop.sid × (length text ≤ p.at + stop.taken)
-reached-text b s Reads matches start p held stop y z is stops =
+pub reached-text : (b : Built) (s : StreamProgress) (Reaches : Anchored → List ℕ → StateID → Type 0) (matches : StateID → List ℕ) (start : StateID) (p : Progress) (held : List ℕ) (stop : Advance) (y z : Steps)
+    → IsHeldAt b (Reaches No) s start p held
+    → StopsAtMatch b Reaches matches p.sid (drop (p.at - p.from) held) stop true y z
+    → (text : List ℕ) × Reaches No text stop.sid × (length text ≤ p.at + stop.taken)
+reached-text b s Reaches matches start p held stop y z is stops =
     let rest : drop (p.at - p.from) held ≡ drop s.at (read_by s) = rest-held (read_by s) held s.from s.at p.from p.at is.from is.at is.bytes is.stands.course.kept.1 in
-    let here : StopsAtMatch b Reads matches p.sid (drop s.at (read_by s)) stop true y z = subst (λ (l : List ℕ). StopsAtMatch b Reads matches p.sid l stop true y z) rest stops in
+    let here : StopsAtMatch b Reaches matches p.sid (drop s.at (read_by s)) stop true y z = subst (λ (l : List ℕ). StopsAtMatch b Reaches matches p.sid l stop true y z) rest stops in
     let ordered = is.stands.course.ordered in
     let at = is.at in
     let within = here.within in
     let left = length-drop s.at (read_by s) in
     let long = slice_range-length (read_by s) s.last (s.at + stop.taken) (omega (arith, ordered.0)) (omega (arith, ordered.1)) in
-    (slice_range (read_by s) s.last (s.at + stop.taken), subst (λ (l : List ℕ). Reads No l stop.sid) (text-on (read_by s) s.last s.at stop.taken ordered.0 (omega arith)) (here.reads (since_last s) is.stands.reads), omega arith)
+    (slice_range (read_by s) s.last (s.at + stop.taken), subst (λ (l : List ℕ). Reaches No l stop.sid) (text-on (read_by s) s.last s.at stop.taken ordered.0 (omega arith)) (here.reads (since_last s) is.stands.reads), omega arith)

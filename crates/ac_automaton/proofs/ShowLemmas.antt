@@ -16,37 +16,38 @@ use Rattle.ac_automaton.specs.Cursor.{IsCursor, read_to, walked}
 use Rattle.ac_automaton.specs.declared.cursor.Cursor.{Cursor}
 use Rattle.ac_automaton.specs.declared.cursor.End.{End}
 use Rattle.ac_automaton.specs.declared.cursor.End.TheVariants.{Found, Idle}
-use Rattle.ac_automaton.specs.declared.overlapping.Place.{Place}
-use Rattle.ac_automaton.specs.declared.overlapping.Place.TheVariants.{At, Over}
+use Rattle.ac_automaton.specs.declared.overlapping.Position.{Position}
+use Rattle.ac_automaton.specs.declared.overlapping.Position.TheVariants.{At, Over}
 use Rattle.ac_automaton.specs.declared.overlapping.Shown.{Shown}
 use Rattle.ac_automaton.specs.Overlapping.{ending_from, told_from, TellsFirst, ShowsFirst, ShowsHere, EndsHere, ReadsOn, IsBehind, IsPaidAt, IsPaidBy}
-use Rattle.ac_automaton.proofs.OverlappingLemmas.{IsPlace, HasWalkedOn, ending_from-dead, ending_from-split, place_of-cursor, shows-none, shows-some, pays-over, pays-at, pays-back, read_on-settled}
+use Rattle.ac_automaton.proofs.OverlappingLemmas.{IsPlace, ending_from-dead, ending_from-split, place_of-cursor}
+use Rattle.ac_automaton.proofs.OverlappingReadLemmas.{HasWalkedOn, shows-none, shows-some, pays-over, pays-at, pays-back, read_on-settled}
 
 -- where the state is dead, nothing more is shown
-pub shows-dead : (b : Built) (Reads : Anchored → List ℕ → StateID → Type 0) (matches : StateID → List ℕ) (asked : Asked) (cursor : Cursor) (r : Shown)
-    → b.dictionary.kind ≡ Standard → IsOwnInverse b.dictionary.pairing → IsCursor (Reads asked.anchored) (searched b asked) cursor
+pub shows-dead : (b : Built) (Reaches : Anchored → List ℕ → StateID → Type 0) (matches : StateID → List ℕ) (asked : Asked) (cursor : Cursor) (r : Shown)
+    → b.dictionary.kind ≡ Standard → IsOwnInverse b.dictionary.pairing → IsCursor (Reaches asked.anchored) (searched b asked) cursor
     → IsLive b.dictionary (is_anchored asked.anchored) (read_to (walked (searched b asked) cursor) cursor.at) None
-    → r.found ≡ None → r.place ≡ Over → ShowsHere b Reads matches asked cursor (Some r)
-shows-dead b Reads matches asked cursor r standard inverse is dead found place =
+    → r.found ≡ None → r.place ≡ Over → ShowsHere b Reaches matches asked cursor (Some r)
+shows-dead b Reaches matches asked cursor r standard inverse is dead found place =
     let s = searched b asked in
-    let at = place_of-cursor (Reads asked.anchored) b.dictionary asked cursor standard is in
+    let at = place_of-cursor (Reaches asked.anchored) b.dictionary asked cursor standard is in
     let none = ending_from-dead b.dictionary asked.anchored (walked s cursor) cursor.at at inverse dead in
-    (shows-none (Reads asked.anchored) matches b.dictionary s (ending_from (walked s cursor) cursor.at) r none found place, inl place)
+    (shows-none (Reaches asked.anchored) matches b.dictionary s (ending_from (walked s cursor) cursor.at) r none found place, inl place)
 
 -- else what it tells first
-pub shows-told : (b : Built) (Reads : Anchored → List ℕ → StateID → Type 0) (matches : StateID → List ℕ) (asked : Asked) (cursor : Cursor) (r : Option Shown)
-    → b.dictionary.kind ≡ Standard → IsCursor (Reads asked.anchored) (searched b asked) cursor
+pub shows-told : (b : Built) (Reaches : Anchored → List ℕ → StateID → Type 0) (matches : StateID → List ℕ) (asked : Asked) (cursor : Cursor) (r : Option Shown)
+    → b.dictionary.kind ≡ Standard → IsCursor (Reaches asked.anchored) (searched b asked) cursor
     → Tells b.dictionary asked.anchored (read_to (walked (searched b asked) cursor) cursor.at) (matches cursor.sid)
-    → TellsFirst matches b.dictionary (searched b asked) cursor 0 r → ShowsHere b Reads matches asked cursor r
-shows-told b Reads matches asked cursor None standard is tells told = told
-shows-told b Reads matches asked cursor (Some r) standard is tells (o, next, found, place, told) =
+    → TellsFirst matches b.dictionary (searched b asked) cursor 0 r → ShowsHere b Reaches matches asked cursor r
+shows-told b Reaches matches asked cursor None standard is tells told = told
+shows-told b Reaches matches asked cursor (Some r) standard is tells (o, next, found, place, told) =
     let s = searched b asked in
-    let at = place_of-cursor (Reads asked.anchored) b.dictionary asked cursor standard is in
+    let at = place_of-cursor (Reaches asked.anchored) b.dictionary asked cursor standard is in
     let split = ending_from-split b.dictionary asked.anchored (walked s cursor) cursor.at (matches cursor.sid) at tells in
-    (shows-some (Reads asked.anchored) matches b.dictionary s (ending_from (walked s cursor) cursor.at) cursor 0 r is split (o, next, found, place, told), inr (next, place))
+    (shows-some (Reaches asked.anchored) matches b.dictionary s (ending_from (walked s cursor) cursor.at) cursor 0 r is split (o, next, found, place, told), inr (next, place))
 
 -- a search that stands at a further place is behind an earlier one
-shown-behind : (at : ℕ) (cursor : Cursor) (place : Place) → at < cursor.at → (place ≡ Over) ⊎ ((index : ℕ) × (place ≡ At cursor.sid cursor.from cursor.at index)) → IsBehind at place
+shown-behind : (at : ℕ) (cursor : Cursor) (place : Position) → at < cursor.at → (place ≡ Over) ⊎ ((index : ℕ) × (place ≡ At cursor.sid cursor.from cursor.at index)) → IsBehind at place
 shown-behind at cursor place lt where_ =
     ⊎_elim
     (λ (over : place ≡ Over). subst (IsBehind at) (sym over) tt)
@@ -54,68 +55,68 @@ shown-behind at cursor place lt where_ =
     where_
 
 -- what is shown where reading on came to
-pub reads-shown : (b : Built) (Reads : Anchored → List ℕ → StateID → Type 0) (matches : StateID → List ℕ) (asked : Asked) (from at : ℕ) (cursor : Cursor) (r : Shown) (x y : Steps)
+pub reads-shown : (b : Built) (Reaches : Anchored → List ℕ → StateID → Type 0) (matches : StateID → List ℕ) (asked : Asked) (from at : ℕ) (cursor : Cursor) (r : Shown) (x y : Steps)
     → at < cursor.at → cursor.from ≡ from
-    → HasWalkedOn (Reads asked.anchored) b.dictionary b.deterministic (searched b asked) from at cursor.at cursor.at cursor.sid x y
-    → ShowsHere b Reads matches asked cursor (Some r)
-    → ReadsOn (Reads asked.anchored) matches b.dictionary (searched b asked) at (ending_from (starting_at (searched b asked) from) (at + 1)) (Found r)
-reads-shown b Reads matches asked from at cursor r x y lt begun had shows =
+    → HasWalkedOn (Reaches asked.anchored) b.dictionary b.deterministic (searched b asked) from at cursor.at cursor.at cursor.sid x y
+    → ShowsHere b Reaches matches asked cursor (Some r)
+    → ReadsOn (Reaches asked.anchored) matches b.dictionary (searched b asked) at (ending_from (starting_at (searched b asked) from) (at + 1)) (Found r)
+reads-shown b Reaches matches asked from at cursor r x y lt begun had shows =
     let s = searched b asked in
     let same : ending_from (walked s cursor) cursor.at ≡ ending_from (starting_at s from) cursor.at = ap (λ (f : ℕ). ending_from (starting_at s f) cursor.at) begun in
-    (subst (λ (left : List Occurrence). ShowsFirst (Reads asked.anchored) matches b.dictionary s left r) (same ∙ sym had.later) shows.0, shown-behind at cursor r.place lt shows.1)
+    (subst (λ (left : List Occurrence). ShowsFirst (Reaches asked.anchored) matches b.dictionary s left r) (same ∙ sym had.later) shows.0, shown-behind at cursor r.place lt shows.1)
 
 -- and what that cost
-pub pays-shown : (b : Built) (Reads : List ℕ → StateID → Type 0) (s : Search) (from at : ℕ) (cursor : Cursor) (r : Shown) (x y : Steps)
+pub pays-shown : (b : Built) (Reaches : List ℕ → StateID → Type 0) (s : Search) (from at : ℕ) (cursor : Cursor) (r : Shown) (x y : Steps)
     → s.start ≤ cursor.at → cursor.at ≤ s.end → cursor.from ≡ from
-    → ((text : List ℕ) (state : StateID) → Reads text state → (live : Option ℕ) × IsLive b.dictionary s.anchored text live)
-    → HasWalkedOn Reads b.dictionary b.deterministic s from at cursor.at cursor.at cursor.sid x y
+    → ((text : List ℕ) (state : StateID) → Reaches text state → (live : Option ℕ) × IsLive b.dictionary s.anchored text live)
+    → HasWalkedOn Reaches b.dictionary b.deterministic s from at cursor.at cursor.at cursor.sid x y
     → (r.place ≡ Over) ⊎ ((index : ℕ) × (r.place ≡ At cursor.sid cursor.from cursor.at index))
     → (looks more : ℕ) → IsPaidAt b.dictionary b.deterministic s from at looks → looks + looked_of y ≡ more + looked_of x → IsPaidBy b.dictionary b.deterministic s (Found r) more
-pays-shown b Reads s from at cursor r x y g h begun lives had where_ =
+pays-shown b Reaches s from at cursor r x y g h begun lives had where_ =
     ⊎_elim
-    (λ (over : r.place ≡ Over). pays-over Reads b.dictionary b.deterministic s from at cursor.at cursor.at cursor.sid x y r g h lives had over)
+    (λ (over : r.place ≡ Over). pays-over Reaches b.dictionary b.deterministic s from at cursor.at cursor.at cursor.sid x y r g h lives had over)
     (λ (here : (index : ℕ) × (r.place ≡ At cursor.sid cursor.from cursor.at index)).
-    pays-at Reads b.dictionary b.deterministic s from at cursor.at cursor.at cursor.sid cursor.sid x y here.0 r had (here.1 ∙ ap (λ (f : ℕ). At cursor.sid f cursor.at here.0) begun))
+    pays-at Reaches b.dictionary b.deterministic s from at cursor.at cursor.at cursor.sid cursor.sid x y here.0 r had (here.1 ∙ ap (λ (f : ℕ). At cursor.sid f cursor.at here.0) begun))
     where_
 
 -- where nothing is told, the walk goes on after the place
-pub walked_on-settled : (b : Built) (Reads : Anchored → List ℕ → StateID → Type 0) (matches : StateID → List ℕ) (asked : Asked) (from at : ℕ) (cursor : Cursor) (x y : Steps)
-    → b.dictionary.kind ≡ Standard → IsCursor (Reads asked.anchored) (searched b asked) cursor → cursor.from ≡ from
+pub walked_on-settled : (b : Built) (Reaches : Anchored → List ℕ → StateID → Type 0) (matches : StateID → List ℕ) (asked : Asked) (from at : ℕ) (cursor : Cursor) (x y : Steps)
+    → b.dictionary.kind ≡ Standard → IsCursor (Reaches asked.anchored) (searched b asked) cursor → cursor.from ≡ from
     → Tells b.dictionary asked.anchored (read_to (walked (searched b asked) cursor) cursor.at) (matches cursor.sid)
     → told_from b.dictionary (walked (searched b asked) cursor) cursor.at (matches cursor.sid) 0 ≡ []
-    → HasWalkedOn (Reads asked.anchored) b.dictionary b.deterministic (searched b asked) from at cursor.at cursor.at cursor.sid x y
-    → HasWalkedOn (Reads asked.anchored) b.dictionary b.deterministic (searched b asked) from at cursor.at (cursor.at + 1) cursor.sid x y
-walked_on-settled b Reads matches asked from at cursor x y standard is begun tells none had =
+    → HasWalkedOn (Reaches asked.anchored) b.dictionary b.deterministic (searched b asked) from at cursor.at cursor.at cursor.sid x y
+    → HasWalkedOn (Reaches asked.anchored) b.dictionary b.deterministic (searched b asked) from at cursor.at (cursor.at + 1) cursor.sid x y
+walked_on-settled b Reaches matches asked from at cursor x y standard is begun tells none had =
     let m = b.dictionary in
     let s = searched b asked in
-    let place = place_of-cursor (Reads asked.anchored) m asked cursor standard is in
-    read_on-settled (Reads asked.anchored) m b.deterministic asked.anchored s from at cursor.at (matches cursor.sid) cursor.sid x y
+    let place = place_of-cursor (Reaches asked.anchored) m asked cursor standard is in
+    read_on-settled (Reaches asked.anchored) m b.deterministic asked.anchored s from at cursor.at (matches cursor.sid) cursor.sid x y
     (subst (λ (f : ℕ). IsPlace m asked.anchored (starting_at s f) cursor.at) begun place)
     (subst (λ (f : ℕ). Tells m asked.anchored (read_to (starting_at s f) cursor.at) (matches cursor.sid)) begun tells)
     (subst (λ (f : ℕ). told_from m (starting_at s f) cursor.at (matches cursor.sid) 0 ≡ []) begun none)
     had
 
 -- how reading on ends where it came to
-pub reads-end : (b : Built) (Reads : Anchored → List ℕ → StateID → Type 0) (matches : StateID → List ℕ) (asked : Asked) (from at : ℕ) (cursor : Cursor) (end : End Shown) (x y : Steps)
+pub reads-end : (b : Built) (Reaches : Anchored → List ℕ → StateID → Type 0) (matches : StateID → List ℕ) (asked : Asked) (from at : ℕ) (cursor : Cursor) (end : End Shown) (x y : Steps)
     → at < cursor.at → cursor.at ≤ (searched b asked).end → cursor.from ≡ from
-    → HasWalkedOn (Reads asked.anchored) b.dictionary b.deterministic (searched b asked) from at cursor.at cursor.at cursor.sid x y
-    → EndsHere b Reads matches asked cursor (Some end)
-    → ReadsOn (Reads asked.anchored) matches b.dictionary (searched b asked) at (ending_from (starting_at (searched b asked) from) (at + 1)) end
-reads-end b Reads matches asked from at cursor (Found r) x y lt le begun had ends = reads-shown b Reads matches asked from at cursor r x y lt begun had ends
-reads-end b Reads matches asked from at cursor (Idle to) x y lt le begun had (here, left) =
+    → HasWalkedOn (Reaches asked.anchored) b.dictionary b.deterministic (searched b asked) from at cursor.at cursor.at cursor.sid x y
+    → EndsHere b Reaches matches asked cursor (Some end)
+    → ReadsOn (Reaches asked.anchored) matches b.dictionary (searched b asked) at (ending_from (starting_at (searched b asked) from) (at + 1)) end
+reads-end b Reaches matches asked from at cursor (Found r) x y lt le begun had ends = reads-shown b Reaches matches asked from at cursor r x y lt begun had ends
+reads-end b Reaches matches asked from at cursor (Idle to) x y lt le begun had (here, left) =
     let s = searched b asked in
     let same : ending_from (starting_at s from) cursor.at ≡ ending_from (walked s cursor) cursor.at = ap (λ (f : ℕ). ending_from (starting_at s f) cursor.at) (sym begun) in
     (omega arith, omega arith, had.later ∙ same ∙ left ∙ ap (λ (n : ℕ). listing_of (starting_at s n)) (sym here))
 
 -- and what that cost
-pub pays-end : (b : Built) (Reads : Anchored → List ℕ → StateID → Type 0) (matches : StateID → List ℕ) (asked : Asked) (from at : ℕ) (cursor : Cursor) (end : End Shown) (x y : Steps)
+pub pays-end : (b : Built) (Reaches : Anchored → List ℕ → StateID → Type 0) (matches : StateID → List ℕ) (asked : Asked) (from at : ℕ) (cursor : Cursor) (end : End Shown) (x y : Steps)
     → (searched b asked).start ≤ cursor.at → cursor.at ≤ (searched b asked).end → cursor.from ≡ from
-    → ((text : List ℕ) (state : StateID) → Reads asked.anchored text state → (live : Option ℕ) × IsLive b.dictionary (is_anchored asked.anchored) text live)
-    → HasWalkedOn (Reads asked.anchored) b.dictionary b.deterministic (searched b asked) from at cursor.at cursor.at cursor.sid x y
-    → EndsHere b Reads matches asked cursor (Some end)
+    → ((text : List ℕ) (state : StateID) → Reaches asked.anchored text state → (live : Option ℕ) × IsLive b.dictionary (is_anchored asked.anchored) text live)
+    → HasWalkedOn (Reaches asked.anchored) b.dictionary b.deterministic (searched b asked) from at cursor.at cursor.at cursor.sid x y
+    → EndsHere b Reaches matches asked cursor (Some end)
     → (looks more : ℕ) → IsPaidAt b.dictionary b.deterministic (searched b asked) from at looks → looks + looked_of y ≡ more + looked_of x → IsPaidBy b.dictionary b.deterministic (searched b asked) end more
-pays-end b Reads matches asked from at cursor (Found r) x y g h begun lives had ends = pays-shown b (Reads asked.anchored) (searched b asked) from at cursor r x y g h begun lives had ends.1
-pays-end b Reads matches asked from at cursor (Idle to) x y g h begun lives had (here, left) = λ looks more paid e.
+pays-end b Reaches matches asked from at cursor (Found r) x y g h begun lives had ends = pays-shown b (Reaches asked.anchored) (searched b asked) from at cursor r x y g h begun lives had ends.1
+pays-end b Reaches matches asked from at cursor (Idle to) x y g h begun lives had (here, left) = λ looks more paid e.
     let s = searched b asked in
     subst (λ (n : ℕ). IsPaidBy b.dictionary b.deterministic s (Idle n) more) (sym here)
-    (pays-back (Reads asked.anchored) b.dictionary b.deterministic s from at cursor.at cursor.at cursor.sid x y g lives had looks more paid e)
+    (pays-back (Reaches asked.anchored) b.dictionary b.deterministic s from at cursor.at cursor.at cursor.sid x y g lives had looks more paid e)

@@ -8,8 +8,8 @@ use Rattle.ac_input.specs.declared.steps.Steps.{Steps}
 use Rattle.ac_input.specs.Steps.{looked_of, moved_of, scanned_of}
 use Rattle.ac_input.specs.Work.{lookups_per_byte}
 use Rattle.ac_automaton.specs.Automaton.{Built}
-use Rattle.ac_automaton.specs.Stream.{CanStream, IsStreamRefusal, Scanned, fresh_scan, read_by}
-use Rattle.ac_automaton.specs.StreamReplace.{CostsStream, HasSearched, IsBegun, IsReplaceStreamError, ReplacesStream}
+use Rattle.ac_automaton.specs.Stream.{CanStream, IsStreamRefusal, StreamProgress, fresh_progress, read_by}
+use Rattle.ac_automaton.specs.StreamReplace.{AcceptsReplacing, CostsStream, HasSearched, IsBegun, ReplacesStream}
 use Rattle.ac_automaton.specs.declared.error.StreamError.{StreamError}
 use Rattle.ac_automaton.specs.declared.error.StreamError.TheVariants.{Config, Read, Write, WriteZero, Memory, Position}
 use Rattle.ac_automaton.specs.declared.watched.Watched.{Watched}
@@ -28,7 +28,7 @@ nothing-moved remaining contents b supports replacements reader writer Memory re
 nothing-moved remaining contents b supports replacements reader writer Position refused = absurd refused
 
 -- why it did not begin
-pub not-begun : {R W : Type 0} (b : Built) (supports : Anchored → Type 0) (reader : Watched R) (writer : Watched W) (error : StreamError) → IsStreamRefusal b supports error → IsReplaceStreamError b supports reader reader writer writer error
+pub not-begun : {R W : Type 0} (b : Built) (supports : Anchored → Type 0) (reader : Watched R) (writer : Watched W) (error : StreamError) → IsStreamRefusal b supports error → AcceptsReplacing b supports reader reader writer writer (Err error)
 not-begun b supports reader writer (Config error) refused = (refused, (refl, refl))
 not-begun b supports reader writer (Read error) refused = absurd refused
 not-begun b supports reader writer (Write error) refused = absurd refused
@@ -37,7 +37,7 @@ not-begun b supports reader writer Memory refused = (refused, (refl, refl))
 not-begun b supports reader writer Position refused = absurd refused
 
 -- an error that came later
-pub begun-later : {R W : Type 0} (b : Built) (supports : Anchored → Type 0) (r0 r1 : Watched R) (w0 w1 : Watched W) (error : StreamError) → CanStream b supports → IsBegun error → IsReplaceStreamError b supports r0 r1 w0 w1 error
+pub begun-later : {R W : Type 0} (b : Built) (supports : Anchored → Type 0) (r0 r1 : Watched R) (w0 w1 : Watched W) (error : StreamError) → CanStream b supports → IsBegun error → AcceptsReplacing b supports r0 r1 w0 w1 (Err error)
 begun-later b supports r0 r1 w0 w1 (Config error) can begun = absurd begun
 begun-later b supports r0 r1 w0 w1 (Read error) can begun = can
 begun-later b supports r0 r1 w0 w1 (Write error) can begun = can
@@ -55,12 +55,12 @@ looks-within true looked at n h le = omega arith
 looks-within false looked at n h le = omega arith
 
 -- what a search cost that has just begun is what was counted
-pub cost-read : {R : Type 0} (b : Built) (s t : Scanned) (r0 r1 : Watched R) (before after : Steps) (result : Result (Unit {0}) StreamError) → s ≡ fresh_scan b → HasSearched s t r0 r1 before after result → CostsStream b r0 r1 before after result
+pub cost-read : {R : Type 0} (b : Built) (s t : StreamProgress) (r0 r1 : Watched R) (before after : Steps) (result : Result (Unit {0}) StreamError) → s ≡ fresh_progress b → HasSearched s t r0 r1 before after result → CostsStream b r0 r1 before after result
 cost-read b s t r0 r1 before after result fresh h =
-    let built : t.built ≡ b = h.built ∙ ap (λ (q : Scanned). q.built) fresh in
-    let looked : s.looked ≡ 0 = ap (λ (q : Scanned). q.looked) fresh in
-    let scanned : s.scanned ≡ 0 = ap (λ (q : Scanned). q.scanned) fresh in
-    let moved : s.moved ≡ 0 = ap (λ (q : Scanned). q.moved) fresh in
+    let built : t.built ≡ b = h.built ∙ ap (λ (q : StreamProgress). q.built) fresh in
+    let looked : s.looked ≡ 0 = ap (λ (q : StreamProgress). q.looked) fresh in
+    let scanned : s.scanned ≡ 0 = ap (λ (q : StreamProgress). q.scanned) fresh in
+    let moved : s.moved ≡ 0 = ap (λ (q : StreamProgress). q.moved) fresh in
     let paid = h.course.paid in
     let counts = h.counts in
     let within : t.at ≤ length (read_by t) = h.course.ordered.1 in
@@ -77,6 +77,6 @@ cost-read b s t r0 r1 before after result fresh h =
     (t.pieces, h.read, record { looked = omega arith; scanned = omega arith; moved = omega arith }, on_ok_weaker result (λ (all : t.at ≡ length (read_by t)). let z : looked_of before + length (read_by t) ≤ looked_of after = omega arith in z) h.searched)
 
 -- the same of an answer
-pub refused-later : {R W : Type 0} (b : Built) (supports : Anchored → Type 0) (r0 r1 : Watched R) (w0 w1 : Watched W) (result : Result (Unit {0}) StreamError) → CanStream b supports → IfErr result IsBegun → IfErr result (IsReplaceStreamError b supports r0 r1 w0 w1)
-refused-later b supports r0 r1 w0 w1 (Ok done) can begun = tt
-refused-later b supports r0 r1 w0 w1 (Err error) can begun = begun-later b supports r0 r1 w0 w1 error can begun
+pub accepted-later : {R W : Type 0} (b : Built) (supports : Anchored → Type 0) (r0 r1 : Watched R) (w0 w1 : Watched W) (result : Result (Unit {0}) StreamError) → CanStream b supports → IfErr result IsBegun → AcceptsReplacing b supports r0 r1 w0 w1 result
+accepted-later b supports r0 r1 w0 w1 (Ok done) can begun = can
+accepted-later b supports r0 r1 w0 w1 (Err error) can begun = begun-later b supports r0 r1 w0 w1 error can begun

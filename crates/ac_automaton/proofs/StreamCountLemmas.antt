@@ -1,14 +1,14 @@
 -- How what a search of a stream costs adds up.
 use Rattle.std.proofs.Common.{ℕ, ◌+◌, sym, ap, ◌∙◌, add_assoc, add-zero}
 use Rattle.ac_input.specs.declared.steps.Steps.{Steps}
-use Rattle.ac_automaton.specs.Stream.{ScanCounts, Scanned}
+use Rattle.ac_automaton.specs.Stream.{ScanCounts, StreamProgress}
 
 -- nothing was done yet
-pub ScanCounts-none : (s : Scanned) (steps : Steps) → ScanCounts s s steps steps
+pub ScanCounts-none : (s : StreamProgress) (steps : Steps) → ScanCounts s s steps steps
 ScanCounts-none s steps = (0, 0, 0, record { looked = sym (add-zero _); scanned = sym (add-zero _); moved = sym (add-zero _) }, sym (add-zero _), sym (add-zero _), sym (add-zero _))
 
 -- what was done in turn was done
-pub ScanCounts-then : (s t u : Scanned) (before between after : Steps) → ScanCounts s t before between → ScanCounts t u between after → ScanCounts s u before after
+pub ScanCounts-then : (s t u : StreamProgress) (before between after : Steps) → ScanCounts s t before between → ScanCounts t u between after → ScanCounts s u before after
 ScanCounts-then s t u before between after a b = (
   a.0 + b.0,
   a.1 + b.1,

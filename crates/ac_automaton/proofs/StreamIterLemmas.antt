@@ -9,9 +9,9 @@ use Rattle.ac_input.specs.declared.steps.Steps.{Steps}
 use Rattle.ac_input.specs.Occurrence.{Occurrence}
 use Rattle.ac_automaton.specs.Automaton.{Built}
 use Rattle.ac_automaton.specs.Replace.{matches_in}
-use Rattle.ac_automaton.specs.Stream.{CanBeCounted, FindsHeld, ReadsMore, ReadsNothing, ScanCounts, Scanned, read_by, room_of}
+use Rattle.ac_automaton.specs.Stream.{AllIsDecided, AreAllGiven, CanBeCounted, FindsHeld, ReadsMore, ReadsNothing, ScanCounts, StreamProgress, read_by, room_of}
 use Rattle.ac_automaton.specs.Moved.{AreFilled}
-use Rattle.ac_automaton.specs.StreamIter.{AreAllGiven, HasGained, IsStopped, NextGives, StaysStopped, TurnGives, TurnReads}
+use Rattle.ac_automaton.specs.StreamIter.{HasGained, IsStopped, NextGives, StaysStopped, TurnGives, TurnReads}
 use Rattle.ac_automaton.specs.Watched.{has_ended, pieces_of}
 use Rattle.ac_automaton.specs.declared.error.StreamError.{StreamError}
 use Rattle.ac_automaton.specs.declared.error.StreamError.TheVariants.{Config, Read, Write, WriteZero, Memory, Position}
@@ -22,7 +22,7 @@ use Rattle.ac_automaton.proofs.MovedLemmas.{AreFilled-push, given-none, given-pu
 -- ---- counting
 
 -- what was done, and then more
-pub counts-join : (s u t : Scanned) (x y z : Steps) → ScanCounts s u x y → ScanCounts u t y z → ScanCounts s t x z
+pub counts-join : (s u t : StreamProgress) (x y z : Steps) → ScanCounts s u x y → ScanCounts u t y z → ScanCounts s t x z
 counts-join s u t x y z one two =
     let a = one.3 in
     let b = two.3 in
@@ -37,17 +37,17 @@ counts-join s u t x y z one two =
 -- ---- one turn
 
 -- where there was none, all was searched and given, if places can be counted
-all-given-then : (s u : Scanned) → FindsHeld s None u → CanBeCounted (read_by u) → AreAllGiven u
+all-given-then : (s u : StreamProgress) → FindsHeld s None u → CanBeCounted (read_by u) → AreAllGiven u
 all-given-then s u finds few = finds.3 (subst (λ (l : List (List ℕ)). CanBeCounted (concat l)) finds.0.pieces few)
 
 -- a read that brought more bytes than places brought some
-brought-some : (u t : Scanned) (piece : List ℕ) → CanBeCounted (read_by u) → t.pieces ≡ u.pieces ++ piece ∷ [] → ¬ CanBeCounted (read_by t) → piece ≢ []
+brought-some : (u t : StreamProgress) (piece : List ℕ) → CanBeCounted (read_by u) → t.pieces ≡ u.pieces ++ piece ∷ [] → ¬ CanBeCounted (read_by t) → piece ≢ []
 brought-some u t piece few is many = λ none.
     let e : read_by t ≡ read_by u ++ [] = ap concat is ∙ ap (λ (l : List ℕ). concat (u.pieces ++ l ∷ [])) none ∙ concat-append u.pieces ([] ∷ []) in
     many (subst CanBeCounted (sym (e ∙ append-nil (read_by u))) few)
 
 -- the error of a turn is that of its read
-pub turn-failed : {R : Type 0} (remaining : R → Option (List ℕ)) (s u t : Scanned) (before after : Watched R) (error : StreamError) → has_ended before ≡ false → FindsHeld s None u → CanBeCounted (read_by u) → ReadsMore remaining u t before after (Err error) → TurnGives remaining s t before after (Failed error)
+pub turn-failed : {R : Type 0} (remaining : R → Option (List ℕ)) (s u t : StreamProgress) (before after : Watched R) (error : StreamError) → has_ended before ≡ false → FindsHeld s None u → CanBeCounted (read_by u) → ReadsMore remaining u t before after (Err error) → TurnGives remaining s t before after (Failed error)
 turn-failed remaining s u t before after (Config error) open_ finds few read = read
 turn-failed remaining s u t before after (Read error) open_ finds few read = record { mid = u; few = few; nothing = finds.0; given = finds.1; last = finds.2; all = all-given-then s u finds few; read = read }
 turn-failed remaining s u t before after (Write error) open_ finds few read = read
@@ -59,7 +59,7 @@ turn-failed remaining s u t before after Position open_ finds few read =
 -- ---- what was gained
 
 -- nothing at first
-pub gained-none : {R : Type 0} (remaining : R → Option (List ℕ)) (s : Scanned) (before : Watched R) → HasGained remaining s s before before [] 0
+pub gained-none : {R : Type 0} (remaining : R → Option (List ℕ)) (s : StreamProgress) (before : Watched R) → HasGained remaining s s before before [] 0
 gained-none remaining s before = record {
   built = refl;
   pieces = sym (append-nil s.pieces);
@@ -68,7 +68,7 @@ gained-none remaining s before = record {
 }
 
 -- nothing more where nothing is read
-pub gained-same : {R : Type 0} (remaining : R → Option (List ℕ)) (s t u : Scanned) (before after : Watched R) (gained : List (List ℕ)) (failed : ℕ) → HasGained remaining s t before after gained failed → ReadsNothing t u → HasGained remaining s u before after gained failed
+pub gained-same : {R : Type 0} (remaining : R → Option (List ℕ)) (s t u : StreamProgress) (before after : Watched R) (gained : List (List ℕ)) (failed : ℕ) → HasGained remaining s t before after gained failed → ReadsNothing t u → HasGained remaining s u before after gained failed
 gained-same remaining s t u before after gained failed has nothing = record {
   built = nothing.built ∙ has.built;
   pieces = nothing.pieces ∙ has.pieces;
@@ -77,7 +77,7 @@ gained-same remaining s t u before after gained failed has nothing = record {
 }
 
 -- one piece more
-pub gained-more : {R : Type 0} (remaining : R → Option (List ℕ)) (s t u : Scanned) (before mid after : Watched R) (gained : List (List ℕ)) (piece : List ℕ) (failed : ℕ) → HasGained remaining s t before mid gained 0 → TurnReads remaining t u mid after piece failed → HasGained remaining s u before after (gained ++ piece ∷ []) failed
+pub gained-more : {R : Type 0} (remaining : R → Option (List ℕ)) (s t u : StreamProgress) (before mid after : Watched R) (gained : List (List ℕ)) (piece : List ℕ) (failed : ℕ) → HasGained remaining s t before mid gained 0 → TurnReads remaining t u mid after piece failed → HasGained remaining s u before after (gained ++ piece ∷ []) failed
 gained-more remaining s t u before mid after gained piece failed has turn =
     let read = turn.read in
     let built : turn.mid.built ≡ s.built = turn.nothing.built ∙ has.built in
@@ -89,7 +89,7 @@ gained-more remaining s t u before mid after gained piece failed has turn =
     }
 
 -- Some turns have been made, each of which read some bytes.
-pub record HasTurned {R : Type 0} (remaining : R → Option (List ℕ)) (s t : Scanned) (before after : Watched R) (x y : Steps) : Type 0 where
+pub record HasTurned {R : Type 0} (remaining : R → Option (List ℕ)) (s t : StreamProgress) (before after : Watched R) (x y : Steps) : Type 0 where
   pub gained : List (List ℕ)
   pub has : HasGained remaining s t before after gained 0
   pub filled : AreFilled gained
@@ -98,7 +98,7 @@ pub record HasTurned {R : Type 0} (remaining : R → Option (List ℕ)) (s t : S
   pub first : gained ≡ [] → (t ≡ s) × (after ≡ before)
   pub unended : gained ≢ [] → (has_ended before ≡ false) × CanBeCounted (read_by s)
   pub on : s.at ≤ t.at
-  pub last : t.last ≡ s.last
+  pub last : s.last ≤ t.last
   pub counts : ScanCounts s t x y
 
 -- a list is empty or not
@@ -112,18 +112,18 @@ more-some [] x = λ e. let d : x ∷ [] ≡ [] = e in cc
 more-some (y ∷ ys) x = λ e. let d : y ∷ (ys ++ x ∷ []) ≡ [] = e in cc
 
 -- the reader was open at first, and places could be counted, where a turn reads
-open-first : {R : Type 0} (remaining : R → Option (List ℕ)) (s t u : Scanned) (before mid after : Watched R) (x y : Steps) (piece : List ℕ) (failed : ℕ) → HasTurned remaining s t before mid x y → TurnReads remaining t u mid after piece failed → (has_ended before ≡ false) × CanBeCounted (read_by s)
+open-first : {R : Type 0} (remaining : R → Option (List ℕ)) (s t u : StreamProgress) (before mid after : Watched R) (x y : Steps) (piece : List ℕ) (failed : ℕ) → HasTurned remaining s t before mid x y → TurnReads remaining t u mid after piece failed → (has_ended before ≡ false) × CanBeCounted (read_by s)
 open-first {R} remaining s t u before mid after x y piece failed has turn = ⊎_elim
     (λ (none : has.gained ≡ []).
     let same = has.first none in (
       ap (λ (r : Watched R). has_ended r) (sym same.1) ∙ turn.read.read.turns.0,
-      subst (λ (l : List (List ℕ)). CanBeCounted (concat l)) (turn.nothing.pieces ∙ ap (λ (z : Scanned). z.pieces) same.0) turn.few,
+      subst (λ (l : List (List ℕ)). CanBeCounted (concat l)) (turn.nothing.pieces ∙ ap (λ (z : StreamProgress). z.pieces) same.0) turn.few,
     ))
     has.unended
     (none-or-some has.gained)
 
 -- one more
-pub turned-more : {R : Type 0} (remaining : R → Option (List ℕ)) (s t u : Scanned) (before mid after : Watched R) (x y z : Steps) → HasTurned remaining s t before mid x y → TurnGives remaining t u mid after More → ScanCounts t u y z → HasTurned remaining s u before after x z
+pub turned-more : {R : Type 0} (remaining : R → Option (List ℕ)) (s t u : StreamProgress) (before mid after : Watched R) (x y z : Steps) → HasTurned remaining s t before mid x y → TurnGives remaining t u mid after More → ScanCounts t u y z → HasTurned remaining s u before after x z
 turned-more remaining s t u before mid after x y z has turn counts =
     let read = turn.1.read in
     let piece = turn.0 in
@@ -134,7 +134,7 @@ turned-more remaining s t u before mid after x y z has turn counts =
     let few : length u.pieces - 1 ≡ length turn.1.mid.pieces = omega arith in
     let front : take (length u.pieces - 1) u.pieces ≡ turn.1.mid.pieces = ap (λ (n : ℕ). take n u.pieces) few ∙ ap (take (length turn.1.mid.pieces)) pieces ∙ take-append_seam turn.1.mid.pieces (piece ∷ []) in
     let bytes = ap (λ (l : List (List ℕ)). length (concat l)) front in
-    let at : u.at ≡ length (read_by turn.1.mid) = read.at ∙ turn.1.all.0 in
+    let at : u.at ≡ length (read_by turn.1.mid) = read.at ∙ turn.1.all.searched in
     record {
       gained = has.gained ++ piece ∷ [];
       has = gained-more remaining s t u before mid after has.gained piece 0 has.has turn.1;
@@ -144,14 +144,14 @@ turned-more remaining s t u before mid after x y z has turn counts =
       first = λ none. absurd (more-some has.gained piece none);
       unended = λ some. open-first remaining s t u before mid after x y piece 0 has turn.1;
       on = let a = has.on in let b = turn.1.nothing.on in let e = read.at in omega arith;
-      last = read.last ∙ turn.1.last ∙ has.last;
+      last = let a = has.last in let b = turn.1.last in let e = read.last in omega arith;
       counts = counts-join s t u x y z has.counts counts;
     }
 
 -- ---- items
 
 -- a match
-pub turned-found : {R : Type 0} (remaining : R → Option (List ℕ)) (s t u : Scanned) (before mid after : Watched R) (x y : Steps) (o : Occurrence) → HasTurned remaining s t before mid x y → TurnGives remaining t u mid after (Found o) → NextGives remaining s u before after (Some (Ok o))
+pub turned-found : {R : Type 0} (remaining : R → Option (List ℕ)) (s t u : StreamProgress) (before mid after : Watched R) (x y : Steps) (o : Occurrence) → HasTurned remaining s t before mid x y → TurnGives remaining t u mid after (Found o) → NextGives remaining s u before after (Some (Ok o))
 turned-found {R} remaining s t u before mid after x y o has turn =
     let finds = turn.0 in
     let held = finds.4 in
@@ -175,14 +175,18 @@ turned-found {R} remaining s t u before mid after x y o has turn =
     )
 
 -- after an empty piece all is given that was given before
-all-given-still : {R : Type 0} (remaining : R → Option (List ℕ)) (t u : Scanned) (mid after : Watched R) (failed : ℕ) → TurnReads remaining t u mid after [] failed → AreAllGiven u
+all-given-still : {R : Type 0} (remaining : R → Option (List ℕ)) (t u : StreamProgress) (mid after : Watched R) (failed : ℕ) → TurnReads remaining t u mid after [] failed → AreAllGiven u
 all-given-still remaining t u mid after failed turn =
     let read = turn.read in
     let same : read_by u ≡ read_by turn.mid = ap concat read.pieces ∙ concat-append turn.mid.pieces ([] ∷ []) ∙ append-nil (read_by turn.mid) in
-    (read.at ∙ turn.all.0 ∙ ap length (sym same), read.given ∙ turn.all.1 ∙ ap (λ (l : List ℕ). matches_in turn.mid.built l) (sym same) ∙ ap (λ (b : Built). matches_in b (read_by u)) (sym read.built))
+    record {
+      searched = read.at ∙ turn.all.searched ∙ ap length (sym same);
+      all = read.given ∙ turn.all.all ∙ ap (λ (l : List ℕ). matches_in turn.mid.built l) (sym same) ∙ ap (λ (b : Built). matches_in b (read_by u)) (sym read.built);
+      anew = λ done. read.last ∙ turn.all.anew (subst (λ (b : Built). AllIsDecided b.dictionary (read_by turn.mid)) read.built (subst (AllIsDecided u.built.dictionary) same done)) ∙ sym read.at;
+    }
 
 -- none
-pub turned-over : {R : Type 0} (remaining : R → Option (List ℕ)) (s t u : Scanned) (before mid after : Watched R) (x y : Steps) → HasTurned remaining s t before mid x y → TurnGives remaining t u mid after Over → NextGives remaining s u before after None
+pub turned-over : {R : Type 0} (remaining : R → Option (List ℕ)) (s t u : StreamProgress) (before mid after : Watched R) (x y : Steps) → HasTurned remaining s t before mid x y → TurnGives remaining t u mid after Over → NextGives remaining s u before after None
 turned-over {R} remaining s t u before mid after x y has (inl stopped) = (
   has.gained,
   subst (λ (r : Watched R). HasGained remaining s u before r has.gained 0) (sym stopped.2) (gained-same remaining s t u before mid has.gained 0 has.has stopped.0),
@@ -209,7 +213,7 @@ turned-over remaining s t u before mid after x y has (inr turn) = (
 )
 
 -- an error
-pub turned-failed : {R : Type 0} (remaining : R → Option (List ℕ)) (s t u : Scanned) (before mid after : Watched R) (x y : Steps) (error : StreamError) → HasTurned remaining s t before mid x y → TurnGives remaining t u mid after (Failed error) → NextGives remaining s u before after (Some (Err error))
+pub turned-failed : {R : Type 0} (remaining : R → Option (List ℕ)) (s t u : StreamProgress) (before mid after : Watched R) (x y : Steps) (error : StreamError) → HasTurned remaining s t before mid x y → TurnGives remaining t u mid after (Failed error) → NextGives remaining s u before after (Some (Err error))
 turned-failed remaining s t u before mid after x y (Config error) has turn = turn
 turned-failed remaining s t u before mid after x y (Read error) has turn = (
   has.gained,
@@ -236,7 +240,7 @@ some-bytes [] some = absurd (some refl)
 some-bytes (b ∷ bs) some = omega arith
 
 -- fewer places are left after a turn that read some bytes
-pub turn-smaller : {R : Type 0} (remaining : R → Option (List ℕ)) (t u : Scanned) (mid after : Watched R) → TurnGives remaining t u mid after More → 18446744073709551616 - length (read_by u) < 18446744073709551616 - length (read_by t)
+pub turn-smaller : {R : Type 0} (remaining : R → Option (List ℕ)) (t u : StreamProgress) (mid after : Watched R) → TurnGives remaining t u mid after More → 18446744073709551616 - length (read_by u) < 18446744073709551616 - length (read_by t)
 turn-smaller remaining t u mid after turn =
     let all : read_by u ≡ read_by t ++ (turn.0 ++ []) = ap concat turn.1.read.pieces ∙ ap (λ (l : List (List ℕ)). concat (l ++ turn.0 ∷ [])) turn.1.nothing.pieces ∙ concat-append t.pieces (turn.0 ∷ []) in
     let long = ap length all in
@@ -249,7 +253,7 @@ turn-smaller remaining t u mid after turn =
 -- ---- nothing comes after the end
 
 -- where nothing was left to come, no piece was read
-none-gained : {R : Type 0} (s : Scanned) (before : Watched R) (gained : List (List ℕ)) → IsStopped s before → (gained ≢ [] → (has_ended before ≡ false) × CanBeCounted (read_by s)) → gained ≡ []
+none-gained : {R : Type 0} (s : StreamProgress) (before : Watched R) (gained : List (List ℕ)) → IsStopped s before → (gained ≢ [] → (has_ended before ≡ false) × CanBeCounted (read_by s)) → gained ≡ []
 none-gained s before gained stopped open_ = ⊎_elim
     (λ (none : gained ≡ []). none)
     (λ (some : gained ≢ []).
@@ -258,26 +262,26 @@ none-gained s before gained stopped open_ = ⊎_elim
     (none-or-some gained)
 
 -- nor a match found
-none-found : {R : Type 0} (s u : Scanned) (before : Watched R) (o : Occurrence) → IsStopped s before → ¬ FindsHeld s (Some o) u
+none-found : {R : Type 0} (s u : StreamProgress) (before : Watched R) (o : Occurrence) → IsStopped s before → ¬ FindsHeld s (Some o) u
 none-found s u before o stopped finds = ⊎_elim
-    (λ (ended : (has_ended before ≡ true) × AreAllGiven s). let new = finds.4.new in let within = finds.4.within in let all = ended.1.0 in absurd (omega arith))
+    (λ (ended : (has_ended before ≡ true) × AreAllGiven s). let new = finds.4.new in let within = finds.4.within in let all = ended.1.searched in absurd (omega arith))
     (λ (many : ¬ CanBeCounted (read_by s)). many finds.5)
     stopped
 
 -- so a match is no answer there
-pub stopped-found : {R : Type 0} (remaining : R → Option (List ℕ)) (s t u : Scanned) (before mid after : Watched R) (x y : Steps) (o : Occurrence) → HasTurned remaining s t before mid x y → TurnGives remaining t u mid after (Found o) → ¬ IsStopped s before
+pub stopped-found : {R : Type 0} (remaining : R → Option (List ℕ)) (s t u : StreamProgress) (before mid after : Watched R) (x y : Steps) (o : Occurrence) → HasTurned remaining s t before mid x y → TurnGives remaining t u mid after (Found o) → ¬ IsStopped s before
 stopped-found remaining s t u before mid after x y o has turn stopped =
     let same = has.first (none-gained s before has.gained stopped has.unended) in
-    none-found s u before o stopped (subst (λ (z : Scanned). FindsHeld z (Some o) u) same.0 turn.0)
+    none-found s u before o stopped (subst (λ (z : StreamProgress). FindsHeld z (Some o) u) same.0 turn.0)
 
 -- and no read is made
-stopped-read : {R : Type 0} (remaining : R → Option (List ℕ)) (s t u : Scanned) (before mid after : Watched R) (x y : Steps) (piece : List ℕ) (failed : ℕ) → HasTurned remaining s t before mid x y → TurnReads remaining t u mid after piece failed → ¬ IsStopped s before
+stopped-read : {R : Type 0} (remaining : R → Option (List ℕ)) (s t u : StreamProgress) (before mid after : Watched R) (x y : Steps) (piece : List ℕ) (failed : ℕ) → HasTurned remaining s t before mid x y → TurnReads remaining t u mid after piece failed → ¬ IsStopped s before
 stopped-read remaining s t u before mid after x y piece failed has turn stopped =
     let first = open-first remaining s t u before mid after x y piece failed has turn in
     more-some [] piece (none-gained s before (piece ∷ []) stopped (λ some. first))
 
 -- so there is no error either
-pub stopped-failed : {R : Type 0} (remaining : R → Option (List ℕ)) (s t u : Scanned) (before mid after : Watched R) (x y : Steps) (error : StreamError) → HasTurned remaining s t before mid x y → TurnGives remaining t u mid after (Failed error) → ¬ IsStopped s before
+pub stopped-failed : {R : Type 0} (remaining : R → Option (List ℕ)) (s t u : StreamProgress) (before mid after : Watched R) (x y : Steps) (error : StreamError) → HasTurned remaining s t before mid x y → TurnGives remaining t u mid after (Failed error) → ¬ IsStopped s before
 stopped-failed remaining s t u before mid after x y (Config error) has turn = absurd turn
 stopped-failed remaining s t u before mid after x y (Read error) has turn = stopped-read remaining s t u before mid after x y [] 1 has turn
 stopped-failed remaining s t u before mid after x y (Write error) has turn = absurd turn
@@ -286,12 +290,12 @@ stopped-failed remaining s t u before mid after x y Memory has turn = absurd tur
 stopped-failed remaining s t u before mid after x y Position has turn = stopped-read remaining s t u before mid after x y turn.0 0 has turn.1
 
 -- none is the answer, and all is as it was
-pub stopped-over : {R : Type 0} (remaining : R → Option (List ℕ)) (s t u : Scanned) (before mid after : Watched R) (x y : Steps) → HasTurned remaining s t before mid x y → TurnGives remaining t u mid after Over → StaysStopped s u before after None
+pub stopped-over : {R : Type 0} (remaining : R → Option (List ℕ)) (s t u : StreamProgress) (before mid after : Watched R) (x y : Steps) → HasTurned remaining s t before mid x y → TurnGives remaining t u mid after Over → StaysStopped s u before after None
 stopped-over {R} remaining s t u before mid after x y has (inl over) = λ stopped.
     let same = has.first (none-gained s before has.gained stopped has.unended) in (
       refl,
-      over.0.pieces ∙ ap (λ (z : Scanned). z.pieces) same.0,
-      over.1 ∙ ap (λ (z : Scanned). z.given) same.0,
+      over.0.pieces ∙ ap (λ (z : StreamProgress). z.pieces) same.0,
+      over.1 ∙ ap (λ (z : StreamProgress). z.given) same.0,
       ap (λ (r : Watched R). pieces_of r) (over.2 ∙ same.1),
     )
 stopped-over remaining s t u before mid after x y has (inr turn) = λ stopped. absurd (stopped-read remaining s t u before mid after x y [] 0 has turn stopped)

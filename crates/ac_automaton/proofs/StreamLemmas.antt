@@ -1,30 +1,32 @@
 -- What the text since the last match says of the matches of a stream, whatever is still read.
-use Rattle.std.proofs.Common.{◌≡◌, ⊎_elim, inl, inr, ℕ, ◌+◌, ◌-◌, ◌<◌, ◌≤◌, max, true, false, List, [], ◌∷◌, ◌++◌, length, Option, None, Some, Contains, slice_range, sym, ap, subst, refl, ◌∙◌, arith, length-append, append_assoc, append-nil}
+use Rattle.std.proofs.Common.{◌≡◌, ⊎_elim, inl, inr, ℕ, ◌+◌, ◌-◌, ◌<◌, ◌≤◌, max, true, false, List, [], ◌∷◌, ◌++◌, length, drop, Option, None, Some, Contains, slice_range, sym, ap, subst, refl, ◌∙◌, arith, length-append, length-drop, append_assoc, append-nil}
 use Rattle.std.specs.List.{All}
 use Rattle.std.proofs.lemmas.Bool.{cases_lt}
+use Rattle.std.proofs.lemmas.List.{drop-drop}
 use Rattle.std.proofs.lemmas.List.Elements.{All-contains_itself}
 use Rattle.ac_input.specs.declared.search.Anchored.TheVariants.{No}
 use Rattle.ac_input.specs.declared.search.MatchKind.{MatchKind}
 use Rattle.ac_input.specs.declared.search.MatchKind.TheVariants.{Standard}
 use Rattle.ac_input.specs.Best.{IsBest}
 use Rattle.ac_input.specs.Computed.{walk_of, walk_after}
-use Rattle.ac_input.specs.Dictionary.{Dictionary, whole}
-use Rattle.ac_input.specs.LiveLaws.{shifted}
+use Rattle.ac_input.specs.Dictionary.{Dictionary, IsAlive, whole}
+use Rattle.ac_input.specs.LiveLaws.{IsOwnInverse, shifted}
 use Rattle.ac_input.specs.Occurrence.{Search, Occurrence, Occurs, starting_at}
 use Rattle.ac_input.specs.Tells.{Tells, TellsUnanchored}
 use Rattle.ac_input.specs.Walk.{IsPick, Here, Further, IsWalk}
 use Rattle.ac_input.specs.Work.{longest, shortest}
 use Rattle.ac_input.proofs.BeginningLemmas.{slice_range-append}
 use Rattle.ac_input.proofs.ContainsLemmas.{Contains-nil}
-use Rattle.ac_input.proofs.LiveLemmas.{occurs-front}
+use Rattle.ac_input.proofs.LiveLemmas.{alive-end, occurs-front}
 use Rattle.ac_input.proofs.OrderLemmas.{slice_range-length}
 use Rattle.ac_input.proofs.ShiftLemmas.{back_by}
 use Rattle.ac_input.proofs.SpanLemmas.{best-of_rest, occurs-in_whole_of_span}
-use Rattle.ac_input.proofs.WalkLemmas.{occurs-whole, walk_after-walk, walk-computed, walk-occurs}
+use Rattle.ac_input.proofs.StateLemmas.{alive-shifted, new-behind}
+use Rattle.ac_input.proofs.WalkLemmas.{occurs-earlier, occurs-whole, walk_after-walk, walk-computed, walk-occurs}
 use Rattle.ac_automaton.specs.Automaton.{Built}
 use Rattle.ac_automaton.specs.Replace.{matches_in}
-use Rattle.ac_automaton.specs.Scan.{GoesOn, since_last}
-use Rattle.ac_automaton.specs.Stream.{Scanned, IsDecided, cut_of, read_by}
+use Rattle.ac_automaton.specs.StreamSearch.{ContinuesWalk, since_last}
+use Rattle.ac_automaton.specs.Stream.{StreamProgress, IsDecided, NothingIsLive, cut_of, end_of, read_by}
 use Rattle.ac_automaton.proofs.CursorLemmas.{slice_range-split}
 use Rattle.ac_automaton.proofs.IterLemmas.{repeat-empty}
 use Rattle.ac_automaton.proofs.WalkLemmas.{standard-final, occurs-bound}
@@ -61,7 +63,7 @@ pick-since m x more last at b g h some best =
 pub pick-none : (m : Dictionary) (x : List ℕ) (last : ℕ) → last ≤ length x → IsBest Standard (whole m (slice_range x last (length x)) false) None → IsPick Standard (whole m x false) last (Some last) None
 pick-none m x last h quiet = Here ((best-of_rest Standard m (whole m x false) last None (refl, refl) refl h (omega arith)).0 quiet) (λ r. r)
 
--- ---- what is decided
+-- ---- what comes later
 
 -- what occurs behind the last match ends behind the bytes that were searched
 ends-behind : (m : Dictionary) (x more : List ℕ) (last at : ℕ) (o : Occurrence) → last ≤ at → at ≤ length x → IsBest Standard (whole m (slice_range x last at) false) None → Occurs (starting_at (whole m (x ++ more) false) last) o → at < o.end
@@ -81,6 +83,83 @@ begins-behind m x more last at o g h quiet occurs =
     let w = occurs.within.0 in
     omega arith
 
+-- ---- to begin anew
+
+-- Where nothing is live of the text since the search last began, what is found later begins after it.
+begins-after : (m : Dictionary) (x more : List ℕ) (last at : ℕ) (o : Occurrence) → IsOwnInverse m.pairing → last ≤ at → at ≤ length x → IsBest Standard (whole m (slice_range x last at) false) None → NothingIsLive m (slice_range x last at) → Occurs (starting_at (whole m (x ++ more) false) last) o → at ≤ o.start
+begins-after m x more last at o inverse g h quiet live occurs =
+    let y = x ++ more in
+    let long = length-append x more in
+    let len = slice_range-length x last at g h in
+    let ends = ends-behind m x more last at o g h quiet occurs in
+    let w = occurs.within in
+    let first : last ≤ o.start = w.0 in
+    let tail = rest-split x more last at g h in
+    let here : Occurs (whole m (slice_range y last (length y)) false) (back_by last o) = (occurs-in_whole_of_span m (starting_at (whole m y false) last) (length y) o (refl, refl) (omega arith) (omega arith) (omega arith) occurs (omega arith)).0 in
+    let there : Occurs (whole m (slice_range x last at ++ tail.0) false) (back_by last o) = subst (λ (l : List ℕ). Occurs (whole m l false) (back_by last o)) tail.1 here in
+    let late : length (slice_range x last at) ≤ o.start - last = new-behind m false (slice_range x last at) tail.0 (length (slice_range x last at)) (back_by last o) inverse live there (omega arith) in
+    omega arith
+
+-- so it is found from there on
+occurs-after : (m : Dictionary) (x more : List ℕ) (last at : ℕ) (o : Occurrence) → IsOwnInverse m.pairing → last ≤ at → at ≤ length x → IsBest Standard (whole m (slice_range x last at) false) None → NothingIsLive m (slice_range x last at) → Occurs (starting_at (whole m (x ++ more) false) last) o → Occurs (starting_at (whole m (x ++ more) false) at) o
+occurs-after m x more last at o inverse g h quiet live occurs = record {
+  within = (begins-after m x more last at o inverse g h quiet live occurs, occurs.within.1, occurs.within.2);
+  same = occurs.same;
+  anchor = λ t. absurd (let e : false ≡ true = t in cc);
+}
+
+-- the best from there on is the best
+best-anew : (m : Dictionary) (x more : List ℕ) (last at : ℕ) (r : Option Occurrence) → IsOwnInverse m.pairing → last ≤ at → at ≤ length x → IsBest Standard (whole m (slice_range x last at) false) None → NothingIsLive m (slice_range x last at) → IsBest Standard (starting_at (whole m (x ++ more) false) at) r → IsBest Standard (starting_at (whole m (x ++ more) false) last) r
+best-anew m x more last at None inverse g h quiet live best = λ o occurs. best o (occurs-after m x more last at o inverse g h quiet live occurs)
+best-anew m x more last at (Some b) inverse g h quiet live best = (
+  occurs-earlier (whole m (x ++ more) false) last at b g (λ t. absurd (let e : false ≡ true = t in cc)) best.0,
+  λ o occurs. best.1 o (occurs-after m x more last at o inverse g h quiet live occurs),
+)
+
+-- so is the pick
+pick-anew : (m : Dictionary) (x more : List ℕ) (last at : ℕ) (r : Option Occurrence) → IsOwnInverse m.pairing → 1 ≤ shortest m.patterns → last ≤ at → at ≤ length x → IsBest Standard (whole m (slice_range x last at) false) None → NothingIsLive m (slice_range x last at) → IsPick Standard (whole m (x ++ more) false) at (Some at) r → IsPick Standard (whole m (x ++ more) false) last (Some last) r
+pick-anew m x more last at r inverse some g h quiet live (Here best n) =
+    let long = length-append x more in
+    let earlier = best-anew m x more last at r inverse g h quiet live best in
+    Here earlier (repeat-empty Standard (starting_at (whole m (x ++ more) false) last) (Some last) r (omega arith) some earlier)
+pick-anew m x more last at r inverse some g h quiet live (Further b best rep k) =
+    let long = length-append x more in
+    absurd (repeat-empty Standard (starting_at (whole m (x ++ more) false) at) (Some at) b (omega arith) some best rep)
+
+-- The walk goes on where nothing is live as from where it stood.
+pub goes-anew : (s : StreamProgress) → IsOwnInverse s.built.dictionary.pairing → 1 ≤ shortest s.built.dictionary.patterns → s.last ≤ s.at → s.at ≤ length (read_by s) → IsBest Standard (whole s.built.dictionary (since_last s) false) None → NothingIsLive s.built.dictionary (since_last s) → ContinuesWalk s → ContinuesWalk (record s { last = s.at })
+goes-anew s inverse some g h quiet live goes = λ more rest walk. goes more rest (back more rest walk)
+  where
+    m : Dictionary
+    m = s.built.dictionary
+
+    back : (more : List ℕ) (rest : List Occurrence) → IsWalk Standard (whole m (read_by s ++ more) false) s.at (Some s.at) rest → IsWalk Standard (whole m (read_by s ++ more) false) s.last (Some s.last) rest
+    back more [] walk = pick-anew m (read_by s) more s.last s.at None inverse some g h quiet live walk
+    back more (o ∷ os) walk = (pick-anew m (read_by s) more s.last s.at (Some o) inverse some g h quiet live walk.0, walk.1)
+
+-- where the last of some matches and one more ends
+pub end_of-push : (os : List Occurrence) (o : Occurrence) → end_of (os ++ o ∷ []) ≡ o.end
+end_of-push [] o = refl
+end_of-push (q ∷ []) o = refl
+end_of-push (q ∷ (p ∷ os)) o = end_of-push (p ∷ os) o
+
+-- where nothing of the end of a text is live, nothing is of what stands further on
+pub nothing-later : (m : Dictionary) (x : List ℕ) (from later : ℕ) → m.kind ≡ Standard → from ≤ later → later ≤ length x → NothingIsLive m (drop from x) → NothingIsLive m (drop later x)
+nothing-later m x from later standard le within live =
+    let text = drop from x in
+    let n : from + (later - from) ≡ later = omega arith in
+    let rest : drop (later - from) text ≡ drop later x = drop-drop (later - from) from x ∙ ap (λ (k : ℕ). drop k x) n in
+    let long = length-drop from x in
+    let left = length-drop later x in (
+      alive-end m (drop later x) (inl standard),
+      λ place alive.
+          let there = (alive-shifted m text (later - from) place (omega arith) (λ leftmost. absurd (leftmost standard))).0 (subst (λ (l : List ℕ). IsAlive m false l place) (sym rest) alive) in
+          let late = live.1 (later - from + place) there in
+          omega arith,
+    )
+
+-- ---- what is decided
+
 -- all of a list, where each that it contains
 all-from : {X : Type 0} (P : X → Type 0) (xs : List X) → ((x : X) → Contains xs x → P x) → All P xs
 all-from P xs h = λ k d lt. h _ (All-contains_itself xs k d lt)
@@ -92,7 +171,7 @@ walk-matches b x os standard walk =
     ∙ sym (walk-computed Standard (whole b.dictionary x false) 0 None (omega arith) os walk)
 
 -- What is still to come begins at the cut or behind it.
-pub decided-from : (s : Scanned) → s.built.dictionary.kind ≡ Standard → s.last ≤ s.at → s.at ≤ length (read_by s) → IsBest Standard (whole s.built.dictionary (since_last s) false) None → GoesOn s → IsDecided s
+pub decided-from : (s : StreamProgress) → s.built.dictionary.kind ≡ Standard → s.last ≤ s.at → s.at ≤ length (read_by s) → IsBest Standard (whole s.built.dictionary (since_last s) false) None → ContinuesWalk s → IsDecided s
 decided-from s standard g h quiet goes = λ more.
     let y = read_by s ++ more in
     let long = length-append (read_by s) more in
@@ -105,12 +184,12 @@ decided-from s standard g h quiet goes = λ more.
     )
 
 -- one more match goes on
-pub goes-match : (s : Scanned) (o : Occurrence) (looked : ℕ) → GoesOn s → ((more : List ℕ) → IsPick Standard (whole s.built.dictionary (read_by s ++ more) false) s.last (Some s.last) (Some o)) → GoesOn (record s { given = s.given ++ o ∷ []; at = o.end; last = o.end; looked = looked })
+pub goes-match : (s : StreamProgress) (o : Occurrence) (looked : ℕ) → ContinuesWalk s → ((more : List ℕ) → IsPick Standard (whole s.built.dictionary (read_by s ++ more) false) s.last (Some s.last) (Some o)) → ContinuesWalk (record s { given = s.given ++ o ∷ []; at = o.end; last = o.end; looked = looked })
 goes-match s o looked goes pick = λ more rest walk.
     subst (λ (l : List Occurrence). IsWalk Standard (whole s.built.dictionary (read_by s ++ more) false) 0 None l) (sym (append_assoc s.given (o ∷ []) rest)) (goes more (o ∷ rest) (pick more, walk))
 
 -- where nothing is left to find, all were given
-pub all-given : (s : Scanned) → s.built.dictionary.kind ≡ Standard → s.last ≤ length (read_by s) → IsBest Standard (whole s.built.dictionary (slice_range (read_by s) s.last (length (read_by s))) false) None → GoesOn s → s.given ≡ matches_in s.built (read_by s)
+pub all-given : (s : StreamProgress) → s.built.dictionary.kind ≡ Standard → s.last ≤ length (read_by s) → IsBest Standard (whole s.built.dictionary (slice_range (read_by s) s.last (length (read_by s))) false) None → ContinuesWalk s → s.given ≡ matches_in s.built (read_by s)
 all-given s standard h quiet goes =
     let none = append-nil (read_by s) in
     let pick : IsPick Standard (whole s.built.dictionary (read_by s ++ []) false) s.last (Some s.last) None = subst (λ (l : List ℕ). IsPick Standard (whole s.built.dictionary l false) s.last (Some s.last) None) (sym none) (pick-none s.built.dictionary (read_by s) s.last h quiet) in

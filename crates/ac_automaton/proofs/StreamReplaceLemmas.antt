@@ -1,7 +1,7 @@
 -- What a replacement over a stream has read and written, from one read to the next, and at its end.
 use Rattle.std.proofs.Common.{◌≡◌, ◌≢◌, ℕ, ◌+◌, ◌-◌, ◌<◌, ◌≤◌, false, List, [], ◌∷◌, ◌++◌, length, take, drop, Option, None, Result, Ok, Err, refl, sym, ap, ◌∙◌, subst, arith, append_assoc, add-zero}
 use Rattle.std.specs.List.{concat}
-use Rattle.std.specs.Prelude.{slice_index_or, IfErr, OnErr, OnOk}
+use Rattle.std.specs.Prelude.{slice_index_or, OnOk}
 use Rattle.std.proofs.lemmas.List.{append-nil, drop-drop, length-append, take-append-le, take_all, take_rest}
 use Rattle.std.proofs.lemmas.List.Folds.{concat-append}
 use Rattle.ac_input.specs.declared.search.MatchKind.TheVariants.{Standard}
@@ -15,10 +15,11 @@ use Rattle.ac_input.proofs.TextLemmas.{pick-occurs}
 use Rattle.ac_input.proofs.WalkLemmas.{pick-within}
 use Rattle.ac_automaton.specs.Automaton.{Built}
 use Rattle.ac_automaton.specs.Moved.{AllFit, AreFilled, AreWhole, HasGiven, HasMoved, HasTaken, Moved, but_last}
-use Rattle.ac_automaton.specs.Output.{Sent, Stopped}
+use Rattle.ac_automaton.specs.Output.{Sends, Sent, Stopped}
 use Rattle.ac_automaton.specs.Replace.{LieInOrder, matches_in}
-use Rattle.ac_automaton.specs.Stream.{CanBeCounted, HasRead, IsOnCourse, IsSearched, ReadsMore, Scanned, cut_of, fresh_scan, held_by, keep_of, matches_read, read_by, room_of}
-use Rattle.ac_automaton.specs.StreamReplace.{HasReplaced, IsAtCut, IsPlaced, IsReading, IsBegun, IsReplacedFront, ReplacedToFailedWrite, ReplacesStream, SendsTo, StopsSending, replaced_in, text_to}
+use Rattle.ac_automaton.specs.Stream.{CanBeCounted, HasRead, IsNear, IsOnCourse, IsSearched, ReadsMore, StreamProgress, cut_of, fresh_progress, held_by, keep_of, matches_read, read_by, room_of}
+use Rattle.ac_automaton.specs.StreamAnswer.{WroteToFailedWrite}
+use Rattle.ac_automaton.specs.StreamReplace.{HasReplaced, IsAtCut, IsPlaced, IsReading, IsBegun, IsReplacedFront, ReplacesStream, SendsTo, StopsSending, replaced_in, text_to}
 use Rattle.ac_automaton.specs.Watched.{IsOfWrite, pieces_of, stalls_of}
 use Rattle.ac_automaton.specs.declared.error.StreamError.{StreamError}
 use Rattle.ac_automaton.specs.declared.error.StreamError.TheVariants.{Config, Read, Write, WriteZero, Memory, Position}
@@ -45,7 +46,7 @@ but_last-push (p ∷ (q ∷ ps)) piece = ap (λ (t : List (List ℕ)). p ∷ t) 
 -- ---- what devices tell
 
 -- one more read
-pub given-more : {R : Type 0} (remaining : R → Option (List ℕ)) (s t : Scanned) (old mid new : Watched R) (piece : List ℕ) (failed : ℕ) → HasGiven remaining old mid s.pieces 0 → HasRead remaining s t mid new piece failed → HasGiven remaining old new t.pieces failed
+pub given-more : {R : Type 0} (remaining : R → Option (List ℕ)) (s t : StreamProgress) (old mid new : Watched R) (piece : List ℕ) (failed : ℕ) → HasGiven remaining old mid s.pieces 0 → HasRead remaining s t mid new piece failed → HasGiven remaining old new t.pieces failed
 given-more remaining s t old mid new piece failed g h = subst (λ (ps : List (List ℕ)). HasGiven remaining old new ps failed) (sym h.pieces) (given-push remaining old mid new s.pieces piece failed g h.read)
 
 -- more was written
@@ -58,8 +59,15 @@ taken-stopped contents old mid new text bytes stalls h t stalled = taken-then co
 
 -- ---- what is decided
 
+-- no more is left after the cut than may be kept
+pub near-cut : (s : StreamProgress) (at : ℕ) → IsAtCut s at → IsNear s.built.dictionary (read_by s) at
+near-cut s at place =
+    let is : at ≡ cut_of s = place.cut in
+    let searched : s.at ≡ length (read_by s) = place.all.searched in
+    record { kept = omega arith; all = λ done. let anew = place.all.anew done in omega arith }
+
 -- the text up to the cut is the front of what was read, replaced
-pub front-at_cut : (b : Built) (replacements : List (List ℕ)) (s : Scanned) (at : ℕ) → s.built ≡ b → IsAtCut s at → IsReplacedFront b replacements (read_by s) (text_to s replacements at)
+pub front-at_cut : (b : Built) (replacements : List (List ℕ)) (s : StreamProgress) (at : ℕ) → s.built ≡ b → IsAtCut s at → IsReplacedFront b replacements (read_by s) (text_to s replacements at)
 front-at_cut b replacements s at built place =
     let x = read_by s in
     let course = place.placed.course in
@@ -71,11 +79,10 @@ front-at_cut b replacements s at built place =
     let inside : at ≤ length x = omega arith in
     let begin = λ (k : ℕ) (d : Occurrence) (lt : k < length rest). let late = decided.2 k d lt in let z : at ≤ (slice_index_or rest k d).start = omega arith in z in
     let patterns = length s.built.dictionary.patterns in
-    let searched : s.at ≡ length x = place.searched in
     subst (λ (c : Built). IsReplacedFront c replacements x (text_to s replacements at)) built (record {
       cut = at;
       is_cut = matches-cut s.built x at patterns s.given rest inside is place.placed.lies begin;
-      near = omega arith;
+      near = near-cut s at place;
       front = ap (replaced_from 0 (take at x) replacements) (sym (matches-front s.built x at patterns s.given rest course.standard course.filled inside is place.placed.lies begin));
     })
 
@@ -91,7 +98,7 @@ nothing-matches b (o ∷ os) some walk =
 
 -- ---- what a read leaves as it was
 
-module _ {R : Type 0} (remaining : R → Option (List ℕ)) (s t : Scanned) (at : ℕ) (r r1 : Watched R) (piece : List ℕ) (failed : ℕ) (place : IsAtCut s at) (read : HasRead remaining s t r r1 piece failed) where
+module _ {R : Type 0} (remaining : R → Option (List ℕ)) (s t : StreamProgress) (at : ℕ) (r r1 : Watched R) (piece : List ℕ) (failed : ℕ) (place : IsAtCut s at) (read : HasRead remaining s t r r1 piece failed) where
   -- all that was read
   pub read-more : read_by t ≡ read_by s ++ piece
   read-more = ap concat read.pieces ∙ concat-push s.pieces piece
@@ -127,36 +134,34 @@ module _ {R : Type 0} (remaining : R → Option (List ℕ)) (s t : Scanned) (at 
       let from : t.from ≤ cut_of s = read.from in
       let is : at ≡ cut_of s = place.cut in
       let last : t.last ≡ s.last = read.last in
-      let before : s.last ≤ at = place.placed.last in
-      record { course = course; countable = countable; held = omega arith; last = omega arith; cut = same-cut; lies = same-lies }
+      record { course = course; countable = countable; held = omega arith; cut = same-cut; lies = same-lies }
 
   -- all matches were given, where the read gave nothing
   pub given-all : piece ≡ [] → t.given ≡ matches_read t
-  given-all none = read.given ∙ place.all ∙ ap (λ (c : Built). matches_in c (read_by s)) (sym read.built) ∙ ap (matches_in t.built) (sym (read-same none))
+  given-all none = read.given ∙ place.all.all ∙ ap (λ (c : Built). matches_in c (read_by s)) (sym read.built) ∙ ap (matches_in t.built) (sym (read-same none))
 
 -- ---- from one read to the next
 
 -- no piece that was read is longer than the buffer
-pub pieces-fit : (b : Built) (t : Scanned) → t.built ≡ b → IsOnCourse t → AllFit (room_of b) t.pieces
+pub pieces-fit : (b : Built) (t : StreamProgress) → t.built ≡ b → IsOnCourse t → AllFit (room_of b) t.pieces
 pieces-fit b t built course = subst (λ (c : Built). AllFit (room_of c) t.pieces) built course.short
 
 module _ {R W : Type 0} (remaining : R → Option (List ℕ)) (contents : W → Option (List ℕ)) (replacements : List (List ℕ)) (b : Built) where
   -- before the first read
-  pub replaced-fresh : (reader : Watched R) (writer : Watched W) → IsOnCourse (fresh_scan b) → HasReplaced remaining contents replacements b (fresh_scan b) 0 reader reader writer writer
+  pub replaced-fresh : (reader : Watched R) (writer : Watched W) → IsOnCourse (fresh_progress b) → HasReplaced remaining contents replacements b (fresh_progress b) 0 reader reader writer writer
   replaced-fresh reader writer course = record {
     built = refl;
     place = record {
-      placed = record { course = course; countable = omega arith; held = omega arith; last = omega arith; cut = omega arith; lies = tt };
+      placed = record { course = course; countable = omega arith; held = omega arith; cut = omega arith; lies = tt };
       cut = omega arith;
-      searched = refl;
-      all = nothing-matches b (matches_in b []) course.filled (matches-walk b [] course.standard);
+      all = record { searched = refl; all = nothing-matches b (matches_in b []) course.filled (matches-walk b [] course.standard); anew = λ done. refl };
     };
     filled = tt;
     read = given-none remaining reader;
     written = taken-none contents writer;
   }
 
-  module _ (s t : Scanned) (at : ℕ) (r0 r r1 : Watched R) (w0 w : Watched W) (piece : List ℕ) (failed : ℕ) (h : HasReplaced remaining contents replacements b s at r0 r w0 w) (read : HasRead remaining s t r r1 piece failed) where
+  module _ (s t : StreamProgress) (at : ℕ) (r0 r r1 : Watched R) (w0 w : Watched W) (piece : List ℕ) (failed : ℕ) (h : HasReplaced remaining contents replacements b s at r0 r w0 w) (read : HasRead remaining s t r r1 piece failed) where
     -- what was written stays
     pub same-text : text_to t replacements at ≡ text_to s replacements at
     same-text =
@@ -189,7 +194,7 @@ module _ {R W : Type 0} (remaining : R → Option (List ℕ)) (contents : W → 
     pub all-searched : piece ≡ [] → IsSearched t
     all-searched none =
         let same : read_by t ≡ read_by s = read-same remaining s t at r r1 piece failed h.place read none in
-        read.at ∙ h.place.searched ∙ ap length (sym same)
+        read.at ∙ h.place.all.searched ∙ ap length (sym same)
 
     -- the read failed
     pub ends-failed_read : (error : _) → IsOnCourse t → failed ≡ 1 → piece ≡ [] → ReplacesStream remaining contents b replacements r0 r1 w0 w (Err (Read error))
@@ -219,9 +224,9 @@ module _ {R W : Type 0} (remaining : R → Option (List ℕ)) (contents : W → 
           },
         )
 
-  module _ (t : Scanned) (at : ℕ) (r0 r1 : Watched R) (w0 w w1 : Watched W) (h : IsReading contents replacements b t at w0 w) (given : HasGiven remaining r0 r1 t.pieces 0) where
+  module _ (t : StreamProgress) (at : ℕ) (r0 r1 : Watched R) (w0 w w1 : Watched W) (h : IsReading contents replacements b t at w0 w) (given : HasGiven remaining r0 r1 t.pieces 0) where
     -- all that is decided was written
-    pub replaced-more : (u : Scanned) (to : ℕ) → AreFilled t.pieces → SendsTo contents replacements t u at to w w1 [] [] → IsAtCut u to → HasReplaced remaining contents replacements b u to r0 r1 w0 w1
+    pub replaced-more : (u : StreamProgress) (to : ℕ) → AreFilled t.pieces → SendsTo contents replacements t u at to w w1 [] [] → IsAtCut u to → HasReplaced remaining contents replacements b u to r0 r1 w0 w1
     replaced-more u to filled sends place =
         let same = sends.same in
         let sent = taken-sent contents w0 w w1 (text_to t replacements at) sends.bytes h.written sends.sent in
@@ -235,7 +240,7 @@ module _ {R W : Type 0} (remaining : R → Option (List ℕ)) (contents : W → 
 
     -- what is said of a write that failed
     failed-write : (bytes : List ℕ) (stalls : ℕ) → IsBeginning (text_to t replacements at ++ bytes) (replaced_in t.built replacements (read_by t)) → (stopped : Stopped contents w w1 [] bytes) → stalls_of w1 ≡ stalls_of w + stalls
-        → (m : Moved) × HasMoved remaining contents r0 r1 w0 w1 m × AllFit (room_of b) m.pieces × ReplacedToFailedWrite b replacements m stalls
+        → (m : Moved) × HasMoved remaining contents r0 r1 w0 w1 m × AllFit (room_of b) m.pieces × WroteToFailedWrite (replaced_in b replacements) (IsReplacedFront b replacements) m stalls
     failed-write bytes stalls begin stopped stalled =
         let front = text_to t replacements at in
         let order : stopped.gained ++ stopped.lost ≡ bytes = stopped.order in
@@ -248,7 +253,7 @@ module _ {R W : Type 0} (remaining : R → Option (List ℕ)) (contents : W → 
           record { pieces = t.pieces; failed_reads = 0; taken = front ++ stopped.gained; failed_writes = 1; stalled_writes = stalls },
           record { reader = given; writer = taken-stopped contents w0 w w1 front bytes stalls stopped h.written stalled },
           pieces-fit b t h.built h.placed.course,
-          record { front = front; before = h.front; at_least = (stopped.gained, refl); at_most = (stopped.lost ++ begin.0, split); failed = (refl, refl, refl) },
+          record { at_least = (front, h.front, (stopped.gained, refl)); at_most = (stopped.lost ++ begin.0, split); failed = (refl, refl, refl) },
         )
 
     -- a write failed
@@ -291,7 +296,7 @@ module _ {R W : Type 0} (remaining : R → Option (List ℕ)) (contents : W → 
         ends-failed_write (drop at (read_by t)) error ([], sym (rest-text all) ∙ sym (append-nil _)) stopped kind
 
     -- the sending of what is decided stopped
-    pub sending-stopped : (u : Scanned) (error : StreamError) → StopsSending contents replacements t u at w w1 [] → IsOfWrite w w1 error → ReplacesStream remaining contents b replacements r0 r1 w0 w1 (Err error)
+    pub sending-stopped : (u : StreamProgress) (error : StreamError) → StopsSending contents replacements t u at w w1 [] → IsOfWrite w w1 error → ReplacesStream remaining contents b replacements r0 r1 w0 w1 (Err error)
     sending-stopped u error stops kind = ends-failed_write stops.bytes error stops.text stops.stopped kind
 
 -- an error of a write comes after the first read
@@ -315,7 +320,7 @@ piece-none [] n len none = refl
 piece-none (b ∷ bs) n len none = absurd (omega arith)
 
 -- what is left to read, where places can be counted, is less after each read of some bytes
-pub less-left : (s t u : Scanned) (piece : List ℕ) → t.pieces ≡ s.pieces ++ piece ∷ [] → u.pieces ≡ t.pieces → piece ≢ [] → CanBeCounted (read_by t) → 18446744073709551616 - length (read_by u) < 18446744073709551616 - length (read_by s)
+pub less-left : (s t u : StreamProgress) (piece : List ℕ) → t.pieces ≡ s.pieces ++ piece ∷ [] → u.pieces ≡ t.pieces → piece ≢ [] → CanBeCounted (read_by t) → 18446744073709551616 - length (read_by u) < 18446744073709551616 - length (read_by s)
 less-left s t u [] more same some countable = absurd (some refl)
 less-left s t u (b ∷ bs) more same some countable =
     let joined = ap length (ap concat more ∙ concat-push s.pieces (b ∷ bs)) ∙ length-append (read_by s) (b ∷ bs) in
@@ -323,12 +328,12 @@ less-left s t u (b ∷ bs) more same some countable =
     omega arith
 
 -- what is left of what is held is what is left of what was read
-pub rest-read : (s : Scanned) (held bytes : List ℕ) (from start : ℕ) → held ≡ held_by s → from ≡ s.from → from ≤ start → bytes ≡ drop (start - from) held → bytes ≡ drop start (read_by s)
+pub rest-read : (s : StreamProgress) (held bytes : List ℕ) (from start : ℕ) → held ≡ held_by s → from ≡ s.from → from ≤ start → bytes ≡ drop (start - from) held → bytes ≡ drop start (read_by s)
 rest-read s held bytes from start is_held is_from le is =
     let n : s.from + (start - from) ≡ start = omega arith in
     is ∙ ap (drop (start - from)) is_held ∙ drop-drop (start - from) s.from (read_by s) ∙ ap (λ (k : ℕ). drop k (read_by s)) n
 
-module _ {R W : Type 0} (remaining : R → Option (List ℕ)) (contents : W → Option (List ℕ)) (replacements : List (List ℕ)) (b : Built) (s t : Scanned) (at : ℕ) (r0 r r1 : Watched R) (w0 w : Watched W) (h : HasReplaced remaining contents replacements b s at r0 r w0 w) where
+module _ {R W : Type 0} (remaining : R → Option (List ℕ)) (contents : W → Option (List ℕ)) (replacements : List (List ℕ)) (b : Built) (s t : StreamProgress) (at : ℕ) (r0 r r1 : Watched R) (w0 w : Watched W) (h : HasReplaced remaining contents replacements b s at r0 r w0 w) where
   -- a read that failed, or with which there are more bytes than places
   pub read-stopped : (error : StreamError) → IsOnCourse t → ReadsMore remaining s t r r1 (Err error) → ReplacesStream remaining contents b replacements r0 r1 w0 w (Err error)
   read-stopped (Config error) course read = absurd read
@@ -353,8 +358,8 @@ module _ {R W : Type 0} (remaining : R → Option (List ℕ)) (contents : W → 
 
   -- nothing was read: what is left is written, or that stopped
   pub rest-answers : (n : ℕ) (w1 : Watched W) (bytes : List ℕ) (result : Result (Unit {0}) StreamError) → IsOnCourse t → ReadsMore remaining s t r r1 (Ok n) → n ≤ 0 → bytes ≡ drop at (read_by t)
-      → OnOk result (Sent contents w w1 [] [] bytes) → OnErr result (Stopped contents w w1 [] bytes) → IfErr result (IsOfWrite w w1) → ReplacesStream remaining contents b replacements r0 r1 w0 w1 result
-  rest-answers n w1 bytes (Ok done) course read none is sent stopped kind =
+      → Sends contents bytes w w1 [] [] result → ReplacesStream remaining contents b replacements r0 r1 w0 w1 result
+  rest-answers n w1 bytes (Ok done) course read none is sent =
       let piece = piece-none read.0 n read.2 none in
       let now = reading remaining contents replacements b s t at r0 r r1 w0 w read.0 0 h read.1 course read.3 in
       let given = given-more remaining s t r0 r r1 read.0 0 h.read read.1 in
@@ -362,13 +367,13 @@ module _ {R W : Type 0} (remaining : R → Option (List ℕ)) (contents : W → 
       (all-whole remaining contents replacements b s t at r0 r r1 w0 w read.0 0 h read.1 piece)
       (all-given remaining contents replacements b s t at r0 r r1 w0 w read.0 0 h read.1 piece)
       (subst (Sent contents w w1 [] []) is sent)
-  rest-answers n w1 bytes (Err error) course read none is sent stopped kind =
+  rest-answers n w1 bytes (Err error) course read none is sent =
       let piece = piece-none read.0 n read.2 none in
       let now = reading remaining contents replacements b s t at r0 r r1 w0 w read.0 0 h read.1 course read.3 in
       let given = given-more remaining s t r0 r r1 read.0 0 h.read read.1 in
       rest-stopped remaining contents replacements b t at r0 r1 w0 w w1 now given error
       (all-given remaining contents replacements b s t at r0 r r1 w0 w read.0 0 h read.1 piece)
-      (subst (Stopped contents w w1 []) is stopped) kind
+      (subst (Stopped contents w w1 []) is sent.0) sent.1
 
   -- all of it was searched then
   pub rest-searched : (n : ℕ) → ReadsMore remaining s t r r1 (Ok n) → n ≤ 0 → IsSearched t

@@ -3,13 +3,14 @@ use Rattle.std.proofs.Common.{◌≡◌, ℕ, ◌+◌, ◌-◌, ◌<◌, ◌≤�
 use Rattle.std.specs.List.{All, AllByRecursion, concat}
 use Rattle.std.proofs.lemmas.List.{append-nil, append_cancel_left, drop-drop, get_or-map}
 use Rattle.std.proofs.lemmas.List.Elements.{recursion_from_All}
+use Rattle.ac_input.specs.Dictionary.{Dictionary}
 use Rattle.ac_input.specs.Occurrence.{Occurrence}
 use Rattle.ac_input.specs.BeginningLaws.{IsBeginning}
 use Rattle.ac_input.specs.Text.{replaced_from}
 use Rattle.ac_automaton.specs.Automaton.{Built}
 use Rattle.ac_automaton.specs.Output.{Sent, Stopped}
 use Rattle.ac_automaton.specs.Replace.{LieInOrder, matches_in}
-use Rattle.ac_automaton.specs.Stream.{CanBeCounted, FindsHeld, IsDecided, IsOnCourse, IsSearched, ReadsNothing, Scanned, cut_of, held_by, keep_of, matches_read, read_by}
+use Rattle.ac_automaton.specs.Stream.{AreAllGiven, CanBeCounted, FindsHeld, IsDecided, IsNear, IsOnCourse, ReadsNothing, StreamProgress, cut_of, held_by, keep_of, read_by}
 use Rattle.ac_automaton.specs.StreamReplace.{IsPlaced, SendsDecided, SendsTo, StopsSending, replaced_in, text_to}
 use Rattle.ac_automaton.specs.declared.watched.Watched.{Watched}
 use Rattle.ac_automaton.proofs.OutputLemmas.{Sent-none, Sent-then, Stopped-then}
@@ -33,8 +34,12 @@ lies-behind patterns len at place [] (o ∷ rest) lies begin = (lies.0, begin.0,
 lies-behind patterns len at place (q ∷ os) rest lies begin = lies-behind patterns len q.end place os rest lies.4 begin
 
 -- the cut lies within what was read
-pub cut-within : (s : Scanned) → IsOnCourse s → cut_of s ≤ length (read_by s)
+pub cut-within : (s : StreamProgress) → IsOnCourse s → cut_of s ≤ length (read_by s)
 cut-within s course = let a = course.ordered.0 in let e = course.ordered.1 in omega arith
+
+-- no more is left of a text after a later place
+pub near-later : (m : Dictionary) (x : List ℕ) (place later : ℕ) → place ≤ later → IsNear m x place → IsNear m x later
+near-later m x place later le near = record { kept = let k = near.kept in omega arith; all = λ done. let a = near.all done in omega arith }
 
 -- the next match begins at the cut or behind it
 next-begins : (all given rest others : List Occurrence) (o : Occurrence) (cut : ℕ) → all ≡ given ++ rest → all ≡ (given ++ o ∷ []) ++ others → All (λ q. cut ≤ q.start) rest → cut ≤ o.start
@@ -43,7 +48,7 @@ next-begins all given rest others o cut one two begin =
     (subst (λ (qs : List Occurrence). AllByRecursion (λ q. cut ≤ q.start) qs) same (recursion_from_All (λ (q : Occurrence). cut ≤ q.start) rest begin)).0
 
 -- the same of a match that a search found
-match-begins : (s t : Scanned) (o : Occurrence) → ReadsNothing s t → IsDecided s → IsDecided t → t.given ≡ s.given ++ o ∷ [] → cut_of s ≤ o.start
+match-begins : (s t : StreamProgress) (o : Occurrence) → ReadsNothing s t → IsDecided s → IsDecided t → t.given ≡ s.given ++ o ∷ [] → cut_of s ≤ o.start
 match-begins s t o same before after is =
     let one = before [] in
     let two = after [] in
@@ -56,7 +61,7 @@ sooner place later [] le begin = tt
 sooner place later (o ∷ os) le begin = let first : later ≤ o.start = begin.0 in (omega arith, sooner place later os le begin.1)
 
 -- What may be written up to a place that is decided is a beginning of the whole text, replaced.
-pub text-begins : (s : Scanned) (replacements : List (List ℕ)) (at : ℕ) → IsOnCourse s → at ≤ cut_of s → LieInOrder (length s.built.dictionary.patterns) at 0 s.given → IsBeginning (text_to s replacements at) (replaced_in s.built replacements (read_by s))
+pub text-begins : (s : StreamProgress) (replacements : List (List ℕ)) (at : ℕ) → IsOnCourse s → at ≤ cut_of s → LieInOrder (length s.built.dictionary.patterns) at 0 s.given → IsBeginning (text_to s replacements at) (replaced_in s.built replacements (read_by s))
 text-begins s replacements at course before lies =
     let x = read_by s in
     let patterns = length s.built.dictionary.patterns in
@@ -79,7 +84,7 @@ held-part x from start end le =
     ap (take ((end - from) - (start - from))) (drop-drop (start - from) from x ∙ ap (λ (k : ℕ). drop k x) n) ∙ ap (λ (k : ℕ). take k (drop start x)) m
 
 -- the same of what a search holds, after it has read nothing
-pub part-read : (s t : Scanned) (held bytes : List ℕ) (from start end to : ℕ) → ReadsNothing s t → held ≡ held_by t → from ≡ t.from → end ≡ to → from ≤ start → bytes ≡ slice_range held (start - from) (end - from) → bytes ≡ slice_range (read_by s) start to
+pub part-read : (s t : StreamProgress) (held bytes : List ℕ) (from start end to : ℕ) → ReadsNothing s t → held ≡ held_by t → from ≡ t.from → end ≡ to → from ≤ start → bytes ≡ slice_range held (start - from) (end - from) → bytes ≡ slice_range (read_by s) start to
 part-read s t held bytes from start end to same is_held is_from is_end le is =
     is
     ∙ ap (λ (xs : List ℕ). slice_range xs (start - from) (end - from)) (is_held ∙ ap (λ (n : ℕ). drop n (read_by t)) (sym is_from) ∙ ap (λ (pieces : List (List ℕ)). drop from (concat pieces)) same.pieces)
@@ -93,7 +98,7 @@ replacement-at replacements n number none is lt =
 
 -- ---- one match
 
-module _ (replacements : List (List ℕ)) (s t : Scanned) (at : ℕ) (o : Occurrence) (placed : IsPlaced s at) (course : IsOnCourse t) (finds : FindsHeld s (Some o) t) where
+module _ (replacements : List (List ℕ)) (s t : StreamProgress) (at : ℕ) (o : Occurrence) (placed : IsPlaced s at) (course : IsOnCourse t) (finds : FindsHeld s (Some o) t) where
   -- the same bytes were read
   same-read : read_by t ≡ read_by s
   same-read = ap concat finds.0.pieces
@@ -116,7 +121,6 @@ module _ (replacements : List (List ℕ)) (s t : Scanned) (at : ℕ) (o : Occurr
         course = course;
         countable = subst CanBeCounted (sym same-read) placed.countable;
         held = omega arith;
-        last = omega arith;
         cut = omega arith;
         lies = subst (λ (b : Built). LieInOrder (length b.dictionary.patterns) o.end 0 t.given) (sym finds.0.built) (subst (LieInOrder patterns o.end 0) (sym finds.1) order);
       }
@@ -165,20 +169,19 @@ module _ (replacements : List (List ℕ)) (s t : Scanned) (at : ℕ) (o : Occurr
         }
 
 -- There is no further match of what was read: nothing was sent, and all of it was searched.
-pub match-none : {W : Type 0} (contents : W → Option (List ℕ)) (replacements : List (List ℕ)) (s t : Scanned) (at : ℕ) (writer : Watched W) (held : List ℕ) → IsPlaced s at → IsOnCourse t → FindsHeld s None t
-    → SendsTo contents replacements s t at at writer writer held held × IsSearched t × (t.given ≡ matches_read t)
+pub match-none : {W : Type 0} (contents : W → Option (List ℕ)) (replacements : List (List ℕ)) (s t : StreamProgress) (at : ℕ) (writer : Watched W) (held : List ℕ) → IsPlaced s at → IsOnCourse t → FindsHeld s None t
+    → SendsTo contents replacements s t at at writer writer held held × AreAllGiven t
 match-none contents replacements s t at writer held placed course finds =
     let same = finds.0 in
     let read : read_by t ≡ read_by s = ap concat same.pieces in
     let all = finds.3 placed.countable in
-    let searched : t.at ≡ length (read_by t) = all.0 in
+    let searched : t.at ≡ length (read_by t) = all.searched in
     let before : s.at ≤ length (read_by s) = placed.course.ordered.1 in
     let later : s.at ≤ t.at = omega (arith, ap length read) in
     let keep : keep_of t.built ≡ keep_of s.built = ap keep_of same.built in
     let from : t.from ≡ s.from = same.from in
-    let last : t.last ≡ s.last = finds.2 in
+    let last : s.last ≤ t.last = finds.2 in
     let h = placed.held in
-    let l = placed.last in
     let c = placed.cut in (
       record {
         same = same;
@@ -186,7 +189,6 @@ match-none contents replacements s t at writer held placed course finds =
           course = course;
           countable = subst CanBeCounted (sym read) placed.countable;
           held = omega arith;
-          last = omega arith;
           cut = omega arith;
           lies = subst (λ (b : Built). LieInOrder (length b.dictionary.patterns) at 0 t.given) (sym same.built) (subst (LieInOrder (length s.built.dictionary.patterns) at 0) (sym finds.1) placed.lies);
         };
@@ -194,16 +196,15 @@ match-none contents replacements s t at writer held placed course finds =
         text = ap (λ (y : List ℕ). replaced_from 0 (take at y) replacements t.given) read ∙ ap (replaced_from 0 (take at (read_by s)) replacements) finds.1 ∙ sym (append-nil (text_to s replacements at));
         sent = Sent-none contents writer held;
       },
-      all.0,
-      all.1,
+      all,
     )
 
 -- ---- one sending after another
 
-pub ReadsNothing-then : (s t u : Scanned) → ReadsNothing s t → ReadsNothing t u → ReadsNothing s u
+pub ReadsNothing-then : (s t u : StreamProgress) → ReadsNothing s t → ReadsNothing t u → ReadsNothing s u
 ReadsNothing-then s t u a b = record { on = omega (arith, a.on, b.on); built = b.built ∙ a.built; pieces = b.pieces ∙ a.pieces; from = b.from ∙ a.from }
 
-pub SendsTo-then : {W : Type 0} (contents : W → Option (List ℕ)) (replacements : List (List ℕ)) (s t u : Scanned) (from mid to : ℕ) (old between new : Watched W) (held kept left : List ℕ)
+pub SendsTo-then : {W : Type 0} (contents : W → Option (List ℕ)) (replacements : List (List ℕ)) (s t u : StreamProgress) (from mid to : ℕ) (old between new : Watched W) (held kept left : List ℕ)
     → SendsTo contents replacements s t from mid old between held kept → SendsTo contents replacements t u mid to between new kept left → SendsTo contents replacements s u from to old new held left
 SendsTo-then contents replacements s t u from mid to old between new held kept left a b = record {
   same = ReadsNothing-then s t u a.same b.same;
@@ -213,7 +214,7 @@ SendsTo-then contents replacements s t u from mid to old between new held kept l
   sent = Sent-then contents old between new held kept left a.bytes b.bytes a.sent b.sent;
 }
 
-pub StopsSending-then : {W : Type 0} (contents : W → Option (List ℕ)) (replacements : List (List ℕ)) (s t u : Scanned) (from mid : ℕ) (old between new : Watched W) (held kept : List ℕ)
+pub StopsSending-then : {W : Type 0} (contents : W → Option (List ℕ)) (replacements : List (List ℕ)) (s t u : StreamProgress) (from mid : ℕ) (old between new : Watched W) (held kept : List ℕ)
     → SendsTo contents replacements s t from mid old between held kept → StopsSending contents replacements t u mid between new kept → StopsSending contents replacements s u from old new held
 StopsSending-then contents replacements s t u from mid old between new held kept a b =
     let text = subst (λ (front : List ℕ). IsBeginning (front ++ b.bytes) (replaced_in t.built replacements (read_by t))) a.text b.text in
@@ -227,7 +228,7 @@ StopsSending-then contents replacements s t u from mid old between new held kept
     }
 
 -- nothing was sent yet
-pub SendsTo-none : {W : Type 0} (contents : W → Option (List ℕ)) (replacements : List (List ℕ)) (s : Scanned) (at : ℕ) (writer : Watched W) (held : List ℕ) → IsPlaced s at → SendsTo contents replacements s s at at writer writer held held
+pub SendsTo-none : {W : Type 0} (contents : W → Option (List ℕ)) (replacements : List (List ℕ)) (s : StreamProgress) (at : ℕ) (writer : Watched W) (held : List ℕ) → IsPlaced s at → SendsTo contents replacements s s at at writer writer held held
 SendsTo-none contents replacements s at writer held placed = record {
   same = record { on = omega arith; built = refl; pieces = refl; from = refl };
   placed = placed;
@@ -239,30 +240,28 @@ SendsTo-none contents replacements s at writer held placed = record {
 -- ---- up to the cut
 
 -- what stands between a place and the cut, where all was searched
-pub plain-text : (s : Scanned) (replacements : List (List ℕ)) (at cut : ℕ) → IsPlaced s at → cut ≡ cut_of s → text_to s replacements cut ≡ text_to s replacements at ++ slice_range (read_by s) at cut
+pub plain-text : (s : StreamProgress) (replacements : List (List ℕ)) (at cut : ℕ) → IsPlaced s at → cut ≡ cut_of s → text_to s replacements cut ≡ text_to s replacements at ++ slice_range (read_by s) at cut
 plain-text s replacements at cut placed is =
     let within = cut-within s placed.course in
     let le = placed.cut in
     sym (replaced-grows (read_by s) replacements (length s.built.dictionary.patterns) 0 at cut s.given placed.lies (omega arith) (omega arith) (omega arith))
 
-pub cut-placed : (s : Scanned) (at cut : ℕ) → IsPlaced s at → cut ≡ cut_of s → IsPlaced s cut
+pub cut-placed : (s : StreamProgress) (at cut : ℕ) → IsPlaced s at → cut ≡ cut_of s → IsPlaced s cut
 cut-placed s at cut placed is =
     let le = placed.cut in
     let h = placed.held in
-    let l = placed.last in
     record {
       course = placed.course;
       countable = placed.countable;
       held = omega arith;
-      last = omega arith;
       cut = omega arith;
       lies = lies-wider (length s.built.dictionary.patterns) at cut 0 s.given (omega arith) placed.lies;
     }
 
-module _ {W : Type 0} (contents : W → Option (List ℕ)) (replacements : List (List ℕ)) (s : Scanned) (at cut : ℕ) (old new : Watched W) (held bytes : List ℕ) (placed : IsPlaced s at) (is : cut ≡ cut_of s) (plain : bytes ≡ slice_range (read_by s) at cut) where
+module _ {W : Type 0} (contents : W → Option (List ℕ)) (replacements : List (List ℕ)) (s : StreamProgress) (at cut : ℕ) (old new : Watched W) (held bytes : List ℕ) (placed : IsPlaced s at) (is : cut ≡ cut_of s) (plain : bytes ≡ slice_range (read_by s) at cut) where
   -- it was sent
-  pub plain-sent : Sent contents old new held [] bytes → IsSearched s → s.given ≡ matches_read s → SendsDecided contents replacements s s at old new held cut
-  plain-sent sent searched all =
+  pub plain-sent : Sent contents old new held [] bytes → AreAllGiven s → SendsDecided contents replacements s s at old new held cut
+  plain-sent sent all =
       let there = cut-placed s at cut placed is in (
         record {
           same = record { on = omega arith; built = refl; pieces = refl; from = refl };
@@ -271,7 +270,7 @@ module _ {W : Type 0} (contents : W → Option (List ℕ)) (replacements : List 
           text = plain-text s replacements at cut placed is ∙ ap (λ (t : List ℕ). text_to s replacements at ++ t) (sym plain);
           sent = sent;
         },
-        record { placed = there; cut = is; searched = searched; all = all },
+        record { placed = there; cut = is; all = all },
       )
 
   -- the sending of it stopped

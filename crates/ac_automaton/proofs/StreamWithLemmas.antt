@@ -8,20 +8,20 @@ use Rattle.ac_input.specs.Occurrence.{Occurrence}
 use Rattle.ac_automaton.specs.Automaton.{Built}
 use Rattle.ac_automaton.specs.Moved.{HasTaken, but_last}
 use Rattle.ac_automaton.specs.Replace.{IsForMatches, LieInOrder, RepliesAt, matches_in}
-use Rattle.ac_automaton.specs.Stream.{FindsHeld, IsOnCourse, Scanned, cut_of, keep_of, matches_read, read_by}
+use Rattle.ac_automaton.specs.Stream.{FindsHeld, IsNear, IsOnCourse, StreamProgress, cut_of, matches_read, read_by}
 use Rattle.ac_automaton.specs.StreamReplace.{IsPlaced}
-use Rattle.ac_automaton.specs.StreamReplaceWith.{GoesOn, HasComeTo, IsStreamFault, IsWriterChain, PassesMatch, RefusedByClosure, StopsChain, StoppedAtWrite, StreamReplacer}
+use Rattle.ac_automaton.specs.StreamReplaceWith.{ContinuesChain, HasComeTo, IsStreamFault, IsWriterChain, PassesMatch, RefusedByClosure, StopsChain, StoppedAtWrite, StreamReplacer}
 use Rattle.ac_automaton.specs.Watched.{IsOfWrite, NoneRead, TookFront, stalls_of}
 use Rattle.ac_automaton.specs.declared.error.StreamError.{StreamError}
 use Rattle.ac_automaton.specs.declared.error.StreamError.TheVariants.{Config, Read, Write, WriteZero, Memory, Position}
 use Rattle.ac_automaton.specs.declared.watched.Watched.{Watched}
 use Rattle.ac_automaton.proofs.ReplacerLemmas.{callable-after}
 use Rattle.ac_automaton.proofs.StreamCutLemmas.{matches-cut}
-use Rattle.ac_automaton.proofs.StreamSendLemmas.{ReadsNothing-then, cut-placed, cut-within, lies-wider, match-behind, match-none, match-placed}
+use Rattle.ac_automaton.proofs.StreamSendLemmas.{ReadsNothing-then, cut-placed, cut-within, lies-wider, match-behind, match-none, match-placed, near-later}
 use Rattle.ac_automaton.proofs.WriterChainLemmas.{HasTaken-from_front, chain-grows, chain-push, slice_range-front}
 
 -- the matches that are left of what was read: all begin at the cut or behind it
-pub rest-left : (s : Scanned) → IsOnCourse s → (rest : List Occurrence) × (matches_read s ≡ s.given ++ rest) × All (λ o. cut_of s ≤ o.start) rest
+pub rest-left : (s : StreamProgress) → IsOnCourse s → (rest : List Occurrence) × (matches_read s ≡ s.given ++ rest) × All (λ o. cut_of s ≤ o.start) rest
 rest-left s course =
     let decided = course.decided [] in
     (decided.0, ap (matches_in s.built) (sym (append-nil (read_by s))) ∙ decided.1, decided.2)
@@ -34,7 +34,7 @@ all-behind : (place later : ℕ) (os : List Occurrence) → place < later → Al
 all-behind place later os le all = λ (k : ℕ) (d : Occurrence) (lt : k < length os). let late = all k d lt in let z : place < (slice_index_or os k d).start = omega arith in z
 
 -- the next match is the first of those that are left
-next-left : (s t : Scanned) (o : Occurrence) → IsOnCourse t → FindsHeld s (Some o) t → (rest : List Occurrence) × (matches_read s ≡ s.given ++ o ∷ rest) × All (λ q. o.end ≤ q.start) rest
+next-left : (s t : StreamProgress) (o : Occurrence) → IsOnCourse t → FindsHeld s (Some o) t → (rest : List Occurrence) × (matches_read s ≡ s.given ++ o ∷ rest) × All (λ q. o.end ≤ q.start) rest
 next-left s t o course finds =
     let left = rest-left t course in
     let same = finds.0 in
@@ -47,8 +47,8 @@ next-left s t o course finds =
 
 module _ {F W : Type 0} (contents : W → Option (List ℕ)) (g : StreamReplacer F W) where
   -- where the chain over the matches that were given has come
-  pub come-to : (s : Scanned) (place : ℕ) (rest : List Occurrence) (first last : F) (begun new : Watched W) → place ≤ length (read_by s) → LieInOrder (length s.built.dictionary.patterns) place 0 s.given
-      → matches_read s ≡ s.given ++ rest → All (λ o. place ≤ o.start) rest → length (concat (but_last s.pieces)) ≤ place + keep_of s.built
+  pub come-to : (s : StreamProgress) (place : ℕ) (rest : List Occurrence) (first last : F) (begun new : Watched W) → place ≤ length (read_by s) → LieInOrder (length s.built.dictionary.patterns) place 0 s.given
+      → matches_read s ≡ s.given ++ rest → All (λ o. place ≤ o.start) rest → IsNear s.built.dictionary (concat (but_last s.pieces)) place
       → IsWriterChain contents g (read_by s) 0 s.given place first begun last new → HasComeTo contents g s.built s.pieces place rest first begun last new
   come-to s place rest first last begun new within lies all later near chain = record {
     done = s.given;
@@ -60,8 +60,8 @@ module _ {F W : Type 0} (contents : W → Option (List ℕ)) (g : StreamReplacer
   }
 
   -- a write of what stands before a place stopped
-  stopped-at : (s : Scanned) (at end : ℕ) (rest : List Occurrence) (first f : F) (begun old new : Watched W) (bytes : List ℕ) (stalls : ℕ) → IsPlaced s at → at ≤ end → end ≤ length (read_by s)
-      → matches_read s ≡ s.given ++ rest → All (λ o. end ≤ o.start) rest → length (concat (but_last s.pieces)) ≤ at + keep_of s.built
+  stopped-at : (s : StreamProgress) (at end : ℕ) (rest : List Occurrence) (first f : F) (begun old new : Watched W) (bytes : List ℕ) (stalls : ℕ) → IsPlaced s at → at ≤ end → end ≤ length (read_by s)
+      → matches_read s ≡ s.given ++ rest → All (λ o. end ≤ o.start) rest → IsNear s.built.dictionary (concat (but_last s.pieces)) at
       → IsWriterChain contents g (read_by s) 0 s.given at first begun f old → bytes ≡ slice_range (read_by s) at end → TookFront contents old new bytes → NoneRead old new → stalls_of new ≡ stalls_of old + stalls
       → StoppedAtWrite contents g s.built s.pieces first begun new stalls
   stopped-at s at end rest first f begun old new bytes stalls placed le within all later near chain is took reads stalled =
@@ -80,8 +80,8 @@ module _ {F W : Type 0} (contents : W → Option (List ℕ)) (g : StreamReplacer
       }
 
   -- the same, by the error
-  pub write-stopped : (s : Scanned) (at end : ℕ) (rest : List Occurrence) (first f : F) (begun old new : Watched W) (bytes : List ℕ) (error : StreamError) → IsPlaced s at → at ≤ end → end ≤ length (read_by s)
-      → matches_read s ≡ s.given ++ rest → All (λ o. end ≤ o.start) rest → length (concat (but_last s.pieces)) ≤ at + keep_of s.built
+  pub write-stopped : (s : StreamProgress) (at end : ℕ) (rest : List Occurrence) (first f : F) (begun old new : Watched W) (bytes : List ℕ) (error : StreamError) → IsPlaced s at → at ≤ end → end ≤ length (read_by s)
+      → matches_read s ≡ s.given ++ rest → All (λ o. end ≤ o.start) rest → IsNear s.built.dictionary (concat (but_last s.pieces)) at
       → IsWriterChain contents g (read_by s) 0 s.given at first begun f old → bytes ≡ slice_range (read_by s) at end → TookFront contents old new bytes → NoneRead old new → IsOfWrite old new error
       → IsStreamFault contents g s.built s.pieces 0 first begun new error
   write-stopped s at end rest first f begun old new bytes (Config error) placed le within all later near chain is took reads kind = absurd kind
@@ -95,7 +95,7 @@ module _ {F W : Type 0} (contents : W → Option (List ℕ)) (g : StreamReplacer
 
   -- ---- one match
 
-  module _ (s t : Scanned) (at : ℕ) (o : Occurrence) (placed : IsPlaced s at) (course : IsOnCourse t) (finds : FindsHeld s (Some o) t) where
+  module _ (s t : StreamProgress) (at : ℕ) (o : Occurrence) (placed : IsPlaced s at) (course : IsOnCourse t) (finds : FindsHeld s (Some o) t) where
     -- it begins behind what was written
     begins-behind : at ≤ o.start
     begins-behind = match-behind [] s t at o placed course finds
@@ -130,14 +130,14 @@ module _ {F W : Type 0} (contents : W → Option (List ℕ)) (g : StreamReplacer
               mid = f;
               before = mid;
               came = come-to s o.start (o ∷ left.0) first f begun mid (omega arith) (lies-wider (length s.built.dictionary.patterns) at o.start 0 s.given begins-behind placed.lies) left.1
-                  (All-cons (λ (q : Occurrence). o.start ≤ q.start) o left.0 (omega arith) (all-later o.start o.end left.0 (omega arith) left.2)) (omega arith) (to-match first begun chain);
+                  (All-cons (λ (q : Occurrence). o.start ≤ q.start) o left.0 (omega arith) (all-later o.start o.end left.0 (omega arith) left.2)) (near-later s.built.dictionary (concat (but_last s.pieces)) at o.start behind near) (to-match first begun chain);
               last = after;
               refused = subst (λ (q : Result (Unit {0}) StreamError). RepliesAt g f o (slice_range (read_by s) o.start o.end) mid q after new) answer (subst (λ (bytes : List ℕ). RepliesAt g f o bytes mid r after new) is reply);
             });
           }
 
       -- the closure wrote what stands in its place
-      pub match-passed : (r : Result (Unit {0}) StreamError) (done : Unit {0}) → IsForMatches g (length s.built.dictionary.patterns) f → RepliesAt g f o matched mid r after new → r ≡ Ok done → GoesOn contents g s t at o.end f after old new × (s.at < t.at)
+      pub match-passed : (r : Result (Unit {0}) StreamError) (done : Unit {0}) → IsForMatches g (length s.built.dictionary.patterns) f → RepliesAt g f o matched mid r after new → r ≡ Ok done → ContinuesChain contents g s t at o.end f after old new × (s.at < t.at)
       match-passed r done ready reply answer =
           let some : o.start < o.end = finds.4.some in
           let behind = begins-behind in
@@ -156,7 +156,7 @@ module _ {F W : Type 0} (contents : W → Option (List ℕ)) (g : StreamReplacer
           )
 
   -- there is no further match of what was read
-  pub none-passed : (s t : Scanned) (at : ℕ) (f : F) (writer : Watched W) → IsPlaced s at → IsForMatches g (length s.built.dictionary.patterns) f → IsOnCourse t → FindsHeld s None t → PassesMatch contents g s t at f f writer writer None
+  pub none-passed : (s t : StreamProgress) (at : ℕ) (f : F) (writer : Watched W) → IsPlaced s at → IsForMatches g (length s.built.dictionary.patterns) f → IsOnCourse t → FindsHeld s None t → PassesMatch contents g s t at f f writer writer None
   none-passed s t at f writer placed ready course finds =
       let sent = match-none contents [] s t at writer [] placed course finds in
       let read : read_by t ≡ read_by s = ap concat finds.0.pieces in (
@@ -169,16 +169,15 @@ module _ {F W : Type 0} (contents : W → Option (List ℕ)) (g : StreamReplacer
           ready = subst (λ (b : Built). IsForMatches g (length b.dictionary.patterns) f) (sym finds.0.built) ready;
         },
         sent.1,
-        sent.2,
       )
 
   -- ---- one after another
 
-  pub GoesOn-none : (s : Scanned) (at : ℕ) (f : F) (writer : Watched W) → IsPlaced s at → IsForMatches g (length s.built.dictionary.patterns) f → GoesOn contents g s s at at f f writer writer
-  GoesOn-none s at f writer placed ready = record { same = record { on = omega arith; built = refl; pieces = refl; from = refl }; placed = placed; on = omega arith; chain = λ first begun chain. chain; ready = ready }
+  pub ContinuesChain-none : (s : StreamProgress) (at : ℕ) (f : F) (writer : Watched W) → IsPlaced s at → IsForMatches g (length s.built.dictionary.patterns) f → ContinuesChain contents g s s at at f f writer writer
+  ContinuesChain-none s at f writer placed ready = record { same = record { on = omega arith; built = refl; pieces = refl; from = refl }; placed = placed; on = omega arith; chain = λ first begun chain. chain; ready = ready }
 
-  pub GoesOn-then : (s t u : Scanned) (from mid to : ℕ) (f between after : F) (old middle new : Watched W) → GoesOn contents g s t from mid f between old middle → GoesOn contents g t u mid to between after middle new → GoesOn contents g s u from to f after old new
-  GoesOn-then s t u from mid to f between after old middle new a b = record {
+  pub ContinuesChain-then : (s t u : StreamProgress) (from mid to : ℕ) (f between after : F) (old middle new : Watched W) → ContinuesChain contents g s t from mid f between old middle → ContinuesChain contents g t u mid to between after middle new → ContinuesChain contents g s u from to f after old new
+  ContinuesChain-then s t u from mid to f between after old middle new a b = record {
     same = ReadsNothing-then s t u a.same b.same;
     placed = b.placed;
     on = let x = a.on in let y = b.on in omega arith;
@@ -186,22 +185,22 @@ module _ {F W : Type 0} (contents : W → Option (List ℕ)) (g : StreamReplacer
     ready = b.ready;
   }
 
-  pub StopsChain-then : (s t : Scanned) (from mid : ℕ) (f between : F) (old middle new : Watched W) (error : StreamError) → GoesOn contents g s t from mid f between old middle → StopsChain contents g t mid between middle new error → StopsChain contents g s from f old new error
+  pub StopsChain-then : (s t : StreamProgress) (from mid : ℕ) (f between : F) (old middle new : Watched W) (error : StreamError) → ContinuesChain contents g s t from mid f between old middle → StopsChain contents g t mid between middle new error → StopsChain contents g s from f old new error
   StopsChain-then s t from mid f between old middle new error a b = record {
     stops = λ first begun near chain.
         let on = a.on in
-        let keep : keep_of t.built ≡ keep_of s.built = ap keep_of a.same.built in
-        let len : length (concat (but_last t.pieces)) ≡ length (concat (but_last s.pieces)) = ap (λ (ps : List (List ℕ)). length (concat (but_last ps))) a.same.pieces in
+        let still = near-later s.built.dictionary (concat (but_last s.pieces)) from mid on near in
+        let there : IsNear t.built.dictionary (concat (but_last t.pieces)) mid = subst (λ (ps : List (List ℕ)). IsNear t.built.dictionary (concat (but_last ps)) mid) (sym a.same.pieces) (subst (λ (c : Built). IsNear c.dictionary (concat (but_last s.pieces)) mid) (sym a.same.built) still) in
         subst (λ (ps : List (List ℕ)). RefusedByClosure contents g s.built ps first begun new error ⊎ IsStreamFault contents g s.built ps 0 first begun new error) a.same.pieces
         (subst (λ (q : Built). RefusedByClosure contents g q t.pieces first begun new error ⊎ IsStreamFault contents g q t.pieces 0 first begun new error) a.same.built
-        (b.stops first begun (omega arith) (a.chain first begun chain)));
+        (b.stops first begun there (a.chain first begun chain)));
   }
 
   -- ---- up to the cut
 
-  module _ (s : Scanned) (at cut : ℕ) (f : F) (old new : Watched W) (bytes : List ℕ) (placed : IsPlaced s at) (is : cut ≡ cut_of s) (plain : bytes ≡ slice_range (read_by s) at cut) where
+  module _ (s : StreamProgress) (at cut : ℕ) (f : F) (old new : Watched W) (bytes : List ℕ) (placed : IsPlaced s at) (is : cut ≡ cut_of s) (plain : bytes ≡ slice_range (read_by s) at cut) where
     -- what stands before it was written
-    pub cut-passed : HasTaken contents old new bytes 0 0 → IsForMatches g (length s.built.dictionary.patterns) f → GoesOn contents g s s at cut f f old new
+    pub cut-passed : HasTaken contents old new bytes 0 0 → IsForMatches g (length s.built.dictionary.patterns) f → ContinuesChain contents g s s at cut f f old new
     cut-passed taken ready =
         let le = placed.cut in
         record {

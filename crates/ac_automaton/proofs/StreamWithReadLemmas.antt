@@ -1,8 +1,6 @@
 -- What a closure's replacement has made of a stream, from one read to the next, and at its end.
-use Rattle.std.proofs.Common.{◌≡◌, ◌≢◌, ◌⊎◌, inl, inr, ℕ, ◌+◌, ◌≤◌, List, [], ◌∷◌, ◌++◌, length, drop, Option, Result, Ok, Err, refl, sym, ap, ◌∙◌, subst, arith, ⊎_elim}
+use Rattle.std.proofs.Common.{◌≡◌, ◌≢◌, ◌⊎◌, inl, inr, ℕ, ◌≤◌, List, [], ◌∷◌, ◌++◌, length, drop, Option, Result, Ok, Err, refl, sym, ap, ◌∙◌, subst, arith, ⊎_elim}
 use Rattle.std.specs.List.{concat}
-use Rattle.std.specs.Prelude.{IfErr, OnErr, OnOk}
-use Rattle.std.specs.Io.KnownBytes.{Appends}
 use Rattle.std.proofs.lemmas.List.{append-nil, length-append, take_rest}
 use Rattle.std.proofs.lemmas.List.Elements.{All-from_recursion}
 use Rattle.ac_input.specs.declared.search.Anchored.{Anchored}
@@ -11,20 +9,20 @@ use Rattle.ac_input.proofs.BeginningLemmas.{slice_range-append}
 use Rattle.ac_automaton.specs.Automaton.{Built}
 use Rattle.ac_automaton.specs.Moved.{AllFit, AreFilled, HasGiven, HasTaken, but_last}
 use Rattle.ac_automaton.specs.Replace.{IsForMatches, matches_in}
-use Rattle.ac_automaton.specs.Stream.{CanBeCounted, CanStream, HasRead, IsOnCourse, ReadsMore, Scanned, cut_of, fresh_scan, keep_of, read_by, room_of}
+use Rattle.ac_automaton.specs.Stream.{CanBeCounted, CanStream, HasRead, IsNear, IsOnCourse, ReadsMore, StreamProgress, cut_of, fresh_progress, read_by, room_of}
 use Rattle.ac_automaton.specs.StreamReplace.{IsAtCut}
-use Rattle.ac_automaton.specs.StreamReplaceWith.{GoesOn, HasCome, HasReplacedWith, IsStreamFault, IsWriterChain, ReadsAndReplaces, RefusedByClosure, ReplacesStreamWith, StopsChain, StreamReplacer}
-use Rattle.ac_automaton.specs.Watched.{IsOfWrite, NoneRead, TookAll, TookFront, inner_of}
+use Rattle.ac_automaton.specs.StreamReplaceWith.{ContinuesChain, HasCome, HasReplacedWith, IsStreamFault, IsWriterChain, ReadsAndReplaces, RefusedByClosure, ReplacesStreamWith, StopsChain, StreamReplacer}
+use Rattle.ac_automaton.specs.Watched.{IsOfWrite, NoneRead, TookFront, WritesWhole}
 use Rattle.ac_automaton.specs.declared.error.StreamError.{StreamError}
 use Rattle.ac_automaton.specs.declared.error.StreamError.TheVariants.{Config, Read, Write, WriteZero, Memory, Position}
 use Rattle.ac_automaton.specs.declared.watched.Watched.{Watched}
-use Rattle.ac_automaton.proofs.StreamReplaceLemmas.{AreFilled-push, before-last, given-all, given-more, given-none, pieces-fit, place-within, placed-after, read-more, replaced-fresh, same-cut, same-lies, taken-none}
+use Rattle.ac_automaton.proofs.StreamReplaceLemmas.{AreFilled-push, before-last, given-all, given-more, given-none, pieces-fit, near-cut, place-within, placed-after, read-more, replaced-fresh, same-cut, same-lies, taken-none}
 use Rattle.ac_automaton.proofs.StreamWithLemmas.{all-later, come-to, rest-left, write-stopped}
 use Rattle.ac_automaton.proofs.WriterChainLemmas.{HasTaken-from_all, chain-grows, chain-same}
 
 module _ {F W : Type 0} (contents : W → Option (List ℕ)) (g : StreamReplacer F W) {R : Type 0} (remaining : R → Option (List ℕ)) (b : Built) where
   -- before the first read
-  pub replaced-with-fresh : (reader : Watched R) (writer : Watched W) (f : F) → IsOnCourse (fresh_scan b) → IsForMatches g (length b.dictionary.patterns) f → HasReplacedWith contents g remaining b (fresh_scan b) 0 reader reader f f writer writer
+  pub replaced-with-fresh : (reader : Watched R) (writer : Watched W) (f : F) → IsOnCourse (fresh_progress b) → IsForMatches g (length b.dictionary.patterns) f → HasReplacedWith contents g remaining b (fresh_progress b) 0 reader reader f f writer writer
   replaced-with-fresh reader writer f course ready = record {
     built = refl;
     place = (replaced-fresh remaining contents [] b reader writer course).place;
@@ -34,19 +32,16 @@ module _ {F W : Type 0} (contents : W → Option (List ℕ)) (g : StreamReplacer
     ready = ready;
   }
 
-  module _ (s t : Scanned) (at : ℕ) (r0 r r1 : Watched R) (first f : F) (w0 w : Watched W) (piece : List ℕ) (failed : ℕ) (h : HasReplacedWith contents g remaining b s at r0 r first f w0 w) (read : HasRead remaining s t r r1 piece failed) where
+  module _ (s t : StreamProgress) (at : ℕ) (r0 r r1 : Watched R) (first f : F) (w0 w : Watched W) (piece : List ℕ) (failed : ℕ) (h : HasReplacedWith contents g remaining b s at r0 r first f w0 w) (read : HasRead remaining s t r r1 piece failed) where
     -- and within all of it
     within-all : at ≤ length (read_by t)
     within-all = let le = place-within remaining s t at r r1 piece failed h.place read in let more = ap length (read-more remaining s t at r r1 piece failed h.place read) in omega (arith, length-append (read_by s) piece)
 
     -- no more is left of what was read before than may be kept
-    near-stays : length (concat (but_last t.pieces)) ≤ at + keep_of t.built
+    near-stays : IsNear t.built.dictionary (concat (but_last t.pieces)) at
     near-stays =
-        let is : at ≡ cut_of s = h.place.cut in
-        let searched : s.at ≡ length (read_by s) = h.place.searched in
-        let keep : keep_of t.built ≡ keep_of s.built = ap keep_of read.built in
-        let before : length (concat (but_last t.pieces)) ≡ length (read_by s) = ap length (before-last remaining s t at r r1 piece failed h.place read) in
-        omega arith
+        let before = before-last remaining s t at r r1 piece failed h.place read in
+        subst (λ (x : List ℕ). IsNear t.built.dictionary x at) (sym before) (subst (λ (c : Built). IsNear c.dictionary (read_by s) at) (sym read.built) (near-cut s at h.place))
 
     -- the chain stays
     chain-stays : IsWriterChain contents g (read_by t) 0 t.given at first w0 f w
@@ -71,7 +66,7 @@ module _ {F W : Type 0} (contents : W → Option (List ℕ)) (g : StreamReplacer
         subst (λ (c : Built). HasCome contents g c t.pieces first w0 w) built-read (at, left.0, f, come-to contents g t at left.0 first f w0 w within-all (same-lies remaining s t at r r1 piece failed h.place read) left.1 (all-later at (cut_of t) left.0 (same-cut remaining s t at r r1 piece failed h.place read) left.2) near-stays chain-stays)
 
     -- what was read goes on to be replaced
-    pub goes-on-with : (u : Scanned) (to : ℕ) (after : F) (w1 : Watched W) → failed ≡ 0 → piece ≢ [] → GoesOn contents g t u at to f after w w1 → IsAtCut u to → HasReplacedWith contents g remaining b u to r0 r1 first after w0 w1
+    pub goes-on-with : (u : StreamProgress) (to : ℕ) (after : F) (w1 : Watched W) → failed ≡ 0 → piece ≢ [] → ContinuesChain contents g t u at to f after w w1 → IsAtCut u to → HasReplacedWith contents g remaining b u to r0 r1 first after w0 w1
     goes-on-with u to after w1 fine some goes place =
         let same = goes.same in
         let built : u.built ≡ b = same.built ∙ built-read in
@@ -135,13 +130,13 @@ module _ {F W : Type 0} (contents : W → Option (List ℕ)) (g : StreamReplacer
 
     -- the same by the answer
     pub rest-answered : (w1 : Watched W) (bytes : List ℕ) (result : Result (Unit {0}) StreamError) → IsOnCourse t → CanBeCounted (read_by t) → failed ≡ 0 → piece ≡ [] → bytes ≡ drop at (read_by t)
-        → OnOk result (TookAll w w1 bytes) → OnErr result (TookFront contents w w1 bytes) → NoneRead w w1 → IfErr result (IsOfWrite w w1) → OnOk result (Appends (contents (inner_of w)) (contents (inner_of w1)) bytes) → ReadsAndReplaces contents g remaining b first r0 r1 w0 w1 result
-    rest-answered w1 bytes (Ok done) course countable fine none is all took reads kind device =
-        rest-passed w1 course fine none (subst (λ (t : List ℕ). HasTaken contents w w1 t 0 0) is (HasTaken-from_all contents w w1 bytes all reads device))
-    rest-answered w1 bytes (Err error) course countable fine none is all took reads kind device = rest-failed w1 bytes error course countable fine none is took reads kind
+        → WritesWhole contents w w1 bytes result → NoneRead w w1 → ReadsAndReplaces contents g remaining b first r0 r1 w0 w1 result
+    rest-answered w1 bytes (Ok done) course countable fine none is took reads =
+        rest-passed w1 course fine none (subst (λ (t : List ℕ). HasTaken contents w w1 t 0 0) is (HasTaken-from_all contents w w1 bytes took.0 reads took.1))
+    rest-answered w1 bytes (Err error) course countable fine none is took reads = rest-failed w1 bytes error course countable fine none is took.0 reads took.1
 
   -- a read that failed, or with which there are more bytes than places
-  pub read-stopped-with : (s t : Scanned) (at : ℕ) (r0 r r1 : Watched R) (first f : F) (w0 w : Watched W) (error : StreamError) → HasReplacedWith contents g remaining b s at r0 r first f w0 w → IsOnCourse t → ReadsMore remaining s t r r1 (Err error)
+  pub read-stopped-with : (s t : StreamProgress) (at : ℕ) (r0 r r1 : Watched R) (first f : F) (w0 w : Watched W) (error : StreamError) → HasReplacedWith contents g remaining b s at r0 r first f w0 w → IsOnCourse t → ReadsMore remaining s t r r1 (Err error)
       → ReadsAndReplaces contents g remaining b first r0 r1 w0 w (Err error)
   read-stopped-with s t at r0 r r1 first f w0 w (Config error) h course read = absurd read
   read-stopped-with s t at r0 r r1 first f w0 w (Read error) h course read = read-failed s t at r0 r r1 first f w0 w [] 1 h read error course refl refl

@@ -5,10 +5,12 @@ use Rattle.std.specs.Option.{option_map}
 use Rattle.std.proofs.lemmas.Bool.Decides.{nat_tests}
 use Rattle.std.proofs.lemmas.List.{drop_all}
 use Rattle.std.proofs.lemmas.Option.{slice_get_within, get_or_from_slice_get}
-use Rattle.ac_input.specs.declared.search.Anchored.TheVariants.{Yes}
+use Rattle.ac_input.specs.declared.search.Anchored.TheVariants.{No, Yes}
 use Rattle.ac_input.specs.Dictionary.{Dictionary}
+use Rattle.ac_input.specs.Occurrence.{Occurrence}
 use Rattle.ac_input.proofs.OrderLemmas.{occurrence_from_parts}
-use Rattle.ac_automaton.specs.Cursor.{counted, ending_at, taken}
+use Rattle.ac_input.specs.Tells.{ending_at}
+use Rattle.ac_automaton.specs.Cursor.{counted, taken, IsFirstAt}
 
 -- what is left of a list from a place on begins with what stands there
 drop-at : (ns : List ℕ) (i n : ℕ) → slice_get ns i ≡ Some n → drop i ns ≡ n ∷ drop (i + 1) ns
@@ -20,7 +22,16 @@ drop-at ns i n is =
 
 -- no entry before a place counts, so the first that does is the first from there on
 abbrev pub NoneCountsBefore : Dictionary → ℕ → List ℕ → ℕ → Type 0
-NoneCountsBefore m bytes ns i = slice_get (counted m Yes bytes ns) 0 ≡ slice_get (counted m Yes bytes (drop i ns)) 0
+NoneCountsBefore m bytes ns i = slice_get (counted m true bytes ns) 0 ≡ slice_get (counted m true bytes (drop i ns)) 0
+
+-- from the start that isn't anchored every entry counts
+pub first-counts : (m : Dictionary) (bytes : ℕ) (ns : List ℕ) → slice_get (counted m false bytes ns) 0 ≡ slice_get ns 0
+first-counts m bytes [] = refl
+first-counts m bytes (n ∷ ns) = refl
+
+-- so the first is the match
+pub taken-free : (m : Dictionary) (at bytes : ℕ) (ns : List ℕ) (o : Occurrence) → IsFirstAt m at ns o → Some o ≡ taken m No at bytes ns
+taken-free m at bytes ns o is = is ∙ ap (option_map (ending_at m at)) (sym (first-counts m bytes ns))
 
 -- two numbers that are equal, as a test
 equal-test : (x y : ℕ) → x ≡ y → (x == y) ≡ true
@@ -41,7 +52,7 @@ filter-first_dropped p x xs h = rw h
 -- an entry that counts is the match
 pub taken-here : (m : Dictionary) (start end : ℕ) (ns : List ℕ) (i n : ℕ) → start ≤ end → NoneCountsBefore m (end - start) ns i → slice_get ns i ≡ Some n → length (get_or m.patterns n []) ≡ end - start → Some (record { pattern = n; start = start; end = end }) ≡ taken m Yes end (end - start) ns
 taken-here m start end ns i n ordered before is long =
-    let first : slice_get (counted m Yes (end - start) (drop i ns)) 0 ≡ Some n =
+    let first : slice_get (counted m true (end - start) (drop i ns)) 0 ≡ Some n =
     subst (λ (l : List ℕ). slice_get (filter (λ k. length (get_or m.patterns k []) == (end - start)) l) 0 ≡ Some n) (sym (drop-at ns i n is))
     (filter-first_kept (λ k. length (get_or m.patterns k []) == (end - start)) n (drop (i + 1) ns) (equal-test (length (get_or m.patterns n [])) (end - start) long)) in
     let one : record { pattern = n; start = start; end = end } ≡ ending_at m end n = occurrence_from_parts (record { pattern = n; start = start; end = end }) (ending_at m end n) refl (omega arith) refl in
@@ -57,5 +68,5 @@ taken-next m bytes ns i n before is other =
 -- where none counts, there is no match
 pub taken-none : (m : Dictionary) (at bytes : ℕ) (ns : List ℕ) (i : ℕ) → NoneCountsBefore m bytes ns i → length ns ≤ i → None ≡ taken m Yes at bytes ns
 taken-none m at bytes ns i before past =
-    let none : slice_get (counted m Yes bytes (drop i ns)) 0 ≡ None = ap (λ (l : List ℕ). slice_get (filter (λ k. length (get_or m.patterns k []) == bytes) l) 0) (drop_all i ns past) in
+    let none : slice_get (counted m true bytes (drop i ns)) 0 ≡ None = ap (λ (l : List ℕ). slice_get (filter (λ k. length (get_or m.patterns k []) == bytes) l) 0) (drop_all i ns past) in
     sym (ap (option_map (ending_at m at)) (before ∙ none))

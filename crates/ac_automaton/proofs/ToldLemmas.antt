@@ -26,6 +26,7 @@ use Rattle.ac_input.proofs.BestLemmas.{IsLeast-like, IsLeast-none_stronger, IsLe
 use Rattle.ac_input.proofs.SameLemmas.{same_text-take, same_text-back, same_text-transitive}
 use Rattle.ac_input.proofs.LiveLemmas.{occurs-append, occurs-front, whole-best, kind_cases, best-entered}
 use Rattle.ac_automaton.specs.Cursor.{counted}
+use Rattle.ac_automaton.proofs.TakenLemmas.{first-counts}
 
 -- ---- one end
 
@@ -298,8 +299,10 @@ pub told : (m : Dictionary) (anchored : Anchored) (earliest : Bool) (text ns : L
     → IsEarlier (asked_kind m.kind earliest) m (is_anchored anchored) text r
     → (asked_kind m.kind earliest ≡ Standard → r ≡ None)
     → Tells m anchored text ns
-    → IsBest (asked_kind m.kind earliest) (whole m text (is_anchored anchored)) (option_or (option_map (ending m text) (slice_get (counted m anchored (length text) ns) 0)) r)
-told m No earliest text ns r inverse earlier fresh tells = told-unanchored m earliest text ns r earlier fresh tells
+    → IsBest (asked_kind m.kind earliest) (whole m text (is_anchored anchored)) (option_or (option_map (ending m text) (slice_get (counted m (is_anchored anchored) (length text) ns) 0)) r)
+told m No earliest text ns r inverse earlier fresh tells =
+    subst (λ (x : Option ℕ). IsBest (asked_kind m.kind earliest) (whole m text false) (option_or (option_map (ending m text) x) r)) (sym (first-counts m (length text) ns))
+    (told-unanchored m earliest text ns r earlier fresh tells)
 told m Yes earliest text ns r inverse earlier fresh tells = told-anchored m earliest text (filter (λ n. length (get_or m.patterns n []) == length text) ns) r inverse earlier fresh tells
 
 -- ---- how far back an entry starts

@@ -1,5 +1,5 @@
 -- What an automaton was built as, what its calls on states say, and what its searches answer and cost.
-use Rattle.std.specs.Prelude.{◌≡◌, ◌≢◌, ◌⊎◌, ◌↔◌, ℕ, ◌<◌, ◌≤◌, Bool, false, true, List, [], ◌∷◌, ◌++◌, length, take, IsTrue, Option, None, Some}
+use Rattle.std.specs.Prelude.{◌≡◌, ◌≢◌, ◌⊎◌, ◌↔◌, ℕ, ◌<◌, ◌≤◌, Bool, false, true, List, [], ◌∷◌, ◌++◌, length, take, IsTrue, Option, None, Some, Result, Ok, Err}
 use Rattle.ac_input.specs.Number.{StateID}
 use Rattle.ac_input.specs.declared.search.Anchored.{Anchored}
 use Rattle.ac_input.specs.declared.search.Anchored.TheVariants.{No, Yes}
@@ -12,6 +12,7 @@ use Rattle.ac_input.specs.Dictionary.{Dictionary, IsLive, live_len}
 use Rattle.ac_input.specs.Input.{Asked, is_anchored, search_in}
 use Rattle.ac_input.specs.Occurrence.{Search, Occurrence}
 use Rattle.ac_input.specs.Work.{IsLookups, IsFindWork}
+use Rattle.ac_automaton.specs.declared.automaton.Advance.{Advance}
 use Rattle.ac_automaton.specs.declared.error.MatchErrorKind.{MatchErrorKind}
 use Rattle.ac_automaton.specs.declared.error.MatchErrorKind.TheVariants.{InvalidInputAnchored, InvalidInputUnanchored}
 
@@ -21,28 +22,32 @@ pub record Built : Type 0 where
   pub deterministic : Bool
   pub prefilter : Option Filter
 
+-- the prefilter that it holds was made for its own dictionary
+abbrev pub OwnsPrefilter : Built → Type 0
+OwnsPrefilter b = (f : Filter) → b.prefilter ≡ Some f → f.dictionary ≡ b.dictionary
+
 -- ---- states
 
--- a state that is reached from one start, by some text
+-- A state that is reached from one start, by some text. By which is not told: a caller may know only that there is one.
 abbrev pub IsReached : (List ℕ → StateID → Type 0) → StateID → Type 0
-IsReached Reads sid = (text : List ℕ) × Reads text sid
+IsReached Reaches sid = ∥ ((text : List ℕ) × Reaches text sid) ∥₁
 
 -- a state that is reached from some start, by some text
 abbrev pub IsState : (Anchored → List ℕ → StateID → Type 0) → StateID → Type 0
-IsState Reads sid = (anchored : Anchored) × (text : List ℕ) × Reads anchored text sid
+IsState Reaches sid = ∥ ((anchored : Anchored) × (text : List ℕ) × Reaches anchored text sid) ∥₁
 
 -- this holds of each text by which the state is reached, from each start
 abbrev pub AtEach : (Anchored → List ℕ → StateID → Type 0) → StateID → (Anchored → List ℕ → Type 0) → Type 0
-AtEach Reads sid P = (anchored : Anchored) (text : List ℕ) → Reads anchored text sid → P anchored text
+AtEach Reaches sid P = (anchored : Anchored) (text : List ℕ) → Reaches anchored text sid → P anchored text
 
 -- whatever was read before, these bytes lead from the one state to the other
 abbrev pub Leads : (List ℕ → StateID → Type 0) → StateID → List ℕ → StateID → Type 0
-Leads Reads from bytes to = (text : List ℕ) → Reads text from → Reads (text ++ bytes) to
+Leads Reaches from bytes to = (text : List ℕ) → Reaches text from → Reaches (text ++ bytes) to
 
 -- what it may cost to read these bytes on from a state
 abbrev pub IsReadCost : Built → (Anchored → List ℕ → StateID → Type 0) → Anchored → StateID → List ℕ → Steps → Steps → Type 0
-IsReadCost b Reads anchored sid bytes old new =
-    (text : List ℕ) (before after : Option ℕ) → Reads anchored text sid
+IsReadCost b Reaches anchored sid bytes old new =
+    (text : List ℕ) (before after : Option ℕ) → Reaches anchored text sid
     → IsLive b.dictionary (is_anchored anchored) text before
     → IsLive b.dictionary (is_anchored anchored) (text ++ bytes) after
     → IsLookups b.deterministic (length bytes) (live_len text before) (live_len (text ++ bytes) after) old new
@@ -55,13 +60,20 @@ IsDead b anchored text = IsLive b.dictionary (is_anchored anchored) text None
 abbrev pub TellsDead : Built → Bool → Anchored → List ℕ → Type 0
 TellsDead b dead anchored text = IsTrue dead ↔ IsDead b anchored text
 
--- a start is not dead
-abbrev pub StartIsAlive : Built → Bool → Anchored → List ℕ → Type 0
-StartIsAlive b start anchored text = IsTrue start → ¬ IsDead b anchored text
-
 -- at a start that matches nothing no byte that was read is live any more
 abbrev pub StartIsEmpty : Built → List ℕ → Bool → Anchored → List ℕ → Type 0
 StartIsEmpty b matches start anchored text = IsTrue start → matches ≡ [] → IsLive b.dictionary (is_anchored anchored) text (Some (length text))
+
+-- What the answer whether a state is a start tells: a start is not dead, and one that matches nothing has nothing live; and where
+-- nothing is live of what was read, the state is a start.
+pub record StartTells (b : Built) (matches : List ℕ) (start : Bool) (anchored : Anchored) (text : List ℕ) : Type 0 where
+  pub alive : IsTrue start → ¬ IsDead b anchored text
+  pub empty : StartIsEmpty b matches start anchored text
+  pub back : IsLive b.dictionary (is_anchored anchored) text (Some (length text)) → IsTrue start
+
+-- the same of each text by which the state is reached
+abbrev pub TellsStart : Built → (Anchored → List ℕ → StateID → Type 0) → (StateID → List ℕ) → StateID → Bool → Type 0
+TellsStart b Reaches matches sid start = AtEach Reaches sid (StartTells b (matches sid) start)
 
 -- A state at which a search has more to do than to read on: the text is dead, or patterns match, or it is a start and there is a
 -- prefilter to ask.
@@ -74,7 +86,14 @@ TakesSome bytes taken = (taken ≤ length bytes) × (0 < length bytes → 0 < ta
 
 -- no state on the way is special, but for the one after the last of so many bytes
 abbrev pub PassesPlain : (List ℕ → StateID → Type 0) → (StateID → Bool) → StateID → List ℕ → ℕ → Type 0
-PassesPlain Reads special sid bytes taken = (at : ℕ) → 0 < at → at < taken → (mid : StateID) × Leads Reads sid (take at bytes) mid × ¬ IsTrue (special mid)
+PassesPlain Reaches special sid bytes taken = (at : ℕ) → 0 < at → at < taken → (mid : StateID) × Leads Reaches sid (take at bytes) mid × ¬ IsTrue (special mid)
+
+-- What reading on over bytes gives: it stops at the first state that is special, or after the last byte.
+pub record Advances (Reaches : List ℕ → StateID → Type 0) (special : StateID → Bool) (sid : StateID) (bytes : List ℕ) (stop : Advance) : Type 0 where
+  pub taken : TakesSome bytes stop.taken
+  pub reads : Leads Reaches sid (take stop.taken bytes) stop.sid
+  pub plain : PassesPlain Reaches special sid bytes stop.taken
+  pub stops : stop.taken < length bytes → IsTrue (special stop.sid)
 
 -- whether there are patterns in a list
 abbrev pub has_some : List ℕ → Bool
@@ -85,12 +104,25 @@ has_some (n ∷ ns) = true
 abbrev pub is_matching : (StateID → List ℕ) → StateID → Bool
 is_matching matches sid = has_some (matches sid)
 
+-- the same, where it stops at the first state that matches
+abbrev pub AdvancesToMatch : (List ℕ → StateID → Type 0) → (StateID → List ℕ) → StateID → List ℕ → Advance → Type 0
+AdvancesToMatch Reaches matches sid bytes stop = Advances Reaches (is_matching matches) sid bytes stop
+
 -- ---- searches
 
 -- why a search of this anchoring is refused where there is no start for it
 abbrev pub refusal_of : Anchored → MatchErrorKind
 refusal_of No = InvalidInputUnanchored
 refusal_of Yes = InvalidInputAnchored
+
+-- a search is refused: there is no start for its anchoring
+abbrev pub IsStartRefusal : (Anchored → Type 0) → Anchored → MatchErrorKind → Type 0
+IsStartRefusal supports anchored error = ¬ supports anchored × (error ≡ refusal_of anchored)
+
+-- the answer is the start of this anchoring, where there is one
+abbrev pub AnswersStart : (Anchored → Type 0) → (Anchored → List ℕ → StateID → Type 0) → Anchored → Result StateID MatchErrorKind → Type 0
+AnswersStart supports Reaches anchored (Ok sid) = supports anchored × Reaches anchored [] sid
+AnswersStart supports Reaches anchored (Err error) = IsStartRefusal supports anchored error
 
 -- the kind of match that a search asks
 abbrev pub kind_asked : Built → Asked → MatchKind
@@ -107,6 +139,16 @@ IsFound b asked r = IsBest (kind_asked b asked) (searched b asked) r
 -- what it may cost
 abbrev pub IsFindCost : Built → Asked → Steps → Steps → Option Occurrence → Type 0
 IsFindCost b asked before after r = IsFindWork (kind_asked b asked) b.deterministic (searched b asked) r before after
+
+-- the answer is the match of the search, if it has one, where there is a start for it
+abbrev pub AnswersFind : Built → (Anchored → Type 0) → Asked → Result (Option Occurrence) MatchErrorKind → Type 0
+AnswersFind b supports asked (Ok r) = supports asked.anchored × IsFound b asked r
+AnswersFind b supports asked (Err error) = IsStartRefusal supports asked.anchored error
+
+-- what that may cost; nothing where the search is refused
+abbrev pub CostsFind : Built → Asked → Steps → Steps → Result (Option Occurrence) MatchErrorKind → Type 0
+CostsFind b asked before after (Ok r) = IsFindCost b asked before after r
+CostsFind b asked before after (Err error) = after ≡ before
 
 -- all matches, one after another
 abbrev pub walk_in : Built → Asked → List Occurrence

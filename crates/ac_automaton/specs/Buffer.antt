@@ -1,5 +1,5 @@
 -- The bytes of a stream that are held in memory, and what reading and rolling do to them.
-use Rattle.std.specs.Prelude.{◌≡◌, ℕ, ◌+◌, ◌-◌, ◌*◌, ◌≤◌, max, List, [], ◌∷◌, ◌++◌, length, drop, Option}
+use Rattle.std.specs.Prelude.{◌≡◌, ℕ, ◌+◌, ◌-◌, ◌*◌, ◌≤◌, max, List, [], ◌∷◌, ◌++◌, length, drop, Option, Result, Ok, Err}
 use Rattle.ac_automaton.specs.Moved.{HasGiven}
 use Rattle.ac_automaton.specs.declared.watched.Watched.{Watched}
 
@@ -26,7 +26,7 @@ nothing_held keep = record { bytes = []; room = room_for keep; keep = keep; read
 
 -- What holds of a buffer at any time. For each byte that was moved seven were read; what is held past those that may be kept was
 -- read and not yet paid for.
-pub record IsPaid (h : Held) : Type 0 where
+pub record IsRollPaid (h : Held) : Type 0 where
   pub keeps : 1 ≤ h.keep
   pub room : h.room ≡ room_for h.keep
   pub within : length h.bytes ≤ h.room
@@ -38,6 +38,11 @@ pub record Filled {R : Type 0} (remaining : R → Option (List ℕ)) (old new : 
   pub count : length piece ≡ n
   pub held : new ≡ record old { bytes = old.bytes ++ piece; read = old.read + n }
   pub read : HasGiven remaining before after (piece ∷ []) 0
+
+-- a read filled the buffer further, or failed and left it as it was
+abbrev pub Fills : {R E : Type 0} → (R → Option (List ℕ)) → Held → Held → Watched R → Watched R → Result ℕ E → Type 0
+Fills remaining old new before after (Ok n) = Filled remaining old new before after n
+Fills remaining old new before after (Err error) = HasGiven remaining before after ([] ∷ []) 1 × (new ≡ old)
 
 -- what is held from a place on was moved to the front
 abbrev pub rolled : Held → ℕ → Held

@@ -1,16 +1,17 @@
 -- Where a search stands, what a state tells there, and what it costs to read on.
-use Rattle.std.specs.Prelude.{ℕ, ◌-◌, ◌<◌, ◌≤◌, ◌==◌, List, [], length, Option, Some, get_or, slice_get, slice_range, option_map}
+use Rattle.std.specs.Prelude.{◌≡◌, ℕ, ◌-◌, ◌<◌, ◌≤◌, ◌==◌, ◌||◌, not, Bool, List, [], length, Option, Some, get_or, slice_get, slice_range, option_map}
 use Rattle.std.specs.List.{filter}
 use Rattle.ac_input.specs.Number.{StateID}
 use Rattle.ac_input.specs.declared.search.Anchored.{Anchored}
-use Rattle.ac_input.specs.declared.search.Anchored.TheVariants.{No, Yes}
+use Rattle.ac_input.specs.declared.search.Anchored.TheVariants.{Yes}
+use Rattle.ac_input.specs.declared.search.Span.{Span}
 use Rattle.ac_input.specs.declared.steps.Steps.{Steps}
-use Rattle.ac_input.specs.Input.{is_anchored}
+use Rattle.ac_input.specs.Input.{Asked, is_anchored}
 use Rattle.ac_input.specs.Dictionary.{Dictionary, IsLive, live_len}
 use Rattle.ac_input.specs.Occurrence.{Search, Occurrence, starting_at}
-use Rattle.ac_input.specs.Tells.{Tells}
+use Rattle.ac_input.specs.Tells.{Tells, ending_at}
 use Rattle.ac_input.specs.Work.{IsLookups}
-use Rattle.ac_automaton.specs.Automaton.{Built}
+use Rattle.ac_automaton.specs.Automaton.{Built, searched}
 use Rattle.ac_automaton.specs.declared.cursor.Cursor.{Cursor}
 
 -- the text that a search has read where it stands at a place
@@ -22,12 +23,12 @@ abbrev pub walked : Search → Cursor → Search
 walked s cursor = starting_at s cursor.from
 
 -- The state was reached by the bytes between two places of the span.
-pub record IsCursor (Reads : List ℕ → StateID → Type 0) (s : Search) (cursor : Cursor) : Type 0 where
+pub record IsCursor (Reaches : List ℕ → StateID → Type 0) (s : Search) (cursor : Cursor) : Type 0 where
   pub behind : s.start ≤ cursor.from
   pub ordered : cursor.from ≤ cursor.at
   pub within : cursor.at ≤ s.end
   pub inside : s.end ≤ length s.haystack
-  pub reads : Reads (read_to (walked s cursor) cursor.at) cursor.sid
+  pub reads : Reaches (read_to (walked s cursor) cursor.at) cursor.sid
 
 -- a text after which a walk goes on: it brought no match, and isn't dead
 pub record IsQuiet (m : Dictionary) (anchored : Anchored) (text : List ℕ) : Type 0 where
@@ -43,15 +44,40 @@ pub record HasReadOn (b : Built) (anchored : Anchored) (s : Search) (from to : C
       → IsLive b.dictionary (is_anchored anchored) (read_to (walked s from) to.at) live_after
       → IsLookups b.deterministic (to.at - from.at) (live_len (read_to (walked s from) from.at) live) (live_len (read_to (walked s from) to.at) live_after) before after
 
--- a pattern that ends at a place
-abbrev pub ending_at : Dictionary → ℕ → ℕ → Occurrence
-ending_at m at n = record { pattern = n; start = at - length (get_or m.patterns n []); end = at }
+-- Whether an entry of a state counts that was reached by so many bytes: from the anchored start those alone that are as long.
+abbrev pub counts : Dictionary → Bool → ℕ → ℕ → Bool
+counts m anchored read n = not anchored || (length (get_or m.patterns n []) == read)
 
--- the matches that count after so many bytes: in an anchored search those alone that are as long
-abbrev pub counted : Dictionary → Anchored → ℕ → List ℕ → List ℕ
-counted m No bytes ns = ns
-counted m Yes bytes ns = filter (λ n. length (get_or m.patterns n []) == bytes) ns
+-- those entries of a list
+abbrev pub counted : Dictionary → Bool → ℕ → List ℕ → List ℕ
+counted m anchored read ns = filter (counts m anchored read) ns
 
--- the match that a list tells at a place, after so many bytes: the first that counts
+-- the match that a list tells at a place: its first entry
+abbrev pub IsFirstAt : Dictionary → ℕ → List ℕ → Occurrence → Type 0
+IsFirstAt m at ns o = Some o ≡ option_map (ending_at m at) (slice_get ns 0)
+
+-- the match that it tells after so many bytes: the first that counts
 abbrev pub taken : Dictionary → Anchored → ℕ → ℕ → List ℕ → Option Occurrence
-taken m anchored at bytes ns = option_map (ending_at m at) (slice_get (counted m anchored bytes ns) 0)
+taken m anchored at bytes ns = option_map (ending_at m at) (slice_get (counted m (is_anchored anchored) bytes ns) 0)
+
+-- ---- the same, of a search that is asked
+
+-- the state was reached by bytes of the input
+abbrev pub StandsIn : Built → (Anchored → List ℕ → StateID → Type 0) → Asked → Cursor → Type 0
+StandsIn b Reaches asked cursor = IsCursor (Reaches asked.anchored) (searched b asked) cursor
+
+-- the cursor went further on
+abbrev pub ReadsFurther : Built → Asked → Cursor → Cursor → Steps → Steps → Type 0
+ReadsFurther b asked from to before after = HasReadOn b asked.anchored (searched b asked) from to before after
+
+-- the answer is the match that the state tells where a walk stands
+abbrev pub IsTaken : Built → (StateID → List ℕ) → Asked → Cursor → Option Occurrence → Type 0
+IsTaken b matches asked cursor r = r ≡ taken b.dictionary asked.anchored cursor.at (cursor.at - cursor.from) (matches cursor.sid)
+
+-- the state is reached by a text that is no longer than this
+abbrev pub IsReachedWithin : (List ℕ → StateID → Type 0) → StateID → ℕ → Type 0
+IsReachedWithin Reaches sid at = (text : List ℕ) × Reaches text sid × (length text ≤ at)
+
+-- the answer is the match that a state tells at the end of a span, of patterns that are as long as the span
+abbrev pub IsWholeTaken : Built → (StateID → List ℕ) → StateID → Span → Option Occurrence → Type 0
+IsWholeTaken b matches sid span r = r ≡ taken b.dictionary Yes span.end (span.end - span.start) (matches sid)

@@ -1,8 +1,13 @@
 -- How a part of a search ends, what a prefilter's answer means for it, and what that costs.
-use Rattle.std.specs.Prelude.{◌≡◌, ℕ, ◌+◌, ◌-◌, ◌*◌, ◌<◌, ◌≤◌, Bool, Option}
+use Rattle.std.specs.Prelude.{◌≡◌, ◌≢◌, ◌⊎◌, ℕ, ◌+◌, ◌-◌, ◌*◌, ◌<◌, ◌≤◌, Bool, List, [], Option, None, Some}
+use denote.Ref.{Bor}
+use Rattle.ac_input.specs.Number.{StateID}
+use Rattle.ac_input.specs.declared.search.Anchored.{Anchored}
+use Rattle.ac_input.specs.declared.search.Anchored.TheVariants.{No, Yes}
 use Rattle.ac_input.specs.declared.search.MatchKind.{MatchKind}
 use Rattle.ac_input.specs.declared.steps.Steps.{Steps}
 use Rattle.ac_input.specs.Best.{IsBest}
+use Rattle.ac_input.specs.Candidate.{Filter}
 use Rattle.ac_input.specs.Input.{Asked}
 use Rattle.ac_input.specs.Occurrence.{Search, Occurrence, Occurs, starting_at}
 use Rattle.ac_input.specs.Steps.{looked_of, scanned_of, moved_of}
@@ -67,3 +72,16 @@ IsSearchWork kind deterministic s (Idle at) before after = IsWorkTo deterministi
 -- the same of one from a place on
 abbrev pub IsSearchCost : Built → Asked → ℕ → End (Option Occurrence) → Steps → Steps → Type 0
 IsSearchCost b asked at end before after = IsSearchWork (kind_asked b asked) b.deterministic (search_from b asked at) end before after
+
+-- the same of a prefilter's answer from a place on of the search that is asked, and of its cost
+abbrev pub CandidateEnds : Built → Asked → ℕ → End (Option Occurrence) → Type 0
+CandidateEnds b asked at told = CandidateSays (kind_asked b asked) (search_from b asked at) told
+
+abbrev pub IsCandidateCost : Built → Asked → ℕ → End (Option Occurrence) → Steps → Steps → Type 0
+IsCandidateCost b asked at told before after = IsCandidateWork (search_from b asked at) told before after
+
+-- The prefilter that a search may ask, if there is one: it is the automaton's own, the search isn't anchored, and nothing matches
+-- at the start itself.
+abbrev pub IsUsable : Built → (StateID → List ℕ) → Anchored → StateID → Option (Bor Filter) → Type 0
+IsUsable b matches anchored start (Some p) = (p.now.dictionary ≡ b.dictionary) × (anchored ≡ No) × (matches start ≡ [])
+IsUsable b matches anchored start None = (anchored ≡ Yes) ⊎ (matches start ≢ []) ⊎ (b.prefilter ≡ None)

@@ -1,5 +1,6 @@
 -- A walk over the matches of an input: where it stands, what is left of it, and what it costs.
-use Rattle.std.specs.Prelude.{◌≡◌, ℕ, ◌+◌, ◌-◌, ◌*◌, ◌<◌, ◌≤◌, min, Bool, List, Option, None, Some, IfSome, length}
+use Rattle.std.specs.Prelude.{◌≡◌, ℕ, ◌+◌, ◌-◌, ◌*◌, ◌<◌, ◌≤◌, min, Bool, List, Option, None, Some, Result, Ok, Err, IfSome, length}
+use Rattle.ac_input.specs.declared.search.Anchored.{Anchored}
 use Rattle.ac_input.specs.declared.search.MatchKind.{MatchKind}
 use Rattle.ac_input.specs.declared.search.MatchKind.TheVariants.{Standard}
 use Rattle.ac_input.specs.declared.steps.Steps.{Steps}
@@ -9,7 +10,8 @@ use Rattle.ac_input.specs.Occurrence.{Search, Occurrence}
 use Rattle.ac_input.specs.Steps.{looked_of, scanned_of, moved_of, Done}
 use Rattle.ac_input.specs.Walk.{IsPick}
 use Rattle.ac_input.specs.Work.{lookups_per_byte, longest, shortest, over_at}
-use Rattle.ac_automaton.specs.Automaton.{Built, kind_asked, searched}
+use Rattle.ac_automaton.specs.Automaton.{Built, IsStartRefusal, kind_asked, searched, walk_in}
+use Rattle.ac_automaton.specs.declared.error.MatchErrorKind.{MatchErrorKind}
 
 -- A walk: by what, and over what, it goes; the place where it stands, and where its last pick ended; and how many states it
 -- looked at, how many places it scanned and how many bytes it moved so far.
@@ -51,6 +53,11 @@ search_of_walk w = searched w.built w.asked
 abbrev pub left_of : Walk → List Occurrence
 left_of w = walk_after (kind_of w) (search_of_walk w) w.at w.last
 
+-- the answer is a walk over all matches that has not begun, where there is a start for it
+abbrev pub AnswersFindIter : Built → (Anchored → Type 0) → Asked → Result Walk MatchErrorKind → Type 0
+AnswersFindIter b supports asked (Ok walk) = supports asked.anchored × (walk ≡ fresh_walk b asked) × (left_of walk ≡ walk_in b asked)
+AnswersFindIter b supports asked (Err error) = IsStartRefusal supports asked.anchored error
+
 -- the next pick of a walk
 abbrev pub IsNextPick : Walk → Option Occurrence → Type 0
 IsNextPick w r = IsPick (kind_of w) (search_of_walk w) w.at w.last r
@@ -63,6 +70,10 @@ walk_after_pick w (Some o) = record w { at = o.end; last = Some o.end }
 -- the second walk is the first one after its next pick, whatever that cost
 abbrev pub IsWalkAfter : Walk → Option Occurrence → Walk → Type 0
 IsWalkAfter w r v = v ≡ record (walk_after_pick w r) { looked = v.looked; scanned = v.scanned; moved = v.moved }
+
+-- the answer is the next pick of the first walk, and the second one is the first after it
+abbrev pub GivesPick : Walk → Option Occurrence → Walk → Type 0
+GivesPick w r v = IsNextPick w r × IsWalkAfter w r v
 
 -- the second walk counts just as much more than the first as was done in between
 abbrev pub WalkCounts : Walk → Walk → Steps → Steps → Type 0
@@ -82,6 +93,10 @@ pub record IsPickWork (kind : MatchKind) (deterministic : Bool) (s : Search) (at
 pub record IsNextWork (w : Walk) (r : Option Occurrence) (before after : Steps) : Type 0 where
   pub pick : IsPickWork (kind_of w) w.built.deterministic (search_of_walk w) w.at r before after
   pub idle : w.asked.span.end < w.at → after ≡ before
+
+-- what the next pick costs: it is within the work of one, and the walk counts it
+abbrev pub CostsPick : Walk → Walk → Steps → Steps → Option Occurrence → Type 0
+CostsPick w v before after r = WalkCounts w v before after × IsNextWork w r before after
 
 -- how many bytes of the span lie before a walk
 abbrev pub passed : Walk → ℕ
@@ -104,6 +119,10 @@ pub record IsOnItsWay (w : Walk) : Type 0 where
 -- the next pick of a search that stands at the start of its span
 abbrev pub IsPickOf : Built → Asked → Option ℕ → Option Occurrence → Type 0
 IsPickOf b asked last r = IsPick (kind_asked b asked) (searched b asked) asked.span.start last r
+
+-- the same input, of which another part is left
+abbrev pub IsRestOf : Asked → Asked → Type 0
+IsRestOf asked rest = rest ≡ record asked { span = record asked.span { start = rest.span.start } }
 
 -- what it may cost
 abbrev pub IsPickCost : Built → Asked → Steps → Steps → Option Occurrence → Type 0

@@ -25,9 +25,10 @@ pub mod OverlappingIter
 pub mod Replace
 pub mod Buffer
 pub mod Stream
-pub mod Scan
+pub mod StreamSearch
 pub mod Moved
 pub mod Output
+pub mod StreamAnswer
 pub mod StreamReplace
 pub mod StreamReplaceWith
 pub mod StreamIter

@@ -1,9 +1,11 @@
 -- What an overlapping search still has to show where it stands, and what its calls may cost on the whole.
-use Rattle.std.specs.Prelude.{◌≡◌, ◌≢◌, ◌⊎◌, ℕ, ◌+◌, ◌-◌, ◌*◌, ◌<◌, ◌≤◌, ◌||◌, ◌==◌, not, nat_le, Bool, List, [], ◌∷◌, ◌++◌, length, map, drop, get_or, slice_get, IsTrue, Option, None, Some, is_some, filter, if◌then◌else◌}
+use Rattle.std.specs.Prelude.{◌≡◌, ◌≢◌, ◌⊎◌, ℕ, ◌+◌, ◌-◌, ◌*◌, ◌<◌, ◌≤◌, nat_le, Bool, List, [], ◌∷◌, ◌++◌, length, map, drop, slice_get, IsTrue, Option, None, Some, Result, Ok, Err, is_some, filter, if◌then◌else◌}
 use Rattle.ac_input.specs.Number.{StateID}
 use Rattle.ac_input.specs.declared.search.Anchored.{Anchored}
+use Rattle.ac_input.specs.declared.search.Anchored.TheVariants.{No}
 use Rattle.ac_input.specs.declared.search.MatchKind.TheVariants.{Standard}
 use Rattle.ac_input.specs.declared.steps.Steps.{Steps}
+use Rattle.ac_input.specs.Candidate.{Filter}
 use Rattle.ac_input.specs.Computed.{listing_of}
 use Rattle.ac_input.specs.Input.{Asked}
 use Rattle.ac_input.specs.LiveLaws.{shifted}
@@ -12,14 +14,15 @@ use Rattle.ac_input.specs.Occurrence.{Search, Occurrence, starting_at}
 use Rattle.ac_input.specs.Steps.{AreNone, looked_of, scanned_of, moved_of}
 use Rattle.ac_input.specs.Tells.{ending}
 use Rattle.ac_input.specs.Work.{lookups_per_byte}
-use Rattle.ac_automaton.specs.Automaton.{Built, refusal_of, searched, listing_in}
-use Rattle.ac_automaton.specs.Cursor.{read_to, walked, IsCursor}
+use Rattle.ac_automaton.specs.Automaton.{Built, IsStartRefusal, searched, listing_in}
+use Rattle.ac_automaton.specs.Cursor.{read_to, walked, counted, IsCursor, StandsIn}
 use Rattle.ac_automaton.specs.declared.error.MatchErrorKind.{MatchErrorKind}
 use Rattle.ac_automaton.specs.declared.error.MatchErrorKind.TheVariants.{UnsupportedOverlapping}
+use Rattle.ac_automaton.specs.declared.overlapping.Beginning.{Beginning}
 use Rattle.ac_automaton.specs.declared.overlapping.Entry.{Entry}
 use Rattle.ac_automaton.specs.declared.overlapping.OverlappingState.{OverlappingState}
-use Rattle.ac_automaton.specs.declared.overlapping.Place.{Place}
-use Rattle.ac_automaton.specs.declared.overlapping.Place.TheVariants.{At, Over}
+use Rattle.ac_automaton.specs.declared.overlapping.Position.{Position}
+use Rattle.ac_automaton.specs.declared.overlapping.Position.TheVariants.{At, Over}
 use Rattle.ac_automaton.specs.declared.cursor.Cursor.{Cursor}
 use Rattle.ac_automaton.specs.declared.cursor.End.{End}
 use Rattle.ac_automaton.specs.declared.cursor.End.TheVariants.{Found, Idle}
@@ -29,22 +32,14 @@ use Rattle.ac_automaton.specs.declared.overlapping.Shown.{Shown}
 abbrev pub ending_from : Search → ℕ → List Occurrence
 ending_from s at = filter (λ o. nat_le at o.end) (listing_of s)
 
--- Whether an entry of a state counts that was reached by so many bytes: from the anchored start those alone that are as long.
-abbrev pub counts : Dictionary → Bool → ℕ → ℕ → Bool
-counts m anchored read n = not anchored || (length (get_or m.patterns n []) == read)
-
--- those matches, from an index of the state's list on
-abbrev pub counted_from : Dictionary → Bool → ℕ → List ℕ → ℕ → List ℕ
-counted_from m anchored read ns index = filter (counts m anchored read) (drop index ns)
-
--- the first of them from an index on, and the index behind it
+-- the first entry that counts from an index on, and the index behind it
 abbrev pub IsNextEntry : Dictionary → Bool → ℕ → List ℕ → ℕ → Option Entry → Type 0
-IsNextEntry m anchored read ns index None = counted_from m anchored read ns index ≡ []
-IsNextEntry m anchored read ns index (Some entry) = (counted_from m anchored read ns index ≡ entry.pattern ∷ counted_from m anchored read ns entry.next) × (entry.pattern < length m.patterns)
+IsNextEntry m anchored read ns index None = counted m anchored read (drop index ns) ≡ []
+IsNextEntry m anchored read ns index (Some entry) = (counted m anchored read (drop index ns) ≡ entry.pattern ∷ counted m anchored read (drop entry.next ns)) × (entry.pattern < length m.patterns)
 
 -- the occurrences that a state tells at a place by its matches from an index on
 abbrev pub told_from : Dictionary → Search → ℕ → List ℕ → ℕ → List Occurrence
-told_from m s at ns index = map (shifted s.start) (map (ending m (read_to s at)) (counted_from m s.anchored (at - s.start) ns index))
+told_from m s at ns index = map (shifted s.start) (map (ending m (read_to s at)) (counted m s.anchored (at - s.start) (drop index ns)))
 
 -- what a state tells first by its matches from an index on, and where that leaves the search
 abbrev pub TellsFirst : (StateID → List ℕ) → Dictionary → Search → Cursor → ℕ → Option Shown → Type 0
@@ -54,14 +49,14 @@ TellsFirst matches m s cursor index (Some shown) =
 
 -- This is what is still to be shown of the listing where a search stands: what its state tells from an index on, and all that
 -- ends later.
-abbrev pub IsLeft : (List ℕ → StateID → Type 0) → (StateID → List ℕ) → Dictionary → Search → Place → List Occurrence → Type 0
-IsLeft Reads matches m s (At sid from at index) left =
-    IsCursor Reads s (record { sid = sid; from = from; at = at }) × (left ≡ told_from m (starting_at s from) at (matches sid) index ++ ending_from (starting_at s from) (at + 1))
-IsLeft Reads matches m s Over left = left ≡ []
+abbrev pub IsLeft : (List ℕ → StateID → Type 0) → (StateID → List ℕ) → Dictionary → Search → Position → List Occurrence → Type 0
+IsLeft Reaches matches m s (At sid from at index) left =
+    IsCursor Reaches s (record { sid = sid; from = from; at = at }) × (left ≡ told_from m (starting_at s from) at (matches sid) index ++ ending_from (starting_at s from) (at + 1))
+IsLeft Reaches matches m s Over left = left ≡ []
 
 -- A call showed the first of what was left, if there was anything.
 abbrev pub ShowsFirst : (List ℕ → StateID → Type 0) → (StateID → List ℕ) → Dictionary → Search → List Occurrence → Shown → Type 0
-ShowsFirst Reads matches m s left r = (r.found ≡ slice_get left 0) × IsLeft Reads matches m s r.place (drop 1 left)
+ShowsFirst Reaches matches m s left r = (r.found ≡ slice_get left 0) × IsLeft Reaches matches m s r.place (drop 1 left)
 
 -- So many looks are paid for by the bytes up to a place of the span.
 abbrev pub IsPaidTo : Bool → Search → ℕ → ℕ → Type 0
@@ -74,39 +69,39 @@ IsPaidAt m deterministic s from at looks =
     → (looks + live_len (read_to (starting_at s from) at) live ≤ 2 * (at - s.start)) × (IsTrue deterministic → looks ≤ at - s.start)
 
 -- the same where a search stands
-abbrev pub IsPaid : Dictionary → Bool → Search → Place → ℕ → Type 0
-IsPaid m deterministic s (At sid from at index) looks = IsPaidAt m deterministic s from at looks
-IsPaid m deterministic s Over looks = IsPaidTo deterministic s s.end looks
+abbrev pub IsPlacePaid : Dictionary → Bool → Search → Position → ℕ → Type 0
+IsPlacePaid m deterministic s (At sid from at index) looks = IsPaidAt m deterministic s from at looks
+IsPlacePaid m deterministic s Over looks = IsPaidTo deterministic s s.end looks
 
 -- how far a search has come
-abbrev pub come_to : Search → Place → ℕ
+abbrev pub come_to : Search → Position → ℕ
 come_to s (At sid from at index) = at
 come_to s Over = s.end
 
 -- So many places were scanned for bytes by a search that has come so far.
-abbrev pub IsScannedTo : Search → ℕ → ℕ → Type 0
-IsScannedTo s at scans = scans ≤ 256 * (at - s.start)
+abbrev pub IsScanPaidTo : Search → ℕ → ℕ → Type 0
+IsScanPaidTo s at scans = scans ≤ 256 * (at - s.start)
 
 -- A call goes on paying: its looks and its scans, which its steps count, come to those before.
-pub record KeepsBudget (m : Dictionary) (deterministic : Bool) (s : Search) (from to : Place) (before after : Steps) : Type 0 where
-  pub looks : (looks more : ℕ) → IsPaid m deterministic s from looks → looks + looked_of after ≡ more + looked_of before → IsPaid m deterministic s to more
-  pub scans : (scans more : ℕ) → IsScannedTo s (come_to s from) scans → scans + scanned_of after ≡ more + scanned_of before → IsScannedTo s (come_to s to) more
+pub record KeepsBudget (m : Dictionary) (deterministic : Bool) (s : Search) (from to : Position) (before after : Steps) : Type 0 where
+  pub looks : (looks more : ℕ) → IsPlacePaid m deterministic s from looks → looks + looked_of after ≡ more + looked_of before → IsPlacePaid m deterministic s to more
+  pub scans : (scans more : ℕ) → IsScanPaidTo s (come_to s from) scans → scans + scanned_of after ≡ more + scanned_of before → IsScanPaidTo s (come_to s to) more
   pub moved : moved_of after ≡ moved_of before
 
 -- a search stands behind a place, or is over
-abbrev pub IsBehind : ℕ → Place → Type 0
+abbrev pub IsBehind : ℕ → Position → Type 0
 IsBehind place (At sid from at index) = place < at
 IsBehind place Over = Unit {0}
 
 -- How reading on from a place ends: the first of what was left is shown; or the walk is back at the start, and what is left is
 -- what occurs from there on.
 abbrev pub ReadsOn : (List ℕ → StateID → Type 0) → (StateID → List ℕ) → Dictionary → Search → ℕ → List Occurrence → End Shown → Type 0
-ReadsOn Reads matches m s at left (Found shown) = ShowsFirst Reads matches m s left shown × IsBehind at shown.place
-ReadsOn Reads matches m s at left (Idle to) = (at < to) × (to ≤ s.end) × (left ≡ listing_of (starting_at s to))
+ReadsOn Reaches matches m s at left (Found shown) = ShowsFirst Reaches matches m s left shown × IsBehind at shown.place
+ReadsOn Reaches matches m s at left (Idle to) = (at < to) × (to ≤ s.end) × (left ≡ listing_of (starting_at s to))
 
 -- so many looks are paid for where reading on ends
 abbrev pub IsPaidBy : Dictionary → Bool → Search → End Shown → ℕ → Type 0
-IsPaidBy m deterministic s (Found shown) looks = IsPaid m deterministic s shown.place looks
+IsPaidBy m deterministic s (Found shown) looks = IsPlacePaid m deterministic s shown.place looks
 IsPaidBy m deterministic s (Idle to) looks = IsPaidTo deterministic s to looks
 
 -- how far a search has come where reading on ends
@@ -134,6 +129,10 @@ shown_of state = state.shown.value
 abbrev pub found_of : OverlappingState → Option Occurrence
 found_of state = state.found
 
+-- so many, and one more where there is one
+abbrev pub and_one : Option Occurrence → ℕ → ℕ
+and_one found n = if is_some found then n + 1 else n
+
 -- What all calls with one state may cost: they look at no more states than one search does, whatever they show, and scan for no
 -- more bytes.
 pub record IsOverlappingWork (deterministic : Bool) (s : Search) (sums : Steps) : Type 0 where
@@ -152,21 +151,21 @@ pub record IsFreshState (state : OverlappingState) : Type 0 where
 
 -- So many of the listing were shown, what is still to come of it is what is left where the search stands, and all looks and
 -- scans are paid for.
-pub record StandsAt (Reads : List ℕ → StateID → Type 0) (matches : StateID → List ℕ) (m : Dictionary) (deterministic : Bool) (s : Search) (place : Place) (shown : ℕ) (sums : Steps) : Type 0 where
-  pub left : IsLeft Reads matches m s place (drop shown (listing_of s))
-  pub paid : IsPaid m deterministic s place (looked_of sums)
-  pub scanned : IsScannedTo s (come_to s place) (scanned_of sums)
+pub record StandsAt (Reaches : List ℕ → StateID → Type 0) (matches : StateID → List ℕ) (m : Dictionary) (deterministic : Bool) (s : Search) (place : Position) (shown : ℕ) (sums : Steps) : Type 0 where
+  pub left : IsLeft Reaches matches m s place (drop shown (listing_of s))
+  pub paid : IsPlacePaid m deterministic s place (looked_of sums)
+  pub scanned : IsScanPaidTo s (come_to s place) (scanned_of sums)
   pub moved : moved_of sums ≡ 0
 
 -- A state that is fresh, or that came from earlier calls with the same automaton and input alone.
 abbrev pub CameFrom : Built → (Anchored → List ℕ → StateID → Type 0) → (StateID → List ℕ) → Asked → OverlappingState → Type 0
-CameFrom b Reads matches asked state =
-    IsFreshState state ⊎ ((place : Place) × (state.place ≡ Some place) × StandsAt (Reads asked.anchored) matches b.dictionary b.deterministic (searched b asked) place (shown_of state) state.sums)
+CameFrom b Reaches matches asked state =
+    IsFreshState state ⊎ ((place : Position) × (state.place ≡ Some place) × StandsAt (Reaches asked.anchored) matches b.dictionary b.deterministic (searched b asked) place (shown_of state) state.sums)
 
 -- A call showed the next of the listing, if there was one more.
 pub record ShowsNext (b : Built) (asked : Asked) (before after : OverlappingState) : Type 0 where
   pub found : found_of after ≡ slice_get (listing_in b asked) (shown_of before)
-  pub shown : shown_of after ≡ (if is_some (found_of after) then shown_of before + 1 else shown_of before)
+  pub shown : shown_of after ≡ and_one (found_of after) (shown_of before)
 
 -- what the calls with a state cost up to now
 abbrev pub sums_of : OverlappingState → Steps
@@ -185,14 +184,35 @@ CanOverlap b supports asked = supports asked.anchored × (b.dictionary.kind ≡ 
 -- why an overlapping search is refused: first because there is no start, and then because of the kind
 abbrev pub IsOverlappingRefusal : Built → (Anchored → Type 0) → Asked → MatchErrorKind → Type 0
 IsOverlappingRefusal b supports asked error =
-    (¬ supports asked.anchored × (error ≡ refusal_of asked.anchored))
+    IsStartRefusal supports asked.anchored error
     ⊎ (supports asked.anchored × (b.dictionary.kind ≢ Standard) × (error ≡ UnsupportedOverlapping b.dictionary.kind))
+
+-- A call shows the next of the listing, where an overlapping search can be made; else the state is as it was.
+abbrev pub AnswersOverlapping : Built → (Anchored → Type 0) → Asked → OverlappingState → OverlappingState → Result (Unit {0}) MatchErrorKind → Type 0
+AnswersOverlapping b supports asked before after (Ok done) = CanOverlap b supports asked × ShowsNext b asked before after
+AnswersOverlapping b supports asked before after (Err error) = IsOverlappingRefusal b supports asked error × (after ≡ before)
+
+-- What a call costs: all calls with a state stay within one search, and what the state counts more was done.
+abbrev pub CostsOverlapping : Built → Asked → OverlappingState → OverlappingState → Steps → Steps → Result (Unit {0}) MatchErrorKind → Type 0
+CostsOverlapping b asked from to before after (Ok done) = IsOverlappingCost b asked (sums_of to) × DoneAlike (sums_of from) (sums_of to) before after
+CostsOverlapping b asked from to before after (Err error) = IsOverlappingCost b asked (sums_of to) × (after ≡ before)
 
 -- ---- the same, told of an automaton and an input
 
--- the state was reached by bytes of the input
-abbrev pub StandsIn : Built → (Anchored → List ℕ → StateID → Type 0) → Asked → Cursor → Type 0
-StandsIn b Reads asked cursor = IsCursor (Reads asked.anchored) (searched b asked) cursor
+-- an overlapping search of the standard kind stands where it may show what a state tells
+pub record MayShow (b : Built) (Reaches : Anchored → List ℕ → StateID → Type 0) (asked : Asked) (here : Cursor) : Type 0 where
+  pub standard : b.dictionary.kind ≡ Standard
+  pub cursor : StandsIn b Reaches asked here
+
+-- it may ask the prefilter from a place on, and go on from the start
+pub record MaySkip (b : Built) (Reaches : Anchored → List ℕ → StateID → Type 0) (matches : StateID → List ℕ) (asked : Asked) (prefilter : Filter) (start : StateID) (at : ℕ) : Type 0 where
+  pub standard : b.dictionary.kind ≡ Standard
+  pub made : prefilter.dictionary ≡ b.dictionary
+  pub free : asked.anchored ≡ No
+  pub starts : Reaches No [] start
+  pub empty : matches start ≡ []
+  pub from : asked.span.start ≤ at
+  pub to : at ≤ asked.span.end
 
 -- what a state has to show from an index of its list on
 abbrev pub ShowsAt : Built → (StateID → List ℕ) → Asked → Cursor → ℕ → Option Shown → Type 0
@@ -201,28 +221,28 @@ ShowsAt b matches asked cursor index shown = TellsFirst matches b.dictionary (se
 -- What is shown where a walk stands: the first of what is left there, which is nothing where the state is dead; none where the
 -- state tells nothing.
 abbrev pub ShowsHere : Built → (Anchored → List ℕ → StateID → Type 0) → (StateID → List ℕ) → Asked → Cursor → Option Shown → Type 0
-ShowsHere b Reads matches asked cursor None = told_from b.dictionary (walked (searched b asked) cursor) cursor.at (matches cursor.sid) 0 ≡ []
-ShowsHere b Reads matches asked cursor (Some shown) =
-    ShowsFirst (Reads asked.anchored) matches b.dictionary (searched b asked) (ending_from (walked (searched b asked) cursor) cursor.at) shown
+ShowsHere b Reaches matches asked cursor None = told_from b.dictionary (walked (searched b asked) cursor) cursor.at (matches cursor.sid) 0 ≡ []
+ShowsHere b Reaches matches asked cursor (Some shown) =
+    ShowsFirst (Reaches asked.anchored) matches b.dictionary (searched b asked) (ending_from (walked (searched b asked) cursor) cursor.at) shown
     × ((shown.place ≡ Over) ⊎ ((index : ℕ) × (shown.place ≡ At cursor.sid cursor.from cursor.at index)))
 
 -- How a search ends where a walk stands: with what is shown there; or nothing is told, and what is left begins here or later.
 -- None where it goes on: nothing is told.
 abbrev pub EndsHere : Built → (Anchored → List ℕ → StateID → Type 0) → (StateID → List ℕ) → Asked → Cursor → Option (End Shown) → Type 0
-EndsHere b Reads matches asked cursor None = told_from b.dictionary (walked (searched b asked) cursor) cursor.at (matches cursor.sid) 0 ≡ []
-EndsHere b Reads matches asked cursor (Some (Found shown)) = ShowsHere b Reads matches asked cursor (Some shown)
-EndsHere b Reads matches asked cursor (Some (Idle at)) =
+EndsHere b Reaches matches asked cursor None = told_from b.dictionary (walked (searched b asked) cursor) cursor.at (matches cursor.sid) 0 ≡ []
+EndsHere b Reaches matches asked cursor (Some (Found shown)) = ShowsHere b Reaches matches asked cursor (Some shown)
+EndsHere b Reaches matches asked cursor (Some (Idle at)) =
     (at ≡ cursor.at) × (ending_from (walked (searched b asked) cursor) cursor.at ≡ listing_of (starting_at (searched b asked) cursor.at))
 
 -- the first of what ends after the place where a walk stands is shown; or the walk is back at the start
 abbrev pub ShowsLater : Built → (Anchored → List ℕ → StateID → Type 0) → (StateID → List ℕ) → Asked → Cursor → End Shown → Type 0
-ShowsLater b Reads matches asked cursor end =
-    ReadsOn (Reads asked.anchored) matches b.dictionary (searched b asked) cursor.at (ending_from (walked (searched b asked) cursor) (cursor.at + 1)) end
+ShowsLater b Reaches matches asked cursor end =
+    ReadsOn (Reaches asked.anchored) matches b.dictionary (searched b asked) cursor.at (ending_from (walked (searched b asked) cursor) (cursor.at + 1)) end
 
 -- the first of what begins at a place or later is shown; or the walk is back at the start
 abbrev pub ShowsFrom : Built → (Anchored → List ℕ → StateID → Type 0) → (StateID → List ℕ) → Asked → ℕ → End Shown → Type 0
-ShowsFrom b Reads matches asked at end =
-    ReadsOn (Reads asked.anchored) matches b.dictionary (searched b asked) at (listing_of (starting_at (searched b asked) at)) end
+ShowsFrom b Reaches matches asked at end =
+    ReadsOn (Reaches asked.anchored) matches b.dictionary (searched b asked) at (listing_of (starting_at (searched b asked) at)) end
 
 -- what is paid for where a walk stands pays for what it costs to read on
 abbrev pub PaysLater : Built → Asked → Cursor → End Shown → Steps → Steps → Type 0
@@ -230,3 +250,44 @@ PaysLater b asked cursor end before after =
     (looks more : ℕ) → IsPaidAt b.dictionary b.deterministic (searched b asked) cursor.from cursor.at looks
     → looks + looked_of after ≡ more + looked_of before
     → IsPaidBy b.dictionary b.deterministic (searched b asked) end more
+
+-- what is paid for where a search stands pays for what a call costs
+abbrev pub KeepsPaying : Built → Asked → Position → Position → Steps → Steps → Type 0
+KeepsPaying b asked from to before after = KeepsBudget b.dictionary b.deterministic (searched b asked) from to before after
+
+-- the same of a search that stands at a state, and has shown its list up to an index
+abbrev pub PaysFrom : Built → Asked → Cursor → ℕ → Shown → Steps → Steps → Type 0
+PaysFrom b asked cursor index shown before after = KeepsPaying b asked (At cursor.sid cursor.from cursor.at index) shown.place before after
+
+-- what it costs to read on by candidates from a place
+abbrev pub SkipsAtCost : Built → Asked → ℕ → End Shown → Steps → Steps → Type 0
+SkipsAtCost b asked at end before after = IsSkipCost b.dictionary b.deterministic (searched b asked) at end before after
+
+-- the first of what ends after the place where a walk stands is shown
+abbrev pub ShowsAfter : Built → (Anchored → List ℕ → StateID → Type 0) → (StateID → List ℕ) → Asked → Cursor → Shown → Type 0
+ShowsAfter b Reaches matches asked cursor shown =
+    ShowsFirst (Reaches asked.anchored) matches b.dictionary (searched b asked) (ending_from (walked (searched b asked) cursor) (cursor.at + 1)) shown
+
+-- the first is shown of what the state tells from an index of its list on, and of what ends later
+abbrev pub ShowsRest : Built → (Anchored → List ℕ → StateID → Type 0) → (StateID → List ℕ) → Asked → Cursor → ℕ → Shown → Type 0
+ShowsRest b Reaches matches asked cursor index shown =
+    ShowsFirst (Reaches asked.anchored) matches b.dictionary (searched b asked)
+    (told_from b.dictionary (walked (searched b asked) cursor) cursor.at (matches cursor.sid) index ++ ending_from (walked (searched b asked) cursor) (cursor.at + 1)) shown
+
+-- this is what is left where a search stands
+abbrev pub IsLeftAt : Built → (Anchored → List ℕ → StateID → Type 0) → (StateID → List ℕ) → Asked → Position → List Occurrence → Type 0
+IsLeftAt b Reaches matches asked place left = IsLeft (Reaches asked.anchored) matches b.dictionary (searched b asked) place left
+
+-- the first of what is left there is shown, whatever that is
+abbrev pub ShowsNextAt : Built → (Anchored → List ℕ → StateID → Type 0) → (StateID → List ℕ) → Asked → Position → Shown → Type 0
+ShowsNextAt b Reaches matches asked place shown =
+    (left : List Occurrence) → IsLeftAt b Reaches matches asked place left → ShowsFirst (Reaches asked.anchored) matches b.dictionary (searched b asked) left shown
+
+-- A search begins at the start, where all of the listing is left and nothing has to be paid for; or it is refused.
+abbrev pub AnswersBegin : Built → (Anchored → List ℕ → StateID → Type 0) → (StateID → List ℕ) → (Anchored → Type 0) → Asked → Result Beginning MatchErrorKind → Type 0
+AnswersBegin b Reaches matches supports asked (Ok beginning) =
+    CanOverlap b supports asked
+    × Reaches asked.anchored [] beginning.start
+    × IsLeftAt b Reaches matches asked beginning.place (listing_in b asked)
+    × IsPlacePaid b.dictionary b.deterministic (searched b asked) beginning.place 0
+AnswersBegin b Reaches matches supports asked (Err error) = IsOverlappingRefusal b supports asked error

@@ -1,5 +1,6 @@
 -- The overlapping matches of an input in turn: which were shown, which are left, and what that costs.
-use Rattle.std.specs.Prelude.{◌≡◌, ◌⊎◌, ℕ, ◌+◌, ◌-◌, ◌*◌, ◌≤◌, List, drop, Option, is_some, if◌then◌else◌}
+use Rattle.std.specs.Prelude.{◌≡◌, ◌⊎◌, ℕ, ◌+◌, ◌-◌, ◌*◌, ◌≤◌, List, drop, Option, Result, Ok, Err}
+use Rattle.std.specs.Iterator.{YieldsFirst}
 use Rattle.ac_input.specs.declared.search.Anchored.{Anchored}
 use Rattle.ac_input.specs.declared.search.Anchored.TheVariants.{No, Yes}
 use Rattle.ac_input.specs.declared.steps.Steps.{Steps}
@@ -9,7 +10,7 @@ use Rattle.ac_input.specs.Steps.{looked_of, scanned_of, moved_of}
 use Rattle.ac_input.specs.Work.{lookups_per_byte}
 use Rattle.ac_automaton.specs.declared.error.MatchErrorKind.{MatchErrorKind}
 use Rattle.ac_automaton.specs.declared.error.MatchErrorKind.TheVariants.{InvalidInputAnchored}
-use Rattle.ac_automaton.specs.Overlapping.{CanOverlap, IsOverlappingRefusal}
+use Rattle.ac_automaton.specs.Overlapping.{CanOverlap, IsOverlappingRefusal, and_one}
 use Rattle.ac_automaton.specs.Automaton.{Built, listing_in}
 
 -- A run through a listing: by what, and over what, it goes; how many of the listing were shown; and how many states were looked at, how many places were scanned and how many bytes were moved so far.
@@ -35,7 +36,11 @@ rest_of run = drop run.shown (listing_in run.built run.asked)
 
 -- the second run is the first one after what was shown, if something was, whatever that cost
 abbrev pub IsRunAfter : Run → Option Occurrence → Run → Type 0
-IsRunAfter run r later = later ≡ record run { shown = if is_some r then run.shown + 1 else run.shown; looked = later.looked; scanned = later.scanned; moved = later.moved }
+IsRunAfter run r later = later ≡ record run { shown = and_one r run.shown; looked = later.looked; scanned = later.scanned; moved = later.moved }
+
+-- the answer is the first of the rest of the first run, if there is one, and the second run is the first one after it
+abbrev pub GivesFirst : Run → Option Occurrence → Run → Type 0
+GivesFirst run r later = YieldsFirst rest_of run r later × IsRunAfter run r later
 
 -- the second run counts just as much more than the first as was done in between
 pub record RunCounts (run later : Run) (before after : Steps) : Type 0 where
@@ -56,3 +61,8 @@ CanRun b supports asked = CanOverlap b supports asked × (asked.anchored ≡ No)
 -- why a run is refused: as an overlapping search is, and then because the input is anchored
 abbrev pub IsRunRefusal : Built → (Anchored → Type 0) → Asked → MatchErrorKind → Type 0
 IsRunRefusal b supports asked error = IsOverlappingRefusal b supports asked error ⊎ (CanOverlap b supports asked × (asked.anchored ≡ Yes) × (error ≡ InvalidInputAnchored))
+
+-- the answer is a run over all occurrences that has not begun, where one can be made
+abbrev pub AnswersOverlappingIter : Built → (Anchored → Type 0) → Asked → Result Run MatchErrorKind → Type 0
+AnswersOverlappingIter b supports asked (Ok run) = CanRun b supports asked × (run ≡ fresh_run b asked) × (rest_of run ≡ listing_in b asked)
+AnswersOverlappingIter b supports asked (Err error) = IsRunRefusal b supports asked error

@@ -1,7 +1,9 @@
 -- Replacement in memory: of which matches, what it gives, and when it is refused.
-use Rattle.std.specs.Prelude.{◌≡◌, ℕ, ◌<◌, ◌≤◌, ◌==◌, ◌&&◌, ◌||◌, nat_lt, nat_le, Bool, List, [], ◌∷◌, length, slice_index, Some, None, Result, Ok, Err}
+use Rattle.std.specs.Prelude.{◌≡◌, ℕ, ◌<◌, ◌≤◌, ◌==◌, ◌&&◌, ◌||◌, nat_lt, nat_le, Bool, List, [], ◌∷◌, length, map, slice_index, Some, None, Result, Ok, Err, String}
 use Rattle.std.specs.Fn.{Called, Mut}
 use Rattle.std.specs.List.{filter}
+use Rattle.std.specs.Global.{Global, Vec}
+use Rattle.std.specs.String.{string_bytes}
 use Rattle.std.specs.declared.alloc.AllocError.{AllocError}
 use denote.Ref.{Bor, MutBor}
 use Rattle.ac_input.specs.Chain.{Calls, IsChain, IsRefusedChain}
@@ -10,7 +12,7 @@ use Rattle.ac_input.specs.declared.search.Anchored.TheVariants.{No}
 use Rattle.ac_input.specs.Input.{whole_of}
 use Rattle.ac_input.specs.Occurrence.{Occurrence}
 use Rattle.ac_input.specs.Text.{replaced_from}
-use Rattle.ac_automaton.specs.Automaton.{Built, refusal_of, walk_in}
+use Rattle.ac_automaton.specs.Automaton.{Built, IsStartRefusal, walk_in}
 use Rattle.ac_automaton.specs.Iter.{Walk, left_of}
 use Rattle.ac_automaton.specs.declared.error.ReplaceError.{ReplaceError}
 use Rattle.ac_automaton.specs.declared.error.ReplaceError.TheVariants.{Match, Memory}
@@ -47,8 +49,20 @@ LieInOrder patterns len at (o ∷ os) = (o.pattern < patterns) × (at ≤ o.star
 
 -- The error says what was refused: the search, exactly where there is no start for one that isn't anchored; or else memory.
 abbrev pub IsReplaceRefusal : (Anchored → Type 0) → ReplaceError → Type 0
-IsReplaceRefusal supports (Match error) = (¬ supports No) × (error ≡ refusal_of No)
+IsReplaceRefusal supports (Match error) = IsStartRefusal supports No error
 IsReplaceRefusal supports Memory = supports No
+
+-- The answer holds the haystack with each of its matches exchanged for its pattern's replacement; or it says what was refused.
+abbrev pub AnswersReplaceAll : {D : Type 0} → (D → List ℕ) → (Built → List ℕ → List Occurrence) → Built → (Anchored → Type 0) → List ℕ → List (Bor (List ℕ)) → Result D ReplaceError → Type 0
+AnswersReplaceAll held matches b supports haystack replacements (Ok d) = supports No × (held d ≡ with_replaced haystack (map (λ r. r.now) replacements) (matches b haystack))
+AnswersReplaceAll held matches b supports haystack replacements (Err error) = IsReplaceRefusal supports error
+
+-- the same of a text, of which the matches that cut no character are exchanged, and of bytes
+abbrev pub ReplacesText : Built → (Anchored → Type 0) → List ℕ → List (Bor (List ℕ)) → Result (String Global) ReplaceError → Type 0
+ReplacesText b supports haystack replacements r = AnswersReplaceAll string_bytes text_matches_in b supports haystack replacements r
+
+abbrev pub ReplacesBytes : Built → (Anchored → Type 0) → List ℕ → List (Bor (List ℕ)) → Result (Vec ℕ) ReplaceError → Type 0
+ReplacesBytes b supports haystack replacements r = AnswersReplaceAll (λ v. v.items) matches_in b supports haystack replacements r
 
 -- What a closure of replacement takes and gives: a match, its bytes and the destination; its answer, and the destination.
 abbrev pub Replacer : Type 0 → Type 0 → Type 0 → Type 1
@@ -96,3 +110,15 @@ IsBrokenOff {F} held g haystack os f old new = (last : F) × IsRefusedChain (cal
 abbrev pub IsRefusedWith : {F D : Type 0} → (D → List ℕ) → MemoryReplacer F D → List ℕ → List Occurrence → F → D → D → (Anchored → Type 0) → ReplaceError → Type 0
 IsRefusedWith held g haystack os f old new supports (Match error) = IsReplaceRefusal supports (Match error) × (new ≡ old)
 IsRefusedWith held g haystack os f old new supports Memory = supports No × IsBrokenOff held g haystack os f old new
+
+-- The destination holds what the closure makes of the matches of the haystack; or the error says what was refused.
+abbrev pub AnswersReplaceAllWith : {F D : Type 0} → (D → List ℕ) → (Built → List ℕ → List Occurrence) → MemoryReplacer F D → Built → (Anchored → Type 0) → List ℕ → F → D → D → Result (Unit {0}) ReplaceError → Type 0
+AnswersReplaceAllWith held matches g b supports haystack f old new (Ok done) = supports No × IsReplacedWith held g haystack (matches b haystack) f old new
+AnswersReplaceAllWith held matches g b supports haystack f old new (Err error) = IsRefusedWith held g haystack (matches b haystack) f old new supports error
+
+-- the same of a text and of bytes
+abbrev pub ReplacesTextWith : {F : Type 0} → MemoryReplacer F (String Global) → Built → (Anchored → Type 0) → List ℕ → F → String Global → String Global → Result (Unit {0}) ReplaceError → Type 0
+ReplacesTextWith g b supports haystack f old new r = AnswersReplaceAllWith string_bytes text_matches_in g b supports haystack f old new r
+
+abbrev pub ReplacesBytesWith : {F : Type 0} → MemoryReplacer F (Vec ℕ) → Built → (Anchored → Type 0) → List ℕ → F → Vec ℕ → Vec ℕ → Result (Unit {0}) ReplaceError → Type 0
+ReplacesBytesWith g b supports haystack f old new r = AnswersReplaceAllWith (λ v. v.items) matches_in g b supports haystack f old new r

@@ -1,11 +1,14 @@
 -- A search of a stream: how far it has come, what its calls do, and what it costs.
-use Rattle.std.specs.Prelude.{◌≡◌, ◌≢◌, ◌⊎◌, ℕ, ◌+◌, ◌-◌, ◌*◌, ◌<◌, ◌≤◌, max, List, [], ◌∷◌, ◌++◌, length, drop, Option, None, Some, Result, Ok, Err}
+use Rattle.std.specs.Prelude.{◌≡◌, ◌≢◌, ◌⊎◌, ℕ, ◌+◌, ◌-◌, ◌*◌, ◌<◌, ◌≤◌, max, List, [], ◌∷◌, ◌++◌, length, drop, take, false, Option, None, Some, Result, Ok, Err}
 use Rattle.std.specs.List.{All, concat}
 use Rattle.ac_input.specs.declared.search.Anchored.{Anchored}
 use Rattle.ac_input.specs.declared.search.Anchored.TheVariants.{No}
 use Rattle.ac_input.specs.declared.search.MatchKind.TheVariants.{Standard}
 use Rattle.ac_input.specs.declared.steps.Steps.{Steps}
 use Rattle.ac_input.specs.BeginningLaws.{IsBeginning}
+use Rattle.ac_input.specs.Computed.{walk_of}
+use Rattle.ac_input.specs.Cut.{IsCut}
+use Rattle.ac_input.specs.Dictionary.{Dictionary, IsLive, whole}
 use Rattle.ac_input.specs.Occurrence.{Occurrence}
 use Rattle.ac_input.specs.Steps.{Done}
 use Rattle.ac_input.specs.Work.{longest, shortest, lookups_per_byte}
@@ -21,9 +24,9 @@ use Rattle.ac_automaton.specs.declared.watched.Watched.{Watched}
 
 -- How far a search of a stream has come: by what it goes; what its reads gave, each a piece; the matches that it gave; the place
 -- of the first byte that is held, which are those from there to the end of what was read; up to which place the automaton has
--- read; where the last match ended, 0 where there was none; and how many states it looked at, how many places it scanned and how
--- many bytes it moved. Places are counted from the first byte that the search read.
-pub record Scanned : Type 0 where
+-- read; where it last began anew, at first, after a match, or where nothing of what was read was live; and how many states it
+-- looked at, how many places it scanned and how many bytes it moved. Places are counted from the first byte that the search read.
+pub record StreamProgress : Type 0 where
   pub built : Built
   pub pieces : List (List ℕ)
   pub given : List Occurrence
@@ -35,19 +38,19 @@ pub record Scanned : Type 0 where
   pub moved : ℕ
 
 -- a search that has read nothing yet
-abbrev pub fresh_scan : Built → Scanned
-fresh_scan b = record { built = b; pieces = []; given = []; from = 0; at = 0; last = 0; looked = 0; scanned = 0; moved = 0 }
+abbrev pub fresh_progress : Built → StreamProgress
+fresh_progress b = record { built = b; pieces = []; given = []; from = 0; at = 0; last = 0; looked = 0; scanned = 0; moved = 0 }
 
 -- the bytes that were read
-abbrev pub read_by : Scanned → List ℕ
+abbrev pub read_by : StreamProgress → List ℕ
 read_by s = concat s.pieces
 
 -- those of them that are held
-abbrev pub held_by : Scanned → List ℕ
+abbrev pub held_by : StreamProgress → List ℕ
 held_by s = drop s.from (read_by s)
 
 -- all matches of what was read
-abbrev pub matches_read : Scanned → List Occurrence
+abbrev pub matches_read : StreamProgress → List Occurrence
 matches_read s = matches_in s.built (read_by s)
 
 -- how many bytes are kept at most where the buffer is full
@@ -59,7 +62,7 @@ abbrev pub room_of : Built → ℕ
 room_of b = room_for (keep_of b)
 
 -- The place up to which all is decided: no match begins before it that was not given yet, whatever is still read.
-abbrev pub cut_of : Scanned → ℕ
+abbrev pub cut_of : StreamProgress → ℕ
 cut_of s = max s.last (s.at - keep_of s.built)
 
 -- few enough bytes that each place is a `usize`
@@ -67,8 +70,40 @@ abbrev pub CanBeCounted : List ℕ → Type 0
 CanBeCounted x = length x ≤ 18446744073709551615
 
 -- the automaton has read all that was read
-abbrev pub IsSearched : Scanned → Type 0
+abbrev pub IsSearched : StreamProgress → Type 0
 IsSearched s = s.at ≡ length (read_by s)
+
+-- ---- when all is decided
+
+-- where the last of some matches ends; 0 where there is none
+abbrev pub end_of : List Occurrence → ℕ
+end_of [] = 0
+end_of (o ∷ []) = o.end
+end_of (o ∷ (next ∷ os)) = end_of (next ∷ os)
+
+-- what stands in a text after its last match
+abbrev pub after_matches : Dictionary → List ℕ → List ℕ
+after_matches m x = drop (end_of (walk_of m.kind (whole m x false))) x
+
+-- nothing of a text is live
+abbrev pub NothingIsLive : Dictionary → List ℕ → Type 0
+NothingIsLive m text = IsLive m false text (Some (length text))
+
+-- all of a text is decided: nothing is live of what stands after its last match
+abbrev pub AllIsDecided : Dictionary → List ℕ → Type 0
+AllIsDecided m x = NothingIsLive m (after_matches m x)
+
+-- No more of a text is left after a place than the longest pattern has bytes, or one byte; and nothing, where all of it is decided.
+pub record IsNear (m : Dictionary) (x : List ℕ) (place : ℕ) : Type 0 where
+  pub kept : length x ≤ place + kept_for (longest m.patterns)
+  pub all : AllIsDecided m x → length x ≤ place
+
+-- the front of a text up to a cut, as far as it can be written
+pub record IsFront (m : Dictionary) (output : List ℕ → List ℕ) (x text : List ℕ) : Type 0 where
+  pub cut : ℕ
+  pub is_cut : IsCut m x cut
+  pub near : IsNear m x cut
+  pub front : text ≡ output (take cut x)
 
 -- ---- whether a stream can be searched
 
@@ -94,13 +129,13 @@ IsStreamRefusal b supports Position = ⊥
 
 -- ---- what holds wherever a search stands
 
--- Whatever is still read, the matches that were given are the first ones, and all others begin at the cut or behind it.
-abbrev pub IsDecided : Scanned → Type 0
+-- Whatever is still read, the matches that were given are the first ones, and all others begin at the cut or later.
+abbrev pub IsDecided : StreamProgress → Type 0
 IsDecided s = (more : List ℕ) → (rest : List Occurrence) × (matches_in s.built (read_by s ++ more) ≡ s.given ++ rest) × All (λ o. cut_of s ≤ o.start) rest
 
 -- What a search has cost: at least one look for each byte that the automaton has read, and at most so many for a byte as it takes
 -- on the whole; no scan; and a seventh of the bytes that were read moved at most.
-pub record IsWithinStreamBudget (s : Scanned) : Type 0 where
+pub record IsWithinStreamBudget (s : StreamProgress) : Type 0 where
   pub some : s.at ≤ s.looked
   pub looked : s.looked ≤ lookups_per_byte s.built.deterministic * s.at
   pub scanned : s.scanned ≡ 0
@@ -108,46 +143,56 @@ pub record IsWithinStreamBudget (s : Scanned) : Type 0 where
 
 -- What holds of a search wherever it stands. No read gave more than the buffer has room for. The matches that it gave are the
 -- first of those of what was read.
-pub record IsOnCourse (s : Scanned) : Type 0 where
+pub record IsOnCourse (s : StreamProgress) : Type 0 where
   pub standard : s.built.dictionary.kind ≡ Standard
   pub filled : 1 ≤ shortest s.built.dictionary.patterns
   pub ordered : (s.last ≤ s.at) × (s.at ≤ length (read_by s))
   pub kept : (s.from ≤ cut_of s) × (s.from ≤ s.at) × (length (read_by s) ≤ s.from + room_of s.built)
   pub short : AllFit (room_of s.built) s.pieces
   pub begun : IsBeginning s.given (matches_read s)
+  pub ended : end_of s.given ≤ s.last
   pub decided : IsDecided s
   pub paid : IsWithinStreamBudget s
+
+-- A search of a stream was made, which has read nothing yet; or it was refused.
+abbrev pub AnswersNew : Built → (Anchored → Type 0) → Result StreamProgress StreamError → Type 0
+AnswersNew b supports (Ok s) = CanStream b supports × (s ≡ fresh_progress b) × IsOnCourse s
+AnswersNew b supports (Err error) = IsStreamRefusal b supports error
 
 -- ---- what a call does
 
 -- so much more is counted as was done in between
-abbrev pub ScanCounts : Scanned → Scanned → Steps → Steps → Type 0
+abbrev pub ScanCounts : StreamProgress → StreamProgress → Steps → Steps → Type 0
 ScanCounts s t before after = (states places bytes : ℕ) × Done states places bytes before after × (t.looked ≡ s.looked + states) × (t.scanned ≡ s.scanned + places) × (t.moved ≡ s.moved + bytes)
 
+-- what was done was counted, and the search is on its course
+abbrev pub GoesOn : StreamProgress → StreamProgress → Steps → Steps → Type 0
+GoesOn s t before after = ScanCounts s t before after × IsOnCourse t
+
 -- the same is counted
-pub record CountsNothing (s t : Scanned) : Type 0 where
+pub record CountsNothing (s t : StreamProgress) : Type 0 where
   pub looked : t.looked ≡ s.looked
   pub scanned : t.scanned ≡ s.scanned
   pub moved : t.moved ≡ s.moved
 
 -- there is room for one more byte, at least
-abbrev pub HasRoom : Scanned → Type 0
+abbrev pub HasRoom : StreamProgress → Type 0
 HasRoom s = length (read_by s) < s.from + room_of s.built
 
 -- all is as it was, but that what is before the cut may be held no longer
-pub record IsRolled (s t : Scanned) : Type 0 where
+pub record IsRolled (s t : StreamProgress) : Type 0 where
   pub from : (s.from ≤ t.from) × (t.from ≤ cut_of s)
   pub same : t ≡ record s { from = t.from; moved = t.moved }
 
 -- nothing was read in between, and the same bytes are held
-pub record ReadsNothing (s t : Scanned) : Type 0 where
+pub record ReadsNothing (s t : StreamProgress) : Type 0 where
   pub on : s.at ≤ t.at
   pub built : t.built ≡ s.built
   pub pieces : t.pieces ≡ s.pieces
   pub from : t.from ≡ s.from
 
 -- a match among the bytes that are held, of which the automaton had not read the last
-pub record IsHeldMatch (s : Scanned) (o : Occurrence) : Type 0 where
+pub record IsHeldMatch (s : StreamProgress) (o : Occurrence) : Type 0 where
   pub pattern : o.pattern < length s.built.dictionary.patterns
   pub held : s.from ≤ o.start
   pub behind : s.last ≤ o.start
@@ -155,14 +200,19 @@ pub record IsHeldMatch (s : Scanned) (o : Occurrence) : Type 0 where
   pub new : s.at < o.end
   pub within : o.end ≤ length (read_by s)
 
--- The next match of what was read is this one; or there is none: then, if places can be counted, all of it was searched, and all
--- matches of it were given.
-abbrev pub FindsHeld : Scanned → Option Occurrence → Scanned → Type 0
-FindsHeld s None t = ReadsNothing s t × (t.given ≡ s.given) × (t.last ≡ s.last) × (CanBeCounted (read_by s) → IsSearched t × (t.given ≡ matches_read t))
+-- All that was read was searched, and all its matches were given; where all of it is decided, the search begins anew.
+pub record AreAllGiven (s : StreamProgress) : Type 0 where
+  pub searched : IsSearched s
+  pub all : s.given ≡ matches_read s
+  pub anew : AllIsDecided s.built.dictionary (read_by s) → s.last ≡ s.at
+
+-- The next match of what was read is this one; or there is none: then, if places can be counted, all were given.
+abbrev pub FindsHeld : StreamProgress → Option Occurrence → StreamProgress → Type 0
+FindsHeld s None t = ReadsNothing s t × (t.given ≡ s.given) × (s.last ≤ t.last) × (CanBeCounted (read_by s) → AreAllGiven t)
 FindsHeld s (Some o) t = ReadsNothing s t × (t.given ≡ s.given ++ o ∷ []) × (t.last ≡ o.end) × (t.at ≡ o.end) × IsHeldMatch s o × CanBeCounted (read_by s)
 
 -- One read gave a piece, which the search has after what it had; what is before the cut may be held no longer.
-pub record HasRead {R : Type 0} (remaining : R → Option (List ℕ)) (s t : Scanned) (before after : Watched R) (piece : List ℕ) (failed : ℕ) : Type 0 where
+pub record HasRead {R : Type 0} (remaining : R → Option (List ℕ)) (s t : StreamProgress) (before after : Watched R) (piece : List ℕ) (failed : ℕ) : Type 0 where
   pub built : t.built ≡ s.built
   pub pieces : t.pieces ≡ s.pieces ++ piece ∷ []
   pub given : t.given ≡ s.given
@@ -174,7 +224,7 @@ pub record HasRead {R : Type 0} (remaining : R → Option (List ℕ)) (s t : Sca
 
 -- What a read comes to: so many bytes more, none at the end; or an error, of a read that failed, or of one with which there are
 -- more bytes than places.
-abbrev pub ReadsMore : {R : Type 0} → (R → Option (List ℕ)) → Scanned → Scanned → Watched R → Watched R → Result ℕ StreamError → Type 0
+abbrev pub ReadsMore : {R : Type 0} → (R → Option (List ℕ)) → StreamProgress → StreamProgress → Watched R → Watched R → Result ℕ StreamError → Type 0
 ReadsMore remaining s t before after (Ok n) = (piece : List ℕ) × HasRead remaining s t before after piece 0 × (length piece ≡ n) × CanBeCounted (read_by t)
 ReadsMore remaining s t before after (Err (Config error)) = ⊥
 ReadsMore remaining s t before after (Err (Read error)) = HasRead remaining s t before after [] 1

@@ -3,9 +3,11 @@ use Rattle.std.specs.Prelude.{◌≡◌, ◌≢◌, ◌⊎◌, ℕ, ◌-◌, ◌
 use Rattle.std.specs.Borrow.{Fml, GName, MutBor, RattleType, RestsIfErr}
 use Rattle.std.specs.Io.KnownBytes.{IsAtEnd}
 use Rattle.std.specs.List.{concat}
+use Rattle.ac_input.specs.declared.search.Anchored.{Anchored}
 use Rattle.ac_input.specs.Occurrence.{Occurrence}
+use Rattle.ac_automaton.specs.Automaton.{Built}
 use Rattle.ac_automaton.specs.Moved.{AllFit, AreFilled, AreWhole, HasGiven}
-use Rattle.ac_automaton.specs.Stream.{CanBeCounted, FindsHeld, HasRead, IsSearched, ReadsNothing, Scanned, matches_read, read_by, room_of}
+use Rattle.ac_automaton.specs.Stream.{AreAllGiven, CanBeCounted, CanStream, FindsHeld, HasRead, IsStreamRefusal, ReadsNothing, StreamProgress, fresh_progress, read_by, room_of}
 use Rattle.ac_automaton.specs.Watched.{pieces_of, has_ended, inner_of}
 use Rattle.ac_automaton.specs.contracts.watched.Watched.{the_row}
 use Rattle.ac_automaton.specs.declared.error.StreamError.{StreamError}
@@ -18,26 +20,22 @@ use Rattle.ac_automaton.specs.declared.watched.Watched.{Watched}
 -- ---- what was read
 
 -- reads gave these pieces, none longer than the buffer, and so many of them failed
-pub record HasGained {R : Type 0} (remaining : R → Option (List ℕ)) (s t : Scanned) (before after : Watched R) (gained : List (List ℕ)) (failed : ℕ) : Type 0 where
+pub record HasGained {R : Type 0} (remaining : R → Option (List ℕ)) (s t : StreamProgress) (before after : Watched R) (gained : List (List ℕ)) (failed : ℕ) : Type 0 where
   pub built : t.built ≡ s.built
   pub pieces : t.pieces ≡ s.pieces ++ gained
   pub short : AllFit (room_of s.built) gained
   pub read : HasGiven remaining before after gained failed
 
--- all matches of what was read were given, and all of it was searched
-abbrev pub AreAllGiven : Scanned → Type 0
-AreAllGiven s = IsSearched s × (s.given ≡ matches_read s)
-
 -- Nothing is left to come: the input has ended and all was given, or there are more bytes than places.
-abbrev pub IsStopped : {R : Type 0} → Scanned → Watched R → Type 0
+abbrev pub IsStopped : {R : Type 0} → StreamProgress → Watched R → Type 0
 IsStopped s reader = ((has_ended reader ≡ true) × AreAllGiven s) ⊎ (¬ CanBeCounted (read_by s))
 
 -- A match that is given after reads ends in the last piece: nothing is read while a match of what was read is still to be given.
-abbrev pub EndsInLastPiece : Scanned → List (List ℕ) → Occurrence → Type 0
+abbrev pub EndsInLastPiece : StreamProgress → List (List ℕ) → Occurrence → Type 0
 EndsInLastPiece t gained o = gained ≢ [] → length (concat (take (length t.pieces - 1) t.pieces)) < o.end
 
 -- a match of what was read by then, of which the automaton had not read the last byte before
-pub record IsNextMatch (s t : Scanned) (o : Occurrence) : Type 0 where
+pub record IsNextMatch (s t : StreamProgress) (o : Occurrence) : Type 0 where
   pub pattern : o.pattern < length s.built.dictionary.patterns
   pub behind : s.last ≤ o.start
   pub some : o.start < o.end
@@ -48,7 +46,7 @@ pub record IsNextMatch (s t : Scanned) (o : Occurrence) : Type 0 where
 -- What the next item is, and what was read for it. A match is the next one of those that were not given yet. An error is of a read
 -- that failed, when all matches of what was read were given; or there are now more bytes than places. None: nothing is left to
 -- come; if anything was read for it, that was to the end, and all matches were given.
-abbrev pub NextGives : {R : Type 0} → (R → Option (List ℕ)) → Scanned → Scanned → Watched R → Watched R → Option (Result Occurrence StreamError) → Type 0
+abbrev pub NextGives : {R : Type 0} → (R → Option (List ℕ)) → StreamProgress → StreamProgress → Watched R → Watched R → Option (Result Occurrence StreamError) → Type 0
 NextGives remaining s t before after (Some (Ok o)) = (gained : List (List ℕ)) × HasGained remaining s t before after gained 0 × AreFilled gained × (t.given ≡ s.given ++ o ∷ []) × (t.last ≡ o.end) × IsNextMatch s t o × EndsInLastPiece t gained o
 NextGives remaining s t before after (Some (Err (Config error))) = ⊥
 NextGives remaining s t before after (Some (Err (Read error))) = (filled : List (List ℕ)) × HasGained remaining s t before after (filled ++ [] ∷ []) 1 × AreFilled filled × (t.given ≡ s.given) × (has_ended after ≡ true) × AreAllGiven t
@@ -59,24 +57,24 @@ NextGives remaining s t before after (Some (Err Position)) = (gained : List (Lis
 NextGives remaining s t before after None = (gained : List (List ℕ)) × HasGained remaining s t before after gained 0 × ((gained ≡ []) ⊎ (AreWhole gained × AreAllGiven t × IsAtEnd (remaining (inner_of after)))) × (t.given ≡ s.given) × IsStopped t after
 
 -- where nothing was left to come, nothing comes, and nothing is read
-abbrev pub StaysStopped : {R : Type 0} → Scanned → Scanned → Watched R → Watched R → Option (Result Occurrence StreamError) → Type 0
+abbrev pub StaysStopped : {R : Type 0} → StreamProgress → StreamProgress → Watched R → Watched R → Option (Result Occurrence StreamError) → Type 0
 StaysStopped s t before after r = IsStopped s before → (r ≡ None) × (t.pieces ≡ s.pieces) × (t.given ≡ s.given) × (pieces_of after ≡ pieces_of before)
 
 -- ---- one turn
 
 -- All of what was read before was searched and given, and one read gave this piece.
-pub record TurnReads {R : Type 0} (remaining : R → Option (List ℕ)) (s t : Scanned) (before after : Watched R) (piece : List ℕ) (failed : ℕ) : Type 0 where
-  pub mid : Scanned
+pub record TurnReads {R : Type 0} (remaining : R → Option (List ℕ)) (s t : StreamProgress) (before after : Watched R) (piece : List ℕ) (failed : ℕ) : Type 0 where
+  pub mid : StreamProgress
   pub few : CanBeCounted (read_by mid)
   pub nothing : ReadsNothing s mid
   pub given : mid.given ≡ s.given
-  pub last : mid.last ≡ s.last
+  pub last : s.last ≤ mid.last
   pub all : AreAllGiven mid
   pub read : HasRead remaining mid t before after piece failed
 
 -- What one turn comes to: a match of what was read; or, when there is none, one read, which gave some bytes, or none, or failed;
 -- or none, where nothing is left to come.
-abbrev pub TurnGives : {R : Type 0} → (R → Option (List ℕ)) → Scanned → Scanned → Watched R → Watched R → Turn → Type 0
+abbrev pub TurnGives : {R : Type 0} → (R → Option (List ℕ)) → StreamProgress → StreamProgress → Watched R → Watched R → Turn → Type 0
 TurnGives remaining s t before after (Found o) = FindsHeld s (Some o) t × (after ≡ before)
 TurnGives remaining s t before after More = (piece : List ℕ) × TurnReads remaining s t before after piece 0 × (piece ≢ []) × CanBeCounted (read_by t)
 TurnGives remaining s t before after Over =
@@ -93,8 +91,8 @@ TurnGives remaining s t before after (Failed Position) = (piece : List ℕ) × T
 
 module _ {A R : Type 0} where
   -- how far its search has come
-  abbrev pub progress_of : StreamFindIter A R → Scanned
-  progress_of i = i.scan
+  abbrev pub progress_of : StreamFindIter A R → StreamProgress
+  progress_of i = i.stream
 
   -- the reader
   abbrev pub reader_of : StreamFindIter A R → Watched R
@@ -103,6 +101,22 @@ module _ {A R : Type 0} where
   -- the ghost name of the reference to the reader
   abbrev pub reader_name : StreamFindIter A R → GName
   reader_name i = i.reader.ghost_name
+
+  -- the reader is the same, by the same reference
+  abbrev pub KeepsReader : StreamFindIter A R → StreamFindIter A R → Type 0
+  KeepsReader i j = (reader_of j ≡ reader_of i) × (reader_name j ≡ reader_name i)
+
+  -- the next item, what was read for it by the same reference, and that nothing comes after the end
+  abbrev pub GivesItem : (R → Option (List ℕ)) → StreamFindIter A R → StreamFindIter A R → Option (Result Occurrence StreamError) → Type 0
+  GivesItem remaining i j r =
+      NextGives remaining (progress_of i) (progress_of j) (reader_of i) (reader_of j) r
+      × StaysStopped (progress_of i) (progress_of j) (reader_of i) (reader_of j) r
+      × (reader_name j ≡ reader_name i)
+
+  -- The search was accepted: it has read nothing yet, and holds this reader, by this reference; or it was refused.
+  abbrev pub AnswersStreamIter : Built → (Anchored → Type 0) → Watched R → GName → Result (StreamFindIter A R) StreamError → Type 0
+  AnswersStreamIter b supports reader name (Ok i) = CanStream b supports × (progress_of i ≡ fresh_progress b) × (reader_of i ≡ reader) × (reader_name i ≡ name)
+  AnswersStreamIter b supports reader name (Err error) = IsStreamRefusal b supports error
 
 -- Where the search is refused, the reader ends as it was. Else the search holds the reference to it, and the reader ends as the last
 -- value under that name.

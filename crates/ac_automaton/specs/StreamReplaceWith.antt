@@ -1,5 +1,5 @@
 -- Replacement over streams by a closure: the values of the writer, one after another, and what each answer says of them.
-use Rattle.std.specs.Prelude.{◌≡◌, ◌⊎◌, ℕ, ◌+◌, ◌<◌, ◌≤◌, List, [], ◌∷◌, ◌++◌, length, slice_range, Option, Some, None, Result, Ok, Err}
+use Rattle.std.specs.Prelude.{◌≡◌, ◌⊎◌, ℕ, ◌<◌, ◌≤◌, List, [], ◌∷◌, ◌++◌, length, slice_range, Option, Some, None, Result, Ok, Err}
 use Rattle.std.specs.List.{All, concat}
 use Rattle.ac_input.specs.declared.search.Anchored.{Anchored}
 use Rattle.ac_input.specs.Cut.{IsCut}
@@ -7,7 +7,7 @@ use Rattle.ac_input.specs.Occurrence.{Occurrence}
 use Rattle.ac_automaton.specs.Automaton.{Built}
 use Rattle.ac_automaton.specs.Moved.{AllFit, AreFilled, AreWhole, HasGiven, HasTaken, NoneTouched, but_last}
 use Rattle.ac_automaton.specs.Replace.{IsForMatches, Replacer, RepliesAt, matches_in}
-use Rattle.ac_automaton.specs.Stream.{CanBeCounted, CanStream, IsSearched, IsStreamRefusal, ReadsNothing, Scanned, keep_of, matches_read, read_by, room_of}
+use Rattle.ac_automaton.specs.Stream.{AreAllGiven, CanBeCounted, CanStream, IsNear, IsStreamRefusal, ReadsNothing, StreamProgress, read_by, room_of}
 use Rattle.ac_automaton.specs.StreamReplace.{IsAtCut, IsPlaced}
 use Rattle.ac_automaton.specs.declared.error.StreamError.{StreamError}
 use Rattle.ac_automaton.specs.declared.error.StreamError.TheVariants.{Config, Read, Write, WriteZero, Memory, Position}
@@ -31,13 +31,13 @@ module _ {F W : Type 0} (contents : W → Option (List ℕ)) (g : StreamReplacer
       × IsWriterChain x o.end os to mid after last new
 
   -- The chain came to a place of what was read, with these matches left. The place is a cut, and of what was read before the last
-  -- read no more lies behind it than the longest pattern has bytes, or one byte.
+  -- read no more lies after it than the longest pattern has bytes, or one byte; and nothing, where all of that is decided.
   pub record HasComeTo (b : Built) (pieces : List (List ℕ)) (place : ℕ) (rest : List Occurrence) (f : F) (old : Watched W) (last : F) (new : Watched W) : Type 0 where
     pub done : List Occurrence
     pub all : matches_in b (concat pieces) ≡ done ++ rest
     pub later : All (λ o. place ≤ o.start) rest
     pub cut : IsCut b.dictionary (concat pieces) place
-    pub near : length (concat (but_last pieces)) ≤ place + keep_of b
+    pub near : IsNear b.dictionary (concat (but_last pieces)) place
     pub chain : IsWriterChain (concat pieces) 0 done place f old last new
 
   -- ---- what an answer says
@@ -105,7 +105,7 @@ module _ {F W : Type 0} (contents : W → Option (List ℕ)) (g : StreamReplacer
     -- ---- what stands at each point of it
 
     -- A replacement between two reads: the chain has come to the cut.
-    pub record HasReplacedWith (b : Built) (s : Scanned) (at : ℕ) (reader_before reader_after : Watched R) (first f : F) (writer_before writer_after : Watched W) : Type 0 where
+    pub record HasReplacedWith (b : Built) (s : StreamProgress) (at : ℕ) (reader_before reader_after : Watched R) (first f : F) (writer_before writer_after : Watched W) : Type 0 where
       pub built : s.built ≡ b
       pub place : IsAtCut s at
       pub filled : AreFilled s.pieces
@@ -114,7 +114,7 @@ module _ {F W : Type 0} (contents : W → Option (List ℕ)) (g : StreamReplacer
       pub ready : IsForMatches g (length b.dictionary.patterns) f
 
   -- In between nothing was read, and the chain went on from one place to another.
-  pub record GoesOn (s t : Scanned) (from to : ℕ) (f after : F) (old new : Watched W) : Type 0 where
+  pub record ContinuesChain (s t : StreamProgress) (from to : ℕ) (f after : F) (old new : Watched W) : Type 0 where
     pub same : ReadsNothing s t
     pub placed : IsPlaced t to
     pub on : from ≤ to
@@ -122,12 +122,12 @@ module _ {F W : Type 0} (contents : W → Option (List ℕ)) (g : StreamReplacer
     pub ready : IsForMatches g (length t.built.dictionary.patterns) after
 
   -- The next match was found, and the chain went on to its end; or there is no further match of what was read.
-  abbrev pub PassesMatch : Scanned → Scanned → ℕ → F → F → Watched W → Watched W → Option ℕ → Type 0
-  PassesMatch s t from f after old new None = GoesOn s t from from f after old new × IsSearched t × (t.given ≡ matches_read t)
-  PassesMatch s t from f after old new (Some to) = GoesOn s t from to f after old new × (s.at < t.at)
+  abbrev pub PassesMatch : StreamProgress → StreamProgress → ℕ → F → F → Watched W → Watched W → Option ℕ → Type 0
+  PassesMatch s t from f after old new None = ContinuesChain s t from from f after old new × AreAllGiven t
+  PassesMatch s t from f after old new (Some to) = ContinuesChain s t from to f after old new × (s.at < t.at)
 
-  -- In between nothing was read, and the chain, which had come to a place, stopped at it or behind it: the closure refused, or a
+  -- In between nothing was read, and the chain, which had come to a place, stopped at it or later: the closure refused, or a
   -- write failed.
-  pub record StopsChain (s : Scanned) (from : ℕ) (f : F) (old new : Watched W) (error : StreamError) : Type 0 where
-    pub stops : (first : F) (begun : Watched W) → length (concat (but_last s.pieces)) ≤ from + keep_of s.built → IsWriterChain (read_by s) 0 s.given from first begun f old
+  pub record StopsChain (s : StreamProgress) (from : ℕ) (f : F) (old new : Watched W) (error : StreamError) : Type 0 where
+    pub stops : (first : F) (begun : Watched W) → IsNear s.built.dictionary (concat (but_last s.pieces)) from → IsWriterChain (read_by s) 0 s.given from first begun f old
         → RefusedByClosure s.built s.pieces first begun new error ⊎ IsStreamFault s.built s.pieces 0 first begun new error

@@ -1,5 +1,5 @@
 -- What a contract sees of a watched device, and what a read, a write and a flush do to it.
-use Rattle.std.specs.Prelude.{◌≡◌, ℕ, ◌+◌, ◌<◌, ◌≤◌, ◌↔◌, Bool, false, true, IsTrue, Option, List, [], ◌∷◌, ◌++◌, length, take}
+use Rattle.std.specs.Prelude.{◌≡◌, ℕ, ◌+◌, ◌<◌, ◌≤◌, ◌↔◌, Bool, false, true, IsTrue, Option, List, [], ◌∷◌, ◌++◌, length, take, Result, Ok, Err}
 use Rattle.std.specs.Io.KnownBytes.{Appends}
 use Rattle.ac_automaton.specs.declared.watched.Watched.{Watched}
 use Rattle.ac_automaton.specs.declared.error.StreamError.{StreamError}
@@ -122,3 +122,25 @@ IsOfWrite old new (Write error) = stalls_of new ≡ stalls_of old
 IsOfWrite old new WriteZero = stalls_of new ≡ stalls_of old + 1
 IsOfWrite old new Memory = ⊥
 IsOfWrite old new Position = ⊥
+
+-- ---- by the answer
+
+-- a read gave the first bytes of the buffer, or failed
+abbrev pub AnswersRead : {T E : Type 0} → Watched T → Watched T → List ℕ → Result ℕ E → Type 0
+AnswersRead old new buffer (Ok n) = ReadGave old new buffer n
+AnswersRead old new buffer (Err error) = ReadFailed old new
+
+-- a write took the first of the bytes, or failed
+abbrev pub AnswersWrite : {T E : Type 0} → Watched T → Watched T → List ℕ → Result ℕ E → Type 0
+AnswersWrite old new bytes (Ok n) = WriteTook old new bytes n
+AnswersWrite old new bytes (Err error) = TookNone old new
+
+-- all that was taken was flushed, or the call failed
+abbrev pub AnswersFlush : {T E : Type 0} → Watched T → Watched T → Result (Unit {0}) E → Type 0
+AnswersFlush old new (Ok done) = HasFlushed old new
+AnswersFlush old new (Err error) = TookNone old new
+
+-- The bytes were taken whole, and the device tells that it holds them; or up to the one call that failed, as the error says.
+abbrev pub WritesWhole : {T : Type 0} → (T → Option (List ℕ)) → Watched T → Watched T → List ℕ → Result (Unit {0}) StreamError → Type 0
+WritesWhole contents old new bytes (Ok done) = TookAll old new bytes × Appends (contents (inner_of old)) (contents (inner_of new)) bytes
+WritesWhole contents old new bytes (Err error) = TookFront contents old new bytes × IsOfWrite old new error

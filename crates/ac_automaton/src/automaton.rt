@@ -37,26 +37,23 @@ pub struct Advance {
 
 /// An automaton that finds patterns in a text.
 pub trait Automaton {
-    ghost use Rattle.std.specs.Prelude.{◌≡◌, ◌≢◌, ℕ, ◌<◌, ◌↔◌, Bool, false, List, [], ◌∷◌, ◌++◌, length, map, take, IsTrue, IfOk, IfErr, IsOk, OnOk, get_or, Option, slice_get, option_map};
-    ghost use Rattle.std.specs.String.{string_bytes};
+    ghost use Rattle.std.specs.Prelude.{◌≡◌, ◌≢◌, ℕ, ◌<◌, ◌↔◌, Bool, false, List, [], ◌∷◌, length, map, take, IsTrue, IfOk, IfErr, OnOk, get_or, Option, slice_get, option_map};
     ghost use Rattle.ac_input.specs.declared.search.Anchored.{Anchored};
     ghost use Rattle.ac_input.specs.Number.{StateID};
-    ghost use Rattle.ac_input.specs.Candidate.{Filter};
     ghost use Rattle.ac_input.specs.Input.{is_anchored};
     ghost use Rattle.ac_input.specs.LiveLaws.{IsOwnInverse};
     ghost use Rattle.ac_input.specs.Dictionary.{IsLive};
     ghost use Rattle.ac_input.specs.Tells.{Tells};
     ghost use Rattle.ac_input.specs.Work.{longest, shortest};
-    ghost use Rattle.ac_automaton.specs.Automaton.{Built, IsReached, IsState, AtEach, Leads, IsReadCost, TellsDead, StartIsAlive, StartIsEmpty, IsSpecial, TakesSome, PassesPlain, is_matching, refusal_of, searched, IsFound, IsFindCost, walk_in, listing_in};
-    ghost use Rattle.ac_automaton.specs.Iter.{fresh_walk, left_of};
-    ghost use Rattle.ac_automaton.specs.Overlapping.{CameFrom, ShowsNext, IsOverlappingCost, CanOverlap, IsOverlappingRefusal, sums_of};
-    ghost use Rattle.ac_automaton.specs.OverlappingIter.{CanRun, IsRunRefusal, fresh_run, rest_of};
-    ghost use Rattle.ac_automaton.specs.Stream.{CanStream, IsStreamRefusal, fresh_scan};
-    ghost use Rattle.ac_automaton.specs.StreamIter.{progress_of, reader_name, reader_of};
-    ghost use Rattle.ac_automaton.specs.StreamReplace.{CostsStream, IsReplaceStreamError, ReplacesStream};
+    ghost use Rattle.ac_automaton.specs.Automaton.{Built, IsReached, IsState, AtEach, Leads, IsReadCost, TellsDead, TellsStart, IsSpecial, Advances, AdvancesToMatch, OwnsPrefilter, AnswersStart, AnswersFind, CostsFind};
+    ghost use Rattle.ac_automaton.specs.Iter.{AnswersFindIter};
+    ghost use Rattle.ac_automaton.specs.Overlapping.{CameFrom, IsOverlappingCost, AnswersOverlapping, sums_of};
+    ghost use Rattle.ac_automaton.specs.OverlappingIter.{AnswersOverlappingIter};
+    ghost use Rattle.ac_automaton.specs.StreamIter.{AnswersStreamIter};
+    ghost use Rattle.ac_automaton.specs.StreamReplace.{AcceptsReplacing, CostsStream, ReplacesStream};
     ghost use Rattle.ac_automaton.specs.StreamReplaceWith.{ReplacesStreamWith};
     ghost use Rattle.ac_automaton.specs.Watched.{has_ended};
-    ghost use Rattle.ac_automaton.specs.Replace.{IsForMatches, IsReplaceRefusal, IsReplacedWith, IsRefusedWith, matches_in, text_matches_in, with_replaced};
+    ghost use Rattle.ac_automaton.specs.Replace.{IsForMatches, ReplacesText, ReplacesBytes, ReplacesTextWith, ReplacesBytesWith};
 
     /// What it was built as: its patterns, pairing and kind, whether it looks at exactly one state for a byte, its prefilter.
     ghost built: { Self → Built };
@@ -65,7 +62,7 @@ pub trait Automaton {
     ghost supports: { Self → Anchored → Type 0 };
 
     /// The state is reached from the start of this anchoring by these bytes.
-    ghost Reads: { Self → Anchored → List ℕ → StateID → Type 0 };
+    ghost Reaches: { Self → Anchored → List ℕ → StateID → Type 0 };
 
     /// The patterns that match at a state, in order.
     ghost matches: { Self → StateID → List ℕ };
@@ -79,9 +76,7 @@ pub trait Automaton {
     /// The state in which a search begins. It is refused where the automaton has no start for the anchoring.
     /// A caller: `uses::callers::states::ends_with_any`.
     fn start_state(&self, anchored: Anchored) -> Result<StateID, MatchError>
-        ensures start { IfOk result (λ sid. Reads self.now anchored [] sid) }
-        ensures supported { IsOk result ↔ supports self.now anchored }
-        ensures refused { IfErr result (λ error. error ≡ refusal_of anchored) };
+        ensures { AnswersStart (supports self.now) (Reaches self.now) anchored result };
 
     /// The state after one more byte, where the search began with this anchoring; and counts the states that it looks at.
     fn next_state_counted(
@@ -91,9 +86,9 @@ pub trait Automaton {
         byte: u8,
         steps: &mut Steps,
     ) -> StateID
-        requires { IsReached (Reads self.now anchored) sid }
-        ensures next { Leads (Reads self.now anchored) sid (byte ∷ []) result }
-        ensures cost { IsReadCost (built self.now) (Reads self.now) anchored sid
+        requires { IsReached (Reaches self.now anchored) sid }
+        ensures next { Leads (Reaches self.now anchored) sid (byte ∷ []) result }
+        ensures cost { IsReadCost (built self.now) (Reaches self.now) anchored sid
             (byte ∷ []) steps.old steps.new };
 
     /// Reads on from a state over bytes, to the first state that is special, or to the last byte. It takes a byte at least, where
@@ -101,14 +96,9 @@ pub trait Automaton {
     ///
     /// This one makes a call of `next_state_counted` and one of `is_special` for each byte. An automaton with a faster way has its own.
     fn advance(&self, anchored: Anchored, sid: StateID, bytes: &[u8], steps: &mut Steps) -> Advance
-        requires { IsReached (Reads self.now anchored) sid }
-        ensures taken { TakesSome bytes.now result.taken }
-        ensures reads { Leads (Reads self.now anchored) sid
-            (take result.taken bytes.now) result.sid }
-        ensures plain { PassesPlain (Reads self.now anchored) (special self.now) sid
-            bytes.now result.taken }
-        ensures stops { result.taken < length bytes.now → IsTrue (special self.now result.sid) }
-        ensures cost { IsReadCost (built self.now) (Reads self.now) anchored sid
+        requires { IsReached (Reaches self.now anchored) sid }
+        ensures goes { Advances (Reaches self.now anchored) (special self.now) sid bytes.now result }
+        ensures cost { IsReadCost (built self.now) (Reaches self.now) anchored sid
             (take result.taken bytes.now) steps.old steps.new }
     {
         let mut current = sid;
@@ -139,15 +129,9 @@ pub trait Automaton {
         bytes: &[u8],
         steps: &mut Steps,
     ) -> Advance
-        requires { IsReached (Reads self.now anchored) sid }
-        ensures taken { TakesSome bytes.now result.taken }
-        ensures reads { Leads (Reads self.now anchored) sid
-            (take result.taken bytes.now) result.sid }
-        ensures plain { PassesPlain (Reads self.now anchored) (is_matching (matches self.now)) sid
-            bytes.now result.taken }
-        ensures stops { result.taken < length bytes.now
-            → IsTrue (is_matching (matches self.now) result.sid) }
-        ensures cost { IsReadCost (built self.now) (Reads self.now) anchored sid
+        requires { IsReached (Reaches self.now anchored) sid }
+        ensures goes { AdvancesToMatch (Reaches self.now anchored) (matches self.now) sid bytes.now result }
+        ensures cost { IsReadCost (built self.now) (Reaches self.now) anchored sid
             (take result.taken bytes.now) steps.old steps.new }
     {
         let mut current = sid;
@@ -169,27 +153,25 @@ pub trait Automaton {
     /// Whether a search has more to do here than to read on: the state is dead, or matches, or is a start and there is a
     /// prefilter to ask.
     fn is_special(&self, sid: StateID) -> bool
-        requires { IsState (Reads self.now) sid }
+        requires { IsState (Reaches self.now) sid }
         ensures { result ≡ special self.now sid };
 
     /// Whether nothing more can be found from here on.
     fn is_dead(&self, sid: StateID) -> bool
-        requires { IsState (Reads self.now) sid }
-        ensures { AtEach (Reads self.now) sid (TellsDead (built self.now) result) };
+        requires { IsState (Reaches self.now) sid }
+        ensures { AtEach (Reaches self.now) sid (TellsDead (built self.now) result) };
 
     /// Whether a pattern matches here.
     /// A caller: `uses::callers::states::patterns_at`.
     fn is_match(&self, sid: StateID) -> bool
-        requires { IsState (Reads self.now) sid }
+        requires { IsState (Reaches self.now) sid }
         ensures { IsTrue result ↔ (matches self.now sid ≢ []) };
 
     /// Whether it is a start. Then no byte that was read is live any more, unless the state matches.
     fn is_start(&self, sid: StateID) -> bool
-        requires { IsState (Reads self.now) sid }
+        requires { IsState (Reaches self.now) sid }
         ensures value { result ≡ starts self.now sid }
-        ensures alive { AtEach (Reads self.now) sid (StartIsAlive (built self.now) result) }
-        ensures empty { AtEach (Reads self.now) sid
-            (StartIsEmpty (built self.now) (matches self.now sid) result) };
+        ensures tells { TellsStart (built self.now) (Reaches self.now) (matches self.now) sid result };
 
     /// The kind that it was made for.
     fn match_kind(&self) -> MatchKind
@@ -198,14 +180,14 @@ pub trait Automaton {
     /// How many patterns match at a state that matches.
     /// A caller: `uses::callers::states::patterns_at`.
     fn match_len(&self, sid: StateID) -> usize
-        requires valid { IsState (Reads self.now) sid }
+        requires valid { IsState (Reaches self.now) sid }
         requires matches { matches self.now sid ≢ [] }
         ensures { result ≡ length (matches self.now sid) };
 
     /// The pattern of this index of those that match at a state.
     /// A caller: `uses::callers::states::patterns_at`.
     fn match_pattern(&self, sid: StateID, index: usize) -> PatternID
-        requires valid { IsState (Reads self.now) sid }
+        requires valid { IsState (Reaches self.now) sid }
         requires within { index < length (matches self.now sid) }
         ensures value { slice_get (matches self.now sid) index ≡ Some result }
         ensures known { result < length (built self.now).dictionary.patterns };
@@ -235,34 +217,33 @@ pub trait Automaton {
     /// The prefilter that it holds, if it holds one.
     fn prefilter(&self) -> Option<&Prefilter>
         ensures value { option_map (λ p. p.now) result ≡ (built self.now).prefilter }
-        ensures made { (f : Filter) → (built self.now).prefilter ≡ Some f
-            → f.dictionary ≡ (built self.now).dictionary };
+        ensures made { OwnsPrefilter (built self.now) };
 
     /// What the list of a state says of the bytes that were read.
     ghost tells: { (self : Self) (anchored : Anchored) (text : List ℕ) (sid : StateID)
-        → Reads self anchored text sid
+        → Reaches self anchored text sid
         → Tells (built self).dictionary anchored text (matches self sid) };
 
     /// A text has a live prefix, or is dead.
     ghost lives: { (self : Self) (anchored : Anchored) (text : List ℕ) (sid : StateID)
-        → Reads self anchored text sid
+        → Reaches self anchored text sid
         → (from : Option ℕ) × IsLive (built self).dictionary (is_anchored anchored) text from };
 
     /// Each byte is the partner of its partner.
     ghost pairs: { (self : Self) (anchored : Anchored) (text : List ℕ) (sid : StateID)
-        → Reads self anchored text sid → IsOwnInverse (built self).dictionary.pairing };
+        → Reaches self anchored text sid → IsOwnInverse (built self).dictionary.pairing };
 
     /// At which states a search has more to do than to read on.
     ghost stops: { (self : Self) (anchored : Anchored) (text : List ℕ) (sid : StateID)
-        → Reads self anchored text sid
+        → Reaches self anchored text sid
         → (IsTrue (special self sid)
         ↔ IsSpecial (built self) (matches self sid) (starts self sid) anchored text) };
 
     /// The state after one more byte, where the search began with this anchoring.
     /// A caller: `uses::callers::states::ends_with_any`.
     final fn next_state(&self, anchored: Anchored, sid: StateID, byte: u8) -> StateID
-        requires { IsReached (Reads self.now anchored) sid }
-        ensures { Leads (Reads self.now anchored) sid (byte ∷ []) result }
+        requires { IsReached (Reaches self.now anchored) sid }
+        ensures { Leads (Reaches self.now anchored) sid (byte ∷ []) result }
     {
         let mut steps = Steps::new();
         self.next_state_counted(anchored, sid, byte, &mut steps)
@@ -273,9 +254,7 @@ pub trait Automaton {
     /// It is refused where the automaton has no start for the input's anchoring, and for no other reason.
     /// A caller: `uses::callers::find::first_match`.
     final fn try_find(&self, input: &Input<'_>) -> Result<Option<Match>, MatchError>
-        ensures found { IfOk result (IsFound (built self.now) input.now) }
-        ensures supported { IsOk result ↔ supports self.now input.now.anchored }
-        ensures refused { IfErr result (λ error. error ≡ refusal_of input.now.anchored) }
+        ensures { AnswersFind (built self.now) (supports self.now) input.now result }
     {
         let mut steps = Steps::new();
         self.try_find_counted(input, &mut steps)
@@ -288,11 +267,8 @@ pub trait Automaton {
         input: &Input<'_>,
         steps: &mut Steps,
     ) -> Result<Option<Match>, MatchError>
-        ensures found { IfOk result (IsFound (built self.now) input.now) }
-        ensures supported { IsOk result ↔ supports self.now input.now.anchored }
-        ensures refused { IfErr result (λ error. error ≡ refusal_of input.now.anchored) }
-        ensures cost { IfOk result (IsFindCost (built self.now) input.now steps.old steps.new) }
-        ensures idle { IfErr result (λ error. steps.new ≡ steps.old) }
+        ensures answer { AnswersFind (built self.now) (supports self.now) input.now result }
+        ensures cost { CostsFind (built self.now) input.now steps.old steps.new result }
     {
         find::find(self, input, steps)
     }
@@ -305,11 +281,7 @@ pub trait Automaton {
     ) -> Result<FindIter<'a, 'h, Self>, MatchError>
     where
         Self: Sized,
-        ensures walk { IfOk result (λ matches. matches ≡ fresh_walk (built self.now) input.entry) }
-        ensures all { IfOk result
-            (λ matches. left_of matches ≡ walk_in (built self.now) input.entry) }
-        ensures supported { IsOk result ↔ supports self.now input.entry.anchored }
-        ensures refused { IfErr result (λ error. error ≡ refusal_of input.entry.anchored) }
+        ensures { AnswersFindIter (built self.now) (supports self.now) input.entry result }
     {
         iter::find_iter(self, input)
     }
@@ -326,18 +298,13 @@ pub trait Automaton {
         input: &Input<'_>,
         state: &mut OverlappingState,
     ) -> Result<(), MatchError>
-        requires { CameFrom (built self.now) (Reads self.now) (matches self.now) input.now
+        requires { CameFrom (built self.now) (Reaches self.now) (matches self.now) input.now
             state.old }
-        ensures came { CameFrom (built self.now) (Reads self.now) (matches self.now)
+        ensures came { CameFrom (built self.now) (Reaches self.now) (matches self.now)
             input.now state.new }
-        ensures shows { IfOk result
-            (λ _. ShowsNext (built self.now) input.now state.old state.new) }
+        ensures answer { AnswersOverlapping (built self.now) (supports self.now) input.now
+            state.old state.new result }
         ensures cost { IsOverlappingCost (built self.now) input.now (sums_of state.new) }
-        ensures supported { IsOk result
-            ↔ CanOverlap (built self.now) (supports self.now) input.now }
-        ensures refused { IfErr result (IsOverlappingRefusal (built self.now) (supports self.now)
-            input.now) }
-        ensures idle { IfErr result (λ _. state.new ≡ state.old) }
     {
         let mut steps = Steps::new();
         overlapping::find_overlapping(self, input, state, &mut steps)
@@ -353,12 +320,7 @@ pub trait Automaton {
     ) -> Result<FindOverlappingIter<'a, 'h, Self>, MatchError>
     where
         Self: Sized,
-        ensures run { IfOk result (λ matches. matches ≡ fresh_run (built self.now) input.entry) }
-        ensures all { IfOk result
-            (λ matches. rest_of matches ≡ listing_in (built self.now) input.entry) }
-        ensures supported { IsOk result ↔ CanRun (built self.now) (supports self.now) input.entry }
-        ensures refused { IfErr result (IsRunRefusal (built self.now) (supports self.now)
-            input.entry) }
+        ensures { AnswersOverlappingIter (built self.now) (supports self.now) input.entry result }
     {
         overlapping::iter::find_overlapping_iter(self, input)
     }
@@ -378,13 +340,8 @@ pub trait Automaton {
     where
         Self: Sized,
         requires { has_ended reader.old ≡ false }
-        ensures fresh { IfOk result
-            (λ matches. progress_of matches ≡ fresh_scan (built self.now)) }
-        ensures reader { IfOk result (λ matches. reader_of matches ≡ reader.old) }
-        ensures same_reference { IfOk result
-            (λ matches. reader_name matches ≡ reader.entry.ghost_name) }
-        ensures can { OnOk result (CanStream (built self.now) (supports self.now)) }
-        ensures refused { IfErr result (IsStreamRefusal (built self.now) (supports self.now)) }
+        ensures { AnswersStreamIter (built self.now) (supports self.now)
+            reader.old reader.entry.ghost_name result }
     {
         stream::stream_find_iter(reader, self, alloc)
     }
@@ -401,11 +358,8 @@ pub trait Automaton {
         replacements: &[&str],
     ) -> Result<String, ReplaceError>
         requires { length replacements.now ≡ length (built self.now).dictionary.patterns }
-        ensures replaced { IfOk result (λ replaced. string_bytes replaced ≡ with_replaced
-            haystack.now
-            (map (λ r. r.now) replacements.now) (text_matches_in (built self.now) haystack.now)) }
-        ensures supported { OnOk result (supports self.now Anchored.No) }
-        ensures refused { IfErr result (IsReplaceRefusal (supports self.now)) }
+        ensures { ReplacesText (built self.now) (supports self.now) haystack.now replacements.now
+            result }
     {
         replace::replace_all(self, alloc, haystack, replacements)
     }
@@ -419,10 +373,8 @@ pub trait Automaton {
         replacements: &[&[u8]],
     ) -> Result<Vec<u8>, ReplaceError>
         requires { length replacements.now ≡ length (built self.now).dictionary.patterns }
-        ensures replaced { IfOk result (λ replaced. replaced.items ≡ with_replaced haystack.now
-            (map (λ r. r.now) replacements.now) (matches_in (built self.now) haystack.now)) }
-        ensures supported { OnOk result (supports self.now Anchored.No) }
-        ensures refused { IfErr result (IsReplaceRefusal (supports self.now)) }
+        ensures { ReplacesBytes (built self.now) (supports self.now) haystack.now replacements.now
+            result }
     {
         replace::replace_all_bytes(self, alloc, haystack, replacements)
     }
@@ -444,12 +396,8 @@ pub trait Automaton {
     where
         F: FnMut(&Match, &str, &mut String) -> Result<bool, AllocError>,
         requires { IsForMatches F.FnMut (length (built self.now).dictionary.patterns) replace_with }
-        ensures replaced { OnOk result (IsReplacedWith string_bytes F.FnMut haystack.now
-            (text_matches_in (built self.now) haystack.now) replace_with dst.old dst.new) }
-        ensures supported { OnOk result (supports self.now Anchored.No) }
-        ensures refused { IfErr result (IsRefusedWith string_bytes F.FnMut haystack.now
-            (text_matches_in (built self.now) haystack.now) replace_with dst.old dst.new
-            (supports self.now)) }
+        ensures { ReplacesTextWith F.FnMut (built self.now) (supports self.now) haystack.now
+            replace_with dst.old dst.new result }
     {
         replace::replace_all_with(self, haystack, dst, replace_with)
     }
@@ -466,19 +414,15 @@ pub trait Automaton {
     where
         F: FnMut(&Match, &[u8], &mut Vec<u8>) -> Result<bool, AllocError>,
         requires { IsForMatches F.FnMut (length (built self.now).dictionary.patterns) replace_with }
-        ensures replaced { OnOk result (IsReplacedWith (λ v. v.items) F.FnMut haystack.now
-            (matches_in (built self.now) haystack.now) replace_with dst.old dst.new) }
-        ensures supported { OnOk result (supports self.now Anchored.No) }
-        ensures refused { IfErr result (IsRefusedWith (λ v. v.items) F.FnMut haystack.now
-            (matches_in (built self.now) haystack.now) replace_with dst.old dst.new
-            (supports self.now)) }
+        ensures { ReplacesBytesWith F.FnMut (built self.now) (supports self.now) haystack.now
+            replace_with dst.old dst.new result }
     {
         replace::replace_all_with_bytes(self, haystack, dst, replace_with)
     }
 
     /// Writes what is read with each match exchanged for the replacement of its pattern, of which there is one for each pattern. The
-    /// input ends at its first empty read. Before each read all is written but the last bytes, of which at most as many are kept back
-    /// as the longest pattern has, or one where there is no pattern. The writer isn't flushed.
+    /// input ends at its first empty read. Before each read all is written, where nothing of it may still begin a match; else at most
+    /// as many bytes are kept back as the longest pattern has. The writer isn't flushed.
     ///
     /// It is refused where a stream can't be searched, and where there is no memory for its two buffers; the reader and the writer
     /// are then as they were, and no memory is asked for after that. Where a read or a write fails, nothing is tried again.
@@ -495,9 +439,8 @@ pub trait Automaton {
             ≡ length (built self.now).dictionary.patterns }
         ensures replaced { ReplacesStream R.remaining W.contents (built self.now)
             (map (λ r. r.now) replacements.now) reader.old reader.new writer.old writer.new result }
-        ensures can { OnOk result (CanStream (built self.now) (supports self.now)) }
-        ensures refused { IfErr result (IsReplaceStreamError (built self.now)
-            (supports self.now) reader.old reader.new writer.old writer.new) }
+        ensures accepted { AcceptsReplacing (built self.now) (supports self.now)
+            reader.old reader.new writer.old writer.new result }
     {
         let mut steps = Steps::new();
         self.try_stream_replace_all_counted(alloc, reader, writer, replacements, &mut steps)
@@ -519,9 +462,8 @@ pub trait Automaton {
             ≡ length (built self.now).dictionary.patterns }
         ensures replaced { ReplacesStream R.remaining W.contents (built self.now)
             (map (λ r. r.now) replacements.now) reader.old reader.new writer.old writer.new result }
-        ensures can { OnOk result (CanStream (built self.now) (supports self.now)) }
-        ensures refused { IfErr result (IsReplaceStreamError (built self.now)
-            (supports self.now) reader.old reader.new writer.old writer.new) }
+        ensures accepted { AcceptsReplacing (built self.now) (supports self.now)
+            reader.old reader.new writer.old writer.new result }
         ensures cost { CostsStream (built self.now) reader.old reader.new
             steps.old steps.new result }
     {

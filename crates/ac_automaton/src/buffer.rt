@@ -4,11 +4,10 @@
 //! match may begin in one piece and end in another, so of what is held as many bytes are kept as the longest pattern has; they
 //! are moved to the front only where no room is left after them. They are an eighth of the buffer at most, and the rest of it is
 //! read before they are moved again: so for each byte that is moved seven are read. One function moves bytes, and counts them.
-ghost use Rattle.std.specs.Prelude.{◌≡◌, ◌+◌, ◌-◌, ◌≤◌, ◌<◌, ◌↔◌, false, [], ◌∷◌, length, IfOk, OnErr, IsTrue, vec_len};
+ghost use Rattle.std.specs.Prelude.{◌≡◌, ◌+◌, ◌-◌, ◌≤◌, ◌<◌, ◌↔◌, false, length, IfOk, IsTrue, vec_len};
 ghost use Rattle.std.specs.List.{copy_within};
 ghost use Rattle.ac_input.specs.Steps.{Done};
-ghost use Rattle.ac_automaton.specs.Buffer.{Filled, IsPaid, kept_for, nothing_held, rolled};
-ghost use Rattle.ac_automaton.specs.Moved.{HasGiven};
+ghost use Rattle.ac_automaton.specs.Buffer.{Fills, IsRollPaid, kept_for, nothing_held, rolled};
 ghost use Rattle.ac_automaton.specs.Watched.{has_ended};
 
 use crate::watched::Watched;
@@ -37,7 +36,7 @@ pub(crate) struct Buffer {
 
 impl Model for Buffer {
     ghost use Rattle.std.specs.Prelude.{◌≤◌, take, vec_len};
-    ghost use Rattle.ac_automaton.specs.Buffer.{Held, IsPaid};
+    ghost use Rattle.ac_automaton.specs.Buffer.{Held, IsRollPaid};
 
     ghost Value = { Held };
 
@@ -50,7 +49,7 @@ impl Model for Buffer {
     } };
 
     ghost invariant = { λ b. (b.filled ≤ vec_len b.bytes)
-        × IsPaid (record {
+        × IsRollPaid (record {
           bytes = take b.filled b.bytes.items;
           room = vec_len b.bytes;
           keep = b.keep;
@@ -63,7 +62,7 @@ impl Buffer {
     /// Takes the memory. Nothing is held yet.
     pub fn new(alloc: Global, longest: usize) -> Result<Buffer, AllocError>
         ensures fresh { IfOk result (λ buffer. buffer ≡ nothing_held (kept_for longest)) }
-        ensures paid { IfOk result IsPaid }
+        ensures paid { IfOk result IsRollPaid }
     {
         let keep = longest.max(1);
         let Some(share) = keep.checked_mul(SHARE) else {
@@ -105,10 +104,8 @@ impl Buffer {
     pub fn fill<R: Read>(&mut self, reader: &mut Watched<R>) -> io::Result<usize>
         requires room { length self.old.bytes < self.old.room }
         requires open { has_ended reader.old ≡ false }
-        ensures gave { IfOk result (Filled R.remaining self.old self.new reader.old reader.new) }
-        ensures failed { OnErr result (HasGiven R.remaining reader.old reader.new ([] ∷ []) 1) }
-        ensures kept { OnErr result (self.new ≡ self.old) }
-        ensures paid { IsPaid self.new }
+        ensures gave { Fills R.remaining self.old self.new reader.old reader.new result }
+        ensures paid { IsRollPaid self.new }
     {
         let n = reader.read(&mut self.bytes[self.filled..])?;
         self.filled += n;
@@ -122,7 +119,7 @@ impl Buffer {
         requires from { from ≤ length self.old.bytes }
         requires kept { length self.old.bytes ≤ from + self.old.keep }
         ensures rolled { self.new ≡ rolled self.old from }
-        ensures paid { IsPaid self.new }
+        ensures paid { IsRollPaid self.new }
         ensures moved { Done 0 0 (length self.old.bytes - from) steps.old steps.new }
     {
         move_to_front(&mut self.bytes, from, self.filled, steps);

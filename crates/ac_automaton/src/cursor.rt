@@ -4,8 +4,7 @@
 //! automaton itself, in one call: [`read_on`] takes a [`Cursor`] to the next state that is special, or to the end of the span.
 //! There the search looks at the state, whether it matches, or is dead, or is a start, and goes on or ends.
 ghost use Rattle.std.specs.Prelude.{◌≡◌, ◌<◌};
-ghost use Rattle.ac_automaton.specs.Automaton.{searched};
-ghost use Rattle.ac_automaton.specs.Cursor.{IsCursor, HasReadOn};
+ghost use Rattle.ac_automaton.specs.Cursor.{StandsIn, ReadsFurther};
 
 use crate::automaton::Automaton;
 use ac_input::primitives::StateID;
@@ -37,14 +36,11 @@ pub(crate) fn read_on<A: Automaton>(
     cursor: Cursor,
     steps: &mut Steps,
 ) -> Cursor
-    requires stands { IsCursor (A.Reads automaton.now input.now.anchored)
-        (searched (A.built automaton.now) input.now) cursor }
+    requires stands { StandsIn (A.built automaton.now) (A.Reaches automaton.now) input.now cursor }
     requires open { cursor.at < input.now.span.end }
-    ensures stands { IsCursor (A.Reads automaton.now input.now.anchored)
-        (searched (A.built automaton.now) input.now) result }
+    ensures stands { StandsIn (A.built automaton.now) (A.Reaches automaton.now) input.now result }
     ensures from { result.from ≡ cursor.from }
-    ensures on { HasReadOn (A.built automaton.now) input.now.anchored
-        (searched (A.built automaton.now) input.now) cursor result steps.old steps.new }
+    ensures on { ReadsFurther (A.built automaton.now) input.now cursor result steps.old steps.new }
 {
     let rest = &input.haystack()[cursor.at..input.end()];
     let advance = automaton.advance(input.get_anchored(), cursor.sid, rest, steps);

@@ -10,10 +10,10 @@
 //!
 //! A prefilter may know the match itself. It is the best of the automaton's kind, so an earliest search, which stops at the first
 //! end, takes its place alone and walks from there.
-ghost use Rattle.std.specs.Prelude.{◌≡◌, ◌≢◌, ◌⊎◌, ◌↔◌, ℕ, ◌-◌, ◌≤◌, List, [], length, Option, IfOk, IfErr, IfSome, IsOk, IsTrue};
-ghost use Rattle.ac_automaton.specs.Automaton.{AtEach, IsFindCost, IsFound, IsState, StartIsEmpty, kind_asked, refusal_of, searched};
-ghost use Rattle.ac_automaton.specs.Cursor.{IsCursor, taken};
-ghost use Rattle.ac_automaton.specs.Find.{CandidateSays, IsCandidateWork, IsSearchCost, IsWalkCost, WalkSays, search_from};
+ghost use Rattle.std.specs.Prelude.{◌≡◌, ◌≢◌, ◌↔◌, ℕ, ◌≤◌, List, [], IfSome, IsTrue};
+ghost use Rattle.ac_automaton.specs.Automaton.{AtEach, AnswersFind, CostsFind, IsFindCost, IsFound, IsState, StartIsEmpty, kind_asked};
+ghost use Rattle.ac_automaton.specs.Cursor.{IsFirstAt, IsReachedWithin, IsTaken, IsWholeTaken, StandsIn};
+ghost use Rattle.ac_automaton.specs.Find.{CandidateEnds, IsCandidateCost, IsSearchCost, IsUsable, IsWalkCost, WalkSays};
 
 use crate::automaton::Automaton;
 use crate::cursor::{Cursor, End, read_on};
@@ -25,11 +25,9 @@ use ac_literal::prefilter::Prefilter;
 
 /// The first of the patterns that match at a state, where the search isn't anchored. It ends at the place.
 pub(crate) fn first_match<A: Automaton>(automaton: &A, sid: StateID, at: usize) -> Match
-    requires reads { (text : List ℕ) × A.Reads automaton.now Anchored.No text sid
-        × (length text ≤ at) }
+    requires reads { IsReachedWithin (A.Reaches automaton.now Anchored.No) sid at }
     requires matches { A.matches automaton.now sid ≢ [] }
-    ensures { Option.Some result
-        ≡ taken (A.built automaton.now).dictionary Anchored.No at 0 (A.matches automaton.now sid) }
+    ensures { IsFirstAt (A.built automaton.now).dictionary at (A.matches automaton.now sid) result }
 {
     let pattern = automaton.match_pattern(sid, 0);
     let start = at - automaton.pattern_len(pattern);
@@ -38,11 +36,10 @@ pub(crate) fn first_match<A: Automaton>(automaton: &A, sid: StateID, at: usize) 
 
 /// The first of the patterns that match at a state and are as long as what was read, where the search is anchored.
 fn whole_match<A: Automaton>(automaton: &A, sid: StateID, span: Span) -> Option<Match>
-    requires reads { (text : List ℕ) × A.Reads automaton.now Anchored.Yes text sid }
+    requires reads { (text : List ℕ) × A.Reaches automaton.now Anchored.Yes text sid }
     requires ordered { span.start ≤ span.end }
     requires matches { A.matches automaton.now sid ≢ [] }
-    ensures { result ≡ taken (A.built automaton.now).dictionary Anchored.Yes span.end
-        (span.end - span.start) (A.matches automaton.now sid) }
+    ensures { IsWholeTaken (A.built automaton.now) (A.matches automaton.now) sid span result }
 {
     for index in 0..automaton.match_len(sid) {
         let pattern = automaton.match_pattern(sid, index);
@@ -55,10 +52,8 @@ fn whole_match<A: Automaton>(automaton: &A, sid: StateID, span: Span) -> Option<
 
 /// The match that the state tells where a search stands, if it tells one.
 fn match_at<A: Automaton>(automaton: &A, input: &Input<'_>, cursor: &Cursor) -> Option<Match>
-    requires { IsCursor (A.Reads automaton.now input.now.anchored)
-        (searched (A.built automaton.now) input.now) cursor.now }
-    ensures { result ≡ taken (A.built automaton.now).dictionary input.now.anchored
-        cursor.now.at (cursor.now.at - cursor.now.from) (A.matches automaton.now cursor.now.sid) }
+    requires { StandsIn (A.built automaton.now) (A.Reaches automaton.now) input.now cursor.now }
+    ensures { IsTaken (A.built automaton.now) (A.matches automaton.now) input.now cursor.now result }
 {
     if !automaton.is_match(cursor.sid) {
         return None;
@@ -87,9 +82,9 @@ fn takes_first<A: Automaton>(automaton: &A, input: &Input<'_>) -> bool
 
 /// Whether a search that isn't anchored is back at the start.
 pub(crate) fn is_back<A: Automaton>(automaton: &A, input: &Input<'_>, sid: StateID) -> bool
-    requires { IsState (A.Reads automaton.now) sid }
+    requires { IsState (A.Reaches automaton.now) sid }
     ensures free { IsTrue result → input.now.anchored ≡ Anchored.No }
-    ensures empty { AtEach (A.Reads automaton.now) sid
+    ensures empty { AtEach (A.Reaches automaton.now) sid
         (StartIsEmpty (A.built automaton.now) (A.matches automaton.now sid) result) }
 {
     match input.get_anchored() {
@@ -106,7 +101,7 @@ fn walk<A: Automaton>(
     at: usize,
     steps: &mut Steps,
 ) -> End<Option<Match>>
-    requires starts { A.Reads automaton.now input.now.anchored [] start }
+    requires starts { A.Reaches automaton.now input.now.anchored [] start }
     requires from { input.now.span.start ≤ at }
     requires to { at ≤ input.now.span.end }
     ensures says { WalkSays (A.built automaton.now) input.now at result }
@@ -140,12 +135,8 @@ pub(crate) fn usable_prefilter<'a, A: Automaton>(
     anchored: Anchored,
     start: StateID,
 ) -> Option<&'a Prefilter>
-    requires { A.Reads automaton.now anchored [] start }
-    ensures made { IfSome result (λ p. p.now.dictionary ≡ (A.built automaton.now).dictionary) }
-    ensures free { IfSome result (λ _. anchored ≡ Anchored.No) }
-    ensures empty { IfSome result (λ _. A.matches automaton.now start ≡ []) }
-    ensures none { result ≡ Option.None → (anchored ≡ Anchored.Yes)
-        ⊎ (A.matches automaton.now start ≢ []) ⊎ ((A.built automaton.now).prefilter ≡ Option.None) }
+    requires { A.Reaches automaton.now anchored [] start }
+    ensures { IsUsable (A.built automaton.now) (A.matches automaton.now) anchored start result }
 {
     match anchored {
         Anchored::Yes => None,
@@ -173,10 +164,8 @@ fn candidate<A: Automaton>(
     requires free { input.now.anchored ≡ Anchored.No }
     requires from { input.now.span.start ≤ at }
     requires to { at ≤ input.now.span.end }
-    ensures says { CandidateSays (kind_asked (A.built automaton.now) input.now)
-        (search_from (A.built automaton.now) input.now at) result }
-    ensures work { IsCandidateWork (search_from (A.built automaton.now) input.now at) result
-        steps.old steps.new }
+    ensures says { CandidateEnds (A.built automaton.now) input.now at result }
+    ensures work { IsCandidateCost (A.built automaton.now) input.now at result steps.old steps.new }
 {
     let kind = automaton.match_kind();
     let rest = Span {
@@ -207,7 +196,7 @@ fn search_from_candidate<A: Automaton>(
 ) -> End<Option<Match>>
     requires made { IfSome prefilter (λ p. p.now.dictionary ≡ (A.built automaton.now).dictionary) }
     requires free { IfSome prefilter (λ _. input.now.anchored ≡ Anchored.No) }
-    requires starts { A.Reads automaton.now input.now.anchored [] start }
+    requires starts { A.Reaches automaton.now input.now.anchored [] start }
     requires from { input.now.span.start ≤ at }
     requires to { at ≤ input.now.span.end }
     ensures says { WalkSays (A.built automaton.now) input.now at result }
@@ -233,7 +222,7 @@ fn search<A: Automaton>(
 ) -> Option<Match>
     requires made { IfSome prefilter (λ p. p.now.dictionary ≡ (A.built automaton.now).dictionary) }
     requires free { IfSome prefilter (λ _. input.now.anchored ≡ Anchored.No) }
-    requires starts { A.Reads automaton.now input.now.anchored [] start }
+    requires starts { A.Reaches automaton.now input.now.anchored [] start }
     requires ordered { input.now.span.start ≤ input.now.span.end }
     ensures found { IsFound (A.built automaton.now) input.now result }
     ensures cost { IsFindCost (A.built automaton.now) input.now steps.old steps.new result }
@@ -255,11 +244,8 @@ pub fn find<A: Automaton>(
     input: &Input<'_>,
     steps: &mut Steps,
 ) -> Result<Option<Match>, MatchError>
-    ensures found { IfOk result (IsFound (A.built automaton.now) input.now) }
-    ensures supported { IsOk result ↔ A.supports automaton.now input.now.anchored }
-    ensures refused { IfErr result (λ error. error ≡ refusal_of input.now.anchored) }
-    ensures cost { IfOk result (IsFindCost (A.built automaton.now) input.now steps.old steps.new) }
-    ensures idle { IfErr result (λ error. steps.new ≡ steps.old) }
+    ensures answer { AnswersFind (A.built automaton.now) (A.supports automaton.now) input.now result }
+    ensures cost { CostsFind (A.built automaton.now) input.now steps.old steps.new result }
 {
     let anchored = input.get_anchored();
     let start = automaton.start_state(anchored)?;

@@ -7,11 +7,11 @@
 //! [`FindIter`] is the walk as an iterator. It holds two references and a few numbers, and takes no memory. Under the standard kind
 //! it reads on from the end of each match, and so each byte of the span once. Under a leftmost kind it has to read past a match
 //! before it knows that it is the one, by as much as the longest pattern, and reads those bytes again.
-ghost use Rattle.std.specs.Prelude.{◌≡◌, ◌↔◌, ◌<◌, ◌≤◌, ⊤, IfOk, IfErr, IfSome, IsOk, IsTrue};
-ghost use Rattle.std.specs.Iterator.{YieldsFirst, item_count, MakesProgress};
+ghost use Rattle.std.specs.Prelude.{◌↔◌, ◌≤◌, IfSome, IsTrue};
+ghost use Rattle.std.specs.Iterator.{YieldsFirst, item_count};
 ghost use Rattle.ac_input.specs.Walk.{Repeats};
-ghost use Rattle.ac_automaton.specs.Automaton.{IsFound, IsFindCost, refusal_of, walk_in};
-ghost use Rattle.ac_automaton.specs.Iter.{fresh_walk, left_of, IsWalkAfter, WalkCounts, IsNextPick, IsPickOf, IsPickCost, IsNextWork, IsOnItsWay};
+ghost use Rattle.ac_automaton.specs.Automaton.{IsFound, IsFindCost};
+ghost use Rattle.ac_automaton.specs.Iter.{AnswersFindIter, GivesPick, CostsPick, left_of, IsPickOf, IsPickCost, IsRestOf, IsOnItsWay};
 
 use crate::automaton::Automaton;
 use crate::error::MatchError;
@@ -50,12 +50,7 @@ pub fn find_iter<'a, 'h, A: Automaton>(
     automaton: &'a A,
     input: Input<'h>,
 ) -> Result<FindIter<'a, 'h, A>, MatchError>
-    ensures walk { IfOk result (λ matches. matches ≡ fresh_walk (A.built automaton.now)
-        input.entry) }
-    ensures all { IfOk result (λ matches. left_of matches ≡ walk_in (A.built automaton.now)
-        input.entry) }
-    ensures supported { IsOk result ↔ A.supports automaton.now input.entry.anchored }
-    ensures refused { IfErr result (λ error. error ≡ refusal_of input.entry.anchored) }
+    ensures { AnswersFindIter (A.built automaton.now) (A.supports automaton.now) input.entry result }
 {
     automaton.start_state(input.get_anchored())?;
     let first = Count::zero().more(&input.start());
@@ -98,8 +93,7 @@ fn next_pick<A: Automaton>(
     requires within { input.old.span.start ≤ input.old.span.end }
     requires last { IfSome last (λ end. end ≤ input.old.span.start) }
     ensures pick { IsPickOf (A.built automaton.now) input.old last result }
-    ensures asked { input.new
-        ≡ record input.old { span = record input.old.span { start = input.new.span.start } } }
+    ensures asked { IsRestOf input.old input.new }
     ensures work { IsPickCost (A.built automaton.now) input.old steps.old steps.new result }
 {
     let found = best(automaton, input, steps);
@@ -117,10 +111,8 @@ impl<'a, 'h, A: Automaton> FindIter<'a, 'h, A> {
     /// The next match, as `next` gives it; and counts what it does.
     /// A caller: `uses::callers::iterate::pass_matches`.
     pub fn next_counted(&mut self, steps: &mut Steps) -> Option<Match>
-        ensures pick { IsNextPick self.old result }
-        ensures walk { IsWalkAfter self.old result self.new }
-        ensures sums { WalkCounts self.old self.new steps.old steps.new }
-        ensures work { IsNextWork self.old result steps.old steps.new }
+        ensures gives { GivesPick self.old result self.new }
+        ensures cost { CostsPick self.old self.new steps.old steps.new result }
         ensures kept { IsOnItsWay self.new }
     {
         if self.input.is_done() {

@@ -15,10 +15,9 @@
 //! A sending stops at the first write that fails or takes no byte, and returns [`StreamError::Write`] or
 //! [`StreamError::WriteZero`], and no other error. Nothing is tried again. A beginning of what was held back and of what was sent was
 //! written then; the rest is dropped, and nothing is held back any more.
-ghost use Rattle.std.specs.Prelude.{◌≡◌, ◌+◌, ◌≤◌, [], ◌++◌, length, IfOk, IfErr, OnOk, OnErr};
+ghost use Rattle.std.specs.Prelude.{◌≡◌, ◌+◌, ◌≤◌, [], ◌++◌, length, IfOk};
 ghost use Rattle.ac_automaton.specs.declared.output.TheConstants.{ROOM};
-ghost use Rattle.ac_automaton.specs.Output.{Sent, Stopped};
-ghost use Rattle.ac_automaton.specs.Watched.{IsOfWrite};
+ghost use Rattle.ac_automaton.specs.Output.{Sends};
 
 use crate::error::StreamError;
 use crate::watched::{Watched, write_whole};
@@ -68,12 +67,8 @@ impl Output {
         writer: &mut Watched<W>,
         bytes: &[u8],
     ) -> Result<(), StreamError>
-        ensures sent { OnOk result (Sent W.contents writer.old writer.new self.old self.new
-            bytes.now) }
-        ensures stopped { OnErr result (Stopped W.contents writer.old writer.new self.old
-            bytes.now) }
-        ensures none { OnErr result (self.new ≡ []) }
-        ensures kind { IfErr result (IsOfWrite writer.old writer.new) }
+        ensures sent { Sends W.contents bytes.now writer.old writer.new self.old self.new
+            result }
     {
         if bytes.len() <= ROOM - self.filled {
             self.hold_back(bytes);
@@ -100,10 +95,8 @@ impl Output {
     /// Writes what is held back. Where that is nothing, the writer isn't called.
     /// A caller: `uses::callers::stream::joined`.
     pub fn send_held<W: Write>(&mut self, writer: &mut Watched<W>) -> Result<(), StreamError>
-        ensures sent { OnOk result (Sent W.contents writer.old writer.new self.old self.new []) }
+        ensures sent { Sends W.contents [] writer.old writer.new self.old self.new result }
         ensures none { self.new ≡ [] }
-        ensures stopped { OnErr result (Stopped W.contents writer.old writer.new self.old []) }
-        ensures kind { IfErr result (IsOfWrite writer.old writer.new) }
     {
         let sent = write_all(writer, &self.bytes.as_slice()[..self.filled]);
         self.filled = 0;
@@ -118,12 +111,8 @@ impl Output {
         before: &[u8],
         replacement: &[u8],
     ) -> Result<(), StreamError>
-        ensures sent { OnOk result (Sent W.contents writer.old writer.new self.old self.new
-            (before.now ++ replacement.now)) }
-        ensures stopped { OnErr result (Stopped W.contents writer.old writer.new self.old
-            (before.now ++ replacement.now)) }
-        ensures none { OnErr result (self.new ≡ []) }
-        ensures kind { IfErr result (IsOfWrite writer.old writer.new) }
+        ensures sent { Sends W.contents (before.now ++ replacement.now) writer.old writer.new
+            self.old self.new result }
     {
         self.send(writer, before)?;
         self.send(writer, replacement)
@@ -136,11 +125,8 @@ impl Output {
         writer: &mut Watched<W>,
         bytes: &[u8],
     ) -> Result<(), StreamError>
-        ensures sent { OnOk result (Sent W.contents writer.old writer.new self.old [] bytes.now) }
+        ensures sent { Sends W.contents bytes.now writer.old writer.new self.old [] result }
         ensures none { self.new ≡ [] }
-        ensures stopped { OnErr result (Stopped W.contents writer.old writer.new self.old
-            bytes.now) }
-        ensures kind { IfErr result (IsOfWrite writer.old writer.new) }
     {
         self.send(writer, bytes)?;
         self.send_held(writer)
@@ -149,9 +135,7 @@ impl Output {
 
 /// Writes all the bytes, where nothing is held back.
 fn write_all<W: Write>(writer: &mut Watched<W>, bytes: &[u8]) -> Result<(), StreamError>
-    ensures sent { OnOk result (Sent W.contents writer.old writer.new [] [] bytes.now) }
-    ensures stopped { OnErr result (Stopped W.contents writer.old writer.new [] bytes.now) }
-    ensures kind { IfErr result (IsOfWrite writer.old writer.new) }
+    ensures { Sends W.contents bytes.now writer.old writer.new [] [] result }
 {
     write_whole(writer, bytes)
 }

@@ -6,10 +6,9 @@
 //!
 //! In a text a match may begin or end within a character, where a pattern isn't text itself. Such a match is passed over, so that
 //! what is made stays text.
-ghost use Rattle.std.specs.Prelude.{◌≡◌, ◌+◌, length, map, IfErr, IfOk, IfSome, IsTrue, OnOk};
+ghost use Rattle.std.specs.Prelude.{◌≡◌, ◌+◌, length, IfSome, IsTrue};
 ghost use Rattle.std.specs.Iterator.{YieldsFirst};
-ghost use Rattle.std.specs.String.{string_bytes};
-ghost use Rattle.ac_automaton.specs.Replace.{IsForMatches, TakesMatches, RepliesAt, IsReplaceRefusal, IsReplacedWith, IsRefusedWith, cuts_none, matches_in, text_left_of, text_matches_in, with_replaced};
+ghost use Rattle.ac_automaton.specs.Replace.{IsForMatches, TakesMatches, RepliesAt, ReplacesText, ReplacesBytes, ReplacesTextWith, ReplacesBytesWith, cuts_none, text_left_of};
 
 use crate::automaton::Automaton;
 use crate::error::ReplaceError;
@@ -25,10 +24,8 @@ pub fn replace_all_bytes<A: Automaton>(
     replacements: &[&[u8]],
 ) -> Result<Vec<u8>, ReplaceError>
     requires { length replacements.now ≡ length (A.built automaton.now).dictionary.patterns }
-    ensures replaced { IfOk result (λ replaced. replaced.items ≡ with_replaced haystack.now
-        (map (λ r. r.now) replacements.now) (matches_in (A.built automaton.now) haystack.now)) }
-    ensures supported { OnOk result (A.supports automaton.now Anchored.No) }
-    ensures refused { IfErr result (IsReplaceRefusal (A.supports automaton.now)) }
+    ensures { ReplacesBytes (A.built automaton.now) (A.supports automaton.now) haystack.now
+        replacements.now result }
 {
     let mut matches = automaton.try_find_iter(Input::new(haystack))?;
     let mut replaced = Vec::with_capacity(alloc, haystack.len())?;
@@ -70,11 +67,8 @@ pub fn replace_all<A: Automaton>(
     replacements: &[&str],
 ) -> Result<String, ReplaceError>
     requires { length replacements.now ≡ length (A.built automaton.now).dictionary.patterns }
-    ensures replaced { IfOk result (λ replaced. string_bytes replaced ≡ with_replaced haystack.now
-        (map (λ r. r.now) replacements.now)
-        (text_matches_in (A.built automaton.now) haystack.now)) }
-    ensures supported { OnOk result (A.supports automaton.now Anchored.No) }
-    ensures refused { IfErr result (IsReplaceRefusal (A.supports automaton.now)) }
+    ensures { ReplacesText (A.built automaton.now) (A.supports automaton.now) haystack.now
+        replacements.now result }
 {
     let mut matches = automaton.try_find_iter(Input::new(haystack.as_bytes()))?;
     let mut replaced = String::with_capacity(alloc, haystack.len())?;
@@ -100,12 +94,8 @@ where
     F: FnMut(&Match, &[u8], &mut Vec<u8>) -> Result<bool, AllocError>,
     requires { IsForMatches F.FnMut (length (A.built automaton.now).dictionary.patterns)
         replace_with }
-    ensures replaced { OnOk result (IsReplacedWith (λ v. v.items) F.FnMut haystack.now
-        (matches_in (A.built automaton.now) haystack.now) replace_with dst.old dst.new) }
-    ensures supported { OnOk result (A.supports automaton.now Anchored.No) }
-    ensures refused { IfErr result (IsRefusedWith (λ v. v.items) F.FnMut haystack.now
-        (matches_in (A.built automaton.now) haystack.now) replace_with dst.old dst.new
-        (A.supports automaton.now)) }
+    ensures { ReplacesBytesWith F.FnMut (A.built automaton.now) (A.supports automaton.now)
+        haystack.now replace_with dst.old dst.new result }
 {
     let mut matches = automaton.try_find_iter(Input::new(haystack))?;
     let mut at = 0;
@@ -151,12 +141,8 @@ where
     F: FnMut(&Match, &str, &mut String) -> Result<bool, AllocError>,
     requires { IsForMatches F.FnMut (length (A.built automaton.now).dictionary.patterns)
         replace_with }
-    ensures replaced { OnOk result (IsReplacedWith string_bytes F.FnMut haystack.now
-        (text_matches_in (A.built automaton.now) haystack.now) replace_with dst.old dst.new) }
-    ensures supported { OnOk result (A.supports automaton.now Anchored.No) }
-    ensures refused { IfErr result (IsRefusedWith string_bytes F.FnMut haystack.now
-        (text_matches_in (A.built automaton.now) haystack.now) replace_with dst.old dst.new
-        (A.supports automaton.now)) }
+    ensures { ReplacesTextWith F.FnMut (A.built automaton.now) (A.supports automaton.now)
+        haystack.now replace_with dst.old dst.new result }
 {
     let mut matches = automaton.try_find_iter(Input::new(haystack.as_bytes()))?;
     let mut at = 0;

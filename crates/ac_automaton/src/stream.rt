@@ -4,28 +4,28 @@
 //! next one is read. So a match is given as soon as its last byte was read, a stream may be as long as places can be counted, and
 //! no memory is taken on the way. A match may begin in one piece and end in another; what the pieces are changes nothing.
 //!
-//! Only an automaton of the standard kind can do so: a leftmost match may be settled only by bytes far behind it. An empty pattern
+//! Only an automaton of the standard kind can do so: a leftmost match may be settled only by bytes far after it. An empty pattern
 //! is refused, since it would match at each place before anything is read. No prefilter is asked.
 //!
 //! [`StreamFindIter`] is the search as an iterator, from
 //! [`try_stream_find_iter`](crate::automaton::Automaton::try_stream_find_iter). The first empty read ends it, and so does the first
 //! error.
-ghost use Rattle.std.specs.Prelude.{◌≡◌, false, IfErr, IfOk, OnOk};
+ghost use Rattle.std.specs.Prelude.{◌≡◌, false};
 ghost use Rattle.std.specs.Borrow.{sem};
-ghost use Rattle.ac_automaton.specs.Stream.{CanStream, FindsHeld, IsOnCourse, IsStreamRefusal, ScanCounts, fresh_scan};
-ghost use Rattle.ac_automaton.specs.StreamIter.{NextGives, RestsIfRefused, StaysStopped, TurnGives, progress_of, reader_name, reader_of};
+ghost use Rattle.ac_automaton.specs.Stream.{FindsHeld, GoesOn};
+ghost use Rattle.ac_automaton.specs.StreamIter.{AnswersStreamIter, GivesItem, KeepsReader, RestsIfRefused, TurnGives, progress_of, reader_name, reader_of};
 ghost use Rattle.ac_automaton.specs.Watched.{has_ended};
 
 pub(crate) mod replace;
 pub(crate) mod replace_with;
-mod scan;
+mod search;
 
 use crate::automaton::Automaton;
 use crate::error::StreamError;
 use crate::watched::Watched;
 use ac_input::search::Match;
 use ac_input::steps::Steps;
-use scan::Scan;
+use search::StreamSearch;
 use std::alloc::Global;
 use std::io::Read;
 
@@ -35,7 +35,7 @@ use std::io::Read;
 /// After its first error, and after its first `None`, it gives `None` for good, and asks the reader no more.
 #[derive(Drop)]
 pub struct StreamFindIter<'a, A: Automaton, R> {
-    scan: Scan<'a, A>,
+    stream: StreamSearch<'a, A>,
     reader: &'a mut Watched<R>,
 }
 
@@ -62,36 +62,29 @@ pub fn stream_find_iter<'a, A: Automaton, R>(
 ) -> Result<StreamFindIter<'a, A, R>, StreamError>
     requires { has_ended reader.old ≡ false }
     ensures* rests { sem 𝓛 (RestsIfRefused R.row reader.entry result) }
-    ensures fresh { IfOk result
-        (λ matches. progress_of matches ≡ fresh_scan (A.built automaton.now)) }
-    ensures reader { IfOk result (λ matches. reader_of matches ≡ reader.old) }
-    ensures same_reference { IfOk result
-        (λ matches. reader_name matches ≡ reader.entry.ghost_name) }
-    ensures can { OnOk result (CanStream (A.built automaton.now) (A.supports automaton.now)) }
-    ensures refused { IfErr result (IsStreamRefusal (A.built automaton.now)
-        (A.supports automaton.now)) }
+    ensures answer { AnswersStreamIter (A.built automaton.now) (A.supports automaton.now)
+        reader.old reader.entry.ghost_name result }
 {
-    let scan = Scan::new(automaton, alloc)?;
-    Ok(StreamFindIter { scan, reader })
+    let stream = StreamSearch::new(automaton, alloc)?;
+    Ok(StreamFindIter { stream, reader })
 }
 
 /// The next match of what was read; or one read, where there is none.
 fn search_or_read<A: Automaton, R: Read>(
-    scan: &mut Scan<'_, A>,
+    stream: &mut StreamSearch<'_, A>,
     reader: &mut Watched<R>,
     steps: &mut Steps,
 ) -> Turn
-    ensures gives { TurnGives R.remaining scan.old scan.new reader.old reader.new result }
-    ensures counts { ScanCounts scan.old scan.new steps.old steps.new }
-    ensures kept { IsOnCourse scan.new }
+    ensures gives { TurnGives R.remaining stream.old stream.new reader.old reader.new result }
+    ensures goes { GoesOn stream.old stream.new steps.old steps.new }
 {
-    if let Some(found) = scan.next_held(steps) {
+    if let Some(found) = stream.next_held(steps) {
         return Turn::Found(found);
     }
-    if scan.is_over() || reader.ended() {
+    if stream.is_over() || reader.ended() {
         return Turn::Over;
     }
-    match scan.read_more(reader, steps) {
+    match stream.read_more(reader, steps) {
         Ok(0) => Turn::Over,
         Ok(_) => Turn::More,
         Err(error) => Turn::Failed(error),
@@ -114,29 +107,20 @@ impl<'a, A: Automaton, R: Read> StreamFindIter<'a, A, R> {
     /// given.
     pub fn next_held_counted(&mut self, steps: &mut Steps) -> Option<Match>
         ensures finds { FindsHeld (progress_of self.old) result (progress_of self.new) }
-        ensures reader { reader_of self.new ≡ reader_of self.old }
-        ensures same_reference { reader_name self.new ≡ reader_name self.old }
-        ensures counts { ScanCounts (progress_of self.old) (progress_of self.new)
-            steps.old steps.new }
-        ensures kept { IsOnCourse (progress_of self.new) }
+        ensures reader { KeepsReader self.old self.new }
+        ensures goes { GoesOn (progress_of self.old) (progress_of self.new) steps.old steps.new }
     {
-        self.scan.next_held(steps)
+        self.stream.next_held(steps)
     }
 
     /// The next item, as `next` gives it; and counts what it does.
     /// A caller: `uses::callers::stream::all_matches`.
     pub fn next_counted(&mut self, steps: &mut Steps) -> Option<Result<Match, StreamError>>
-        ensures gives { NextGives R.remaining (progress_of self.old) (progress_of self.new)
-            (reader_of self.old) (reader_of self.new) result }
-        ensures stopped { StaysStopped (progress_of self.old) (progress_of self.new)
-            (reader_of self.old) (reader_of self.new) result }
-        ensures same_reference { reader_name self.new ≡ reader_name self.old }
-        ensures counts { ScanCounts (progress_of self.old) (progress_of self.new)
-            steps.old steps.new }
-        ensures kept { IsOnCourse (progress_of self.new) }
+        ensures gives { GivesItem R.remaining self.old self.new result }
+        ensures goes { GoesOn (progress_of self.old) (progress_of self.new) steps.old steps.new }
     {
         loop {
-            match search_or_read(&mut self.scan, self.reader, steps) {
+            match search_or_read(&mut self.stream, self.reader, steps) {
                 Turn::More => {}
                 Turn::Found(found) => return Some(Ok(found)),
                 Turn::Over => return None,
@@ -147,16 +131,12 @@ impl<'a, A: Automaton, R: Read> StreamFindIter<'a, A, R> {
 }
 
 impl<'a, A: Automaton, R: Read> Iterator for StreamFindIter<'a, A, R> {
-    ghost use Rattle.std.specs.Prelude.{◌≡◌};
     ghost use Rattle.ac_automaton.specs.Stream.{IsOnCourse};
-    ghost use Rattle.ac_automaton.specs.StreamIter.{NextGives, StaysStopped, progress_of, reader_name, reader_of};
+    ghost use Rattle.ac_automaton.specs.StreamIter.{GivesItem, progress_of};
 
     type Item = Result<Match, StreamError>;
 
-    ghost next_gives = { λ s r t. NextGives R.remaining (progress_of s) (progress_of t)
-        (reader_of s) (reader_of t) r
-        × StaysStopped (progress_of s) (progress_of t) (reader_of s) (reader_of t) r
-        × (reader_name t ≡ reader_name s) × IsOnCourse (progress_of t) };
+    ghost next_gives = { λ s r t. GivesItem R.remaining s t r × IsOnCourse (progress_of t) };
 
     fn next(&mut self) -> Option<Result<Match, StreamError>> {
         let mut steps = Steps::new();

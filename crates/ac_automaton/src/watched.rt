@@ -12,9 +12,9 @@
 //!
 //! Each call of a `Watched` makes one call of the device. That it makes no more, no contract can say, since a device keeps no
 //! count of its own.
-ghost use Rattle.std.specs.Prelude.{◌≡◌, ◌<◌, false, length, IfOk, IfErr, OnOk, OnErr};
-ghost use Rattle.std.specs.Io.KnownBytes.{Appends, Keeps, ReadConsumes, WriteAppends};
-ghost use Rattle.ac_automaton.specs.Watched.{has_ended, inner_of, HasFlushed, IsFresh, ReadGave, ReadFailed, NoneRead, NoneTaken, WriteTook, TookNone, TookAll, TookFront, IsOfWrite};
+ghost use Rattle.std.specs.Prelude.{◌≡◌, ◌<◌, false, length};
+ghost use Rattle.std.specs.Io.KnownBytes.{Keeps, ReadConsumes, WriteAppends};
+ghost use Rattle.ac_automaton.specs.Watched.{has_ended, inner_of, AnswersFlush, AnswersRead, AnswersWrite, IsFresh, NoneRead, NoneTaken, WritesWhole};
 
 use crate::error::StreamError;
 use ac_input::history::{Count, Pieces, Taken};
@@ -77,8 +77,7 @@ impl<T: Read> Watched<T> {
     pub fn read(&mut self, buf: &mut [u8]) -> io::Result<usize>
         requires room { 0 < length buf.old }
         requires open { has_ended self.old ≡ false }
-        ensures gave { IfOk result (ReadGave self.old self.new buf.new) }
-        ensures failed { OnErr result (ReadFailed self.old self.new) }
+        ensures gave { AnswersRead self.old self.new buf.new result }
         ensures writes { NoneTaken self.old self.new }
         ensures device { ReadConsumes (T.remaining (inner_of self.old))
             (T.remaining (inner_of self.new)) result buf.new }
@@ -102,8 +101,7 @@ impl<T: Read> Watched<T> {
 impl<T: Write> Watched<T> {
     /// One write of the bytes, or of the first of them. One that is handed bytes and takes none stalls, which counts as a failure.
     pub fn write(&mut self, buf: &[u8]) -> io::Result<usize>
-        ensures took { IfOk result (WriteTook self.old self.new buf.now) }
-        ensures failed { OnErr result (TookNone self.old self.new) }
+        ensures took { AnswersWrite self.old self.new buf.now result }
         ensures reads { NoneRead self.old self.new }
         ensures device { WriteAppends (T.contents (inner_of self.old))
             (T.contents (inner_of self.new)) result buf.now }
@@ -126,8 +124,7 @@ impl<T: Write> Watched<T> {
 
     /// Has the device pass on what it holds back.
     pub fn flush(&mut self) -> io::Result<()>
-        ensures passed { OnOk result (HasFlushed self.old self.new) }
-        ensures failed { OnErr result (TookNone self.old self.new) }
+        ensures passed { AnswersFlush self.old self.new result }
         ensures reads { NoneRead self.old self.new }
         ensures device { Keeps (T.contents (inner_of self.old)) (T.contents (inner_of self.new)) }
     {
@@ -149,12 +146,8 @@ impl<T: Write> Watched<T> {
 /// Nothing is tried again, also not after an interruption.
 /// A caller: `uses::callers::stream::is_written`.
 pub fn write_whole<W: Write>(writer: &mut Watched<W>, bytes: &[u8]) -> Result<(), StreamError>
-    ensures all { OnOk result (TookAll writer.old writer.new bytes.now) }
-    ensures front { OnErr result (TookFront W.contents writer.old writer.new bytes.now) }
-    ensures kind { IfErr result (IsOfWrite writer.old writer.new) }
+    ensures took { WritesWhole W.contents writer.old writer.new bytes.now result }
     ensures reads { NoneRead writer.old writer.new }
-    ensures device { OnOk result (Appends (W.contents (inner_of writer.old))
-        (W.contents (inner_of writer.new)) bytes.now) }
 {
     let mut written = 0;
     while written < bytes.len() {

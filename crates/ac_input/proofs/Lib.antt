@@ -29,3 +29,7 @@ pub mod LeadsLemmas
 pub mod Rows
 pub mod AlphabetLemmas
 pub mod LimitLemmas
+pub mod OnceLemmas
+pub mod ClassLemmas
+pub mod DfaLemmas
+pub mod DeadLemmas

@@ -1,8 +1,10 @@
 -- How many states an automaton has is one number, and which limit is passed follows from it.
-use Rattle.std.proofs.Common.{◌≡◌, ◌≢◌, ℕ, suc, ◌+◌, ◌≤◌, List, [], ◌∷◌, ◌++◌, length, Some, refl, sym, subst, ◌∙◌, ⊎_elim, arith, slice_get, length-append}
+use Rattle.std.proofs.Common.{◌≡◌, ◌≢◌, ℕ, suc, ◌+◌, ◌≤◌, List, [], ◌∷◌, ◌++◌, length, Some, refl, sym, subst, ap, take, ◌<◌, ◌∙◌, ⊎_elim, arith, slice_get, length-append, length-take}
 use Rattle.std.specs.List.{Contains, AllPairs}
-use Rattle.ac_input.specs.Dictionary.{Dictionary}
-use Rattle.ac_input.specs.Limits.{with_pattern, HasStates, IsWithinLimits, Limit, PatternNumber, PatternLength, StateNumber, Passes}
+use Rattle.std.proofs.lemmas.List.{get_or-take, take_more}
+use Rattle.std.proofs.lemmas.Option.{slice_get_within, slice_get-get_or, get_or_from_slice_get}
+use Rattle.ac_input.specs.Dictionary.{Dictionary, IsPattern, IsEntered}
+use Rattle.ac_input.specs.Limits.{with_pattern, first_patterns, IsPrefix, HasStates, IsWithinLimits, Limit, PatternNumber, PatternLength, StateNumber, Passes, IsLimitOf}
 use Rattle.ac_input.proofs.ContainsLemmas.{Contains-nil, Contains-head, Contains-tail, Contains-cases}
 
 -- without one of its elements a list is shorter by one, and has every other one
@@ -63,3 +65,58 @@ within-none m p PatternLength w h = omega (arith, h.1, w.lengths (length m.patte
 within-none m p StateNumber w h =
     let one = states-one (with_pattern m p) w.states.0 h.2.0 w.states.1 h.2.1 in
     omega (arith, w.states.2, h.2.2)
+
+-- ---- the first patterns of a dictionary
+
+-- a pattern of the first so many is one of all
+first-pattern : (m : Dictionary) (k n : ℕ) (p : List ℕ) → IsPattern (first_patterns m k) n p → (n < k) × IsPattern m n p
+first-pattern m k n p is =
+    let within = slice_get_within (take k m.patterns) n p is in
+    let long = length-take k m.patterns in
+    let low : n < k = omega (arith, within, long) in
+    let here : n < length m.patterns = omega (arith, within, long) in
+    let front = get_or-take k m.patterns n p low in
+    let read = get_or_from_slice_get (take k m.patterns) n p p is in
+    (low, slice_get-get_or m.patterns n p here ∙ ap Some (sym front ∙ read))
+
+-- and the other way
+pattern-first : (m : Dictionary) (k n : ℕ) (p : List ℕ) → n < k → IsPattern m n p → IsPattern (first_patterns m k) n p
+pattern-first m k n p low is =
+    let within = slice_get_within m.patterns n p is in
+    let long = length-take k m.patterns in
+    slice_get-get_or (take k m.patterns) n p (omega (arith, within, long, low)) ∙ ap Some (get_or-take k m.patterns n p low ∙ get_or_from_slice_get m.patterns n p p is)
+
+-- what is entered of the first so many is entered of all
+first-prefix : (m : Dictionary) (k : ℕ) (t : List ℕ) → IsPrefix (first_patterns m k) t → IsPrefix m t
+first-prefix m k t f =
+    let n = f.entered.0 in
+    let p = f.entered.1 in
+    let e = f.entered.2 in
+    let at = first-pattern m k n p e.0 in
+    let entered : IsEntered m n p = (at.1, λ kind shadow. e.1 kind (shadow.0, shadow.1, shadow.2, pattern-first m k shadow.0 shadow.1 (omega (arith, shadow.2, at.0)) shadow.3, shadow.4, shadow.5)) in
+    record { some = f.some; entered = (n, p, entered, f.entered.3, f.entered.4) }
+
+-- the first patterns with the next one
+first-next : (m : Dictionary) (n : ℕ) (p : List ℕ) → IsPattern m n p → with_pattern (first_patterns m n) p ≡ first_patterns m (n + 1)
+first-next m n p is =
+    let within = slice_get_within m.patterns n p is in
+    ap (λ (ps : List (List ℕ)). record m { patterns = ps }) (ap (λ (q : List ℕ). take n m.patterns ++ q ∷ []) (sym (get_or_from_slice_get m.patterns n p p is)) ∙ sym (take_more m.patterns n p within))
+
+-- a dictionary that is within the limits passes none
+pub within-no_limit : (m : Dictionary) (limit : Limit) → IsWithinLimits m → ¬ IsLimitOf m limit
+within-no_limit m limit w h = by limit h.1.passed.2
+  where
+    by : (which : Limit) → Passes (first_patterns m h.0) h.1.passed.0 which → ⊥
+    by PatternNumber past =
+        let within = slice_get_within m.patterns h.0 h.1.passed.0 h.1.passed.1 in
+        let long = length-take h.0 m.patterns in
+        let most = w.patterns in
+        omega (arith, past, within, long, most)
+    by PatternLength past = let short = w.lengths h.0 h.1.passed.0 h.1.passed.1 in omega (arith, past.1, short)
+    by StateNumber past =
+        let next = first-next m h.0 h.1.passed.0 h.1.passed.1 in
+        let some = past.2.1 in
+        let all = w.states.1 in
+        let fewer = no_longer some.0 all.0 some.1 (λ t c. (all.2 t).1 (first-prefix m (h.0 + 1) t (subst (λ (d : Dictionary). IsPrefix d t) next ((some.2 t).0 c)))) in
+        let most = w.states.2 in
+        omega (arith, fewer, some.3, all.3, most, past.2.2)

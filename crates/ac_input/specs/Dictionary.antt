@@ -12,6 +12,10 @@ pub record Dictionary : Type 0 where
   pub pairing : List ℕ
   pub kind : MatchKind
 
+-- what an automaton of these patterns is made from
+abbrev pub dictionary_of : List (List ℕ) → List ℕ → MatchKind → Dictionary
+dictionary_of patterns pairing kind = record { patterns = patterns; pairing = pairing; kind = kind }
+
 -- pattern number n is p
 abbrev pub IsPattern : Dictionary → ℕ → List ℕ → Type 0
 IsPattern m n p = slice_get m.patterns n ≡ Some p

@@ -9,7 +9,8 @@
 -- A state lists the patterns that are its text, and then what its failure lists. That list tells what the searches ask of a
 -- state, for every text by which the state is reached. Texts that are the same are alike in all this, so an automaton may keep
 -- the canonical bytes of each. The lemmas are in FailureLemmas, AlikeLemmas, TellsLemmas, ShadowLemmas and SomeLemmas.
-use Rattle.std.specs.Prelude.{◌↔◌, ℕ, ◌<◌, ◌≤◌, List, [], ◌∷◌, ◌++◌, drop, Contains, IsTrue, false, Option, Some, None}
+use Rattle.std.specs.Prelude.{◌↔◌, ℕ, ◌<◌, ◌≤◌, List, [], ◌∷◌, ◌++◌, length, drop, Contains, IsTrue, false, Option, Some, None}
+use Rattle.ac_input.specs.Pairing.{IsDistinct}
 use Rattle.ac_input.specs.Same.{same_text}
 use Rattle.ac_input.specs.Dictionary.{Dictionary, IsEntered, IsAlive}
 
@@ -40,3 +41,13 @@ AreOwn m text ns = AreRising ns × ((n : ℕ) → Contains ns n ↔ IsOwn m text
 pub data IsList (m : Dictionary) : List ℕ → List ℕ → Type 0 where
   OwnAlone : (text own : List ℕ) → AreOwn m text own → IsFailure m text None → IsList m text own
   OwnThen : (text own rest : List ℕ) (from : ℕ) → AreOwn m text own → IsFailure m text (Some from) → IsList m (drop from text) rest → IsList m text (own ++ rest)
+
+-- each number is that of a pattern, and none stands twice; so there are no more of them than patterns
+pub record AreOnce (m : Dictionary) (ns : List ℕ) : Type 0 where
+  pub known : (n : ℕ) → Contains ns n → n < length m.patterns
+  pub once : IsDistinct ns
+  pub few : length ns ≤ length m.patterns
+
+-- the list of any text has each pattern once
+abbrev pub ListsAreOnce : Type 0
+ListsAreOnce = (m : Dictionary) (text ns : List ℕ) → IsList m text ns → AreOnce m ns

@@ -23,3 +23,5 @@ pub mod Steps
 pub mod Input
 pub mod Alphabet
 pub mod Work
+pub mod Classes
+pub mod Dfa

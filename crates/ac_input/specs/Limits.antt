@@ -65,3 +65,7 @@ StatesAreOneNumber = (m : Dictionary) (a b : ℕ) → HasStates m a → HasState
 -- a pattern with which no limit is passed passes none
 abbrev pub WithinPassesNone : Type 0
 WithinPassesNone = (m : Dictionary) (p : List ℕ) (limit : Limit) → IsWithinLimits (with_pattern m p) → ¬ Passes m p limit
+
+-- a dictionary that is within the limits passes none
+abbrev pub WithinHasNoLimit : Type 0
+WithinHasNoLimit = (m : Dictionary) (limit : Limit) → IsWithinLimits m → ¬ IsLimitOf m limit

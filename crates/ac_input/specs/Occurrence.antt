@@ -26,3 +26,7 @@ pub record Occurs (s : Search) (o : Occurrence) : Type 0 where
 -- the same search from another place on
 abbrev pub starting_at : Search → ℕ → Search
 starting_at s at = record s { start = at }
+
+-- an occurrence of the search that starts at a place
+abbrev pub StartsAt : Search → ℕ → Occurrence → Type 0
+StartsAt s at o = Occurs s o × (o.start ≡ at)

@@ -4,10 +4,10 @@
 -- there is a longer state for that byte, it leads there; else the failure is asked, which is a shorter state, and so on. So an
 -- automaton keeps for each state its longer ones, its failure, and its list of patterns; and failures are found from the shorter
 -- states to the longer ones, by the same steps. The lemmas are in LeadsLemmas; an implementation needs no others for its steps.
-use Rattle.std.specs.Prelude.{◌≡◌, ℕ, ◌+◌, ◌≤◌, map, Bool, List, length, drop, Option, Some, None}
-use Rattle.ac_input.specs.Dictionary.{Dictionary, IsLive}
+use Rattle.std.specs.Prelude.{◌≡◌, ℕ, ◌+◌, ◌<◌, ◌≤◌, map, Bool, List, length, drop, Option, Some, None}
+use Rattle.ac_input.specs.Dictionary.{Dictionary, IsEntered, Begins, IsLive}
 use Rattle.ac_input.specs.LiveLaws.{canonical}
-use Rattle.ac_input.specs.Failure.{IsFailure}
+use Rattle.ac_input.specs.Failure.{IsLeastPlace, IsFailure}
 
 -- A text leads from the start of either anchoring to a state: the one that stands for the canonical bytes of its live prefix, or
 -- the dead one.
@@ -22,5 +22,13 @@ FailsTo m text (Some state) = (from : ℕ) × IsFailure m text (Some from) × (s
 
 -- A lookup began at a state of so many bytes, stands at this one now, and has looked at so many states, this one included: at
 -- most one more than the bytes that it gave up on the way.
-abbrev pub IsPaid : ℕ → List ℕ → ℕ → Type 0
-IsPaid bytes state looks = looks + length state ≤ bytes + 1
+abbrev pub IsLookupPaid : ℕ → List ℕ → ℕ → Type 0
+IsLookupPaid bytes state looks = looks + length state ≤ bytes + 1
+
+-- this is the first of the entered patterns that begin with the text
+abbrev pub IsFirstBegun : Dictionary → List ℕ → ℕ → Type 0
+IsFirstBegun m text n = IsLeastPlace (λ k. (p : List ℕ) × IsEntered m k p × Begins m.pairing text p) (Some n)
+
+-- of two texts the first pattern that begins with the one comes before the first that begins with the other
+abbrev pub BeginsBefore : Dictionary → List ℕ → List ℕ → Type 0
+BeginsBefore m s t = (a b : ℕ) → IsFirstBegun m s a → IsFirstBegun m t b → a < b

@@ -10,9 +10,13 @@ use Rattle.ac_input.specs.Best.{IsBest}
 use Rattle.ac_input.specs.Listing.{ListsAll}
 use Rattle.ac_input.specs.Dictionary.{Dictionary, IsEntered, whole}
 
+-- the match of a pattern that ends at a place
+abbrev pub ending_at : Dictionary → ℕ → ℕ → Occurrence
+ending_at m at n = record { pattern = n; start = at - length (get_or m.patterns n []); end = at }
+
 -- a pattern at the end of a text
 abbrev pub ending : Dictionary → List ℕ → ℕ → Occurrence
-ending m text n = record { pattern = n; start = length text - length (get_or m.patterns n []); end = length text }
+ending m text n = ending_at m (length text) n
 
 -- all but the last byte
 abbrev pub before_last : List ℕ → List ℕ

@@ -41,7 +41,7 @@ pub fn walk_is_apart()
     ensures { WalkIsApart }
 {}
 
-/// No pick of a walk begins before the place from which the walk was asked, and none ends behind the span.
+/// No pick of a walk begins before the place from which the walk was asked, and none ends after the span.
 pub fn walk_lies_within()
     ensures { WalkLiesWithin }
 {}

@@ -3,8 +3,9 @@
 //!
 //! The definitions are in `specs/`. They name no trie, hash or buffer: an occurrence is a pattern that lies in a span of the
 //! haystack, the best one is the least in the order of the kind, a walk takes the best from where it stands. The laws about
-//! them that a user cites are the contracts of the functions of [`laws`], [`beginning_laws`], [`live_laws`] and [`limit_laws`];
-//! what an automaton needs besides stands in the lemmas of `proofs/`, which any proof of the crates above may import.
+//! them that a user cites are the contracts of the functions of [`laws`], [`beginning_laws`], [`live_laws`], [`state_laws`] and
+//! [`limit_laws`]; what an automaton needs besides stands in the lemmas of `proofs/`, which any proof of the crates above may
+//! import.
 #![tactic(auto)]
 
 pub mod alphabet;
@@ -16,4 +17,5 @@ pub mod live_laws;
 pub mod pairing;
 pub mod primitives;
 pub mod search;
+pub mod state_laws;
 pub mod steps;

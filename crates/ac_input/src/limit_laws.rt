@@ -5,7 +5,9 @@
 //!
 //! None of these functions does anything: each states one law as its contract, and a caller who needs one calls it, at no
 //! cost.
-ghost use Rattle.ac_input.specs.Limits.{StatesAreOneNumber, WithinPassesNone};
+ghost use Rattle.ac_input.specs.Classes.{AlphabetsAreOneNumber};
+ghost use Rattle.ac_input.specs.Dfa.{DfaSizesAreOneNumber};
+ghost use Rattle.ac_input.specs.Limits.{StatesAreOneNumber, WithinPassesNone, WithinHasNoLimit};
 
 /// The patterns, the pairing and the kind say how many states an automaton has.
 pub fn states_are_one_number()
@@ -15,4 +17,19 @@ pub fn states_are_one_number()
 /// A pattern doesn't pass a limit if the dictionary with it is within them.
 pub fn within_passes_none()
     ensures { WithinPassesNone }
+{}
+
+/// A dictionary that is within the limits passes none of them.
+pub fn within_has_no_limit()
+    ensures { WithinHasNoLimit }
+{}
+
+/// The patterns, the pairing and the kind say how many classes of bytes there are.
+pub fn alphabets_are_one_number()
+    ensures { AlphabetsAreOneNumber }
+{}
+
+/// And how large a deterministic automaton is.
+pub fn dfa_sizes_are_one_number()
+    ensures { DfaSizesAreOneNumber }
 {}

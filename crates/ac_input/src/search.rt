@@ -217,7 +217,7 @@ impl Match {
         self.span.start
     }
 
-    /// The place behind the last byte.
+    /// The place after the last byte.
     pub fn end(&self) -> usize
         ensures value { result ≡ self.now.end }
         ensures ordered { self.now.start ≤ result }

@@ -4,14 +4,14 @@ use Rattle.std.specs.Prelude.{slice_range, is_some}
 use Rattle.std.specs.Cmp.{nat_cmp_is}
 use Rattle.std.proofs.lemmas.Bool.{cases_lt}
 use Rattle.std.proofs.lemmas.List.{take_more, get_or-drop}
-use Rattle.ac_input.specs.Occurrence.{Search, Occurrence, Occurs}
+use Rattle.ac_input.specs.Occurrence.{Search, Occurrence, Occurs, StartsAt}
 use Rattle.ac_input.specs.Best.{preference, IsLeast, IsBest}
 use Rattle.ac_input.proofs.OrderLemmas.{less-not_greater, slice_range-length}
 use Rattle.ac_literal.specs.declared.packed.api.MatchKind.{MatchKind}
 use Rattle.ac_literal.specs.declared.packed.api.MatchKind.TheVariants.{LeftmostFirst, LeftmostLongest}
 use Rattle.ac_literal.specs.declared.packed.rabinkarp.RabinKarp.{RabinKarp}
-use Rattle.ac_literal.specs.Packed.{search_kind, searched}
-use Rattle.ac_literal.specs.RabinKarp.{hash_of, IsTable, StartsAt, NoneBefore, IsFoundBefore}
+use Rattle.ac_literal.specs.Packed.{search_kind, part_search}
+use Rattle.ac_literal.specs.RabinKarp.{hash_of, IsTable, NoneBefore, IsFoundBefore}
 use Rattle.ac_literal.proofs.HashLemmas.{hash_of-roll}
 use Rattle.ac_literal.proofs.TextLemmas.{starts-lying}
 
@@ -40,7 +40,7 @@ starts-later kind s at None none from least o h = elim (cases_lt at o.start) [
 ]
 
 -- an occurrence is as long as the hashed bytes at least
-pub occurs-long : (patterns : List (List ℕ)) (table : RabinKarp) (haystack : List ℕ) (start end : ℕ) (o : Occurrence) → IsTable patterns table → end ≤ length haystack → Occurs (searched patterns haystack start end) o → o.start + table.hash_len ≤ o.end
+pub occurs-long : (patterns : List (List ℕ)) (table : RabinKarp) (haystack : List ℕ) (start end : ℕ) (o : Occurrence) → IsTable patterns table → end ≤ length haystack → Occurs (part_search patterns haystack start end) o → o.start + table.hash_len ≤ o.end
 occurs-long patterns table haystack start end o is fits h =
     let own = starts-lying patterns haystack start end o.start o fits (h, refl) in
     let short = is.short o.pattern own.0 in

@@ -6,7 +6,7 @@ use Rattle.ac_input.specs.Best.{IsBest}
 use Rattle.ac_input.specs.Walk.{IsPick, Here, Further}
 use Rattle.ac_input.specs.Computed.{pick_of, walk_after}
 use Rattle.ac_input.proofs.WalkLemmas.{pick_of-pick, walk_after-none, walk_after-some}
-use Rattle.ac_literal.specs.Packed.{searched, AreServed}
+use Rattle.ac_literal.specs.Packed.{part_search, AreServed}
 use Rattle.ac_literal.proofs.TextLemmas.{starts-lying}
 
 -- the best is the next pick where no pick came before
@@ -15,7 +15,7 @@ pick-best kind s at r h = Here h (λ n. n)
 
 module _ (kind : MatchKind) (patterns : List (List ℕ)) (haystack : List ℕ) (served : AreServed patterns) where
   abbrev s : Search
-  s = searched patterns haystack 0 (length haystack)
+  s = part_search patterns haystack 0 (length haystack)
 
   -- no occurrence is empty
   occurs-some : (start : ℕ) (o : Occurrence) → Occurs (starting_at s start) o → o.start < o.end

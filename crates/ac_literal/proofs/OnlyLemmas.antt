@@ -8,7 +8,7 @@ use Rattle.ac_input.specs.declared.search.Span.{Span}
 use Rattle.ac_input.specs.Occurrence.{Occurrence, Occurs}
 use Rattle.ac_input.specs.Best.{IsBest}
 use Rattle.ac_input.specs.Dictionary.{Dictionary}
-use Rattle.ac_literal.specs.Packed.{pattern_at, searched}
+use Rattle.ac_literal.specs.Packed.{pattern_at, part_search}
 use Rattle.ac_literal.specs.RabinKarp.{NoneBefore, IsFoundBefore}
 use Rattle.ac_literal.specs.Strategy.{IsMemmem}
 use Rattle.ac_literal.proofs.MemmemLemmas.{first_best, stands}
@@ -38,26 +38,26 @@ is-memmem needle full = record {
 
 module _ (needle haystack part : List ℕ) (span : Span) (ordered : span.start ≤ span.end) (inside : span.end ≤ length haystack) (is : part ≡ slice_range haystack span.start span.end) (full : 0 < length needle) where
   -- the first place of the needle is the best of every kind
-  pub needle-best : (offset : ℕ) (o : Occurrence) → FindsNeedle part needle 0 (Some offset) → record { pattern = 0; start = span.start + offset; end = span.start + offset + length needle } ≡ o → (kind : MatchKind) → IsBest kind (searched (needle ∷ []) haystack span.start span.end) (Some o)
-  needle-best offset o first there kind = subst (λ (q : Occurrence). IsBest kind (searched (needle ∷ []) haystack span.start span.end) (Some q)) there (first_best (alone needle) needle haystack span part ordered inside is (is-memmem needle full) offset first kind)
+  pub needle-best : (offset : ℕ) (o : Occurrence) → FindsNeedle part needle 0 (Some offset) → record { pattern = 0; start = span.start + offset; end = span.start + offset + length needle } ≡ o → (kind : MatchKind) → IsBest kind (part_search (needle ∷ []) haystack span.start span.end) (Some o)
+  needle-best offset o first there kind = subst (λ (q : Occurrence). IsBest kind (part_search (needle ∷ []) haystack span.start span.end) (Some q)) there (first_best (alone needle) needle haystack span part ordered inside is (is-memmem needle full) offset first kind)
 
   -- where it has none, nothing occurs
-  pub needle-none : FindsNeedle part needle 0 None → (kind : MatchKind) → IsBest kind (searched (needle ∷ []) haystack span.start span.end) None
+  pub needle-none : FindsNeedle part needle 0 None → (kind : MatchKind) → IsBest kind (part_search (needle ∷ []) haystack span.start span.end) None
   needle-none nowhere kind o h =
       let st = stands (alone needle) needle haystack span part ordered inside is (is-memmem needle full) o h in
       let fits = st.2.fits in
       nowhere (o.start - span.start) (omega arith) (omega arith) st.2
 
-module _ (patterns : List (List ℕ)) (haystack : List ℕ) (start at end : ℕ) (none : NoneBefore (searched patterns haystack start end) at) (after : start ≤ at) where
+module _ (patterns : List (List ℕ)) (haystack : List ℕ) (start at end : ℕ) (none : NoneBefore (part_search patterns haystack start end) at) (after : start ≤ at) where
   -- where nothing starts before a place, what occurs, occurs from there on
-  later : (o : Occurrence) → Occurs (searched patterns haystack start end) o → Occurs (searched patterns haystack at end) o
+  later : (o : Occurrence) → Occurs (part_search patterns haystack start end) o → Occurs (part_search patterns haystack at end) o
   later o h = record { within = (none o h, h.within.1, h.within.2); same = h.same; anchor = λ anchored. cc }
 
   -- and the other way round
-  sooner : (o : Occurrence) → Occurs (searched patterns haystack at end) o → Occurs (searched patterns haystack start end) o
+  sooner : (o : Occurrence) → Occurs (part_search patterns haystack at end) o → Occurs (part_search patterns haystack start end) o
   sooner o h = let w = h.within in record { within = (omega arith, h.within.1, h.within.2); same = h.same; anchor = λ anchored. cc }
 
   -- so the best from there on is found
-  pub found-from : (kind : MatchKind) (to : ℕ) (r : Option Occurrence) → IsBest kind (searched patterns haystack at end) r → IsFoundBefore kind (searched patterns haystack start end) to r
+  pub found-from : (kind : MatchKind) (to : ℕ) (r : Option Occurrence) → IsBest kind (part_search patterns haystack at end) r → IsFoundBefore kind (part_search patterns haystack start end) to r
   found-from kind to None best = λ o h. absurd (best o (later o h))
   found-from kind to (Some b) best = (sooner b best.0, λ o h. best.1 o (later o h))

@@ -14,7 +14,7 @@ use Rattle.ac_input.specs.Input.{search_of}
 use Rattle.ac_input.proofs.BestLemmas.{IsLeast-like}
 use Rattle.ac_literal.specs.declared.packed.api.MatchKind.{MatchKind as PackedKind}
 use Rattle.ac_literal.specs.declared.packed.api.MatchKind.TheVariants.{LeftmostFirst, LeftmostLongest}
-use Rattle.ac_literal.specs.Packed.{Packed, search_kind, searched}
+use Rattle.ac_literal.specs.Packed.{Packed, search_kind, part_search}
 use Rattle.ac_literal.specs.Strategy.{IsPacked, IsAnswer}
 use Rattle.ac_literal.proofs.CandidateLemmas.{no_byte-no_occurrence}
 
@@ -36,25 +36,25 @@ leftmost LeftmostLongest = λ e. cc
 
 module _ (m : Dictionary) (haystack : List ℕ) (span : Span) (unpaired : IsUnpaired m.pairing) where
   -- an occurrence byte for byte is one up to the pairing, and the other way round
-  occurs_too : (o : Occurrence) → Occurs (searched m.patterns haystack span.start span.end) o ↔ Occurs (search_of m No haystack span) o
+  occurs_too : (o : Occurrence) → Occurs (part_search m.patterns haystack span.start span.end) o ↔ Occurs (search_of m No haystack span) o
   occurs_too o = (
     λ h. record { within = h.within; same = (h.same.0, h.same.1, sym (same_text-alone m.pairing unpaired h.same.0 _) ∙ h.same.2); anchor = h.anchor },
     λ h. record { within = h.within; same = (h.same.0, h.same.1, same_text-alone m.pairing unpaired h.same.0 _ ∙ h.same.2); anchor = h.anchor },
   )
 
   -- so one best is the other
-  best_too : (kind : MatchKind) (r : Option Occurrence) → IsBest kind (searched m.patterns haystack span.start span.end) r → IsBest kind (search_of m No haystack span) r
-  best_too kind r h = IsLeast-like kind (Occurs (searched m.patterns haystack span.start span.end)) (Occurs (search_of m No haystack span)) occurs_too r h
+  best_too : (kind : MatchKind) (r : Option Occurrence) → IsBest kind (part_search m.patterns haystack span.start span.end) r → IsBest kind (search_of m No haystack span) r
+  best_too kind r h = IsLeast-like kind (Occurs (part_search m.patterns haystack span.start span.end)) (Occurs (search_of m No haystack span)) occurs_too r h
 
 module _ (m : Dictionary) (searcher : Packed) (haystack : List ℕ) (span : Span) (inside : span.end ≤ length haystack) (packed : IsPacked m searcher) where
   -- the best of the searcher is that of the dictionary
-  best_of_dictionary : (r : Option Occurrence) → IsBest (search_kind searcher.kind) (searched searcher.patterns haystack span.start span.end) r → IsBest m.kind (search_of m No haystack span) r
+  best_of_dictionary : (r : Option Occurrence) → IsBest (search_kind searcher.kind) (part_search searcher.patterns haystack span.start span.end) r → IsBest m.kind (search_of m No haystack span) r
   best_of_dictionary r h =
-      let of_kind : IsBest m.kind (searched searcher.patterns haystack span.start span.end) r = subst (λ (kind : MatchKind). IsBest kind (searched searcher.patterns haystack span.start span.end) r) packed.kind h in
-      best_too m haystack span packed.unpaired m.kind r (subst (λ (ps : List (List ℕ)). IsBest m.kind (searched ps haystack span.start span.end) r) packed.patterns of_kind)
+      let of_kind : IsBest m.kind (part_search searcher.patterns haystack span.start span.end) r = subst (λ (kind : MatchKind). IsBest kind (part_search searcher.patterns haystack span.start span.end) r) packed.kind h in
+      best_too m haystack span packed.unpaired m.kind r (subst (λ (ps : List (List ℕ)). IsBest m.kind (part_search ps haystack span.start span.end) r) packed.patterns of_kind)
 
   -- what is answered where there is a match
-  pub packed_found : (o : Occurrence) → IsBest (search_kind searcher.kind) (searched searcher.patterns haystack span.start span.end) (Some o) → IsAnswer m haystack span (candidates.Match o)
+  pub packed_found : (o : Occurrence) → IsBest (search_kind searcher.kind) (part_search searcher.patterns haystack span.start span.end) (Some o) → IsAnswer m haystack span (candidates.Match o)
   packed_found o h =
       let best = best_of_dictionary (Some o) h in
       record {
@@ -63,5 +63,5 @@ module _ (m : Dictionary) (searcher : Packed) (haystack : List ℕ) (span : Span
       }
 
   -- and where there is none
-  pub packed_none : IsBest (search_kind searcher.kind) (searched searcher.patterns haystack span.start span.end) None → IsAnswer m haystack span candidates.None
+  pub packed_none : IsBest (search_kind searcher.kind) (part_search searcher.patterns haystack span.start span.end) None → IsAnswer m haystack span candidates.None
   packed_none h = record { candidate = best_of_dictionary None h; none = λ _. refl }

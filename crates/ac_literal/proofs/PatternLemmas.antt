@@ -4,26 +4,27 @@ use Rattle.std.specs.Prelude.{IsSome, IfSome}
 use Rattle.std.proofs.lemmas.Bool.{or_cases, or_parts, eqb-true, eq-eqb, cases_lt, false≢true}
 use Rattle.std.proofs.lemmas.List.{append-nil, get_or_append_left}
 use Rattle.std.proofs.Math.Seq.{get_or-append_seam}
+use Rattle.ac_input.specs.Work.{shortest}
 use Rattle.ac_literal.specs.declared.packed.api.MatchKind.{MatchKind}
-use Rattle.ac_literal.specs.Packed.{Building, Packed, fresh, added, added_all, is_too_much, built, least_len, AreTaken, AreServed}
+use Rattle.ac_literal.specs.Packed.{Building, Packed, fresh, added, added_all, is_too_much, built, AreTaken, AreServed}
 
 -- the shortest of some patterns and one more
-pub least_len-push : (patterns : List (List ℕ)) (pattern : List ℕ) → least_len (patterns ++ pattern ∷ []) ≡ min (least_len patterns) (length pattern)
-least_len-push [] pattern = omega arith
-least_len-push (p ∷ patterns) pattern = let e = least_len-push patterns pattern in omega arith
+pub shortest-push : (patterns : List (List ℕ)) (pattern : List ℕ) → shortest (patterns ++ pattern ∷ []) ≡ min (shortest patterns) (length pattern)
+shortest-push [] pattern = omega arith
+shortest-push (p ∷ patterns) pattern = let e = shortest-push patterns pattern in omega arith
 
 -- no pattern is shorter than the shortest
-pub least_len-least : (patterns : List (List ℕ)) (number : ℕ) → number < length patterns → least_len patterns ≤ length (get_or patterns number [])
-least_len-least [] number h = omega arith
-least_len-least (p ∷ patterns) zero h = omega arith
-least_len-least (p ∷ patterns) (suc number) h = let e = least_len-least patterns number (omega arith) in omega arith
+pub shortest-least : (patterns : List (List ℕ)) (number : ℕ) → number < length patterns → shortest patterns ≤ length (get_or patterns number [])
+shortest-least [] number h = omega arith
+shortest-least (p ∷ patterns) zero h = omega arith
+shortest-least (p ∷ patterns) (suc number) h = let e = shortest-least patterns number (omega arith) in omega arith
 
 -- the shortest of patterns that aren't empty isn't empty
-pub least_len-full : (patterns : List (List ℕ)) → ((number : ℕ) → number < length patterns → 0 < length (get_or patterns number [])) → 0 < least_len patterns
-least_len-full [] h = omega arith
-least_len-full (p ∷ patterns) h =
+pub shortest-full : (patterns : List (List ℕ)) → ((number : ℕ) → number < length patterns → 0 < length (get_or patterns number [])) → 0 < shortest patterns
+shortest-full [] h = omega arith
+shortest-full (p ∷ patterns) h =
     let first : 0 < length p = h 0 (omega arith) in
-    let rest = least_len-full patterns (λ number l. h (suc number) (omega arith)) in
+    let rest = shortest-full patterns (λ number l. h (suc number) (omega arith)) in
     omega arith
 
 -- patterns added in their order, and then one more

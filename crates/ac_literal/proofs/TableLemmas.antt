@@ -4,20 +4,20 @@ use Rattle.std.specs.Prelude.{slice_range, is_some}
 use Rattle.std.proofs.lemmas.Bool.{cases_lt, cases_eq, false≢true}
 use Rattle.std.proofs.lemmas.List.{take-take, get_or_append_left, get_or-set_same, get_or-set_other, get_or-replicate}
 use Rattle.std.proofs.Math.Seq.{get_or-append_seam}
-use Rattle.ac_input.specs.Occurrence.{Occurrence, Occurs}
+use Rattle.ac_input.specs.Occurrence.{Occurrence, Occurs, StartsAt}
 use Rattle.ac_input.specs.Best.{IsLeast}
 use Rattle.ac_input.proofs.OrderLemmas.{preference-itself}
 use Rattle.ac_literal.specs.declared.packed.rabinkarp.Entry.{Entry}
 use Rattle.ac_literal.specs.declared.packed.rabinkarp.RabinKarp.{RabinKarp}
-use Rattle.ac_literal.specs.Packed.{search_kind, pattern_at, searched}
-use Rattle.ac_literal.specs.RabinKarp.{hash_of, bucket_of, lying, entry_at, IsLink, AreEntries, IsTable, IsSameTable, StartsAt}
+use Rattle.ac_literal.specs.Packed.{search_kind, pattern_at, part_search}
+use Rattle.ac_literal.specs.RabinKarp.{hash_of, bucket_of, lying, entry_at, IsLink, AreEntries, IsTable, IsSameTable}
 use Rattle.ac_literal.proofs.TextLemmas.{lies-bytes, starts-lying}
 
 -- the search of a bucket at a place: a link that is still to be followed, and none of the entries behind it lies there
 pub record IsOpen (patterns : List (List ℕ)) (haystack : List ℕ) (start end at : ℕ) (entries : List Entry) (bucket link : ℕ) : Type 0 where
   pub within : link ≤ length entries
   pub here : 0 < link → bucket_of (entry_at entries (link - 1)).hash ≡ bucket
-  pub none : (i : ℕ) → link ≤ i → i < length entries → Occurs (searched patterns haystack start end) (lying patterns at (entry_at entries i).pattern) → ⊥
+  pub none : (i : ℕ) → link ≤ i → i < length entries → Occurs (part_search patterns haystack start end) (lying patterns at (entry_at entries i).pattern) → ⊥
 
 module _ (patterns : List (List ℕ)) (haystack : List ℕ) (start end at hash : ℕ) (table : RabinKarp) (is : IsTable patterns table)
     (is_hash : hash ≡ hash_of (slice_range haystack at (at + table.hash_len))) where
@@ -25,7 +25,7 @@ module _ (patterns : List (List ℕ)) (haystack : List ℕ) (start end at hash :
   entries = table.entries.items
 
   abbrev Lies : ℕ → Type 0
-  Lies number = Occurs (searched patterns haystack start end) (lying patterns at number)
+  Lies number = Occurs (part_search patterns haystack start end) (lying patterns at number)
 
   -- a pattern that lies at the place has the hash of the place
   hash-lying : (number : ℕ) → number < length patterns → Lies number → hash_of (take table.hash_len (pattern_at patterns number)) ≡ hash
@@ -75,7 +75,7 @@ module _ (patterns : List (List ℕ)) (haystack : List ℕ) (start end at hash :
 
   -- where one lies there, it is the one that the kind prefers
   pub search-found : (link : ℕ) → end ≤ length haystack → IsOpen patterns haystack start end at entries (bucket_of hash) link → 0 < link → Lies (entry_at entries (link - 1)).pattern
-      → IsLeast (search_kind table.kind) (StartsAt (searched patterns haystack start end) at) (Some (lying patterns at (entry_at entries (link - 1)).pattern))
+      → IsLeast (search_kind table.kind) (StartsAt (part_search patterns haystack start end) at) (Some (lying patterns at (entry_at entries (link - 1)).pattern))
   search-found link fits so_far pos h = (
     (h, refl),
     λ o starts.
@@ -89,20 +89,20 @@ module _ (patterns : List (List ℕ)) (haystack : List ℕ) (start end at hash :
           | inl before ↦ rw (mine, ← there.2) (is.ordered.sorted i (link - 1) before (omega (arith, so_far.within, is.count)) at)
           | inr behind ↦ elim (cases_eq i (link - 1)) [
             | inl same ↦ rw (ap (λ (k : ℕ). (entry_at entries k).pattern) (sym same) ∙ pattern) (preference-itself (search_kind table.kind) (lying patterns at o.pattern))
-            | inr other ↦ absurd (so_far.none i (omega arith) inside (subst Lies (sym pattern) (subst (Occurs (searched patterns haystack start end)) own.1 starts.0)))
+            | inr other ↦ absurd (so_far.none i (omega arith) inside (subst Lies (sym pattern) (subst (Occurs (part_search patterns haystack start end)) own.1 starts.0)))
           ]
         ]),
   )
 
   -- at the end of the bucket nothing starts there
   pub search-none : end ≤ length haystack → IsOpen patterns haystack start end at entries (bucket_of hash) 0
-      → IsLeast (search_kind table.kind) (StartsAt (searched patterns haystack start end) at) None
+      → IsLeast (search_kind table.kind) (StartsAt (part_search patterns haystack start end) at) None
   search-none fits so_far = λ o starts.
       let own = starts-lying patterns haystack start end at o fits starts in
       let there = is.ordered.all o.pattern own.0 in
       let inside : there.0 < length entries = omega (arith, there.1, is.count) in
       let pattern = is.entries.pattern there.0 inside ∙ there.2 in
-      so_far.none there.0 (omega arith) inside (subst Lies (sym pattern) (subst (Occurs (searched patterns haystack start end)) own.1 starts.0))
+      so_far.none there.0 (omega arith) inside (subst Lies (sym pattern) (subst (Occurs (part_search patterns haystack start end)) own.1 starts.0))
 
 -- what is found is the match of an entry
 pub when_found : (P : Option Occurrence → Type 0) (absent : Type 0) (it : Occurrence) {occurs : Type 0} (r : Option Occurrence) → is_some r ≡ true → MatchOption r absent (λ found. (found ≡ it) × occurs) → (occurs → P (Some it)) → P r

@@ -7,7 +7,7 @@ use Rattle.std.proofs.lemmas.Simd.{get_or-chunk}
 use Rattle.ac_input.specs.Occurrence.{Search, Occurrence, Occurs}
 use Rattle.ac_literal.specs.declared.packed.teddy.Probe.{Probe}
 use Rattle.ac_literal.specs.declared.packed.teddy.Teddy.{Teddy}
-use Rattle.ac_literal.specs.Packed.{pattern_at, searched}
+use Rattle.ac_literal.specs.Packed.{pattern_at, part_search}
 use Rattle.ac_literal.specs.RabinKarp.{NoneBefore}
 use Rattle.ac_literal.specs.Teddy.{HasBucket, KeepsBuckets, LooksBefore, HasPattern, KeepsPatterns, HasPatterns, IsTeddy, HasMarks, low_at, marked_at}
 use Rattle.ac_literal.proofs.BucketLemmas.{both-have, left-has, has-some}
@@ -71,12 +71,12 @@ all-leave false false a b c d e f g h bucket p q r s = has-some _ bucket (four-h
 module _ (patterns : List (List ℕ)) (len : ℕ) (t : Teddy) (is : IsTeddy patterns len t) (short : (number : ℕ) → number < length patterns → len ≤ length (pattern_at patterns number))
     (haystack : List ℕ) (start end : ℕ) (fits : end ≤ length haystack) where
   -- the place of an occurrence is marked
-  pub occurs-marked : (o : Occurrence) → Occurs (searched patterns haystack start end) o → marked_at t haystack o.start ≢ 0
+  pub occurs-marked : (o : Occurrence) → Occurs (part_search patterns haystack start end) o → marked_at t haystack o.start ≢ 0
   occurs-marked o h =
       let own = starts-lying patterns haystack start end o.start o fits (h, refl) in
       let pattern = pattern_at patterns o.pattern in
       let n = length pattern in
-      let there = lies-bytes patterns haystack start end o.start o.pattern (subst (Occurs (searched patterns haystack start end)) own.1 h) in
+      let there = lies-bytes patterns haystack start end o.start o.pattern (subst (Occurs (part_search patterns haystack start end)) own.1 h) in
       let rest : o.start + n - o.start ≡ n = omega arith in
       let text : take n (drop o.start haystack) ≡ pattern = ap (λ (k : ℕ). take k (drop o.start haystack)) (sym rest) ∙ there.1 in
       let long = short o.pattern own.0 in
@@ -88,14 +88,14 @@ module _ (patterns : List (List ℕ)) (len : ℕ) (t : Teddy) (is : IsTeddy patt
       (left t.first is.near.first has.1.first) (left t.second is.near.second has.1.second) (left t.third is.near.third has.1.third) (left t.fourth is.near.fourth has.1.fourth)
 
   -- what passes no mark passes no occurrence
-  pub none-passed : (from block : ℕ) → NoneBefore (searched patterns haystack start end) from → ((place : ℕ) → from ≤ place → place < block → marked_at t haystack place ≡ 0) → NoneBefore (searched patterns haystack start end) block
+  pub none-passed : (from block : ℕ) → NoneBefore (part_search patterns haystack start end) from → ((place : ℕ) → from ≤ place → place < block → marked_at t haystack place ≡ 0) → NoneBefore (part_search patterns haystack start end) block
   none-passed from block none passed o h = elim (cases_lt o.start block) [
     | inl early ↦ absurd (occurs-marked o h (passed o.start (none o h) early))
     | inr late ↦ late
   ]
 
   -- the marks of a block are those of what starts in it
-  pub has-marks : (block marks : ℕ) → NoneBefore (searched patterns haystack start end) block → ((k : ℕ) → k < 32 → marked_at t haystack (block + k) ≢ 0 → bit_at marks k ≡ 1) → HasMarks (searched patterns haystack start end) block marks
+  pub has-marks : (block marks : ℕ) → NoneBefore (part_search patterns haystack start end) block → ((k : ℕ) → k < 32 → marked_at t haystack (block + k) ≢ 0 → bit_at marks k ≡ 1) → HasMarks (part_search patterns haystack start end) block marks
   has-marks block marks none set o h within =
       let late = none o h in
       let place : o.start ≡ block + (o.start - block) = omega arith in

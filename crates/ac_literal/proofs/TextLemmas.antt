@@ -4,10 +4,10 @@ use Rattle.std.specs.Prelude.{slice_range}
 use Rattle.std.proofs.lemmas.Bool.{and_parts, and_from, eqb-true, eq-eqb, false≢true}
 use Rattle.std.proofs.lemmas.Option.{slice_get_within, slice_get-get_or, get_or_from_slice_get}
 use Rattle.ac_input.specs.Same.{same, same_text}
-use Rattle.ac_input.specs.Occurrence.{Occurrence, Occurs}
+use Rattle.ac_input.specs.Occurrence.{Occurrence, Occurs, StartsAt}
 use Rattle.ac_input.proofs.OrderLemmas.{occurs-end, occurrence_from_parts}
-use Rattle.ac_literal.specs.Packed.{pattern_at, searched}
-use Rattle.ac_literal.specs.RabinKarp.{lying, StartsAt}
+use Rattle.ac_literal.specs.Packed.{pattern_at, part_search}
+use Rattle.ac_literal.specs.RabinKarp.{lying}
 
 -- where no byte is paired, bytes that are the same are equal
 same-equal : (a b : ℕ) → same [] a b ≡ true → a ≡ b
@@ -35,7 +35,7 @@ same_text-itself (x ∷ xs) = and_from (same [] x x) (same_text [] xs xs) (same-
 
 module _ (patterns : List (List ℕ)) (haystack : List ℕ) (start end at number : ℕ) where
   -- a pattern whose bytes stand at a place lies there
-  pub lies : start ≤ at → number < length patterns → at + length (pattern_at patterns number) ≤ end → slice_range haystack at (at + length (pattern_at patterns number)) ≡ pattern_at patterns number → Occurs (searched patterns haystack start end) (lying patterns at number)
+  pub lies : start ≤ at → number < length patterns → at + length (pattern_at patterns number) ≤ end → slice_range haystack at (at + length (pattern_at patterns number)) ≡ pattern_at patterns number → Occurs (part_search patterns haystack start end) (lying patterns at number)
   lies from inside fits same = record {
     within = (from, omega arith, fits);
     same = (pattern_at patterns number, slice_get-get_or patterns number [] inside, subst (λ (t : List ℕ). IsTrue (same_text [] (pattern_at patterns number) t)) (sym same) (same_text-itself (pattern_at patterns number)));
@@ -43,15 +43,15 @@ module _ (patterns : List (List ℕ)) (haystack : List ℕ) (start end at number
   }
 
   -- and the other way round
-  pub lies-bytes : Occurs (searched patterns haystack start end) (lying patterns at number) → (at + length (pattern_at patterns number) ≤ end) × (slice_range haystack at (at + length (pattern_at patterns number)) ≡ pattern_at patterns number)
+  pub lies-bytes : Occurs (part_search patterns haystack start end) (lying patterns at number) → (at + length (pattern_at patterns number) ≤ end) × (slice_range haystack at (at + length (pattern_at patterns number)) ≡ pattern_at patterns number)
   lies-bytes h =
       let is : pattern_at patterns number ≡ h.same.0 = get_or_from_slice_get patterns number h.same.0 [] h.same.1 in
       (h.within.2, sym (same_text-equal h.same.0 (slice_range haystack at (at + length (pattern_at patterns number))) h.same.2) ∙ sym is)
 
 -- what starts at a place is a pattern that lies there
-pub starts-lying : (patterns : List (List ℕ)) (haystack : List ℕ) (start end at : ℕ) (o : Occurrence) → end ≤ length haystack → StartsAt (searched patterns haystack start end) at o → (o.pattern < length patterns) × (o ≡ lying patterns at o.pattern)
+pub starts-lying : (patterns : List (List ℕ)) (haystack : List ℕ) (start end at : ℕ) (o : Occurrence) → end ≤ length haystack → StartsAt (part_search patterns haystack start end) at o → (o.pattern < length patterns) × (o ≡ lying patterns at o.pattern)
 starts-lying patterns haystack start end at o inside h =
-    let e = occurs-end (searched patterns haystack start end) o inside h.0 in
+    let e = occurs-end (part_search patterns haystack start end) o inside h.0 in
     let is : pattern_at patterns o.pattern ≡ e.0 = get_or_from_slice_get patterns o.pattern e.0 [] e.1 in
     let long = ap length is in
     (slice_get_within patterns o.pattern e.0 e.1, occurrence_from_parts o (lying patterns at o.pattern) refl h.1 (omega arith))

@@ -44,11 +44,6 @@ added_all b (pattern ∷ patterns) = added_all (added b pattern) patterns
 abbrev pub HasBeginning : Building → List (List ℕ) → Building → Type 0
 HasBeginning old patterns new = (count : ℕ) × (count < length patterns) × (new ≡ added_all old (take count patterns))
 
--- the length of the shortest pattern; the greatest `usize` where there is none
-abbrev pub least_len : List (List ℕ) → ℕ
-least_len [] = 18446744073709551615
-least_len (pattern ∷ patterns) = min (length pattern) (least_len patterns)
-
 -- the text of the pattern of a number
 abbrev pub pattern_at : List (List ℕ) → ℕ → List ℕ
 pattern_at patterns number = get_or patterns number []
@@ -79,16 +74,16 @@ built kind [] = None
 built kind (pattern ∷ patterns) = Some (record { kind = kind; patterns = pattern ∷ patterns })
 
 -- the search of a part of a haystack for patterns, byte for byte
-abbrev pub searched : List (List ℕ) → List ℕ → ℕ → ℕ → Search
-searched patterns haystack start end = record { patterns = patterns; pairing = []; haystack = haystack; start = start; end = end; anchored = false }
+abbrev pub part_search : List (List ℕ) → List ℕ → ℕ → ℕ → Search
+part_search patterns haystack start end = record { patterns = patterns; pairing = []; haystack = haystack; start = start; end = end; anchored = false }
 
 -- the same of a span
 abbrev pub in_span : List (List ℕ) → List ℕ → Span → Search
-in_span patterns haystack span = searched patterns haystack span.start span.end
+in_span patterns haystack span = part_search patterns haystack span.start span.end
 
 -- the search of a whole haystack
 abbrev pub in_whole : List (List ℕ) → List ℕ → Search
-in_whole patterns haystack = searched patterns haystack 0 (length haystack)
+in_whole patterns haystack = part_search patterns haystack 0 (length haystack)
 
 -- the bytes of patterns that are lent
 abbrev pub bytes_of : List (Bor (List ℕ)) → List (List ℕ)
@@ -107,8 +102,8 @@ abbrev pub IsBestOf : Packed → List ℕ → Option Occurrence → Type 0
 IsBestOf packed haystack found = IsBest (search_kind packed.kind) (in_whole packed.patterns haystack) found
 
 -- the matches of a packed search that don't overlap, from a place on, and all of them
-abbrev pub matches_from : Packed → List ℕ → ℕ → List Occurrence
-matches_from packed haystack at = walk_after (search_kind packed.kind) (in_whole packed.patterns haystack) at None
+abbrev pub matches_left : Packed → List ℕ → ℕ → List Occurrence
+matches_left packed haystack at = walk_after (search_kind packed.kind) (in_whole packed.patterns haystack) at None
 
 abbrev pub matches_of : Packed → List ℕ → List Occurrence
 matches_of packed haystack = walk_of (search_kind packed.kind) (in_whole packed.patterns haystack)

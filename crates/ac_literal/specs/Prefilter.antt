@@ -95,5 +95,5 @@ IsWayOf m [] = MemmemServes m ⊎ PackedServes m
 IsWayOf m (byte ∷ bytes) = AreStartBytes m (byte ∷ bytes) ⊎ AreRareBytes m (byte ∷ bytes)
 
 -- the way of a prefilter that is built
-abbrev pub IsWay : Filter → Type 0
-IsWay f = IsWayOf f.dictionary f.needles
+abbrev pub IsStrategyFor : Filter → Type 0
+IsStrategyFor f = IsWayOf f.dictionary f.needles

@@ -1,7 +1,7 @@
 -- The rolling hash of a packed search, and its table.
 use Rattle.std.specs.Prelude.{◌≡◌, ◌≢◌, ℕ, ◌+◌, ◌-◌, ◌*◌, ◌%◌, ◌^◌, ◌<◌, ◌≤◌, List, [], ◌∷◌, length, take, get_or, Option, Some, None}
 use Rattle.std.specs.declared.cmp.Ordering.TheVariants.{Greater}
-use Rattle.ac_input.specs.Occurrence.{Search, Occurrence, Occurs}
+use Rattle.ac_input.specs.Occurrence.{Search, Occurrence, Occurs, StartsAt}
 use Rattle.ac_input.specs.Best.{preference, IsLeast, IsBest}
 use Rattle.ac_input.specs.declared.search.Span.{Span}
 use Rattle.ac_input.specs.declared.search.MatchKind as search
@@ -70,10 +70,6 @@ pub record IsTable (patterns : List (List ℕ)) (table : RabinKarp) : Type 0 whe
   pub ordered : IsOrder table.kind patterns (length patterns) order
   pub count : length table.entries.items ≡ length patterns
   pub entries : AreEntries patterns table.hash_len order table.heads table.entries.items
-
--- an occurrence of a search that starts at a place
-abbrev pub StartsAt : Search → ℕ → Occurrence → Type 0
-StartsAt s at o = Occurs s o × (o.start ≡ at)
 
 -- nothing of a search starts before a place
 abbrev pub NoneBefore : Search → ℕ → Type 0

@@ -10,15 +10,15 @@ use Rattle.ac_literal.specs.RabinKarp.{IsTable, IsSameTable, IsMatchBefore}
 use Rattle.ac_literal.specs.Teddy.{IsTeddy}
 
 -- a needle, where there is one, is the only pattern
-abbrev pub IsOnly : List (List ℕ) → Option (List ℕ) → Type 0
-IsOnly patterns None = Unit {0}
-IsOnly patterns (Some needle) = patterns ≡ needle ∷ []
+abbrev pub IsOnlyPattern : List (List ℕ) → Option (List ℕ) → Type 0
+IsOnlyPattern patterns None = Unit {0}
+IsOnlyPattern patterns (Some needle) = patterns ≡ needle ∷ []
 
 -- all are those of some patterns, which the marks tell by the bytes that are hashed
 pub record IsScanner (patterns : List (List ℕ)) (scanner : Scanner) : Type 0 where
   pub table : IsTable patterns scanner.table
   pub teddy : IsTeddy patterns scanner.table.hash_len scanner.teddy
-  pub only : IsOnly patterns scanner.only
+  pub only : IsOnlyPattern patterns scanner.only
 
 -- a scanner of some patterns, for the kind
 pub record IsScannerOf (asked : MatchKind) (patterns : List (List ℕ)) (made : Scanner) : Type 0 where
@@ -26,11 +26,11 @@ pub record IsScannerOf (asked : MatchKind) (patterns : List (List ℕ)) (made : 
   pub kind : made.table.kind ≡ asked
 
 -- the best match of a scanner's kind in a span, and where there is no answer, that nothing starts before a place
-abbrev pub IsScanned : Scanner → List (List ℕ) → List ℕ → Span → Option Occurrence → Type 0
-IsScanned scanner patterns haystack span found = IsBest (search_kind scanner.table.kind) (in_span patterns haystack span) found
+abbrev pub IsScannerAnswer : Scanner → List (List ℕ) → List ℕ → Span → Option Occurrence → Type 0
+IsScannerAnswer scanner patterns haystack span found = IsBest (search_kind scanner.table.kind) (in_span patterns haystack span) found
 
-abbrev pub IsScannedTo : Scanner → List (List ℕ) → List ℕ → Span → ℕ → Option Occurrence → Type 0
-IsScannedTo scanner patterns haystack span to found = IsMatchBefore scanner.table.kind patterns haystack span to found
+abbrev pub IsScannerAnswerTo : Scanner → List (List ℕ) → List ℕ → Span → ℕ → Option Occurrence → Type 0
+IsScannerAnswerTo scanner patterns haystack span to found = IsMatchBefore scanner.table.kind patterns haystack span to found
 
 -- the same in other memory
 pub record IsSameScanner (scanner copy : Scanner) : Type 0 where

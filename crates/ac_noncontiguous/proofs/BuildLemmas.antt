@@ -5,11 +5,12 @@ use Rattle.std.proofs.lemmas.Option.{slice_get_within, get_or_from_slice_get, sl
 use Rattle.std.specs.Borrow.{Bor}
 use Rattle.std.specs.Option.{option_map}
 use Rattle.ac_input.specs.declared.search.MatchKind.{MatchKind}
-use Rattle.ac_input.specs.Dictionary.{Dictionary, IsPattern}
+use Rattle.ac_input.specs.Dictionary.{Dictionary, dictionary_of, IsPattern}
 use Rattle.ac_input.specs.Limits.{first_patterns, without_patterns, with_pattern, IsWithinLimits, IsLimitAt, PatternLength}
+use Rattle.ac_literal.specs.Packed.{bytes_of}
 use Rattle.ac_noncontiguous.specs.declared.error.BuildErrorKind.{BuildErrorKind}
 use Rattle.ac_noncontiguous.specs.declared.error.BuildErrorKind.TheVariants.{StateIDOverflow, PatternIDOverflow, PatternTooLong, Memory}
-use Rattle.ac_noncontiguous.specs.Standing.{IsPatternRefused, IsBuildRefused, dictionary_of}
+use Rattle.ac_noncontiguous.specs.Standing.{IsPatternRefused, IsBuildRefused}
 
 -- no pattern, one more, and all of them
 pub first-none : (m : Dictionary) → first_patterns m 0 ≡ without_patterns m.kind m.pairing
@@ -39,7 +40,7 @@ refused-at m n p (PatternTooLong number len) is before r =
 refused-at m n p Memory is before r = tt
 
 -- the pattern at a place of those that were given
-pub pattern-at : (patterns : List (Bor (List ℕ))) (pairing : List ℕ) (kind : MatchKind) (i : ℕ) (d : Bor (List ℕ)) → i < length patterns → IsPattern (dictionary_of patterns pairing kind) i (get_or patterns i d).now
+pub pattern-at : (patterns : List (Bor (List ℕ))) (pairing : List ℕ) (kind : MatchKind) (i : ℕ) (d : Bor (List ℕ)) → i < length patterns → IsPattern (dictionary_of (bytes_of patterns) pairing kind) i (get_or patterns i d).now
 pattern-at patterns pairing kind i d within =
     let f : Bor (List ℕ) → List ℕ = λ p. p.now in
     slice_get-map f patterns i ∙ ap (λ (o : Option (Bor (List ℕ))). option_map f o) (slice_get-get_or patterns i d within)

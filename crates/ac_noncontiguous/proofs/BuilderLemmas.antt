@@ -5,7 +5,7 @@ use Rattle.std.specs.declared.alloc.AllocError.{AllocError}
 use Rattle.ac_input.specs.Candidate.{Filter}
 use Rattle.ac_input.specs.Dictionary.{Dictionary}
 use Rattle.ac_input.specs.Limits.{IsWithinLimits}
-use Rattle.ac_literal.specs.Prefilter.{IsDemanded, IsAdmissible, IsWay}
+use Rattle.ac_literal.specs.Prefilter.{IsDemanded, IsAdmissible, IsStrategyFor}
 use Rattle.ac_noncontiguous.specs.Builder.{Settings, AreCompiled, IsBuiltBy, IsHeld}
 use Rattle.ac_noncontiguous.specs.Nfa.{AreParts}
 use Rattle.ac_noncontiguous.specs.ReadCalls.{IsMadeOf}
@@ -32,7 +32,7 @@ pub some-held : (m b : Dictionary) (wanted : Bool) (r : Result (Option Filter) A
     → IfOk r (λ made. IfSome made (λ f. f.dictionary ≡ b))
     → IfOk r (λ made. IsSome made → IsAdmissible b)
     → IfOk r (λ made. IsDemanded b → IsSome made)
-    → IfOk r (λ made. IfSome made IsWay)
+    → IfOk r (λ made. IfSome made IsStrategyFor)
     → IfOk r (λ held. IsHeld wanted m held)
 some-held m b wanted (Err e) same on d a n y = tt
 some-held m b wanted (Ok None) same on d a n y =
@@ -45,14 +45,14 @@ some-held m b wanted (Ok (Some f)) same on d a n y =
     record {
       off = λ off. absurd (let e : true ≡ false = sym on ∙ off in cc);
       demanded = λ _ _ is. absurd (let e : Some f ≡ None = is in cc);
-      made = λ g is. let e : f ≡ g = cc in subst (λ (h : Filter). IsAdmissible m × IsWay h × (h.dictionary ≡ m)) e (subst IsAdmissible same (a refl), y, d ∙ same);
+      made = λ g is. let e : f ≡ g = cc in subst (λ (h : Filter). IsAdmissible m × IsStrategyFor h × (h.dictionary ≡ m)) e (subst IsAdmissible same (a refl), y, d ∙ same);
     }
 
 -- what an automaton is made from
-pub parts-of : (m from : Dictionary) (wanted : Bool) (tables : Tables) (held : Option Filter) → from ≡ m → AreCompiled m tables → IsHeld wanted m held → AreParts from tables held
-parts-of m from wanted tables held same compiled is =
+pub parts-of : (m from : Dictionary) (wanted : Bool) (tables : Tables) (held : Option Filter) → from ≡ m → AreCompiled m tables → IsWithinLimits m → IsHeld wanted m held → AreParts from tables held
+parts-of m from wanted tables held same compiled within is =
     subst (λ (k : Dictionary). AreParts k tables held) (sym same)
-    (record { stands = ∣ compiled.0 ∣₁; classed = ∣ compiled.1 ∣₁; held = λ f holds. (is.made f holds).2; paired = compiled.2 })
+    (record { within = ∣ within ∣₁; stands = ∣ compiled.0 ∣₁; classed = ∣ compiled.1 ∣₁; held = λ f holds. (is.made f holds).2; paired = compiled.2 })
 
 -- what is built
 pub built-by : (s : Settings) (m from : Dictionary) (tables : Tables) (held : Option Filter) (nfa : NFA) → from ≡ m → IsMadeOf from tables held nfa → IsHeld s.prefilter m held → IsWithinLimits m → IsBuiltBy s m (built_as nfa)

@@ -5,6 +5,7 @@ use Rattle.std.proofs.lemmas.Bool.Decides.{nat_tests}
 use Rattle.std.proofs.lemmas.List.{take_more, length-take-le, length-map, get_or-map}
 use Rattle.std.proofs.lemmas.List.Elements.{Contains-get_or}
 use Rattle.ac_input.specs.Alphabet.{has, is_edge}
+use Rattle.ac_input.specs.Classes.{IsByteOf, AreByteClasses}
 use Rattle.ac_input.specs.Dictionary.{Dictionary, IsEntered}
 use Rattle.ac_input.specs.Same.{other, same}
 use Rattle.ac_input.specs.LiveLaws.{canonical, IsOwnInverse}
@@ -14,7 +15,6 @@ use Rattle.ac_noncontiguous.specs.declared.trie.Trie.{Trie}
 use Rattle.ac_noncontiguous.specs.Kept.{IsTrieOf}
 use Rattle.ac_noncontiguous.specs.Tree.{parent, byte, depth, text}
 use Rattle.ac_noncontiguous.specs.Layout.{IsStateByte, AreStateEdges, AreClassesOfTrie}
-use Rattle.ac_noncontiguous.specs.Nfa.{IsByteOf, AreByteClasses}
 use Rattle.ac_noncontiguous.proofs.TextLemmas.{push-same, text-child, child-deep}
 use Rattle.ac_noncontiguous.proofs.CountLemmas.{prefix-state}
 use Rattle.ac_noncontiguous.proofs.BridgeLemmas.{Stands}

@@ -100,6 +100,7 @@ laid-edges trie numbering back i all edges old new not_fail whole part e h =
       laid = record {
         order = h.keeps.longer;
         edges = λ k past within. let r = h.reads k past within in subst (IsEdgeTo trie numbering back i (byte_at new k)) (sym r.1) (e (byte_at new k) r.0);
+        small = λ k past within. (h.reads k past within).0;
         rising = h.rising;
         missing = λ b small apart. subst (IsEdgeTo trie numbering back i b) (h.missing b small apart) (e b small);
         all = λ is. h.complete (whole is);
@@ -116,6 +117,7 @@ laid-fail trie numbering back i old is n =
       laid = record {
         order = omega arith;
         edges = λ k past within. absurd (omega arith);
+        small = λ k past within. absurd (omega arith);
         rising = λ j k past lt within. absurd (omega arith);
         missing = λ b small apart. record {
           within = omega (arith, n.places.starts.0, n.places.starts.1);
@@ -141,6 +143,7 @@ laid-kept trie numbering back i from to old new within kept h =
     record {
       order = h.order;
       edges = λ k past lt. subst (IsEdgeTo trie numbering back i (byte_at new k)) (sym (next k lt)) (subst (λ (b : ℕ). IsEdgeTo trie numbering back i b (next_at old k)) (sym (low k lt)) (h.edges k past lt));
+      small = λ k past lt. let a = low k lt in omega (arith, a, h.small k past lt);
       rising = λ j k past less lt. let a = low j (omega arith) in let b = low k lt in omega (arith, h.rising j k past less lt);
       missing = λ b small apart. h.missing b small (λ k past lt e. apart k past lt (low k lt ∙ e));
       all = h.all;

@@ -21,11 +21,12 @@ pub mod BridgeLemmas
 pub mod FailLemmas
 pub mod FailsLemmas
 pub mod ListLemmas
-pub mod LensLemmas
+pub mod PatternLensLemmas
 pub mod ReadCallLemmas
 pub mod ChildrenLemmas
 pub mod NumberingLemmas
 pub mod PlacesLemmas
+pub mod RunLemmas
 pub mod EdgeLemmas
 pub mod ChildLemmas
 pub mod LayoutLemmas
@@ -36,3 +37,5 @@ pub mod ByteLemmas
 pub mod AssemblyLemmas
 pub mod TableLemmas
 pub mod BuilderLemmas
+pub mod FirstLemmas
+pub mod NamesLemmas

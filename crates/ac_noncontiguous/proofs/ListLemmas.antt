@@ -1,18 +1,16 @@
 -- The lists of patterns of a trie's states: each pattern stands in them once, and they are those of the definitions.
 use Rattle.std.proofs.Common.{◌≡◌, ◌≢◌, ℕ, suc, ◌+◌, ◌-◌, ◌<◌, ◌≤◌, List, [], ◌∷◌, ◌++◌, length, take, drop, Option, Some, None, refl, sym, ap, subst, ◌∙◌, inl, inr, ⊎_elim, arith, get_or, slice_get, slice_index, slice_set, length-append, length-set, length-drop, get_or-set_same, get_or-set_other, append-nil, append_assoc}
-use Rattle.std.specs.List.{Contains, range_with_len, slice_range}
+use Rattle.std.specs.List.{Contains, slice_range}
 use Rattle.std.proofs.Math.Seq.{drop-append_seam}
 use Rattle.std.proofs.lemmas.Bool.{cases_lt, cases_eq}
 use Rattle.std.proofs.lemmas.List.{get_or_read, take_all, take-append-le, drop-append-le, take-append-drop, length-take-le}
 use Rattle.std.proofs.lemmas.List.Elements.{Contains-append_left, Contains-append_right, Contains-append_cases}
-use Rattle.std.proofs.lemmas.List.FromFn.{length-range_with_len, get_or-range_with_len}
 use Rattle.std.proofs.lemmas.Option.{slice_get_within, slice_get-get_or, get_or_from_slice_get}
 use Rattle.ac_input.proofs.OrderLemmas.{slice_range-length}
-use Rattle.ac_input.proofs.DistinctLemmas.{distinct-shorter}
-use Rattle.ac_input.proofs.ContainsLemmas.{Contains-nil, Contains-head, Contains-tail}
+use Rattle.ac_input.proofs.OnceLemmas.{rising-distinct, distinct-append, distinct-few}
+use Rattle.ac_input.proofs.ContainsLemmas.{Contains-nil}
 use Rattle.ac_input.specs.Dictionary.{Dictionary}
 use Rattle.ac_input.specs.Failure.{AreRising, AreOwn, IsList}
-use Rattle.ac_input.specs.Pairing.{IsDistinct}
 use Rattle.ac_input.proofs.LeadsLemmas.{list-of_failure, list-alone}
 use Rattle.ac_noncontiguous.specs.declared.links.Range.{Range}
 use Rattle.ac_noncontiguous.specs.declared.trie.State.{State}
@@ -20,7 +18,7 @@ use Rattle.ac_noncontiguous.specs.Tree.{depth, text}
 use Rattle.ac_noncontiguous.specs.Own.{EndsIn, IsOwnList}
 use Rattle.ac_noncontiguous.specs.Order.{IsBreadthFirst}
 use Rattle.ac_noncontiguous.specs.Links.{no_range, in_range, AreFails, AreRanges}
-use Rattle.ac_noncontiguous.specs.Lists.{range_at, IsInside, EndAbove, AreRoom, IsRest, IsListed}
+use Rattle.ac_noncontiguous.specs.Lists.{range_at, IsRangeOf, EndAbove, AreRoom, IsRest, IsListed}
 use Rattle.ac_noncontiguous.specs.Failures.{AreShallower}
 use Rattle.ac_noncontiguous.proofs.BridgeLemmas.{Stands, ends-own, own-ends}
 use Rattle.ac_noncontiguous.proofs.FailsLemmas.{place-of, shallower-before, order-apart}
@@ -37,11 +35,6 @@ rising-from (n ∷ ns) h = (
   rising-from ns (λ j k lt within. h (suc j) (suc k) (omega arith) (omega arith)),
 )
 
--- in a rising list nothing stands twice
-rising-distinct : (ns : List ℕ) → AreRising ns → IsDistinct ns
-rising-distinct [] r = tt
-rising-distinct (n ∷ ns) r = ((λ c. omega (arith, r.0 n c)), rising-distinct ns r.1)
-
 -- what stands in the list of a state ends there
 own-ended : (ends : List (Option ℕ)) (i n : ℕ) (own : List ℕ) → IsOwnList ends i own → Contains own n → EndsIn ends i n
 own-ended ends i n own are c = subst (EndsIn ends i) (sym (get_or_read own c.0 n c.1 (sym c.2) 0)) (are.within c.0 c.1)
@@ -51,14 +44,6 @@ own-are : (m : Dictionary) (states : List State) (ends : List (Option ℕ)) → 
 own-are m states ends s i own within are = (rising-from own are.rising, λ n. ((λ c. ends-own m states ends s i n (own-ended ends i n own are c)), (λ o. are.all n (own-ends m states ends s i n within o))))
 
 -- ---- each pattern once
-
--- two lists that have nothing in common
-distinct-append : {X : Type 0} (xs ys : List X) → IsDistinct xs → IsDistinct ys → ((x : X) → Contains xs x → ¬ Contains ys x) → IsDistinct (xs ++ ys)
-distinct-append [] ys d e apart = e
-distinct-append (x ∷ xs) ys d e apart = (
-  λ c. ⊎_elim (λ first. d.0 first) (λ second. apart x (Contains-head x xs) second) (Contains-append_cases xs ys x c),
-  distinct-append xs ys d.1 e (λ y c. apart y (Contains-tail x xs y c)),
-)
 
 -- a pattern ends in one state
 one-end : (ends : List (Option ℕ)) (i e n : ℕ) → EndsIn ends i n → EndsIn ends e n → i ≡ e
@@ -79,19 +64,9 @@ own-above states ends i own rest are above =
           (Contains-append_cases own rest n c);
     }
 
--- a number stands among those less than a greater one
-among : (n x : ℕ) → x < n → Contains (range_with_len 0 n) x
-among n x lt = (x, omega (arith, length-range_with_len 0 n), omega (arith, get_or-range_with_len 0 n x x lt))
-
 -- there are no more of them than patterns
 pub above-few : (states : List State) (ends : List (Option ℕ)) (deep : ℕ) (list : List ℕ) → EndAbove states ends deep list → length list ≤ length ends
-above-few states ends deep list above =
-    omega (
-      arith,
-      length-range_with_len 0 (length ends),
-      distinct-shorter list (range_with_len 0 (length ends)) above.distinct
-          (λ n c. let e = above.ended n c in among (length ends) n (slice_get_within ends n (Some e.0) e.1)),
-    )
+above-few states ends deep list above = distinct-few (length ends) list above.distinct (λ n c. let e = above.ended n c in slice_get_within ends n (Some e.0) e.1)
 
 -- so their number fits
 pub own-few : (states : List State) (ends : List (Option ℕ)) (i : ℕ) (own rest : List ℕ) → IsOwnList ends i own → EndAbove states ends (depth states i) rest → length own + length rest ≤ length ends
@@ -100,7 +75,7 @@ own-few states ends i own rest are above = omega (arith, length-append own rest,
 -- ---- ranges
 
 -- a range stays as the list grows
-pub range-kept : (old more : List ℕ) (r : Range) → IsInside old r → in_range (old ++ more) r ≡ in_range old r
+pub range-kept : (old more : List ℕ) (r : Range) → IsRangeOf old r → in_range (old ++ more) r ≡ in_range old r
 range-kept old more r inside =
     ap (take r.len) (drop-append-le r.from old more (omega arith)) ∙ take-append-le r.len (drop r.from old) more (omega (arith, length-drop r.from old))
 
@@ -112,11 +87,11 @@ range-among xs r n c =
     subst (λ (ys : List ℕ). Contains ys n) (take-append-drop r.from xs) (Contains-append_right (take r.from xs) d n inner)
 
 -- a range has as many patterns as it says
-range-length : (xs : List ℕ) (r : Range) → IsInside xs r → length (in_range xs r) ≡ r.len
+range-length : (xs : List ℕ) (r : Range) → IsRangeOf xs r → length (in_range xs r) ≡ r.len
 range-length xs r inside = length-take-le r.len (drop r.from xs) (omega (arith, length-drop r.from xs))
 
 -- no own patterns: the rest is shared
-pub listed-shared : (ends : List (Option ℕ)) (i : ℕ) (rest : Range) (old new own : List ℕ) → IsOwnList ends i own → new ≡ old ++ own → length new ≡ length old → IsInside old rest → IsListed ends i rest rest old new
+pub listed-shared : (ends : List (Option ℕ)) (i : ℕ) (rest : Range) (old new own : List ℕ) → IsOwnList ends i own → new ≡ old ++ own → length new ≡ length old → IsRangeOf old rest → IsListed ends i rest rest old new
 listed-shared ends i rest old new own are pushed same inside =
     let none : own ≡ [] = empty own (omega (arith, ap length pushed, length-append old own)) in
     let is : new ≡ old = pushed ∙ (ap (λ (xs : List ℕ). old ++ xs) none ∙ append-nil old) in
@@ -135,7 +110,7 @@ listed-shared ends i rest old new own are pushed same inside =
     empty (x ∷ xs) e = absurd (omega arith)
 
 -- else the rest is put after the own ones
-pub listed-copied : (ends : List (Option ℕ)) (i : ℕ) (rest range : Range) (old mid new own : List ℕ) → IsOwnList ends i own → mid ≡ old ++ own → new ≡ mid ++ slice_range mid rest.from (rest.from + rest.len) → IsInside old rest → range.from ≡ length old → range.len ≡ length new - length old → IsListed ends i rest range old new
+pub listed-copied : (ends : List (Option ℕ)) (i : ℕ) (rest range : Range) (old mid new own : List ℕ) → IsOwnList ends i own → mid ≡ old ++ own → new ≡ mid ++ slice_range mid rest.from (rest.from + rest.len) → IsRangeOf old rest → range.from ≡ length old → range.len ≡ length new - length old → IsListed ends i rest range old new
 listed-copied ends i rest range old mid new own are pushed copied inside from_is len_is =
     let few : rest.from + rest.len - rest.from ≡ rest.len = omega arith in
     let part : slice_range mid rest.from (rest.from + rest.len) ≡ in_range old rest =
@@ -167,27 +142,27 @@ pub room-none : (states : List State) (ends : List (Option ℕ)) (ranges : List 
 room-none states ends ranges len none =
     record {
       counted = len;
-      inside = λ i within. subst (IsInside []) (sym (none i within)) (omega arith);
+      inside = λ i within. subst (IsRangeOf []) (sym (none i within)) (omega arith);
       above = λ i within. subst (λ (r : Range). EndAbove states ends (depth states i + 1) (in_range [] r)) (sym (none i within)) (record { distinct = tt; ended = λ n c. absurd (Contains-nil n c) });
       known = λ n c. absurd (Contains-nil n c);
     }
 
 -- the rest of a state's list is that of its failure, in states of lesser depth
-pub rest-above : (states : List State) (ends fails : List (Option ℕ)) (ranges : List Range) (matches : List ℕ) (i : ℕ) (rest : Range) → AreShallower states fails → AreRoom states ends ranges matches → i < length states → IsRest fails ranges i rest → IsInside matches rest × EndAbove states ends (depth states i) (in_range matches rest)
+pub rest-above : (states : List State) (ends fails : List (Option ℕ)) (ranges : List Range) (matches : List ℕ) (i : ℕ) (rest : Range) → AreShallower states fails → AreRoom states ends ranges matches → i < length states → IsRest fails ranges i rest → IsRangeOf matches rest × EndAbove states ends (depth states i) (in_range matches rest)
 rest-above states ends fails ranges matches i rest s room within is = by (get_or fails i None) (slice_get-get_or fails i None (omega (arith, s.counted)))
   where
-    by : (r : Option ℕ) → slice_get fails i ≡ Some r → IsInside matches rest × EndAbove states ends (depth states i) (in_range matches rest)
+    by : (r : Option ℕ) → slice_get fails i ≡ Some r → IsRangeOf matches rest × EndAbove states ends (depth states i) (in_range matches rest)
     by (Some f) given =
         let h = s.shallower i f given in
         let a = room.above f h.0 in
-        subst (λ (r : Range). IsInside matches r × EndAbove states ends (depth states i) (in_range matches r)) (sym (is.some f given))
+        subst (λ (r : Range). IsRangeOf matches r × EndAbove states ends (depth states i) (in_range matches r)) (sym (is.some f given))
         (room.inside f h.0, record { distinct = a.distinct; ended = λ n c. let e = a.ended n c in (e.0, e.1, omega (arith, e.2, h.1)) })
     by None given =
-        subst (λ (r : Range). IsInside matches r × EndAbove states ends (depth states i) (in_range matches r)) (sym (is.none given))
+        subst (λ (r : Range). IsRangeOf matches r × EndAbove states ends (depth states i) (in_range matches r)) (sym (is.none given))
         (omega arith, record { distinct = tt; ended = λ n c. absurd (Contains-nil n c) })
 
 -- the range of another state, after one is set
-range-other : (ranges : List Range) (matches new : List ℕ) (more : List ℕ) (i j : ℕ) (range : Range) → j ≢ i → new ≡ matches ++ more → IsInside matches (range_at ranges j) → (range_at (slice_set ranges i range) j ≡ range_at ranges j) × (in_range new (range_at (slice_set ranges i range) j) ≡ in_range matches (range_at ranges j))
+range-other : (ranges : List Range) (matches new : List ℕ) (more : List ℕ) (i j : ℕ) (range : Range) → j ≢ i → new ≡ matches ++ more → IsRangeOf matches (range_at ranges j) → (range_at (slice_set ranges i range) j ≡ range_at ranges j) × (in_range new (range_at (slice_set ranges i range) j) ≡ in_range matches (range_at ranges j))
 range-other ranges matches new more i j range ne kept inside =
     let same : range_at (slice_set ranges i range) j ≡ range_at ranges j = get_or-set_other ranges i j range no_range ne in
     (same, ap (in_range new) same ∙ (ap (λ (xs : List ℕ). in_range xs (range_at ranges j)) kept ∙ range-kept matches more (range_at ranges j) inside))
@@ -200,10 +175,10 @@ room-more states ends ranges matches new i rest range room within above listed =
       counted = length-set ranges i range ∙ room.counted;
       inside = λ j j_in.
           ⊎_elim
-          (λ (same : j ≡ i). subst (IsInside new) (sym (ap (range_at (slice_set ranges i range)) same ∙ here)) listed.inside)
+          (λ (same : j ≡ i). subst (IsRangeOf new) (sym (ap (range_at (slice_set ranges i range)) same ∙ here)) listed.inside)
           (λ (ne : j ≢ i).
           let o = range-other ranges matches new listed.more i j range ne listed.kept (room.inside j j_in) in
-          subst (IsInside new) (sym o.0) (omega (arith, room.inside j j_in, ap length listed.kept, length-append matches listed.more)))
+          subst (IsRangeOf new) (sym o.0) (omega (arith, room.inside j j_in, ap length listed.kept, length-append matches listed.more)))
           (cases_eq j i);
       above = λ j j_in.
           ⊎_elim
@@ -271,7 +246,7 @@ lists-all m states ends ranges matches order k s o past room known =
     }
 
 -- the number of a list's patterns is one of a pattern
-pub list-fits : (states : List State) (ends : List (Option ℕ)) (i : ℕ) (own old mid new : List ℕ) (rest : Range) → IsOwnList ends i own → EndAbove states ends (depth states i) (in_range old rest) → mid ≡ old ++ own → new ≡ mid ++ slice_range mid rest.from (rest.from + rest.len) → IsInside old rest → length new - length old ≤ length ends
+pub list-fits : (states : List State) (ends : List (Option ℕ)) (i : ℕ) (own old mid new : List ℕ) (rest : Range) → IsOwnList ends i own → EndAbove states ends (depth states i) (in_range old rest) → mid ≡ old ++ own → new ≡ mid ++ slice_range mid rest.from (rest.from + rest.len) → IsRangeOf old rest → length new - length old ≤ length ends
 list-fits states ends i own old mid new rest are above pushed copied inside =
     let few = own-few states ends i own (in_range old rest) are above in
     let mid_len : length mid ≡ length old + length own = ap length pushed ∙ length-append old own in

@@ -7,13 +7,14 @@ use Rattle.ac_input.specs.LiveLaws.{canonical}
 use Rattle.ac_input.specs.States.{LeadsTo}
 use Rattle.ac_noncontiguous.specs.declared.trie.Trie.{Trie}
 use Rattle.ac_noncontiguous.specs.declared.compiler.numbering.Numbering.{Numbering}
-use Rattle.ac_noncontiguous.specs.Tree.{text}
+use Rattle.ac_noncontiguous.specs.Tree.{text, depth}
 use Rattle.ac_noncontiguous.specs.Kept.{IsTrieOf}
 use Rattle.ac_noncontiguous.specs.Nfa.{state_of, AreTexts, IsEdge}
-use Rattle.ac_noncontiguous.specs.Numbering.{IsNumbering}
+use Rattle.ac_noncontiguous.specs.Numbering.{IsNumbering, AreInRuns}
 use Rattle.ac_noncontiguous.specs.Edges.{missing, IsChildFor, IsEdgeTo}
-use Rattle.ac_noncontiguous.proofs.TextLemmas.{text-start, text-child, length-text, child-deep}
+use Rattle.ac_noncontiguous.proofs.TextLemmas.{text-start, text-one, text-child, length-text, child-deep}
 use Rattle.ac_noncontiguous.proofs.BridgeLemmas.{text-begins, text-settled}
+use Rattle.ac_noncontiguous.proofs.CountLemmas.{prefix-state}
 use Rattle.ac_noncontiguous.proofs.FailLemmas.{stands-of}
 use Rattle.ac_noncontiguous.proofs.ChildLemmas.{begins-child_for, child_for-begins}
 
@@ -21,6 +22,7 @@ use Rattle.ac_noncontiguous.proofs.ChildLemmas.{begins-child_for, child_for-begi
 pub record Setting (m : Dictionary) (trie : Trie) (numbering : Numbering) (back : ℕ) : Type 0 where
   pub stands : IsTrieOf m trie
   pub numbered : IsNumbering (length trie.states.items) numbering
+  pub runs : AreInRuns trie.states.items numbering.at.items numbering.start
   pub to_start : (back ≡ 0) ⊎ (back ≡ numbering.start)
   pub leads : (b : ℕ) → (¬ BeginsEntered m (b ∷ [])) → ((back ≡ 0) → LeadsTo m false (b ∷ []) None) × ((back ≡ numbering.start) → LeadsTo m false (b ∷ []) (Some []))
 
@@ -59,6 +61,30 @@ are-texts m trie numbering back s =
       begin = λ i past within.
           let k = slice_index numbering.at.items i in
           (text-begins m states trie.ends.items t k (p.within i within), text-settled m states trie.ends.items t k (p.within i within));
+      apart = λ i j past lt within same.
+          s.runs.apart i j past lt within (text-one states trie.tree (slice_index numbering.at.items i) (slice_index numbering.at.items j) (p.within i (omega (arith, lt, within))) (p.within j within) same);
+      all = λ u is_prefix.
+          let h = prefix-state m states trie.ends.items trie.tree s.stands.stands u is_prefix in
+          let n = s.numbered.numbers.numbers h.0 h.2 in
+          (slice_index numbering.of.items h.0, n.0, n.1, ap (text states) n.3 ∙ h.3);
+      deeper = λ i j lt within run.
+          let k = slice_index numbering.at.items i in
+          let l = slice_index numbering.at.items j in
+          let shallow = length-text states k in
+          let deep = length-text states l in
+          ⊎_elim
+          (λ (less : depth states k < depth states l). omega (arith, less, shallow, deep))
+          (λ (level : (depth states k ≡ depth states l) × (k < l)). omega (arith, level.0, shallow, deep))
+          (s.runs.rising i j lt within run);
+      by_first = λ i j lt within run same.
+          let k = slice_index numbering.at.items i in
+          let l = slice_index numbering.at.items j in
+          let shallow = length-text states k in
+          let deep = length-text states l in
+          ⊎_elim
+          (λ (less : depth states k < depth states l). absurd (omega (arith, less, shallow, deep, same)))
+          (λ (level : (depth states k ≡ depth states l) × (k < l)). s.stands.by_first k l level.1 (p.within j within) level.0)
+          (s.runs.rising i j lt within run);
     }
 
 -- where the bytes lead from each state

@@ -13,7 +13,7 @@ use Rattle.ac_input.proofs.FailureLemmas.{failure-shorter}
 use Rattle.ac_input.proofs.LeadsLemmas.{leads-one, leads-some, leads-itself, leads-child, leads-dead, leads-failure, leads-failure_none, fails-state}
 use Rattle.ac_noncontiguous.specs.declared.nfa.tables.Tables.{Tables}
 use Rattle.ac_noncontiguous.specs.Nfa.{state_of, fail_of, depth_of, IsEdge, AreTexts, AreTables}
-use Rattle.ac_noncontiguous.specs.Lookups.{IsKept, IsVisited, Leads, other_start, bytes_of, IsNext, LeadsNext}
+use Rattle.ac_noncontiguous.specs.Lookups.{IsKept, IsVisited, StepsTo, other_start, text_len, IsNextState, LeadsNext}
 
 -- ---- what a number stands for
 
@@ -48,7 +48,7 @@ pub record IsStraight (m : Dictionary) (len start : ℕ) (text : ℕ → List �
   pub other : j ≢ other_start start anchored
   pub dead : i ≡ 0 → j ≡ 0
   pub leads : 1 < i → LeadsTo m anchored (text i ++ byte ∷ []) (state_of text j)
-  pub longer : bytes_of (state_of text j) ≤ bytes_of (state_of text i) + 1
+  pub longer : text_len (state_of text j) ≤ text_len (state_of text i) + 1
 
 -- a text with a byte after it is not empty
 not-empty : (xs : List ℕ) (b : ℕ) → xs ++ b ∷ [] ≢ []
@@ -68,7 +68,7 @@ straight-dead m len start text anchored i byte j t edge is =
       other = by anchored to;
       dead = λ _. to;
       leads = λ some. absurd (omega arith);
-      longer = let e = ap bytes_of (state-none text j to) in omega (arith, e);
+      longer = let e = ap text_len (state-none text j to) in omega (arith, e);
     }
   where
     by : (anchored : Bool) → j ≡ 0 → j ≢ other_start start anchored
@@ -86,8 +86,8 @@ straight-child m len start text anchored i byte j t edge some within begins =
       dead = λ none. absurd (omega arith);
       leads = λ _. subst (LeadsTo m anchored (text i ++ byte ∷ [])) (ap Some (sym child.2) ∙ sym to) (leads-child m anchored (text i) byte own begins);
       longer =
-          let e : bytes_of (state_of text j) ≡ length (text j) = ap bytes_of to in
-          let f : bytes_of (state_of text i) ≡ length (text i) = ap bytes_of (state-some text i some) in
+          let e : text_len (state_of text j) ≡ length (text j) = ap text_len to in
+          let f : text_len (state_of text i) ≡ length (text i) = ap text_len (state-some text i some) in
           let g = ap length child.2 in
           let h = length-append (text i) (canonical m.pairing byte ∷ []) in
           omega (arith, e, f, g, h);
@@ -104,10 +104,10 @@ straight-back m len start text false i byte j t edge free is none =
       dead = λ zero_is. absurd (omega (arith, starts.0, is, zero_is));
       leads = λ _. back.1;
       longer = ⊎_elim
-          (λ (z : j ≡ 0). let e = ap bytes_of (state-none text j z) in omega (arith, e))
+          (λ (z : j ≡ 0). let e = ap text_len (state-none text j z) in omega (arith, e))
           (λ (s : j ≡ start).
           let some : 1 < j = omega (arith, starts.0, s) in
-          let e : bytes_of (state_of text j) ≡ length (text j) = ap bytes_of (state-some text j some) in
+          let e : text_len (state_of text j) ≡ length (text j) = ap text_len (state-some text j some) in
           let f : length (text j) ≡ 0 = ap length (ap text s ∙ starts.2) in
           omega (arith, e, f))
           back.0;
@@ -170,7 +170,7 @@ pub record IsFollowing (m : Dictionary) (len start : ℕ) (text : ℕ → List �
   pub other : from ≢ start + 1
   pub leads : 1 < from → (r : Option (List ℕ)) → LeadsTo m false (text from ++ byte ∷ []) r → LeadsTo m false (text i ++ byte ∷ []) r
   pub dead : from ≡ 0 → LeadsTo m false (text i ++ byte ∷ []) None
-  pub paid : looks + bytes_of (state_of text from) ≤ length (text i)
+  pub paid : looks + text_len (state_of text from) ≤ length (text i)
 
 -- at first
 pub following-none : (m : Dictionary) (len start : ℕ) (text : ℕ → List ℕ) (i byte : ℕ) → i < len → 1 < i → i ≢ start + 1 → IsFollowing m len start text i byte i 0
@@ -181,7 +181,7 @@ following-none m len start text i byte within more other =
       other = other;
       leads = λ _ r h. h;
       dead = λ e. absurd (omega arith);
-      paid = let e : bytes_of (state_of text i) ≡ length (text i) = ap bytes_of (state-some text i more) in omega (arith, e);
+      paid = let e : text_len (state_of text i) ≡ length (text i) = ap text_len (state-some text i more) in omega (arith, e);
     }
 
 -- one state more
@@ -189,7 +189,7 @@ pub following-more : (m : Dictionary) (len start : ℕ) (text : ℕ → List ℕ
 following-more m len start text i byte from looks fail inverse t h edge fails within stands other =
     let s = stuck m len start text from byte t edge h.stands in
     let some : text from ≢ [] = λ e. ⊎_elim (λ (a : from ≡ start). s.apart a) (λ (b : from ≡ start + 1). h.other b) (t.others from s.more h.within e) in
-    let long : bytes_of (state_of text from) ≡ length (text from) = ap bytes_of (state-some text from s.more) in
+    let long : text_len (state_of text from) ≡ length (text from) = ap text_len (state-some text from s.more) in
     let paid = h.paid in
     record {
       within = within;
@@ -204,11 +204,11 @@ following-more m len start text i byte from looks fail inverse t h edge fails wi
       paid =
           ⊎_elim
           (λ (none : (fail ≡ 0) × FailsTo m (text from) None).
-          let e : bytes_of (state_of text fail) ≡ 0 = ap bytes_of (state-none text fail none.0) in
+          let e : text_len (state_of text fail) ≡ 0 = ap text_len (state-none text fail none.0) in
           let n : length (text from) ≢ 0 = long-some (text from) some in
           omega (arith, e, long, n, paid))
           (λ (more : (1 < fail) × FailsTo m (text from) (Some (text fail))).
-          let e : bytes_of (state_of text fail) ≡ length (text fail) = ap bytes_of (state-some text fail more.0) in
+          let e : text_len (state_of text fail) ≡ length (text fail) = ap text_len (state-some text fail more.0) in
           let n = (fails-state m (text from) (text fail) inverse more.1).2 in
           omega (arith, e, long, n, paid))
           (by-number text (FailsTo m (text from)) fail stands fails);
@@ -219,12 +219,12 @@ following-more m len start text i byte from looks fail inverse t h edge fails wi
     long-some (x ∷ xs) some e = omega (arith, e)
 
 -- where the byte leads from the last one
-pub following-end : (m : Dictionary) (len start : ℕ) (text : ℕ → List ℕ) (i byte from looks j : ℕ) (before after : Steps) → IsOwnInverse m.pairing → AreTexts m len start text → 1 < i → IsFollowing m len start text i byte from looks → IsEdge m len start text from byte j → j < len → j ≢ 1 → 1 ≤ looks → Done looks 0 0 before after → IsNext m len start text false 1 i byte j before after
+pub following-end : (m : Dictionary) (len start : ℕ) (text : ℕ → List ℕ) (i byte from looks j : ℕ) (before after : Steps) → IsOwnInverse m.pairing → AreTexts m len start text → 1 < i → IsFollowing m len start text i byte from looks → IsEdge m len start text from byte j → j < len → j ≢ 1 → 1 ≤ looks → Done looks 0 0 before after → IsNextState m len start text false 1 i byte j before after
 following-end m len start text i byte from looks j before after inverse t more h edge within stands some count =
     let s = straight m len start text false from byte j inverse t edge h.within h.stands h.other stands in
     let paid = h.paid in
     let longer = s.longer in
-    let e : bytes_of (state_of text i) ≡ length (text i) = ap bytes_of (state-some text i more) in
+    let e : text_len (state_of text i) ≡ length (text i) = ap text_len (state-some text i more) in
     record {
       within = within;
       stands = stands;
@@ -241,14 +241,14 @@ following-end m len start text i byte from looks j before after inverse t more h
 -- ---- a look-up
 
 -- straight on, with one look
-pub next-straight : (m : Dictionary) (len start : ℕ) (text : ℕ → List ℕ) (anchored : Bool) (i byte j : ℕ) (before after : Steps) → IsOwnInverse m.pairing → AreTexts m len start text → IsEdge m len start text i byte j → i < len → j < len → i ≢ 1 → i ≢ other_start start anchored → j ≢ 1 → Done 1 0 0 before after → IsNext m len start text anchored 0 i byte j before after
+pub next-straight : (m : Dictionary) (len start : ℕ) (text : ℕ → List ℕ) (anchored : Bool) (i byte j : ℕ) (before after : Steps) → IsOwnInverse m.pairing → AreTexts m len start text → IsEdge m len start text i byte j → i < len → j < len → i ≢ 1 → i ≢ other_start start anchored → j ≢ 1 → Done 1 0 0 before after → IsNextState m len start text anchored 0 i byte j before after
 next-straight m len start text anchored i byte j before after inverse t edge i_in j_in stands own some count =
     let s = straight m len start text anchored i byte j inverse t edge i_in stands own some in
     let longer = s.longer in
     record { within = j_in; stands = some; other = s.other; dead = s.dead; leads = s.leads; cost = (1, count, omega arith, omega (arith, longer)) }
 
 -- to the dead state, in an anchored search
-pub next-dead : (m : Dictionary) (len start : ℕ) (text : ℕ → List ℕ) (i byte : ℕ) (before after : Steps) → AreTexts m len start text → IsEdge m len start text i byte 1 → i ≢ 1 → Done 1 0 0 before after → IsNext m len start text true 0 i byte 0 before after
+pub next-dead : (m : Dictionary) (len start : ℕ) (text : ℕ → List ℕ) (i byte : ℕ) (before after : Steps) → AreTexts m len start text → IsEdge m len start text i byte 1 → i ≢ 1 → Done 1 0 0 before after → IsNextState m len start text true 0 i byte 0 before after
 next-dead m len start text i byte before after t edge stands count =
     let s = stuck m len start text i byte t edge stands in
     let starts = t.starts in
@@ -262,7 +262,7 @@ next-dead m len start text i byte before after t edge stands count =
     }
 
 -- over the states to which it fails, after one look
-pub next-followed : (m : Dictionary) (len start : ℕ) (text : ℕ → List ℕ) (i byte j : ℕ) (before between after : Steps) → Done 1 0 0 before between → IsNext m len start text false 1 i byte j between after → IsNext m len start text false 0 i byte j before after
+pub next-followed : (m : Dictionary) (len start : ℕ) (text : ℕ → List ℕ) (i byte j : ℕ) (before between after : Steps) → Done 1 0 0 before between → IsNextState m len start text false 1 i byte j between after → IsNextState m len start text false 0 i byte j before after
 next-followed m len start text i byte j before between after one h =
     let c = h.cost in
     let le = c.3 in
@@ -290,7 +290,7 @@ visited-fail tables i h = (
 )
 
 -- fewer bytes lead there
-pub kept-shallower : (tables : Tables) (i byte : ℕ) → IsVisited tables false i → Leads tables i byte 1 → depth_of tables.states.items (fail_of tables.states.items i) < depth_of tables.states.items i
+pub kept-shallower : (tables : Tables) (i byte : ℕ) → IsVisited tables false i → StepsTo tables i byte 1 → depth_of tables.states.items (fail_of tables.states.items i) < depth_of tables.states.items i
 kept-shallower tables i byte h leads = ∥∥₁_elim h.0 le_prop (λ w. by w.0 w.1 w.2 w.3)
   where
     by : (m : Dictionary) (text : ℕ → List ℕ) → (t : AreTables m text tables) → i < t.len → depth_of tables.states.items (fail_of tables.states.items i) < depth_of tables.states.items i
@@ -312,13 +312,13 @@ kept-shallower tables i byte h leads = ∥∥₁_elim h.0 le_prop (λ w. by w.0 
 -- A look-up has come over so many states to one from which the byte leads to none.
 pub record HasFollowed (tables : Tables) (i byte from : ℕ) (before after : Steps) : Type 0 where
   pub visited : IsVisited tables false from
-  pub stuck : Leads tables from byte 1
+  pub stuck : StepsTo tables from byte 1
   pub looks : ℕ
   pub counted : Done looks 0 0 before after
   pub follows : (m : Dictionary) (text : ℕ → List ℕ) (t : AreTables m text tables) → IsOwnInverse m.pairing → i < t.len → (1 < i) × IsFollowing m t.len tables.start text i byte from looks
 
 -- at first
-pub followed-none : (tables : Tables) (i byte : ℕ) (steps : Steps) → IsVisited tables false i → Leads tables i byte 1 → HasFollowed tables i byte i steps steps
+pub followed-none : (tables : Tables) (i byte : ℕ) (steps : Steps) → IsVisited tables false i → StepsTo tables i byte 1 → HasFollowed tables i byte i steps steps
 followed-none tables i byte steps visited leads =
     record {
       visited = visited;
@@ -329,14 +329,14 @@ followed-none tables i byte steps visited leads =
     }
 
 -- the state to which it fails, with one look more
-following-fail : (m : Dictionary) (text : ℕ → List ℕ) (tables : Tables) (i byte from looks : ℕ) → (t : AreTables m text tables) → IsOwnInverse m.pairing → IsFollowing m t.len tables.start text i byte from looks → Leads tables from byte 1 → IsFollowing m t.len tables.start text i byte (fail_of tables.states.items from) (looks + 1)
+following-fail : (m : Dictionary) (text : ℕ → List ℕ) (tables : Tables) (i byte from looks : ℕ) → (t : AreTables m text tables) → IsOwnInverse m.pairing → IsFollowing m t.len tables.start text i byte from looks → StepsTo tables from byte 1 → IsFollowing m t.len tables.start text i byte (fail_of tables.states.items from) (looks + 1)
 following-fail m text tables i byte from looks t inverse h leads =
     let s = stuck m t.len tables.start text from byte t.texts (leads m text t h.within).1 h.stands in
     let w = t.failures.within from h.within in
     following-more m t.len tables.start text i byte from looks (fail_of tables.states.items from) inverse t.texts h (leads m text t h.within).1 (t.failures.fails from s.more h.within) w.0 w.1 w.2
 
 -- one state more
-pub followed-more : (tables : Tables) (i byte from fail : ℕ) (before between after : Steps) → HasFollowed tables i byte from before between → fail ≡ fail_of tables.states.items from → Done 1 0 0 between after → Leads tables fail byte 1 → HasFollowed tables i byte fail before after
+pub followed-more : (tables : Tables) (i byte from fail : ℕ) (before between after : Steps) → HasFollowed tables i byte from before between → fail ≡ fail_of tables.states.items from → Done 1 0 0 between after → StepsTo tables fail byte 1 → HasFollowed tables i byte fail before after
 followed-more tables i byte from fail before between after h is one leads =
     record {
       visited = subst (IsVisited tables false) (sym is) (visited-fail tables from h.visited.0);
@@ -349,7 +349,7 @@ followed-more tables i byte from fail before between after h is one leads =
     }
 
 -- where the byte leads from it
-pub followed-end : (tables : Tables) (i byte from fail j : ℕ) (before between after : Steps) → HasFollowed tables i byte from before between → fail ≡ fail_of tables.states.items from → Done 1 0 0 between after → Leads tables fail byte j → j ≢ 1 → LeadsNext tables false 1 i byte j before after
+pub followed-end : (tables : Tables) (i byte from fail j : ℕ) (before between after : Steps) → HasFollowed tables i byte from before between → fail ≡ fail_of tables.states.items from → Done 1 0 0 between after → StepsTo tables fail byte j → j ≢ 1 → LeadsNext tables false 1 i byte j before after
 followed-end tables i byte from fail j before between after h is one leads some m text t inverse within =
     let f = h.follows m text t inverse within in
     let at = subst (λ (n : ℕ). IsFollowing m t.len tables.start text i byte n (h.looks + 1)) (sym is) (following-fail m text tables i byte from h.looks t inverse f.1 h.stuck) in
@@ -358,17 +358,17 @@ followed-end tables i byte from fail j before between after h is one leads some 
     following-end m t.len tables.start text i byte fail (h.looks + 1) j before after inverse t.texts f.0 at edge.1 edge.0 some (omega arith) count
 
 -- straight on
-pub leads-straight : (tables : Tables) (anchored : Bool) (i byte j : ℕ) (before after : Steps) → IsVisited tables anchored i → Leads tables i byte j → j ≢ 1 → Done 1 0 0 before after → LeadsNext tables anchored 0 i byte j before after
+pub leads-straight : (tables : Tables) (anchored : Bool) (i byte j : ℕ) (before after : Steps) → IsVisited tables anchored i → StepsTo tables i byte j → j ≢ 1 → Done 1 0 0 before after → LeadsNext tables anchored 0 i byte j before after
 leads-straight tables anchored i byte j before after visited leads some one m text t inverse within =
     let edge = leads m text t within in
     next-straight m t.len tables.start text anchored i byte j before after inverse t.texts edge.1 within edge.0 visited.1 visited.2 some one
 
 -- to the dead state, in an anchored search
-pub leads-to_dead : (tables : Tables) (anchored : Bool) (i byte j k : ℕ) (before after : Steps) → anchored ≡ true → IsVisited tables anchored i → Leads tables i byte j → j ≡ 1 → k ≡ 0 → Done 1 0 0 before after → LeadsNext tables anchored 0 i byte k before after
+pub leads-to_dead : (tables : Tables) (anchored : Bool) (i byte j k : ℕ) (before after : Steps) → anchored ≡ true → IsVisited tables anchored i → StepsTo tables i byte j → j ≡ 1 → k ≡ 0 → Done 1 0 0 before after → LeadsNext tables anchored 0 i byte k before after
 leads-to_dead tables false i byte j k before after free visited leads none zero_is one = absurd (cc)
 leads-to_dead tables true i byte j k before after free visited leads none zero_is one = λ m text t inverse within.
     let edge = leads m text t within in
-    subst (λ (n : ℕ). IsNext m t.len tables.start text true 0 i byte n before after) (sym zero_is)
+    subst (λ (n : ℕ). IsNextState m t.len tables.start text true 0 i byte n before after) (sym zero_is)
     (next-dead m t.len tables.start text i byte before after t.texts (subst (IsEdge m t.len tables.start text i byte) none edge.1) visited.1 one)
 
 -- over the states to which it fails

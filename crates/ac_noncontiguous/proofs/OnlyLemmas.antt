@@ -29,6 +29,7 @@ append-at old added k past =
 -- transitions that are those of a state, as they are put after the others
 pub record AreLaid (trie : Trie) (numbering : Numbering) (back i : ℕ) (added : List Transition) : Type 0 where
   pub edges : (k : ℕ) → k < length added → IsEdgeTo trie numbering back i (byte_at added k) (next_at added k) × (next_at added k ≢ 1)
+  pub small : (k : ℕ) → k < length added → byte_at added k < 256
   pub rising : (j k : ℕ) → j < k → k < length added → byte_at added j < byte_at added k
   pub missing : (b : ℕ) → ((k : ℕ) → k < length added → byte_at added k ≢ b) → IsEdgeTo trie numbering back i b 1
 
@@ -46,6 +47,7 @@ laid-after trie numbering back i old added not_fail part a =
         edges = λ k past within.
             let e = a.edges (k - length old) (omega (arith, len)) in
             subst (IsEdgeTo trie numbering back i (byte_at new k)) (sym (next k past)) (subst (λ (b : ℕ). IsEdgeTo trie numbering back i b (next_at added (k - length old))) (sym (low k past)) e.0);
+        small = λ k past within. let e = low k past in omega (arith, e, a.small (k - length old) (omega (arith, len)));
         rising = λ j k past less within.
             let j_low = low j past in
             let k_low = low k (omega arith) in
@@ -129,30 +131,32 @@ two-rising t u less (suc j) (suc zero) lt within = absurd (omega arith)
 two-rising t u less j zero lt within = absurd (omega arith)
 
 -- the transitions for a byte and its partner, where both lead to one state and the others to none
-laid-both : (trie : Trie) (numbering : Numbering) (back i low partner next : ℕ) (same : Bool) → (partner == low) ≡ same → low ≤ partner → next ≢ 1 → IsEdgeTo trie numbering back i low next → IsEdgeTo trie numbering back i partner next → ((b : ℕ) → low ≢ b → partner ≢ b → IsEdgeTo trie numbering back i b 1)
+laid-both : (trie : Trie) (numbering : Numbering) (back i low partner next : ℕ) (same : Bool) → (partner == low) ≡ same → low ≤ partner → low < 256 → partner < 256 → next ≢ 1 → IsEdgeTo trie numbering back i low next → IsEdgeTo trie numbering back i partner next → ((b : ℕ) → low ≢ b → partner ≢ b → IsEdgeTo trie numbering back i b 1)
     → AreLaid trie numbering back i (if same then record { byte = low; next = next } ∷ [] else record { byte = low; next = next } ∷ (record { byte = partner; next = next } ∷ []))
-laid-both trie numbering back i low partner next true is le some one other_one none =
+laid-both trie numbering back i low partner next true is le low_in partner_in some one other_one none =
     let t : Transition = record { byte = low; next = next } in
     let equal : partner ≡ low = grind (arith, nat_tests) in
     record {
       edges = one-each t (λ s. IsEdgeTo trie numbering back i s.byte s.next × (s.next ≢ 1)) (one, some);
+      small = one-each t (λ s. s.byte < 256) low_in;
       rising = λ j k lt within. absurd (omega arith);
       missing = λ b apart. let ne : low ≢ b = apart 0 (omega arith) in none b ne (λ e. ne (sym equal ∙ e));
     }
-laid-both trie numbering back i low partner next false is le some one other_one none =
+laid-both trie numbering back i low partner next false is le low_in partner_in some one other_one none =
     let t : Transition = record { byte = low; next = next } in
     let u : Transition = record { byte = partner; next = next } in
     let less : low < partner = grind (arith, nat_tests) in
     record {
       edges = two-each t u (λ s. IsEdgeTo trie numbering back i s.byte s.next × (s.next ≢ 1)) (one, some) (other_one, some);
+      small = two-each t u (λ s. s.byte < 256) low_in partner_in;
       rising = two-rising t u less;
       missing = λ b apart. none b (apart 0 (omega arith)) (apart 1 (omega arith));
     }
 
 -- the transitions to the only child, for its byte and the partner of that
-laid-child : (trie : Trie) (numbering : Numbering) (back i of : ℕ) → IsOwnInverse trie.pairing → IsNumbering (length trie.states.items) numbering → 1 < i → i ≢ numbering.start → of < length trie.states.items → of ≡ slice_index numbering.at.items i → 0 < child trie.states.items of → HasOneAtMost trie of
+laid-child : (trie : Trie) (numbering : Numbering) (back i of : ℕ) → IsOwnInverse trie.pairing → IsNumbering (length trie.states.items) numbering → 1 < i → i ≢ numbering.start → of < length trie.states.items → of ≡ slice_index numbering.at.items i → 0 < child trie.states.items of → HasOneAtMost trie of → first_byte trie of < 256
     → AreLaid trie numbering back i (for_both (first_byte trie of) (other trie.pairing (first_byte trie of)) (slice_index numbering.of.items (child trie.states.items of)))
-laid-child trie numbering back i of inverse n past not_start within is_of some one =
+laid-child trie numbering back i of inverse n past not_start within is_of some one low_in =
     let states = trie.states.items in
     let c = child states of in
     let low = first_byte trie of in
@@ -162,7 +166,7 @@ laid-child trie numbering back i of inverse n past not_start within is_of some o
     let back_again = canonical-partner trie.pairing low inverse own in
     let number = n.numbers.numbers c h.0 in
     let least : low ≤ partner = omega arith in
-    laid-both trie numbering back i low partner (slice_index numbering.of.items c) (partner == low) refl least
+    laid-both trie numbering back i low partner (slice_index numbering.of.items c) (partner == low) refl least low_in (trie.paired.bytes low low_in)
     (λ is. omega (arith, number.0))
     (edge-child trie numbering back i of c low n past is_of (some, h.0, h.1, sym own))
     (edge-child trie numbering back i of c partner n past is_of (some, h.0, h.1, sym back_again))
@@ -177,6 +181,7 @@ laid-none : (trie : Trie) (numbering : Numbering) (back i of : ℕ) → IsNumber
 laid-none trie numbering back i of n past not_start within is_of none =
     record {
       edges = λ k inside. absurd (omega arith);
+      small = λ k inside. absurd (omega arith);
       rising = λ j k lt inside. absurd (omega arith);
       missing = λ b apart.
           edge-none trie numbering back i of b n past not_start is_of
@@ -184,15 +189,15 @@ laid-none trie numbering back i of n past not_start within is_of none =
     }
 
 -- those of either one
-laid-either : (trie : Trie) (numbering : Numbering) (back i of : ℕ) (none : Bool) → (child trie.states.items of == 0) ≡ none → IsOwnInverse trie.pairing → IsNumbering (length trie.states.items) numbering → 1 < i → i ≢ numbering.start → of < length trie.states.items → of ≡ slice_index numbering.at.items i → HasOneAtMost trie of
+laid-either : (trie : Trie) (numbering : Numbering) (back i of : ℕ) (none : Bool) → (child trie.states.items of == 0) ≡ none → IsOwnInverse trie.pairing → IsNumbering (length trie.states.items) numbering → 1 < i → i ≢ numbering.start → of < length trie.states.items → of ≡ slice_index numbering.at.items i → HasOneAtMost trie of → (0 < child trie.states.items of → first_byte trie of < 256)
     → AreLaid trie numbering back i (if none then [] else for_both (first_byte trie of) (other trie.pairing (first_byte trie of)) (slice_index numbering.of.items (child trie.states.items of)))
-laid-either trie numbering back i of true is inverse n past not_start within is_of one = laid-none trie numbering back i of n past not_start within is_of (grind (arith, nat_tests))
-laid-either trie numbering back i of false is inverse n past not_start within is_of one = laid-child trie numbering back i of inverse n past not_start within is_of (grind (arith, nat_tests)) one
+laid-either trie numbering back i of true is inverse n past not_start within is_of one low_in = laid-none trie numbering back i of n past not_start within is_of (grind (arith, nat_tests))
+laid-either trie numbering back i of false is inverse n past not_start within is_of one low_in = let some : 0 < child trie.states.items of = grind (arith, nat_tests) in laid-child trie numbering back i of inverse n past not_start within is_of some one (low_in some)
 
 -- one state more
-pub laid-only : (trie : Trie) (numbering : Numbering) (back i of : ℕ) (old : List Transition) → IsOwnInverse trie.pairing → IsNumbering (length trie.states.items) numbering → i ≢ 1 → (¬ HasAll numbering.start i) → of < length trie.states.items → of ≡ slice_index numbering.at.items i → HasOneAtMost trie of → IsAppended trie numbering back i old (old ++ to_only trie numbering of)
-laid-only trie numbering back i of old inverse n not_fail part within is_of one =
+pub laid-only : (trie : Trie) (numbering : Numbering) (back i of : ℕ) (old : List Transition) → IsOwnInverse trie.pairing → IsNumbering (length trie.states.items) numbering → i ≢ 1 → (¬ HasAll numbering.start i) → of < length trie.states.items → of ≡ slice_index numbering.at.items i → HasOneAtMost trie of → (0 < child trie.states.items of → first_byte trie of < 256) → IsAppended trie numbering back i old (old ++ to_only trie numbering of)
+laid-only trie numbering back i of old inverse n not_fail part within is_of one low_in =
     let not_dead : i ≢ 0 = λ is. part (inl is) in
     let not_start : i ≢ numbering.start = λ is. part (inr (inl is)) in
     laid-after trie numbering back i old (to_only trie numbering of) not_fail part
-    (laid-either trie numbering back i of (child trie.states.items of == 0) refl inverse n (omega arith) not_start within is_of one)
+    (laid-either trie numbering back i of (child trie.states.items of == 0) refl inverse n (omega arith) not_start within is_of one low_in)

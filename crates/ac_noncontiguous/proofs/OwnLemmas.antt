@@ -5,12 +5,12 @@ use Rattle.std.proofs.lemmas.Bool.{cases_lt, cases_eq}
 use Rattle.std.proofs.lemmas.List.{length-replicate, get_or-replicate}
 use Rattle.std.proofs.lemmas.Option.{slice_get_within, slice_get_read}
 use Rattle.ac_noncontiguous.specs.declared.trie.State.{State}
-use Rattle.ac_noncontiguous.specs.Own.{EndsIn, AreEnds, IsNextEnd, AreOwn, AreOwnBefore, IsOwnList}
+use Rattle.ac_noncontiguous.specs.Own.{EndsIn, AreEnds, IsNextEnd, AreOwnChains, AreOwnBefore, IsOwnList}
 use Rattle.ac_noncontiguous.proofs.DictionaryLemmas.{get-cases}
 use Rattle.ac_noncontiguous.proofs.OrderLemmas.{contains-kept, contains-last, index-kept, index-last}
 
 -- past the last pattern there is none
-pub own-filled : (states len : ℕ) (ends : List (Option ℕ)) (first next : List ℕ) → len ≡ length ends → first ≡ replicate states len → length next ≡ len → AreOwn states ends len first next
+pub own-filled : (states len : ℕ) (ends : List (Option ℕ)) (first next : List ℕ) → len ≡ length ends → first ≡ replicate states len → length next ≡ len → AreOwnChains states ends len first next
 own-filled states len ends first next all filled next_len =
     let at : (i : ℕ) → i < states → slice_index first i ≡ len = λ i within. ap (λ (xs : List ℕ). slice_index xs i) filled ∙ get_or-replicate states i len 0 within in
     record {
@@ -20,7 +20,7 @@ own-filled states len ends first next all filled next_len =
     }
 
 -- a pattern that ends nowhere
-pub own-skipped : (states from : ℕ) (ends : List (Option ℕ)) (first next : List ℕ) → slice_get ends from ≡ Some None → AreOwn states ends (from + 1) first next → AreOwn states ends from first next
+pub own-skipped : (states from : ℕ) (ends : List (Option ℕ)) (first next : List ℕ) → slice_get ends from ≡ Some None → AreOwnChains states ends (from + 1) first next → AreOwnChains states ends from first next
 own-skipped states from ends first next none o =
     let later : (n i : ℕ) → from ≤ n → EndsIn ends i n → from + 1 ≤ n =
     λ n i past e.
@@ -35,7 +35,7 @@ own-skipped states from ends first next none o =
     }
 
 -- a pattern that ends in a state
-pub own-more : (states from id at : ℕ) (ends : List (Option ℕ)) (first next : List ℕ) → EndsIn ends id from → id < states → at ≡ slice_index first id → AreOwn states ends (from + 1) first next → AreOwn states ends from (slice_set first id from) (slice_set next from at)
+pub own-more : (states from id at : ℕ) (ends : List (Option ℕ)) (first next : List ℕ) → EndsIn ends id from → id < states → at ≡ slice_index first id → AreOwnChains states ends (from + 1) first next → AreOwnChains states ends from (slice_set first id from) (slice_set next from at)
 own-more states from id at ends first next here id_in read o =
     let from_in : from < length ends = slice_get_within ends from (Some id) here in
     let only : (i : ℕ) → EndsIn ends i from → i ≡ id = λ i e. let two : Some (Some i) ≡ Some (Some id) = sym e ∙ here in cc in

@@ -13,7 +13,7 @@ use Rattle.ac_input.proofs.ContainsLemmas.{Contains-filter, Contains-from_filter
 use Rattle.ac_input.proofs.DistinctLemmas.{distinct-shorter}
 use Rattle.ac_noncontiguous.specs.declared.links.Range.{Range}
 use Rattle.ac_noncontiguous.specs.declared.trie.State.{State}
-use Rattle.ac_noncontiguous.specs.declared.compiler.numbering.Places.{Places}
+use Rattle.ac_noncontiguous.specs.declared.compiler.numbering.Listed.{Listed}
 use Rattle.ac_noncontiguous.specs.Tree.{IsTree, depth}
 use Rattle.ac_noncontiguous.specs.Order.{ComesBefore, IsBreadthFirst}
 use Rattle.ac_noncontiguous.specs.Numbering.{range_len, is_chosen, chosen, numbered, AreListed, ArePlaces, AreFirstNumbers, AreNumbers, IsLastMatch}
@@ -22,7 +22,7 @@ use Rattle.ac_noncontiguous.proofs.OrderLemmas.{index-last}
 -- ---- the order
 
 -- nothing comes before itself
-before-apart : (states : List State) (i j : ℕ) → ComesBefore states i j → i ≢ j
+pub before-apart : (states : List State) (i j : ℕ) → ComesBefore states i j → i ≢ j
 before-apart states i j b same =
     let deep : depth states i ≡ depth states j = ap (depth states) same in
     ⊎_elim (λ (less : depth states i < depth states j). omega arith) (λ (level : (depth states i ≡ depth states j) × (i < j)). omega (arith, level.1)) b
@@ -207,11 +207,11 @@ chosen-cases ranges states i c =
 pub slice-rest : (order : List ℕ) → take (length order - 1) (drop 1 order) ≡ drop 1 order
 slice-rest order = take_all (length order - 1) (drop 1 order) (omega (arith, length-drop 1 order))
 
-pub listed-rest : (ranges : List Range) (order : List ℕ) (places : Places) → AreListed ranges (take (length order - 1) (drop 1 order)) places → AreListed ranges (drop 1 order) places
+pub listed-rest : (ranges : List Range) (order : List ℕ) (places : Listed) → AreListed ranges (take (length order - 1) (drop 1 order)) places → AreListed ranges (drop 1 order) places
 listed-rest ranges order places listed = subst (λ (xs : List ℕ). AreListed ranges xs places) (slice-rest order) listed
 
 -- the places of the states
-pub places-listed : (states : List State) (ranges : List Range) (order : List ℕ) (places : Places) → IsTree states → IsBreadthFirst states order → AreListed ranges (drop 1 order) places → ArePlaces (length states) places.at.items places.start
+pub places-listed : (states : List State) (ranges : List Range) (order : List ℕ) (places : Listed) → IsTree states → IsBreadthFirst states order → AreListed ranges (drop 1 order) places → ArePlaces (length states) places.at.items places.start
 places-listed states ranges order places tree b listed =
     let rest = drop 1 order in
     let first = chosen ranges true rest in
@@ -251,7 +251,7 @@ places-listed states ranges order places tree b listed =
     subst (λ (xs : List ℕ). ArePlaces (length states) xs places.start) (sym listed.at) (subst (ArePlaces (length states) at) (sym listed.start) made)
 
 -- the last state at which some pattern matches
-pub last-listed : (ranges : List Range) (order : List ℕ) (places : Places) (max : ℕ) → AreListed ranges (drop 1 order) places → (is_chosen ranges true 0 ≡ true → max ≡ places.start + 1) → (is_chosen ranges true 0 ≡ false → max + 1 ≡ places.start) → IsLastMatch ranges places.at.items places.start max
+pub last-listed : (ranges : List Range) (order : List ℕ) (places : Listed) (max : ℕ) → AreListed ranges (drop 1 order) places → (is_chosen ranges true 0 ≡ true → max ≡ places.start + 1) → (is_chosen ranges true 0 ≡ false → max + 1 ≡ places.start) → IsLastMatch ranges places.at.items places.start max
 last-listed ranges order places max listed matching none_there =
     let rest = drop 1 order in
     let first = chosen ranges true rest in

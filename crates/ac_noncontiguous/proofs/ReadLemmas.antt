@@ -1,8 +1,8 @@
 -- What the number of a state tells of the text that was read, and what its patterns do.
 use Rattle.std.proofs.Common.{◌≡◌, ◌≢◌, ◌⊎◌, ◌↔◌, ℕ, ◌+◌, ◌<◌, ◌≤◌, Bool, true, false, IsTrue, List, [], ◌∷◌, ◌++◌, length, take, drop, get_or, slice_get, Option, None, Some, inl, inr, ⊎_elim, refl, sym, ap, subst, ◌∙◌, arith, length-drop}
 use Rattle.std.specs.Prelude.{◌==◌, nat_le, slice_index}
-use Rattle.std.specs.Coded.{le_prop, Coded-set, coded_ℕ, coded_list}
-use Rattle.std.proofs.Math.Logic.{∥∥₁_elim, ∥∥₁_map}
+use Rattle.std.specs.Coded.{le_prop, Coded-set, coded_ℕ, coded_bool, coded_list}
+use Rattle.std.proofs.Math.Logic.{∥∥₁_elim, ∥∥₁_map, ∥∥₁_prop}
 use Rattle.std.proofs.lemmas.Bool.{cases_lt, cases_eq, or_cases, eqb-true, false≢true}
 use Rattle.std.proofs.lemmas.Bool.Decides.{nat_tests}
 use Rattle.std.proofs.lemmas.List.{length-take-le, get_or-take, get_or-drop, nil_from_length}
@@ -24,12 +24,12 @@ use Rattle.ac_input.proofs.ShadowLemmas.{list-one}
 use Rattle.ac_input.proofs.SomeLemmas.{live-some, list-some}
 use Rattle.ac_input.proofs.StateLemmas.{live-one}
 use Rattle.ac_input.proofs.LeadsLemmas.{leads-one, leads-some, leads-itself, leads-child, leads-next, leads-anchored, leads-stays_dead, leads-long, leads-empty, leads-dead, leads-state, state-tells, dead-tells}
-use Rattle.ac_automaton.specs.Automaton.{IsSpecial}
+use Rattle.ac_automaton.specs.Automaton.{IsReached, IsState, IsSpecial}
 use Rattle.ac_noncontiguous.specs.declared.nfa.NFA.{NFA}
 use Rattle.ac_noncontiguous.specs.declared.nfa.tables.State.{State}
 use Rattle.ac_noncontiguous.specs.declared.nfa.tables.Tables.{Tables}
 use Rattle.ac_noncontiguous.specs.Nfa.{state_of, matches_from, matches_len, list_of, last_special, AreTablesOf}
-use Rattle.ac_noncontiguous.specs.Lookups.{IsVisited, bytes_of, LeadsNext}
+use Rattle.ac_noncontiguous.specs.Lookups.{IsKept, IsVisited, text_len, LeadsNext}
 use Rattle.ac_noncontiguous.specs.Reads.{dictionary, built_as, matches_at, is_start_at, is_special_at, IsReachedBy, IsRead}
 use Rattle.ac_noncontiguous.proofs.LookupLemmas.{read-at}
 use Rattle.ac_noncontiguous.proofs.NextLemmas.{by-number, state-some, state-none, begins-or-not}
@@ -319,7 +319,7 @@ reached-next m tables anchored text sid byte j before after inverse next h =
     ))
 
 -- as many bytes are live as the state has
-live-bytes : (m : Dictionary) (anchored : Bool) (text : List ℕ) (r : Option (List ℕ)) (live : Option ℕ) → LeadsTo m anchored text r → IsLive m anchored text live → live_len text live ≡ bytes_of r
+live-bytes : (m : Dictionary) (anchored : Bool) (text : List ℕ) (r : Option (List ℕ)) (live : Option ℕ) → LeadsTo m anchored text r → IsLive m anchored text live → live_len text live ≡ text_len r
 live-bytes m anchored text None live leads is = ap (live_len text) (live-one m anchored text live None is leads)
 live-bytes m anchored text (Some state) live leads is = leads-long m anchored text state live leads is
 
@@ -407,3 +407,50 @@ start-empty nfa anchored text sid h is = by (leads-some (dictionary nfa) anchore
         let none = ap length same in
         omega (arith, none)) in
         leads-empty (dictionary nfa) anchored text (subst (λ (v : List ℕ). LeadsTo (dictionary nfa) anchored text (Some v)) (nil_from_length state (omega (arith, short))) leads)
+
+-- a start has its number
+start-has : (nfa : NFA) (sid : ℕ) → (sid ≡ nfa.tables.start) ⊎ (sid ≡ nfa.tables.start + 1) → IsTrue (is_start_at nfa sid)
+start-has nfa sid (inl a) = grind (arith, nat_tests)
+start-has nfa sid (inr b) = let other : sid ≢ nfa.tables.start = λ e. omega (arith, b, e) in grind (arith, nat_tests)
+
+-- and where nothing of a text is live, it has come to a start: only the two starts stand for the empty text
+pub empty-start : (nfa : NFA) (anchored : Bool) (text : List ℕ) (sid : ℕ) → IsReachedBy (dictionary nfa) nfa.tables anchored text sid → IsLive (dictionary nfa) anchored text (Some (length text)) → IsTrue (is_start_at nfa sid)
+empty-start nfa anchored text sid h live =
+    ∥∥₁_elim h (Coded-set coded_bool (is_start_at nfa sid) true) (λ w.
+    ⊎_elim
+    (λ (none : (sid ≡ 0) × LeadsTo (dictionary nfa) anchored text None). absurd (let e = live-one (dictionary nfa) anchored text None (Some (length text)) none.1 live in cc))
+    (λ (some : (1 < sid) × LeadsTo (dictionary nfa) anchored text (Some (w.0 sid))).
+    let long = leads-long (dictionary nfa) anchored text (w.0 sid) (Some (length text)) some.1 live in
+    start-has nfa sid (w.1.tables_of.texts.others sid some.0 w.1.within (nil_from_length (w.0 sid) (omega (arith, long)))))
+    (by-number w.0 (LeadsTo (dictionary nfa) anchored text) sid w.1.stands w.1.leads))
+
+-- ---- a state that some text reaches
+
+-- it may be looked up,
+pub state-kept : (nfa : NFA) (sid : ℕ) → IsState (IsRead nfa) sid → IsKept nfa.tables sid
+state-kept nfa sid h = ∥∥₁_elim h ∥∥₁_prop (λ w. (reached-visited (dictionary nfa) nfa.tables (is_anchored w.0) w.1 sid w.2.reached).0)
+
+pub state-visited : (nfa : NFA) (anchored : Anchored) (sid : ℕ) → IsReached (IsRead nfa anchored) sid → IsVisited nfa.tables (is_anchored anchored) sid
+state-visited nfa anchored sid h = (
+  ∥∥₁_elim h ∥∥₁_prop (λ w. (reached-visited (dictionary nfa) nfa.tables (is_anchored anchored) w.0 sid w.1.reached).0),
+  λ e. ∥∥₁_elim h (λ x y. absurd x) (λ w. (reached-visited (dictionary nfa) nfa.tables (is_anchored anchored) w.0 sid w.1.reached).1 e),
+  λ e. ∥∥₁_elim h (λ x y. absurd x) (λ w. (reached-visited (dictionary nfa) nfa.tables (is_anchored anchored) w.0 sid w.1.reached).2 e),
+)
+
+-- its patterns stand among all,
+pub state-range : (nfa : NFA) (sid : ℕ) → IsState (IsRead nfa) sid → matches_from nfa.tables.states.items sid + matches_len nfa.tables.states.items sid ≤ length nfa.tables.matches.items
+state-range nfa sid h = ∥∥₁_elim h le_prop (λ w. reached-range (dictionary nfa) nfa.tables (is_anchored w.0) w.1 sid w.2.reached)
+
+-- each is the number of one,
+pub state-known : (nfa : NFA) (sid index x : ℕ) → IsState (IsRead nfa) sid → index < length (matches_at nfa sid) → x ≡ get_or nfa.tables.matches.items (matches_from nfa.tables.states.items sid + index) x → x < length (dictionary nfa).patterns
+state-known nfa sid index x h within is = ∥∥₁_elim h le_prop (λ w. reached-known (dictionary nfa) nfa.tables (is_anchored w.0) w.1 sid index x w.2.reached within is)
+
+-- and it has some where it is past 1 and no greater than the greatest that matches
+pub state-matches : (nfa : NFA) (sid : ℕ) → IsState (IsRead nfa) sid → matches_at nfa sid ≢ [] → (1 < sid) × (sid ≤ nfa.tables.max_match)
+state-matches nfa sid h some = (
+  ∥∥₁_elim h le_prop (λ w. (reached-matches (dictionary nfa) nfa.tables (is_anchored w.0) w.1 sid w.2.reached some).0),
+  ∥∥₁_elim h le_prop (λ w. (reached-matches (dictionary nfa) nfa.tables (is_anchored w.0) w.1 sid w.2.reached some).1),
+)
+
+pub state-many : (nfa : NFA) (sid : ℕ) → IsState (IsRead nfa) sid → 1 < sid → sid ≤ nfa.tables.max_match → matches_at nfa sid ≢ []
+state-many nfa sid h past le none = ∥∥₁_elim h (λ x y. absurd x) (λ w. reached-many (dictionary nfa) nfa.tables (is_anchored w.0) w.1 sid w.2.reached past le none)

@@ -1,15 +1,17 @@
 -- The rows of the states, by classes of bytes.
-use Rattle.std.proofs.Common.{◌≡◌, ◌≢◌, ℕ, zero, suc, ◌+◌, ◌-◌, ◌<◌, ◌≤◌, if◌then◌else◌, Bool, true, List, [], ◌∷◌, ◌++◌, length, sym, ap, subst, ◌∙◌, ⊎_elim, arith, slice_index, slice_set, length-append, length-set, get_or-set_same, get_or-set_other}
+use Rattle.std.proofs.Common.{◌≡◌, ◌≢◌, ℕ, ◌+◌, ◌<◌, ◌≤◌, Bool, true, List, [], ◌∷◌, ◌++◌, length, sym, ap, subst, ◌∙◌, ⊎_elim, arith, slice_index, slice_set, length-append, length-set, get_or-set_same, get_or-set_other}
 use Rattle.std.proofs.lemmas.Bool.{cases_lt, cases_eq}
 use Rattle.ac_input.specs.Same.{other}
 use Rattle.ac_input.specs.Alphabet.{has, class, AreClassesOf}
+use Rattle.ac_input.specs.Classes.{IsParted}
 use Rattle.ac_input.specs.LiveLaws.{canonical}
+use Rattle.ac_input.proofs.ClassLemmas.{parted-alone}
 use Rattle.ac_noncontiguous.specs.declared.trie.Trie.{Trie}
 use Rattle.ac_noncontiguous.specs.declared.compiler.numbering.Numbering.{Numbering}
 use Rattle.ac_noncontiguous.specs.Tree.{byte}
 use Rattle.ac_noncontiguous.specs.Entering.{HasNoChild}
 use Rattle.ac_noncontiguous.specs.Edges.{IsEdgeTo, AreEdgesTo}
-use Rattle.ac_noncontiguous.specs.Layout.{IsParted, IsAlone, AreParted, AreAlone, LeadAlike, KeepsRows, IsRowAppended, IsRowAt, IsRowOf, AreRowsOf}
+use Rattle.ac_noncontiguous.specs.Layout.{AreParted, AreAlone, LeadAlike, KeepsRows, IsRowAppended, IsRowAt, IsRowOf, AreRowsOf}
 use Rattle.ac_noncontiguous.proofs.OrderLemmas.{index-kept, index-last}
 
 -- ---- classes
@@ -35,53 +37,11 @@ parted-more trie id b o old mid new before is_byte small is_other at_byte first 
     ))
     (cases_lt c id)
 
--- a later byte is in no lesser class
-class-rises : (boundaries : List Bool) (classes : List ℕ) → AreClassesOf boundaries classes → (more b : ℕ) → b + more ≤ 255 → class classes b ≤ class classes (b + more)
-class-rises boundaries classes h zero b small =
-    let e : b + 0 ≡ b = omega arith in
-    let same : class classes (b + 0) ≡ class classes b = ap (class classes) e in
-    omega arith
-class-rises boundaries classes h (suc more) b small =
-    let e : b + suc more ≡ (b + more) + 1 = omega arith in
-    let same : class classes (b + suc more) ≡ class classes ((b + more) + 1) = ap (class classes) e in
-    let up : class classes ((b + more) + 1) ≡ class classes (b + more) + (if has boundaries (b + more) then 1 else 0) = h.next (b + more) (omega arith) in
-    let below = class-rises boundaries classes h more b (omega arith) in
-    omega arith
-
--- behind a boundary the next class begins
-class-next : (boundaries : List Bool) (classes : List ℕ) → AreClassesOf boundaries classes → (b : ℕ) → b < 255 → has boundaries b ≡ true → class classes (b + 1) ≡ class classes b + 1
-class-next boundaries classes h b small at = h.next b small ∙ ap (λ (t : Bool). class classes b + (if t then 1 else 0)) at
-
--- a byte that is parted from the others is a class of its own
-pub parted-alone : (boundaries : List Bool) (classes : List ℕ) → AreClassesOf boundaries classes → (x : ℕ) → x < 256 → IsParted boundaries x → IsAlone classes x
-parted-alone boundaries classes h x small parted b b_small same =
-    ⊎_elim
-    (λ (equal : b ≡ x). equal)
-    (λ (ne : b ≢ x).
-    ⊎_elim
-    (λ (below : b < x).
-    let y = x - 1 in
-    let back : y + 1 ≡ x = omega arith in
-    let up = class-next boundaries classes h y (omega arith) (parted.1 y back) in
-    let at : class classes (y + 1) ≡ class classes x = ap (class classes) back in
-    let gap : b + (y - b) ≡ y = omega arith in
-    let far : class classes (b + (y - b)) ≡ class classes y = ap (class classes) gap in
-    let rise = class-rises boundaries classes h (y - b) b (omega arith) in
-    absurd (omega arith))
-    (λ (above : x ≤ b).
-    let up = class-next boundaries classes h x (omega arith) parted.0 in
-    let gap : (x + 1) + (b - (x + 1)) ≡ b = omega arith in
-    let far : class classes ((x + 1) + (b - (x + 1))) ≡ class classes b = ap (class classes) gap in
-    let rise = class-rises boundaries classes h (b - (x + 1)) (x + 1) (omega arith) in
-    absurd (omega arith))
-    (cases_lt b x))
-    (cases_eq b x)
-
--- so it is with the byte of each state
+-- the byte of each state, parted from the others, is a class of its own
 pub parted-all : (trie : Trie) (boundaries : List Bool) (classes : List ℕ) → AreClassesOf boundaries classes → AreParted trie (length trie.states.items) boundaries → AreAlone trie classes
 parted-all trie boundaries classes h parted c some within =
     let p = parted c some within in
-    (parted-alone boundaries classes h _ p.0 p.1, parted-alone boundaries classes h _ (trie.paired.bytes _ p.0) p.2)
+    (parted-alone boundaries classes h _ p.0 (λ _. p.1.0) p.1.1, parted-alone boundaries classes h _ (trie.paired.bytes _ p.0) (λ _. p.2.0) p.2.1)
 
 -- a byte in one class with another one is that of no child
 alike-none : (trie : Trie) (classes : List ℕ) (of x y : ℕ) → AreAlone trie classes → x ≢ y → x < 256 → y < 256 → class classes y ≡ class classes x → HasNoChild trie.states.items of (canonical trie.pairing x)

@@ -165,15 +165,14 @@ entered-walked m p old mid ends read at inverse s tree ext free =
           no-shadow m old mid ends bytes inverse s tree ext (λ i within shallow spelled. free first i within (omega arith) spelled) (length m.patterns) k.0 k.1 k.2 k.3 (omega (arith, k.4)) (begins-canonical m.pairing k.1 p inverse k.5),
     )
 
--- so the trie stands for one more pattern
-pub stand-entered : (m : Dictionary) (p : List ℕ) (old mid new : List State) (ends : List (Option ℕ)) (id : ℕ) → IsOwnInverse m.pairing → HasEntered m old ends → IsTree old → length p ≤ GREATEST → IsWalked m.kind old mid (canonical_text m p) (length (canonical_text m p)) id → IsMarked mid new id → HasEntered (with_pattern m p) new (ends ++ Some id ∷ [])
-stand-entered m p old mid new ends id inverse s tree short w k =
+-- what an entered pattern adds
+pub more-entered : (m : Dictionary) (p : List ℕ) (old mid new : List State) (ends : List (Option ℕ)) (id : ℕ) → IsOwnInverse m.pairing → HasEntered m old ends → IsTree old → length p ≤ GREATEST → IsWalked m.kind old mid (canonical_text m p) (length (canonical_text m p)) id → IsMarked mid new id → IsMore m p old new (Some id)
+more-entered m p old mid new ends id inverse s tree short w k =
     let bytes = canonical_text m p in
     let len : length bytes ≡ length p = length-map p (canonical m.pairing) in
     let entered = entered-walked m p old mid ends 0 0 inverse s tree w.extends (λ first i within shallow spelled. w.unmatched first i within (omega arith) spelled) in
     let texts = text-marked mid new id k in
-    stand-more m p old new ends (Some id) s short
-    (record {
+    record {
       longer = omega (arith, w.extends.longer, k.len);
       same = λ i lt. ((k.same i).2 ∙ (w.extends.same i lt).2, texts i ∙ text-extends old mid tree w.extends i lt);
       ended = λ end here.
@@ -187,11 +186,15 @@ stand-entered m p old mid new ends id inverse s tree short w k =
           (entered, omega (arith, a.0), texts i ∙ (a.1 ∙ ap (λ (n : ℕ). take n bytes) (sym d)));
       unmarked = λ i lt elsewhere. k.others i (λ e. elsewhere (ap Some (sym e))) ∙ (w.extends.same i lt).3;
       unmarked_added = λ i past within elsewhere. k.others i (λ e. elsewhere (ap Some (sym e))) ∙ (w.added i past (omega (arith, k.len))).2;
-    })
+    }
 
--- or for one more that is shadowed
-pub stand-left_out : (m : Dictionary) (p : List ℕ) (old mid : List State) (ends : List (Option ℕ)) (read at : ℕ) → IsOwnInverse m.pairing → HasEntered m old ends → IsTree old → length p ≤ GREATEST → m.kind ≡ LeftmostFirst → read < length (canonical_text m p) → is_match mid at ≡ true → IsWalked m.kind old mid (canonical_text m p) read at → HasEntered (with_pattern m p) mid (ends ++ None ∷ [])
-stand-left_out m p old mid ends read at inverse s tree short first more match w =
+-- so the trie stands for one more pattern
+pub stand-entered : (m : Dictionary) (p : List ℕ) (old mid new : List State) (ends : List (Option ℕ)) (id : ℕ) → IsOwnInverse m.pairing → HasEntered m old ends → IsTree old → length p ≤ GREATEST → IsWalked m.kind old mid (canonical_text m p) (length (canonical_text m p)) id → IsMarked mid new id → HasEntered (with_pattern m p) new (ends ++ Some id ∷ [])
+stand-entered m p old mid new ends id inverse s tree short w k = stand-more m p old new ends (Some id) s short (more-entered m p old mid new ends id inverse s tree short w k)
+
+-- what a shadowed one adds
+pub more-left_out : (m : Dictionary) (p : List ℕ) (old mid : List State) (ends : List (Option ℕ)) (read at : ℕ) → IsOwnInverse m.pairing → HasEntered m old ends → IsTree old → length p ≤ GREATEST → m.kind ≡ LeftmostFirst → read < length (canonical_text m p) → is_match mid at ≡ true → IsWalked m.kind old mid (canonical_text m p) read at → IsMore m p old mid None
+more-left_out m p old mid ends read at inverse s tree short first more match w =
     let bytes = canonical_text m p in
     let len : length bytes ≡ length p = length-map p (canonical m.pairing) in
     let at_old : at < length old =
@@ -207,8 +210,7 @@ stand-left_out m p old mid ends read at inverse s tree short first more match w 
     let spelled : canonical_text m q ≡ take read bytes = sym k.2 ∙ (sym (text-extends old mid tree w.extends at at_old) ∙ w.reached.2) in
     let q_len : length q ≡ read = sym (length-map q (canonical m.pairing)) ∙ (ap length spelled ∙ length-take-le read bytes (omega arith)) in
     let begins = canonical-begins m.pairing q p inverse (omega arith) (spelled ∙ ap (λ (n : ℕ). take n bytes) (sym q_len)) in
-    stand-more m p old mid ends None s short
-    (record {
+    record {
       longer = w.extends.longer;
       same = λ i lt. ((w.extends.same i lt).2, text-extends old mid tree w.extends i lt);
       ended = λ id here. cc;
@@ -216,4 +218,8 @@ stand-left_out m p old mid ends read at inverse s tree short first more match w 
       added = λ i past within. absurd (omega arith);
       unmarked = λ i lt elsewhere. (w.extends.same i lt).3;
       unmarked_added = λ i past within elsewhere. absurd (omega arith);
-    })
+    }
+
+-- or for one more that is shadowed
+pub stand-left_out : (m : Dictionary) (p : List ℕ) (old mid : List State) (ends : List (Option ℕ)) (read at : ℕ) → IsOwnInverse m.pairing → HasEntered m old ends → IsTree old → length p ≤ GREATEST → m.kind ≡ LeftmostFirst → read < length (canonical_text m p) → is_match mid at ≡ true → IsWalked m.kind old mid (canonical_text m p) read at → HasEntered (with_pattern m p) mid (ends ++ None ∷ [])
+stand-left_out m p old mid ends read at inverse s tree short first more match w = stand-more m p old mid ends None s short (more-left_out m p old mid ends read at inverse s tree short first more match w)

@@ -19,7 +19,7 @@ use Rattle.ac_noncontiguous.specs.Tree.{text}
 use Rattle.ac_noncontiguous.specs.Kept.{IsTrieOf}
 use Rattle.ac_noncontiguous.specs.Links.{no_range, in_range, AreLinks}
 use Rattle.ac_noncontiguous.specs.Nfa.{transitions_from, state_of, byte_at, next_at, row_of, fail_of, depth_of, matches_from, matches_len, list_of, IsEdge, AreTransitions, AreRows, AreFailures, AreLists}
-use Rattle.ac_noncontiguous.specs.Numbering.{IsNumbering, IsLastMatch, range_len}
+use Rattle.ac_noncontiguous.specs.Numbering.{IsNumbering, AreInRuns, IsLastMatch, range_len}
 use Rattle.ac_noncontiguous.specs.Layout.{IsLaid, AreLaidOut, AreRowsOf, HasAll}
 use Rattle.ac_noncontiguous.specs.Assembly.{IsBack, number_or_dead, AreKept}
 use Rattle.ac_noncontiguous.specs.Edges.{missing, IsChildFor}
@@ -52,8 +52,8 @@ own-none m matches from len within own none n is =
     omega (arith, c.1)
 
 -- the setting
-pub setting : (m : Dictionary) (trie : Trie) (links : Links) (numbering : Numbering) (back : ℕ) → IsTrieOf m trie → AreLinks m trie.states.items links → IsNumbering (length trie.states.items) numbering → IsBack trie.kind links.ranges.items numbering.start back → Setting m trie numbering back
-setting m trie links numbering back t l n b =
+pub setting : (m : Dictionary) (trie : Trie) (links : Links) (numbering : Numbering) (back : ℕ) → IsTrieOf m trie → AreLinks m trie.states.items links → IsNumbering (length trie.states.items) numbering → AreInRuns trie.states.items numbering.at.items numbering.start → IsBack trie.kind links.ranges.items numbering.start back → Setting m trie numbering back
+setting m trie links numbering back t l n r b =
     let states = trie.states.items in
     let inverse = trie-inverse m trie t in
     let some : 0 < length states = trie.tree.start.0 in
@@ -64,6 +64,7 @@ setting m trie links numbering back t l n b =
     record {
       stands = t;
       numbered = n;
+      runs = r;
       to_start = ⊎_elim (λ (dead : (trie.kind ≢ Standard) × (0 < range_len links.ranges.items 0) × (back ≡ 0)). inl dead.2) (λ (start : (trie.kind ≢ Standard → range_len links.ranges.items 0 ≡ 0) × (back ≡ numbering.start)). inr start.1) b;
       leads = λ byte nothing.
           ⊎_elim
@@ -95,6 +96,7 @@ are-transitions m trie links numbering back offsets rows states transitions s l 
       ranges = λ i lt. (laid i lt).order;
       last = k.last ∙ l.last;
       edges = λ i at lt place. let e = (laid i lt).edges at place.0 place.1 in (e.within, is-edge m trie numbering back s i (byte_at transitions at) (next_at transitions at) lt e);
+      small = λ i at lt place. (laid i lt).small at place.0 place.1;
       rising = λ i j at lt one two less. (laid i lt).rising j at one.0 less two.1;
       missing = λ i byte lt small apart. is-edge m trie numbering back s i byte 1 lt ((laid i lt).missing byte small (λ at past before. apart at (past, before)));
       all = λ i has.

@@ -2,7 +2,7 @@
 use Rattle.std.proofs.Common.{◌≡◌, ◌⊎◌, ℕ, zero, suc, ◌+◌, ◌-◌, ◌<◌, ◌≤◌, ◌==◌, if◌then◌else◌, List, length, refl, sym, subst, inl, inr, ⊎_elim, arith}
 use Rattle.std.proofs.lemmas.Bool.Decides.{nat_tests}
 use Rattle.ac_noncontiguous.specs.declared.trie.State.{State}
-use Rattle.ac_noncontiguous.specs.Tree.{IsFirstChild, IsTree, IsWay, IsChildPlace, parent, byte, sibling}
+use Rattle.ac_noncontiguous.specs.Tree.{IsFirstChild, IsTree, IsSiblingWalk, IsChildPlace, parent, byte, sibling}
 
 -- a number is 0 or greater
 pub cases_zero : (n : ℕ) → (n ≡ 0) ⊎ (0 < n)
@@ -10,7 +10,7 @@ cases_zero zero = inl refl
 cases_zero (suc n) = inr (omega arith)
 
 -- a way has come to the first child from the byte after the one before it on
-pub way-first : (states : List State) (of low before at : ℕ) → IsTree states → of < length states → IsWay states of low before at → (from : ℕ) × (from ≤ low) × (0 < before → byte states before < from) × IsFirstChild (length states) (parent states) (byte states) of from at
+pub way-first : (states : List State) (of low before at : ℕ) → IsTree states → of < length states → IsSiblingWalk states of low before at → (from : ℕ) × (from ≤ low) × (0 < before → byte states before < from) × IsFirstChild (length states) (parent states) (byte states) of from at
 way-first states of low before at tree within way =
     ⊎_elim
     (λ (none : before ≡ 0). (0, omega arith, (λ some. absurd (omega arith)), subst (λ (c : ℕ). IsFirstChild (length states) (parent states) (byte states) of 0 c) (sym (way.first none)) (tree.children of within)))
@@ -20,14 +20,14 @@ way-first states of low before at tree within way =
     (cases_zero before)
 
 -- where a way has come to is a child, with a greater byte than the one before it
-pub way-at : (states : List State) (of low before at : ℕ) → IsTree states → of < length states → IsWay states of low before at → 0 < at → (at < length states) × (parent states at ≡ of) × (0 < before → byte states before < byte states at)
+pub way-at : (states : List State) (of low before at : ℕ) → IsTree states → of < length states → IsSiblingWalk states of low before at → 0 < at → (at < length states) × (parent states at ≡ of) × (0 < before → byte states before < byte states at)
 way-at states of low before at tree within way some =
     let f = way-first states of low before at tree within way in
     let h = f.3.is_child some in
     (h.0, h.1, λ b. omega (arith, f.2 b, h.2))
 
 -- a way that goes on by one child
-pub way-more : (states : List State) (of low before at : ℕ) → IsTree states → of < length states → IsWay states of low before at → 0 < at → byte states at < low → IsWay states of low at (sibling states at)
+pub way-more : (states : List State) (of low before at : ℕ) → IsTree states → of < length states → IsSiblingWalk states of low before at → 0 < at → byte states at < low → IsSiblingWalk states of low at (sibling states at)
 way-more states of low before at tree within way some less =
     let h = way-at states of low before at tree within way some in
     record { first = λ none. absurd (omega arith); next = λ _. (h.0, h.1, less, refl) }
@@ -42,12 +42,12 @@ place-first states of low before at tree within place =
     }
 
 -- along a way less and less bytes are left
-pub byte-rises : (states : List State) (of low before at : ℕ) → IsTree states → of < length states → IsWay states of low before at → 0 < at → byte states at < low → low < 256 → (if sibling states at == 0 then 0 else 256 - byte states (sibling states at)) < (if at == 0 then 0 else 256 - byte states at)
+pub byte-rises : (states : List State) (of low before at : ℕ) → IsTree states → of < length states → IsSiblingWalk states of low before at → 0 < at → byte states at < low → low < 256 → (if sibling states at == 0 then 0 else 256 - byte states (sibling states at)) < (if at == 0 then 0 else 256 - byte states at)
 byte-rises states of low before at tree within way some less small =
     let h = way-at states of low before at tree within way some in
     let f = (tree.siblings at some h.0).is_child in
     grind (arith, nat_tests)
 
 -- a way that passed all lesser bytes is a place
-pub place-from : (states : List State) (of low before at : ℕ) → IsWay states of low before at → (0 < at → low ≤ byte states at) → IsChildPlace states of low before at
+pub place-from : (states : List State) (of low before at : ℕ) → IsSiblingWalk states of low before at → (0 < at → low ≤ byte states at) → IsChildPlace states of low before at
 place-from states of low before at way reached = record { way = way; reached = reached }

@@ -11,8 +11,9 @@ use Rattle.ac_noncontiguous.specs.declared.trie.State.{State}
 use Rattle.ac_noncontiguous.specs.declared.trie.Trie.{Trie}
 use Rattle.ac_noncontiguous.specs.Entering.{IsMarked, IsEnd}
 use Rattle.ac_noncontiguous.specs.Standing.{HasEntered}
-use Rattle.ac_noncontiguous.specs.Kept.{KeepsSettings, IsNoted, IsTrieOf}
-use Rattle.ac_noncontiguous.proofs.StandingLemmas.{stand-entered, stand-left_out}
+use Rattle.ac_noncontiguous.specs.Kept.{AreByFirst, KeepsSettings, IsNoted, IsTrieOf}
+use Rattle.ac_noncontiguous.proofs.StandingLemmas.{more-entered, stand-entered, more-left_out, stand-left_out}
+use Rattle.ac_noncontiguous.proofs.FirstLemmas.{ordered-more}
 use Rattle.ac_noncontiguous.proofs.CountLemmas.{stand-counts}
 
 -- the pairing of a trie's dictionary is its own inverse
@@ -26,24 +27,28 @@ trie-ends m p old mid end t h = subst (λ (k : MatchKind). IsEnd k old.states.it
 -- one more pattern is entered
 pub trie-entered : (m : Dictionary) (p : List ℕ) (old mid marked new : Trie) (id : ℕ) → IsTrieOf m old → length p ≤ GREATEST → IsEnd old.kind old.states.items mid.states.items (map (canonical old.pairing) p) (Some id) → KeepsSettings old mid → IsMarked mid.states.items marked.states.items id → KeepsSettings mid marked → IsNoted marked new (Some id) → IsTrieOf (with_pattern m p) new
 trie-entered m p old mid marked new id t short w kept k kept_marked n =
+    let more = more-entered m p old.states.items mid.states.items marked.states.items old.ends.items id (trie-inverse m old t) t.stands old.tree short (trie-ends m p old mid.states.items (Some id) t w) k in
     let stands = stand-entered m p old.states.items mid.states.items marked.states.items old.ends.items id (trie-inverse m old t) t.stands old.tree short (trie-ends m p old mid.states.items (Some id) t w) k in
     let ends : new.ends.items ≡ old.ends.items ++ Some id ∷ [] = n.ends ∙ ap (λ v. v.items ++ Some id ∷ []) (kept_marked.ends ∙ kept.ends) in
     record {
       pairing = t.pairing ∙ sym (n.pairing ∙ (kept_marked.pairing ∙ kept.pairing));
       kind = t.kind ∙ sym (n.kind ∙ (kept_marked.kind ∙ kept.kind));
       stands = subst (λ (s : List State). HasEntered (with_pattern m p) s new.ends.items) (sym (ap (λ v. v.items) n.states)) (subst (λ (e : List (Option ℕ)). HasEntered (with_pattern m p) marked.states.items e) (sym ends) stands);
+      by_first = subst (AreByFirst (with_pattern m p)) (sym (ap (λ v. v.items) n.states)) (ordered-more m p old.states.items marked.states.items old.ends.items (Some id) old.tree marked.tree (trie-inverse m old t) t.stands t.by_first more);
     }
 
 -- one more pattern is shadowed
 pub trie-left_out : (m : Dictionary) (p : List ℕ) (old mid new : Trie) → IsTrieOf m old → length p ≤ GREATEST → IsEnd old.kind old.states.items mid.states.items (map (canonical old.pairing) p) None → KeepsSettings old mid → IsNoted mid new None → IsTrieOf (with_pattern m p) new
 trie-left_out m p old mid new t short w kept n =
     let h = trie-ends m p old mid.states.items None t w in
+    let more = more-left_out m p old.states.items mid.states.items old.ends.items h.1.0 h.1.1 (trie-inverse m old t) t.stands old.tree short h.0 h.1.2 h.1.3 h.1.4 in
     let stands = stand-left_out m p old.states.items mid.states.items old.ends.items h.1.0 h.1.1 (trie-inverse m old t) t.stands old.tree short h.0 h.1.2 h.1.3 h.1.4 in
     let ends : new.ends.items ≡ old.ends.items ++ None ∷ [] = n.ends ∙ ap (λ v. v.items ++ None ∷ []) kept.ends in
     record {
       pairing = t.pairing ∙ sym (n.pairing ∙ kept.pairing);
       kind = t.kind ∙ sym (n.kind ∙ kept.kind);
       stands = subst (λ (s : List State). HasEntered (with_pattern m p) s new.ends.items) (sym (ap (λ v. v.items) n.states)) (subst (λ (e : List (Option ℕ)). HasEntered (with_pattern m p) mid.states.items e) (sym ends) stands);
+      by_first = subst (AreByFirst (with_pattern m p)) (sym (ap (λ v. v.items) n.states)) (ordered-more m p old.states.items mid.states.items old.ends.items None old.tree mid.tree (trie-inverse m old t) t.stands t.by_first more);
     }
 
 -- a trie stands for no dictionary that passes a limit

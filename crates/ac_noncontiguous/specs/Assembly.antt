@@ -2,18 +2,21 @@
 use Rattle.std.specs.Prelude.{◌≡◌, ◌≢◌, ◌⊎◌, ℕ, ◌+◌, ◌<◌, List, length, slice_index, slice_index_or, slice_get, Option, Some, None}
 use Rattle.ac_input.specs.declared.search.MatchKind.{MatchKind}
 use Rattle.ac_input.specs.declared.search.MatchKind.TheVariants.{Standard}
+use Rattle.ac_input.specs.Classes.{AreByteClasses}
 use Rattle.ac_input.specs.Dictionary.{Dictionary}
 use Rattle.ac_noncontiguous.specs.declared.links.Links.{Links}
 use Rattle.ac_noncontiguous.specs.declared.links.Range.{Range}
 use Rattle.ac_noncontiguous.specs.declared.trie.Trie.{Trie}
+use Rattle.ac_noncontiguous.specs.declared.trie.own.OwnPatterns.{OwnPatterns}
 use Rattle.ac_noncontiguous.specs.declared.compiler.numbering.Numbering.{Numbering}
 use Rattle.ac_noncontiguous.specs.declared.nfa.tables.State.{State}
 use Rattle.ac_noncontiguous.specs.declared.nfa.tables.Tables.{Tables}
 use Rattle.ac_noncontiguous.specs.Tree.{depth}
 use Rattle.ac_noncontiguous.specs.Kept.{IsTrieOf}
-use Rattle.ac_noncontiguous.specs.Links.{no_range, AreLinks}
-use Rattle.ac_noncontiguous.specs.Nfa.{kept_of, transitions_from, AreTables, AreByteClasses}
+use Rattle.ac_noncontiguous.specs.Links.{no_range, AreFails, AreLinks}
+use Rattle.ac_noncontiguous.specs.Nfa.{kept_of, transitions_from, AreTables}
 use Rattle.ac_noncontiguous.specs.Numbering.{range_len}
+use Rattle.ac_noncontiguous.specs.Own.{AreOwnChains}
 
 -- the number of a trie state, or that of the dead one
 abbrev pub number_or_dead : List ℕ → Option ℕ → ℕ
@@ -55,3 +58,14 @@ AreTablesFor trie links tables = (m : Dictionary) → IsTrieOf m trie → AreLin
 -- The classes of the tables are those of the bytes of any dictionary for which the trie stands.
 abbrev pub AreClassedFor : Trie → Tables → Type 0
 AreClassedFor trie tables = (m : Dictionary) → IsTrieOf m trie → AreByteClasses m tables.classes
+
+-- the patterns that end in each state of the trie
+abbrev pub AreOwnOf : Trie → OwnPatterns → Type 0
+AreOwnOf trie own = AreOwnChains (length trie.states.items) trie.ends.items 0 own.first.items own.next.items
+
+-- The failures, and the links, are those of any dictionary for which the trie stands.
+abbrev pub AreFailsFor : Trie → List (Option ℕ) → Type 0
+AreFailsFor trie fails = (m : Dictionary) → IsTrieOf m trie → AreFails m trie.states.items fails
+
+abbrev pub AreLinksFor : Trie → Links → Type 0
+AreLinksFor trie links = (m : Dictionary) → IsTrieOf m trie → AreLinks m trie.states.items links

@@ -2,16 +2,18 @@
 use Rattle.std.specs.Prelude.{◌≡◌, ◌≢◌, ℕ, Bool, true, false, List, Option, None, Some}
 use Rattle.std.specs.Borrow.{Bor}
 use Rattle.ac_input.specs.Candidate.{Filter}
-use Rattle.ac_input.specs.Dictionary.{Dictionary}
+use Rattle.ac_input.specs.Classes.{AreByteClasses}
+use Rattle.ac_input.specs.Dictionary.{Dictionary, dictionary_of}
 use Rattle.ac_input.specs.Limits.{IsWithinLimits}
 use Rattle.ac_input.specs.Pairing.{IsPairing}
 use Rattle.ac_input.specs.Same.{IsUnpaired}
 use Rattle.ac_input.specs.declared.search.MatchKind.{MatchKind}
 use Rattle.ac_input.specs.declared.search.MatchKind.TheVariants.{Standard}
 use Rattle.ac_automaton.specs.Automaton.{Built}
-use Rattle.ac_literal.specs.Prefilter.{IsDemanded, IsAdmissible, IsWay}
-use Rattle.ac_noncontiguous.specs.Nfa.{AreTablesOf, AreByteClasses}
-use Rattle.ac_noncontiguous.specs.Standing.{dictionary_of, IsBuildRefused}
+use Rattle.ac_literal.specs.Packed.{bytes_of}
+use Rattle.ac_literal.specs.Prefilter.{IsDemanded, IsAdmissible, IsStrategyFor}
+use Rattle.ac_noncontiguous.specs.Nfa.{AreTablesOf}
+use Rattle.ac_noncontiguous.specs.Standing.{IsBuildRefused}
 use Rattle.ac_noncontiguous.specs.declared.error.BuildErrorKind.{BuildErrorKind}
 use Rattle.ac_noncontiguous.specs.declared.nfa.tables.Tables.{Tables}
 
@@ -31,13 +33,13 @@ pub record AreFirst (s : Settings) : Type 0 where
 
 -- the dictionary of these patterns under the settings
 abbrev pub dictionary_by : Settings → List (Bor (List ℕ)) → Dictionary
-dictionary_by s patterns = dictionary_of patterns s.pairing s.kind
+dictionary_by s patterns = dictionary_of (bytes_of patterns) s.pairing s.kind
 
 -- The prefilter that is held: none where none is wanted; else one wherever one is demanded, and only one that may be built.
 pub record IsHeld (wanted : Bool) (m : Dictionary) (held : Option Filter) : Type 0 where
   pub off : wanted ≡ false → held ≡ None
   pub demanded : wanted ≡ true → IsDemanded m → held ≢ None
-  pub made : (f : Filter) → held ≡ Some f → IsAdmissible m × IsWay f × (f.dictionary ≡ m)
+  pub made : (f : Filter) → held ≡ Some f → IsAdmissible m × IsStrategyFor f × (f.dictionary ≡ m)
 
 -- An automaton was built by the settings for a dictionary, which is within the limits of a build.
 pub record IsBuiltBy (s : Settings) (m : Dictionary) (built : Built) : Type 0 where
@@ -46,9 +48,13 @@ pub record IsBuiltBy (s : Settings) (m : Dictionary) (built : Built) : Type 0 wh
   pub prefilter : IsHeld s.prefilter m built.prefilter
   pub within : IsWithinLimits m
 
+-- an automaton was built by the settings of these patterns
+abbrev pub IsBuiltOf : Settings → List (Bor (List ℕ)) → Built → Type 0
+IsBuiltOf s patterns built = IsBuiltBy s (dictionary_by s patterns) built
+
 -- an automaton was built by the settings that a builder has at first
 abbrev pub IsBuiltAtFirst : List (Bor (List ℕ)) → Built → Type 0
-IsBuiltAtFirst patterns built = (s : Settings) × AreFirst s × IsBuiltBy s (dictionary_by s patterns) built
+IsBuiltAtFirst patterns built = (s : Settings) × AreFirst s × IsBuiltOf s patterns built
 
 -- why there is none by these settings
 abbrev pub IsRefusedAtFirst : List (Bor (List ℕ)) → BuildErrorKind → Type 0

@@ -1,8 +1,13 @@
 -- What stays as a trie grows, and what it stands for.
-use Rattle.std.specs.Prelude.{◌≡◌, ℕ, [], ◌∷◌, ◌++◌, Option}
+use Rattle.std.specs.Prelude.{◌≡◌, ℕ, ◌<◌, List, [], ◌∷◌, ◌++◌, length, Option}
 use Rattle.ac_input.specs.Dictionary.{Dictionary}
+use Rattle.ac_input.specs.Limits.{with_pattern}
+use Rattle.ac_input.specs.States.{BeginsBefore}
+use Rattle.ac_noncontiguous.specs.declared.error.BuildErrorKind.{BuildErrorKind}
 use Rattle.ac_noncontiguous.specs.declared.trie.Trie.{Trie}
-use Rattle.ac_noncontiguous.specs.Standing.{HasEntered}
+use Rattle.ac_noncontiguous.specs.declared.trie.State.{State}
+use Rattle.ac_noncontiguous.specs.Tree.{depth, text}
+use Rattle.ac_noncontiguous.specs.Standing.{HasEntered, IsPatternRefused}
 
 -- the settings, and where the patterns end
 pub record KeepsSettings (old new : Trie) : Type 0 where
@@ -17,8 +22,20 @@ pub record IsNoted (old new : Trie) (end : Option ℕ) : Type 0 where
   pub states : new.states ≡ old.states
   pub ends : new.ends.items ≡ old.ends.items ++ end ∷ []
 
+-- the states of one depth come by the first pattern that begins with their texts
+abbrev pub AreByFirst : Dictionary → List State → Type 0
+AreByFirst m states = (i j : ℕ) → i < j → j < length states → depth states i ≡ depth states j → BeginsBefore m (text states i) (text states j)
+
 -- the trie of the patterns of a dictionary, under its pairing and of its kind
 pub record IsTrieOf (m : Dictionary) (trie : Trie) : Type 0 where
   pub pairing : m.pairing ≡ trie.pairing
   pub kind : m.kind ≡ trie.kind
   pub stands : HasEntered m trie.states.items trie.ends.items
+  pub by_first : AreByFirst m trie.states.items
+
+-- The new trie is that of any dictionary of the old one with one more pattern; or that pattern is refused for any of them.
+abbrev pub TakesPattern : Trie → List ℕ → Trie → Type 0
+TakesPattern old p new = (m : Dictionary) → IsTrieOf m old → IsTrieOf (with_pattern m p) new
+
+abbrev pub RefusesPattern : Trie → List ℕ → BuildErrorKind → Type 0
+RefusesPattern old p kind = (m : Dictionary) → IsTrieOf m old → IsPatternRefused m p kind

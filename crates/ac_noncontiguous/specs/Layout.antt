@@ -1,6 +1,7 @@
 -- How the transitions and the rows of the states are laid out.
 use Rattle.std.specs.Prelude.{◌≡◌, ◌≢◌, ◌⊎◌, ◌↔◌, ℕ, ◌+◌, ◌<◌, ◌≤◌, Bool, true, false, List, length, slice_index, slice_index_or, IsTrue}
 use Rattle.ac_input.specs.Alphabet.{has, class, is_edge, AreClassesOf}
+use Rattle.ac_input.specs.Classes.{IsParted, IsAlone}
 use Rattle.ac_input.specs.Same.{other, same}
 use Rattle.ac_noncontiguous.specs.declared.nfa.tables.Transition.{Transition}
 use Rattle.ac_noncontiguous.specs.declared.trie.Trie.{Trie}
@@ -30,6 +31,7 @@ HasAll start i = (i ≡ 0) ⊎ (i ≡ start) ⊎ (i ≡ start + 1)
 pub record IsLaid (trie : Trie) (numbering : Numbering) (back i from to : ℕ) (transitions : List Transition) : Type 0 where
   pub order : from ≤ to
   pub edges : (k : ℕ) → from ≤ k → k < to → IsEdgeTo trie numbering back i (byte_at transitions k) (next_at transitions k)
+  pub small : (k : ℕ) → from ≤ k → k < to → byte_at transitions k < 256
   pub rising : (j k : ℕ) → from ≤ j → j < k → k < to → byte_at transitions j < byte_at transitions k
   pub missing : (b : ℕ) → b < 256 → ((k : ℕ) → from ≤ k → k < to → byte_at transitions k ≢ b) → IsEdgeTo trie numbering back i b 1
   pub all : HasAll numbering.start i → to ≡ from + 256
@@ -47,14 +49,6 @@ pub record AreLaidOut (trie : Trie) (numbering : Numbering) (back states : ℕ) 
   pub last : slice_index offsets states ≡ length transitions
   pub within : (i : ℕ) → i ≤ states → slice_index offsets i ≤ length transitions
   pub laid : (i : ℕ) → i < states → IsLaid trie numbering back i (slice_index offsets i) (slice_index offsets (i + 1)) transitions
-
--- a class ends behind the byte, and one ends in front of it
-abbrev pub IsParted : List Bool → ℕ → Type 0
-IsParted boundaries byte = (has boundaries byte ≡ true) × ((before : ℕ) → before + 1 ≡ byte → has boundaries before ≡ true)
-
--- the byte is a class of its own
-abbrev pub IsAlone : List ℕ → ℕ → Type 0
-IsAlone classes byte = (b : ℕ) → b < 256 → class classes b ≡ class classes byte → b ≡ byte
 
 -- the byte of each of the first so many states of a trie, and its partner, have boundaries around them
 abbrev pub AreParted : Trie → ℕ → List Bool → Type 0

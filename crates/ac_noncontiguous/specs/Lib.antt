@@ -35,6 +35,7 @@ pub mod Children
 pub mod Failures
 pub mod Links
 pub mod Lists
+pub mod PatternLens
 pub mod Nfa
 pub mod Lookups
 pub mod Starters

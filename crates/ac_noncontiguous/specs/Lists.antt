@@ -13,8 +13,8 @@ abbrev pub range_at : List Range → ℕ → Range
 range_at ranges i = slice_index_or ranges i no_range
 
 -- the range is one of the list
-abbrev pub IsInside : List ℕ → Range → Type 0
-IsInside matches range = range.from + range.len ≤ length matches
+abbrev pub IsRangeOf : List ℕ → Range → Type 0
+IsRangeOf matches range = range.from + range.len ≤ length matches
 
 -- patterns, each once, that end in states of lesser depth than this
 pub record EndAbove (states : List State) (ends : List (Option ℕ)) (deep : ℕ) (list : List ℕ) : Type 0 where
@@ -24,7 +24,7 @@ pub record EndAbove (states : List State) (ends : List (Option ℕ)) (deep : ℕ
 -- Each range is one of the list, with patterns that end in the state or less deep; those of states that weren't asked yet are empty.
 pub record AreRoom (states : List State) (ends : List (Option ℕ)) (ranges : List Range) (matches : List ℕ) : Type 0 where
   pub counted : length ranges ≡ length states
-  pub inside : (i : ℕ) → i < length states → IsInside matches (range_at ranges i)
+  pub inside : (i : ℕ) → i < length states → IsRangeOf matches (range_at ranges i)
   pub above : (i : ℕ) → i < length states → EndAbove states ends (depth states i + 1) (in_range matches (range_at ranges i))
   pub known : (n : ℕ) → Contains matches n → (e : ℕ) × EndsIn ends e n
 
@@ -40,5 +40,5 @@ pub record IsListed (ends : List (Option ℕ)) (i : ℕ) (rest range : Range) (o
   pub list : in_range new range ≡ own ++ in_range old rest
   pub more : List ℕ
   pub kept : new ≡ old ++ more
-  pub inside : IsInside new range
+  pub inside : IsRangeOf new range
   pub known : (n : ℕ) → Contains new n → Contains old n ⊎ EndsIn ends i n

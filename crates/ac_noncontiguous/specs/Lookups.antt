@@ -16,8 +16,8 @@ abbrev pub IsKept : Tables → ℕ → Type 0
 IsKept tables i = ∥ ((m : Dictionary) × (text : ℕ → List ℕ) × (t : AreTables m text tables) × (i < t.len)) ∥₁
 
 -- where a byte leads from a state, whatever dictionary the tables are those of
-abbrev pub Leads : Tables → ℕ → ℕ → ℕ → Type 0
-Leads tables i byte j = (m : Dictionary) (text : ℕ → List ℕ) (t : AreTables m text tables) → i < t.len → (j < t.len) × IsEdge m t.len tables.start text i byte j
+abbrev pub StepsTo : Tables → ℕ → ℕ → ℕ → Type 0
+StepsTo tables i byte j = (m : Dictionary) (text : ℕ → List ℕ) (t : AreTables m text tables) → i < t.len → (j < t.len) × IsEdge m t.len tables.start text i byte j
 
 -- the bytes of some transitions, from one place to another, rise
 abbrev pub AreRisingIn : List Transition → ℕ → ℕ → Type 0
@@ -39,26 +39,26 @@ abbrev pub IsVisited : Tables → Bool → ℕ → Type 0
 IsVisited tables anchored i = IsKept tables i × (i ≢ 1) × (i ≢ other_start tables.start anchored)
 
 -- how many bytes a state has; the dead one has none
-abbrev pub bytes_of : Option (List ℕ) → ℕ
-bytes_of None = 0
-bytes_of (Some state) = length state
+abbrev pub text_len : Option (List ℕ) → ℕ
+text_len None = 0
+text_len (Some state) = length state
 
 -- Some states were looked at, after so many for the same byte: all in all at most two more than the bytes that were given up.
 abbrev pub IsLooked : ℕ → ℕ → ℕ → Steps → Steps → Type 0
 IsLooked done bytes next before after = (looks : ℕ) × Done looks 0 0 before after × (1 ≤ looks) × (done + looks + next ≤ bytes + 2)
 
 -- The state to which a byte leads from another one in a search, and how many states were looked at to find it.
-pub record IsNext (m : Dictionary) (len start : ℕ) (text : ℕ → List ℕ) (anchored : Bool) (done i byte j : ℕ) (before after : Steps) : Type 0 where
+pub record IsNextState (m : Dictionary) (len start : ℕ) (text : ℕ → List ℕ) (anchored : Bool) (done i byte j : ℕ) (before after : Steps) : Type 0 where
   pub within : j < len
   pub stands : j ≢ 1
   pub other : j ≢ other_start start anchored
   pub dead : i ≡ 0 → j ≡ 0
   pub leads : 1 < i → LeadsTo m anchored (text i ++ byte ∷ []) (state_of text j)
-  pub cost : IsLooked done (bytes_of (state_of text i)) (bytes_of (state_of text j)) before after
+  pub cost : IsLooked done (text_len (state_of text i)) (text_len (state_of text j)) before after
 
 -- whatever dictionary the tables are those of
 abbrev pub LeadsNext : Tables → Bool → ℕ → ℕ → ℕ → ℕ → Steps → Steps → Type 0
-LeadsNext tables anchored done i byte j before after = (m : Dictionary) (text : ℕ → List ℕ) (t : AreTables m text tables) → IsOwnInverse m.pairing → i < t.len → IsNext m t.len tables.start text anchored done i byte j before after
+LeadsNext tables anchored done i byte j before after = (m : Dictionary) (text : ℕ → List ℕ) (t : AreTables m text tables) → IsOwnInverse m.pairing → i < t.len → IsNextState m t.len tables.start text anchored done i byte j before after
 
 -- ---- copies
 

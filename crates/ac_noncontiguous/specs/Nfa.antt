@@ -1,16 +1,15 @@
 -- What the states of the automaton stand for, and what its tables keep of them.
-use Rattle.std.specs.Prelude.{◌≡◌, ◌≢◌, ◌↔◌, ◌⊎◌, ℕ, zero, suc, ◌+◌, ◌-◌, ◌<◌, ◌≤◌, map, false, List, [], ◌∷◌, ◌++◌, length, take, drop, slice_index, slice_index_or, slice_get, Option, Some, None, Contains, IsTrue, Bool}
-use Rattle.ac_input.specs.declared.search.MatchKind.{MatchKind}
-use Rattle.ac_input.specs.Alphabet.{class, has, is_edge, AreClassesOf}
+use Rattle.std.specs.Prelude.{◌≡◌, ◌≢◌, ◌↔◌, ◌⊎◌, ℕ, zero, suc, ◌+◌, ◌-◌, ◌<◌, ◌≤◌, map, false, List, [], ◌∷◌, ◌++◌, length, take, drop, slice_index, slice_index_or, Option, Some, None}
+use Rattle.ac_input.specs.Alphabet.{class}
 use Rattle.ac_input.specs.Candidate.{Filter}
-use Rattle.ac_input.specs.Dictionary.{Dictionary, IsEntered, BeginsEntered}
+use Rattle.ac_input.specs.Classes.{AreByteClasses}
+use Rattle.ac_input.specs.Dictionary.{Dictionary, BeginsEntered}
 use Rattle.ac_input.specs.Pairing.{IsPairing}
-use Rattle.ac_input.specs.Same.{same}
 use Rattle.ac_input.specs.Failure.{IsList}
 use Rattle.ac_input.specs.declared.primitives.number.TheConstants.{GREATEST}
-use Rattle.ac_input.specs.Limits.{HasStates}
+use Rattle.ac_input.specs.Limits.{IsPrefix, HasStates, IsWithinLimits}
 use Rattle.ac_input.specs.LiveLaws.{canonical}
-use Rattle.ac_input.specs.States.{LeadsTo, FailsTo}
+use Rattle.ac_input.specs.States.{LeadsTo, FailsTo, BeginsBefore}
 use Rattle.ac_noncontiguous.specs.declared.nfa.tables.State.{State}
 use Rattle.ac_noncontiguous.specs.declared.nfa.tables.Transition.{Transition}
 use Rattle.ac_noncontiguous.specs.declared.nfa.tables.Tables.{Tables}
@@ -76,12 +75,20 @@ state_of text zero = None
 state_of text (suc zero) = None
 state_of text (suc (suc i)) = Some (text (suc (suc i)))
 
--- The texts for which the states stand, from state 2 on: canonical bytes that begin an entered pattern. The empty one stands twice:
--- for the unanchored start, and for the anchored one behind it.
+-- both states stand in front of the starts, or both behind them
+abbrev pub InOneRun : ℕ → ℕ → ℕ → Type 0
+InOneRun start i j = ((1 < i) × (j < start)) ⊎ (start + 1 < i)
+
+-- The texts for which the states stand, from state 2 on: canonical bytes that begin an entered pattern, each such text once, by its
+-- length within each run, and those of one length by the first pattern that begins with them. The empty one stands twice: for the unanchored start, and for the anchored one after it.
 pub record AreTexts (m : Dictionary) (len start : ℕ) (text : ℕ → List ℕ) : Type 0 where
   pub starts : (1 < start) × (start + 1 < len) × (text start ≡ []) × (text (start + 1) ≡ [])
   pub others : (i : ℕ) → 1 < i → i < len → text i ≡ [] → (i ≡ start) ⊎ (i ≡ start + 1)
   pub begin : (i : ℕ) → 1 < i → i < len → BeginsEntered m (text i) × (map (canonical m.pairing) (text i) ≡ text i)
+  pub apart : (i j : ℕ) → 1 < i → i < j → j < len → text i ≡ text j → (i ≡ start) × (j ≡ start + 1)
+  pub all : (t : List ℕ) → IsPrefix m t → (i : ℕ) × (1 < i) × (i < len) × (text i ≡ t)
+  pub deeper : (i j : ℕ) → i < j → j < len → InOneRun start i j → length (text i) ≤ length (text j)
+  pub by_first : (i j : ℕ) → i < j → j < len → InOneRun start i j → length (text i) ≡ length (text j) → BeginsBefore m (text i) (text j)
 
 -- Where a byte leads from a state: to the state that is one byte longer, or else to none (1); but from the unanchored start to
 -- where the byte alone leads, and from the dead state to itself.
@@ -103,6 +110,7 @@ pub record AreTransitions (m : Dictionary) (len start : ℕ) (text : ℕ → Lis
   pub ranges : (i : ℕ) → i < len → transitions_from states i ≤ transitions_from states (i + 1)
   pub last : transitions_from states len ≡ length transitions
   pub edges : (i k : ℕ) → i < len → IsPlaceOf states i k → (next_at transitions k < len) × IsEdge m len start text i (byte_at transitions k) (next_at transitions k)
+  pub small : (i k : ℕ) → i < len → IsPlaceOf states i k → byte_at transitions k < 256
   pub rising : (i j k : ℕ) → i < len → IsPlaceOf states i j → IsPlaceOf states i k → j < k → byte_at transitions j < byte_at transitions k
   pub missing : (i byte : ℕ) → i < len → byte < 256 → ((k : ℕ) → IsPlaceOf states i k → byte_at transitions k ≢ byte) → IsEdge m len start text i byte 1
   pub all : (i : ℕ) → (i ≡ 0) ⊎ (i ≡ start) ⊎ (i ≡ start + 1) → transitions_from states (i + 1) ≡ transitions_from states i + 256
@@ -150,26 +158,6 @@ pub record AreTables (m : Dictionary) (text : ℕ → List ℕ) (tables : Tables
 
 -- ---- what the automaton keeps beside them
 
--- what an automaton of these patterns is made from
-abbrev pub dictionary_from : List (List ℕ) → List ℕ → MatchKind → Dictionary
-dictionary_from patterns pairing kind = record { patterns = patterns; pairing = pairing; kind = kind }
-
--- how long each pattern is
-abbrev pub lens_of : List (List ℕ) → List ℕ
-lens_of patterns = map (λ p. length p) patterns
-
--- no pattern is longer than the greatest number
-abbrev pub AreShort : List (List ℕ) → Type 0
-AreShort patterns = (n : ℕ) (p : List ℕ) → slice_get patterns n ≡ Some p → length p ≤ GREATEST
-
--- the byte stands in an entered pattern, or its partner does
-abbrev pub IsByteOf : Dictionary → ℕ → Type 0
-IsByteOf m byte = (n : ℕ) × (p : List ℕ) × (c : ℕ) × IsEntered m n p × Contains p c × IsTrue (same m.pairing c byte)
-
--- A byte ends a class where it or the next one stands in an entered pattern, or its partner: each of those is a class alone.
-abbrev pub AreByteClasses : Dictionary → List ℕ → Type 0
-AreByteClasses m classes = (boundaries : List Bool) × AreClassesOf boundaries classes × ((b : ℕ) → b < 255 → IsTrue (has boundaries b) ↔ ((byte : ℕ) × (byte < 256) × IsByteOf m byte × IsTrue (is_edge byte byte b)))
-
 -- The tables are those of the automaton of the dictionary.
 abbrev pub AreTablesOf : Dictionary → Tables → Type 0
 AreTablesOf m tables = (text : ℕ → List ℕ) × AreTables m text tables
@@ -184,8 +172,9 @@ last_special tables (Some f) = tables.start + 1
 abbrev pub IsHeldFor : Dictionary → Option Filter → Type 0
 IsHeldFor m held = (f : Filter) → held ≡ Some f → f.dictionary ≡ m
 
--- the tables of an automaton, the classes of its bytes, its prefilter, if it holds one, and its pairing
+-- the tables of an automaton, the classes of its bytes, its prefilter, if it holds one, its limits and its pairing
 pub record AreParts (m : Dictionary) (tables : Tables) (prefilter : Option Filter) : Type 0 where
+  pub within : ∥ IsWithinLimits m ∥₁
   pub stands : ∥ AreTablesOf m tables ∥₁
   pub classed : ∥ AreByteClasses m tables.classes ∥₁
   pub held : IsHeldFor m prefilter

@@ -4,8 +4,11 @@ use Rattle.std.specs.List.{filter}
 use Rattle.ac_noncontiguous.specs.declared.links.Links.{Links}
 use Rattle.ac_noncontiguous.specs.declared.links.Range.{Range}
 use Rattle.ac_noncontiguous.specs.declared.compiler.numbering.Numbering.{Numbering}
-use Rattle.ac_noncontiguous.specs.declared.compiler.numbering.Places.{Places}
+use Rattle.ac_noncontiguous.specs.declared.compiler.numbering.Listed.{Listed}
+use Rattle.ac_noncontiguous.specs.declared.trie.State.{State}
 use Rattle.ac_noncontiguous.specs.Links.{no_range}
+use Rattle.ac_noncontiguous.specs.Nfa.{InOneRun}
+use Rattle.ac_noncontiguous.specs.Order.{ComesBefore}
 
 -- There is a failure and a range for each of so many trie states, and no failure is another.
 pub record FitsTrie (states : ℕ) (links : Links) : Type 0 where
@@ -31,7 +34,7 @@ abbrev pub numbered : List ℕ → List ℕ → List ℕ
 numbered first second = 0 ∷ (0 ∷ first) ++ 0 ∷ [] ++ 0 ∷ [] ++ second
 
 -- the states at which some pattern matches come first, then both starts, and then the others
-pub record AreListed (ranges : List Range) (states : List ℕ) (places : Places) : Type 0 where
+pub record AreListed (ranges : List Range) (states : List ℕ) (places : Listed) : Type 0 where
   pub at : places.at.items ≡ numbered (chosen ranges true states) (chosen ranges false states)
   pub start : places.start ≡ length (chosen ranges true states) + 2
 
@@ -42,6 +45,12 @@ pub record ArePlaces (states : ℕ) (at : List ℕ) (start : ℕ) : Type 0 where
   pub others : (j : ℕ) → 1 < j → j < length at → slice_index at j ≡ 0 → (j ≡ start) ⊎ (j ≡ start + 1)
   pub within : (j : ℕ) → j < length at → slice_index at j < states
   pub all : (i : ℕ) → i < states → (j : ℕ) × (1 < j) × (j < length at) × (slice_index at j ≡ i)
+
+-- In front of the starts and behind them the states stand for trie states in breadth-first order; no two of them but the starts stand
+-- for one.
+pub record AreInRuns (states : List State) (at : List ℕ) (start : ℕ) : Type 0 where
+  pub rising : (j k : ℕ) → j < k → k < length at → InOneRun start j k → ComesBefore states (slice_index at j) (slice_index at k)
+  pub apart : (j k : ℕ) → 1 < j → j < k → k < length at → slice_index at j ≡ slice_index at k → (j ≡ start) × (k ≡ start + 1)
 
 -- each trie state for which a state stands, from a state on, has the first number of those that stand for it
 pub record AreFirstNumbers (at : List ℕ) (from : ℕ) (of : List ℕ) : Type 0 where

@@ -1,5 +1,5 @@
 -- The transitions of a state of which the trie state has one child at most.
-use Rattle.std.specs.Prelude.{◌≡◌, ℕ, ◌<◌, ◌==◌, if◌then◌else◌, List, [], ◌∷◌, slice_index}
+use Rattle.std.specs.Prelude.{◌≡◌, ℕ, ◌<◌, ◌==◌, if◌then◌else◌, List, [], ◌∷◌, ◌++◌, slice_index}
 use Rattle.ac_input.specs.Same.{other}
 use Rattle.ac_input.specs.LiveLaws.{canonical}
 use Rattle.ac_noncontiguous.specs.declared.nfa.tables.Transition.{Transition}
@@ -22,3 +22,7 @@ for_both low partner next = if partner == low then record { byte = low; next = n
 -- those to the only child of a trie state, if it has one
 abbrev pub to_only : Trie → Numbering → ℕ → List Transition
 to_only trie numbering of = if child trie.states.items of == 0 then [] else for_both (first_byte trie of) (other trie.pairing (first_byte trie of)) (slice_index numbering.of.items (child trie.states.items of))
+
+-- they are put after the others; the child's byte, if there is one, is a byte
+abbrev pub AppendsOnly : Trie → Numbering → ℕ → List Transition → List Transition → Type 0
+AppendsOnly trie numbering of old new = (new ≡ old ++ to_only trie numbering of) × (0 < child trie.states.items of → first_byte trie of < 256)

@@ -16,7 +16,7 @@ pub record IsNextEnd (ends : List (Option ℕ)) (i from at : ℕ) : Type 0 where
   pub least : (n : ℕ) → from ≤ n → EndsIn ends i n → at ≤ n
 
 -- from a pattern on: the first one of each state, and of each pattern the next one of the same state
-pub record AreOwn (states : ℕ) (ends : List (Option ℕ)) (from : ℕ) (first next : List ℕ) : Type 0 where
+pub record AreOwnChains (states : ℕ) (ends : List (Option ℕ)) (from : ℕ) (first next : List ℕ) : Type 0 where
   pub lens : (length first ≡ states) × (length next ≡ length ends)
   pub firsts : (i : ℕ) → i < states → IsNextEnd ends i from (slice_index first i)
   pub nexts : (n i : ℕ) → from ≤ n → EndsIn ends i n → IsNextEnd ends i (n + 1) (slice_index next n)

@@ -1,16 +1,22 @@
 -- What the read calls of the automaton answer, and what that says of the texts for which its states stand.
 use Rattle.std.specs.Prelude.{◌≡◌, ◌≢◌, ◌↔◌, ◌⊎◌, ℕ, ◌+◌, ◌-◌, ◌<◌, ◌≤◌, map, List, [], ◌∷◌, ◌++◌, length, slice_get, Option, Some, None}
+use Rattle.ac_input.specs.declared.primitives.number.TheConstants.{GREATEST}
+use Rattle.ac_input.specs.declared.search.Anchored.{Anchored}
+use Rattle.ac_input.specs.declared.search.Anchored.TheVariants.{No, Yes}
+use Rattle.ac_automaton.specs.Automaton.{IsReached}
 use Rattle.ac_input.specs.Candidate.{Filter}
+use Rattle.ac_input.specs.Classes.{AreByteClasses, ClassesLeadAlike}
 use Rattle.ac_input.specs.Dictionary.{Dictionary, BeginsEntered}
-use Rattle.ac_input.specs.Failure.{IsList}
-use Rattle.ac_input.specs.Limits.{canonical_text, HasStates}
-use Rattle.ac_input.specs.States.{FailsTo}
+use Rattle.ac_input.specs.Failure.{IsList, AreOnce}
+use Rattle.ac_input.specs.Input.{is_anchored}
+use Rattle.ac_input.specs.Limits.{canonical_text, IsPrefix, HasStates, IsWithinLimits}
+use Rattle.ac_input.specs.States.{LeadsTo, FailsTo, BeginsBefore}
 use Rattle.ac_noncontiguous.specs.declared.nfa.NFA.{NFA}
 use Rattle.ac_noncontiguous.specs.declared.nfa.read.Special.{Special}
 use Rattle.ac_noncontiguous.specs.declared.nfa.tables.Tables.{Tables}
-use Rattle.ac_noncontiguous.specs.Lookups.{AreSame}
-use Rattle.ac_noncontiguous.specs.Nfa.{state_of, fail_of, depth_of, edge_of, transitions_of, IsEdge, AreTables, AreByteClasses}
-use Rattle.ac_noncontiguous.specs.Reads.{dictionary, built_as, matches_at}
+use Rattle.ac_noncontiguous.specs.Lookups.{other_start, AreSame}
+use Rattle.ac_noncontiguous.specs.Nfa.{state_of, fail_of, depth_of, edge_of, transitions_of, IsEdge, InOneRun, AreTables}
+use Rattle.ac_noncontiguous.specs.Reads.{dictionary, built_as, matches_at, IsRead}
 
 -- ---- what is kept
 
@@ -39,9 +45,14 @@ special_in nfa = record { max_special_id = nfa.max_special; max_match_id = nfa.t
 
 -- ---- what it means
 
--- an automaton of the dictionary has so many states
-abbrev pub CountsIn : NFA → ℕ → Type 0
-CountsIn nfa states = ∥ HasStates (dictionary nfa) states ∥₁
+-- an automaton of the dictionary has so many states, and each has a number
+pub record CountsIn (nfa : NFA) (states : ℕ) : Type 0 where
+  pub counted : ∥ HasStates (dictionary nfa) states ∥₁
+  pub few : states ≤ GREATEST + 1
+
+-- the dictionary is within the limits of a build
+abbrev pub IsWithin : NFA → Type 0
+IsWithin nfa = ∥ IsWithinLimits (dictionary nfa) ∥₁
 
 -- The states stand for these texts, from state 2 on.
 abbrev pub StandFor : NFA → (ℕ → List ℕ) → Type 0
@@ -59,25 +70,26 @@ OfTexts nfa P = (text : ℕ → List ℕ) → StandFor nfa text → P text
 abbrev pub TextsBegin : NFA → Type 0
 TextsBegin nfa = OfTexts nfa (λ text. (sid : ℕ) → 1 < sid → sid < state_len nfa → BeginsEntered (dictionary nfa) (text sid) × (canonical_text (dictionary nfa) (text sid) ≡ text sid))
 
--- The text of a state fails to this state. The dead state and the fail state fail to the dead one, and no state fails to the fail
--- state or to the anchored start.
-pub record IsFailOf (nfa : NFA) (text : ℕ → List ℕ) (sid fail : ℕ) : Type 0 where
+-- The text of a state fails to this state, which is shallower. The dead state and the fail state fail to the dead one, and no state
+-- fails to the fail state or to the anchored start.
+pub record FailsIn (nfa : NFA) (sid fail : ℕ) : Type 0 where
   pub within : fail < state_len nfa
   pub stands : fail ≢ 1
   pub unanchored : fail ≢ (special_in nfa).start_anchored_id
+  pub shallower : 1 < fail → depth_in nfa fail < depth_in nfa sid
   pub dead : sid < 2 → fail ≡ 0
-  pub fails : 1 < sid → FailsTo (dictionary nfa) (text sid) (state_of text fail)
-
-abbrev pub FailsIn : NFA → ℕ → ℕ → Type 0
-FailsIn nfa sid fail = OfTexts nfa (λ text. IsFailOf nfa text sid fail)
+  pub fails : OfTexts nfa (λ text. 1 < sid → FailsTo (dictionary nfa) (text sid) (state_of text fail))
 
 -- the text of a state has so many bytes; to the dead state and to the fail state none lead
 abbrev pub IsDeepIn : NFA → ℕ → ℕ → Type 0
 IsDeepIn nfa sid depth = OfTexts nfa (λ text. (sid < 2 → depth ≡ 0) × (1 < sid → depth ≡ length (text sid)))
 
--- these patterns match at a state; at the dead state and at the fail state none does
-abbrev pub ListsIn : NFA → ℕ → List ℕ → Type 0
-ListsIn nfa sid ns = OfTexts nfa (λ text. (sid < 2 → ns ≡ []) × (1 < sid → IsList (dictionary nfa) (text sid) ns))
+-- These patterns match at a state, each once; at the dead state and at the fail state none does.
+pub record ListsIn (nfa : NFA) (sid : ℕ) (ns : List ℕ) : Type 0 where
+  pub once : AreOnce (dictionary nfa) ns
+  pub few : length ns ≤ GREATEST + 1
+  pub none : sid < 2 → ns ≡ []
+  pub list : OfTexts nfa (λ text. 1 < sid → IsList (dictionary nfa) (text sid) ns)
 
 -- a state that has a transition for each byte: the dead state and both starts
 abbrev pub IsFull : NFA → ℕ → Type 0
@@ -87,20 +99,66 @@ IsFull nfa sid = (sid ≡ 0) ⊎ (sid ≡ (special_in nfa).start_unanchored_id) 
 abbrev pub IsEdgeIn : NFA → (ℕ → List ℕ) → ℕ → ℕ → ℕ → Type 0
 IsEdgeIn nfa text sid byte next = IsEdge (dictionary nfa) (state_len nfa) (special_in nfa).start_unanchored_id text sid byte next
 
--- The transitions of a state lead where their bytes do, in rising order of byte; a byte that none has leads to none. The dead state
--- and both starts have one for each byte, the fail state has none, and each other state has those alone that lead to a state which
--- is one byte longer.
-pub record AreEdges (nfa : NFA) (text : ℕ → List ℕ) (sid : ℕ) (edges : List (ℕ × ℕ)) : Type 0 where
-  pub lead : (k byte next : ℕ) → slice_get edges k ≡ Some (byte, next) → (next < state_len nfa) × IsEdgeIn nfa text sid byte next
+-- The transitions of a state lead where their bytes do; a byte that none has leads to none. Those of a state that isn't full lead to
+-- a state that is one byte longer.
+pub record AreLeading (nfa : NFA) (text : ℕ → List ℕ) (sid : ℕ) (edges : List (ℕ × ℕ)) : Type 0 where
+  pub lead : (k byte next : ℕ) → slice_get edges k ≡ Some (byte, next) → IsEdgeIn nfa text sid byte next
   pub missing : (byte : ℕ) → byte < 256 → ((k next : ℕ) → slice_get edges k ≢ Some (byte, next)) → IsEdgeIn nfa text sid byte 1
+  pub longer : (k byte next : ℕ) → 1 < sid → ¬ IsFull nfa sid → slice_get edges k ≡ Some (byte, next) → BeginsEntered (dictionary nfa) (text sid ++ byte ∷ [])
+
+-- The transitions of a state come in rising order of byte, and each leads to a state. The dead state and both starts have one for each byte, the fail state has none, and each other
+-- state has those alone that lead to a state which is one byte longer.
+pub record AreEdges (nfa : NFA) (sid : ℕ) (edges : List (ℕ × ℕ)) : Type 0 where
+  pub within : (k byte next : ℕ) → slice_get edges k ≡ Some (byte, next) → (byte < 256) × (next < state_len nfa)
   pub rising : (j k b c n o : ℕ) → j < k → slice_get edges j ≡ Some (b, n) → slice_get edges k ≡ Some (c, o) → b < c
   pub all : IsFull nfa sid → length edges ≡ 256
   pub none : sid ≡ 1 → edges ≡ []
-  pub longer : (k byte next : ℕ) → 1 < sid → ¬ IsFull nfa sid → slice_get edges k ≡ Some (byte, next) → (1 < next) × BeginsEntered (dictionary nfa) (text sid ++ byte ∷ [])
+  pub some : (k byte next : ℕ) → ¬ IsFull nfa sid → slice_get edges k ≡ Some (byte, next) → 1 < next
+  pub leading : OfTexts nfa (λ text. AreLeading nfa text sid edges)
 
 -- the transitions of a state are such
 abbrev pub EdgesLeadIn : NFA → ℕ → Type 0
-EdgesLeadIn nfa sid = OfTexts nfa (λ text. AreEdges nfa text sid (edges_in nfa sid))
+EdgesLeadIn nfa sid = AreEdges nfa sid (edges_in nfa sid)
+
+-- a state to which a search of this anchoring may come: not the fail state, and not the other start
+pub record MayBeMet (nfa : NFA) (anchored : Anchored) (sid : ℕ) : Type 0 where
+  pub within : sid < state_len nfa
+  pub stands : sid ≢ 1
+  pub own : sid ≢ other_start (special_in nfa).start_unanchored_id (is_anchored anchored)
+
+-- where a byte leads from a state, all failures followed
+pub record LeadsIn (nfa : NFA) (anchored : Anchored) (sid byte next : ℕ) : Type 0 where
+  pub met : MayBeMet nfa anchored next
+  pub dead : sid ≡ 0 → next ≡ 0
+  pub leads : OfTexts nfa (λ text. 1 < sid → LeadsTo (dictionary nfa) (is_anchored anchored) (text sid ++ byte ∷ []) (state_of text next))
+
+-- ---- which states are read
+
+-- A text is read up to a state exactly where it leads to what the state stands for. So each state past 1 is read from the unanchored start, but for the anchored
+-- one, and from the anchored start, but for the unanchored one: by its own text. The dead state is read wherever a text is dead:
+-- always from the anchored start, and from the unanchored one where a state but the starts fails to it. Under the standard kind no
+-- text is dead from there, so that it can't be read. The fail state is never read.
+pub record AreRead (nfa : NFA) : Type 0 where
+  pub stands : OfTexts nfa (λ names. (anchored : Anchored) (text : List ℕ) (sid : ℕ) → MayBeMet nfa anchored sid → LeadsTo (dictionary nfa) (is_anchored anchored) text (state_of names sid) → IsRead nfa anchored text sid)
+  pub named : OfTexts nfa (λ names. (anchored : Anchored) (text : List ℕ) (sid : ℕ) → IsRead nfa anchored text sid → MayBeMet nfa anchored sid × LeadsTo (dictionary nfa) (is_anchored anchored) text (state_of names sid))
+  pub each : (anchored : Anchored) (sid : ℕ) → 1 < sid → MayBeMet nfa anchored sid → IsReached (IsRead nfa anchored) sid
+  pub dead : IsReached (IsRead nfa Yes) 0
+  pub fails : (sid : ℕ) → 1 < sid → sid < state_len nfa → ¬ IsFull nfa sid → IsReached (IsRead nfa No) (fail_in nfa sid)
+
+-- ---- the order of the states
+
+-- Two states stand for two texts, but for the starts, and each prefix of an entered pattern has one. In front of the starts and
+-- behind them the states come in order of their depth, and those of one depth by the first pattern that begins with their texts.
+pub record AreOrdered (nfa : NFA) (text : ℕ → List ℕ) : Type 0 where
+  pub apart : (i j : ℕ) → 1 < i → i < j → j < state_len nfa → text i ≡ text j → (i ≡ (special_in nfa).start_unanchored_id) × (j ≡ (special_in nfa).start_anchored_id)
+  pub all : (t : List ℕ) → IsPrefix (dictionary nfa) t → (i : ℕ) × (1 < i) × (i < state_len nfa) × (text i ≡ t)
+  pub deeper : (i j : ℕ) → i < j → j < state_len nfa → InOneRun (special_in nfa).start_unanchored_id i j → depth_in nfa i ≤ depth_in nfa j
+  pub by_first : (i j : ℕ) → i < j → j < state_len nfa → InOneRun (special_in nfa).start_unanchored_id i j → depth_in nfa i ≡ depth_in nfa j → BeginsBefore (dictionary nfa) (text i) (text j)
+
+abbrev pub OrderedIn : NFA → Type 0
+OrderedIn nfa = OfTexts nfa (AreOrdered nfa)
+
+-- ---- the numbers between the parts of the states
 
 -- The numbers that stand between the parts of the states. Those at which some pattern matches come first, then the unanchored
 -- start, the anchored one, and the others; where the starts match they are among the first. Both starts stand for the empty text,
@@ -123,6 +181,10 @@ SpecialIn nfa special = OfTexts nfa (λ text. AreBounds nfa text special)
 abbrev pub ClassesAreThose : NFA → Type 0
 ClassesAreThose nfa = ∥ AreByteClasses (dictionary nfa) (classes_in nfa) ∥₁
 
+-- bytes of one class lead alike from every state
+abbrev pub AlikeIn : NFA → Type 0
+AlikeIn nfa = ClassesLeadAlike (dictionary nfa) (classes_in nfa)
+
 -- ---- how it is made
 
 -- it is made for this dictionary, of these tables, and holds this prefilter
@@ -135,8 +197,6 @@ pub record IsMadeOf (m : Dictionary) (from : Tables) (held : Option Filter) (nfa
 
 -- the same automaton once more
 pub record IsCopy (old new : NFA) : Type 0 where
-  pub patterns : new.lens.patterns.items ≡ old.lens.patterns.items
-  pub pairing : new.pairing ≡ old.pairing
-  pub kind : new.kind ≡ old.kind
+  pub dictionary : dictionary new ≡ dictionary old
   pub prefilter : new.prefilter ≡ old.prefilter
   pub tables : AreSame old.tables new.tables

@@ -1,7 +1,7 @@
 -- What the automaton is built as, and what is known of a state that a search has come to.
 use Rattle.std.specs.Prelude.{◌≢◌, ◌↔◌, ℕ, ◌+◌, ◌<◌, ◌==◌, ◌||◌, nat_le, Bool, false, IsTrue, List, Option}
 use Rattle.ac_input.specs.declared.search.Anchored.{Anchored}
-use Rattle.ac_input.specs.Dictionary.{Dictionary, IsLive}
+use Rattle.ac_input.specs.Dictionary.{Dictionary, dictionary_of, IsLive}
 use Rattle.ac_input.specs.Input.{is_anchored}
 use Rattle.ac_input.specs.LiveLaws.{IsOwnInverse}
 use Rattle.ac_input.specs.States.{LeadsTo}
@@ -9,12 +9,12 @@ use Rattle.ac_input.specs.Tells.{Tells}
 use Rattle.ac_automaton.specs.Automaton.{Built, IsSpecial}
 use Rattle.ac_noncontiguous.specs.declared.nfa.NFA.{NFA}
 use Rattle.ac_noncontiguous.specs.declared.nfa.tables.Tables.{Tables}
-use Rattle.ac_noncontiguous.specs.Nfa.{state_of, list_of, dictionary_from, AreTables}
+use Rattle.ac_noncontiguous.specs.Nfa.{state_of, list_of, AreTables}
 use Rattle.ac_noncontiguous.specs.Lookups.{other_start}
 
 -- what the automaton is made from
 abbrev pub dictionary : NFA → Dictionary
-dictionary nfa = dictionary_from nfa.lens.patterns.items nfa.pairing nfa.kind
+dictionary nfa = dictionary_of nfa.lens nfa.pairing nfa.kind
 
 -- what it is built as: more than one state may be looked at for a byte
 abbrev pub built_as : NFA → Built

@@ -1,7 +1,5 @@
 -- What a trie says of the dictionary that it stands for.
-use Rattle.std.specs.Prelude.{◌≡◌, ◌↔◌, ℕ, map, ◌<◌, ◌≤◌, true, List, length, take, slice_get, Option, Some, None}
-use Rattle.std.specs.Borrow.{Bor}
-use Rattle.ac_input.specs.declared.search.MatchKind.{MatchKind}
+use Rattle.std.specs.Prelude.{◌≡◌, ◌↔◌, ℕ, ◌<◌, ◌≤◌, true, List, length, take, slice_get, Option, Some, None}
 use Rattle.ac_input.specs.declared.search.MatchKind.TheVariants.{LeftmostFirst}
 use Rattle.ac_input.specs.Dictionary.{Dictionary, IsPattern, IsShadowed, IsEntered}
 use Rattle.ac_input.specs.declared.primitives.number.TheConstants.{GREATEST}
@@ -34,7 +32,3 @@ IsBuildRefused m (StateIDOverflow max requested) = (max ≡ GREATEST) × (max < 
 IsBuildRefused m (PatternIDOverflow max requested) = (max ≡ GREATEST) × (max < requested) × IsLimitOf m PatternNumber
 IsBuildRefused m (PatternTooLong number len) = IsLimitAt m number PatternLength × ((p : List ℕ) → IsPattern m number p → len ≡ length p)
 IsBuildRefused m Memory = Unit {0}
-
--- what an automaton is made from that is built of these patterns
-abbrev pub dictionary_of : List (Bor (List ℕ)) → List ℕ → MatchKind → Dictionary
-dictionary_of patterns pairing kind = record { patterns = map (λ p. p.now) patterns; pairing = pairing; kind = kind }

@@ -4,7 +4,7 @@ use Rattle.memchr.specs.Find.{is_byte, is_byte2, is_byte3}
 use Rattle.ac_noncontiguous.specs.declared.nfa.starters.Starters.{Starters}
 use Rattle.ac_noncontiguous.specs.declared.nfa.starters.Starters.TheVariants.{None, One, Two, Three, Many}
 use Rattle.ac_noncontiguous.specs.declared.nfa.tables.Tables.{Tables}
-use Rattle.ac_noncontiguous.specs.Lookups.{Leads}
+use Rattle.ac_noncontiguous.specs.Lookups.{StepsTo}
 
 -- whether a byte is one of the starters; of many each may be
 abbrev pub is_starter : Starters → ℕ → Bool
@@ -21,7 +21,7 @@ AddsStarter before added after = (byte : ℕ) → is_starter after byte ≡ fals
 -- the start matches nothing, and the byte leads from it to itself
 pub record IsIdle (tables : Tables) (byte : ℕ) : Type 0 where
   pub plain : tables.max_match < tables.start
-  pub leads : Leads tables tables.start byte tables.start
+  pub leads : StepsTo tables tables.start byte tables.start
 
 -- each byte below this one that is none of the starters is idle
 abbrev pub SkipsBelow : Tables → ℕ → Starters → Type 0

@@ -52,13 +52,13 @@ IsChildBelow states of low c = (0 < c) × (c < length states) × (parent states 
 
 -- The children of a state were followed from the first one on to this one, past those of lesser bytes alone: the one before it
 -- is 0 where it is the first, and it is 0 itself past the last one.
-pub record IsWay (states : List State) (of low before at : ℕ) : Type 0 where
+pub record IsSiblingWalk (states : List State) (of low before at : ℕ) : Type 0 where
   pub first : before ≡ 0 → at ≡ child states of
   pub next : 0 < before → (before < length states) × (parent states before ≡ of) × (byte states before < low) × (at ≡ sibling states before)
 
 -- Where a byte leads from a state, or where a child for it would stand: at the first child from the byte on.
 pub record IsChildPlace (states : List State) (of low before at : ℕ) : Type 0 where
-  pub way : IsWay states of low before at
+  pub way : IsSiblingWalk states of low before at
   pub reached : 0 < at → low ≤ byte states at
 
 -- Each state of the trie is still there, for the same text; only links to children may be others.

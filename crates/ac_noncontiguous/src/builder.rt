@@ -14,7 +14,7 @@ ghost use Rattle.std.specs.Prelude.{◌≡◌, IfOk, IfErr, OnOk};
 ghost use Rattle.ac_input.specs.Dictionary.{Dictionary};
 ghost use Rattle.ac_input.specs.Pairing.{IsFolded};
 ghost use Rattle.ac_input.specs.Limits.{IsWithinLimits};
-ghost use Rattle.ac_noncontiguous.specs.Builder.{AreFirst, AreCompiled, IsBuiltBy, IsBuiltAtFirst, IsRefusedAtFirst, IsHeld, dictionary_by};
+ghost use Rattle.ac_noncontiguous.specs.Builder.{AreFirst, AreCompiled, IsBuiltOf, IsBuiltAtFirst, IsRefusedAtFirst, IsHeld, dictionary_by};
 ghost use Rattle.ac_noncontiguous.specs.Kept.{IsTrieOf};
 ghost use Rattle.ac_noncontiguous.specs.Reads.{built_as};
 ghost use Rattle.ac_noncontiguous.specs.Standing.{IsBuildRefused};
@@ -22,7 +22,7 @@ ghost use Rattle.ac_noncontiguous.specs.Standing.{IsBuildRefused};
 use crate::error::BuildError;
 use crate::links::Links;
 use crate::nfa::NFA;
-use crate::nfa::lens::Lens;
+use crate::nfa::pattern_lens::PatternLens;
 use crate::nfa::tables::Tables;
 use crate::trie::Trie;
 use ac_input::pairing::Pairing;
@@ -169,7 +169,7 @@ impl Builder {
         patterns: &[&[u8]],
     ) -> Result<Option<Prefilter>, AllocError>
         ensures { IfOk result
-            (λ held. IsHeld self.now.prefilter (dictionary_by self.now patterns.now) held) }
+            (IsHeld self.now.prefilter (dictionary_by self.now patterns.now)) }
     {
         if !self.prefilter {
             return Ok(None);
@@ -185,12 +185,11 @@ impl Builder {
     /// and only then. Where several limits are passed, the first pattern that passes one decides.
     /// A caller: `uses::callers::build::thrifty`.
     pub fn build(&self, alloc: Global, patterns: &[&[u8]]) -> Result<NFA, BuildError>
-        ensures built { IfOk result (λ nfa. IsBuiltBy self.now
-            (dictionary_by self.now patterns.now) (built_as nfa)) }
+        ensures built { IfOk result (λ nfa. IsBuiltOf self.now patterns.now (built_as nfa)) }
         ensures refused { IfErr result (IsBuildRefused (dictionary_by self.now patterns.now)) }
     {
         let tables = self.build_tables(alloc, patterns)?;
-        let lens = Lens::of(alloc, patterns)?;
+        let lens = PatternLens::of(alloc, patterns)?;
         let prefilter = self.build_prefilter(alloc, patterns)?;
         Ok(NFA::from_parts(tables, lens, prefilter, self.pairing, self.kind))
     }

@@ -104,6 +104,15 @@ impl BuildError {
     }
 }
 
+impl From<BuildErrorKind> for BuildError {
+    ghost from_gives = { λ kind error. error ≡ kind };
+
+    /// An automaton that is made from this one is refused for the same reasons.
+    fn from(kind: BuildErrorKind) -> BuildError {
+        BuildError { kind }
+    }
+}
+
 impl From<AllocError> for BuildError {
     ghost from_gives = { λ _ error. error ≡ Memory };
 

@@ -1,16 +1,16 @@
 //! To which state each state of a trie fails, and which patterns match there.
 //!
 //! The patterns of a state are its own, and then those of the state to which it fails. They are a range of one list: a state
-//! without patterns of its own shares the range of its failure, and another one has a copy behind its own. No pattern stands
+//! without patterns of its own shares the range of its failure, and another one has a copy after its own. No pattern stands
 //! twice in a range.
 ghost use Rattle.std.specs.Prelude.{◌≡◌, ℕ, ◌+◌, ◌<◌, length, slice_get, Some, IfOk};
 ghost use Rattle.ac_input.specs.Dictionary.{Dictionary};
 ghost use Rattle.ac_noncontiguous.specs.Tree.{depth};
 ghost use Rattle.ac_noncontiguous.specs.Kept.{IsTrieOf};
-ghost use Rattle.ac_noncontiguous.specs.Own.{AreOwn};
+ghost use Rattle.ac_noncontiguous.specs.Assembly.{AreOwnOf, AreLinksFor};
 ghost use Rattle.ac_noncontiguous.specs.Order.{IsBreadthFirst};
 ghost use Rattle.ac_noncontiguous.specs.Links.{AreFails, AreLinks, in_range};
-ghost use Rattle.ac_noncontiguous.specs.Lists.{IsInside, EndAbove, IsRest, IsListed};
+ghost use Rattle.ac_noncontiguous.specs.Lists.{IsRangeOf, EndAbove, IsRest, IsListed};
 ghost use Rattle.ac_noncontiguous.specs.Failures.{AreShallower};
 
 use crate::trie::Trie;
@@ -58,10 +58,9 @@ fn push_list(
     rest: &Range,
     matches: &mut Vec<PatternID>,
 ) -> Result<Range, AllocError>
-    requires own { AreOwn (length trie.now.states.items) trie.now.ends.items 0
-        own.now.first.items own.now.next.items }
+    requires own { AreOwnOf trie.now own.now }
     requires within { id < length trie.now.states.items }
-    requires inside { IsInside matches.old.items rest.now }
+    requires inside { IsRangeOf matches.old.items rest.now }
     requires above { EndAbove trie.now.states.items trie.now.ends.items
         (depth trie.now.states.items id) (in_range matches.old.items rest.now) }
     ensures { IfOk result (λ range.
@@ -81,8 +80,7 @@ impl Links {
     /// The links of a trie. The order is that of [`breadth_first`](Trie::breadth_first).
     pub(crate) fn of(alloc: Global, trie: &Trie, order: &[StateID]) -> Result<Links, AllocError>
         requires { IsBreadthFirst trie.now.states.items order.now }
-        ensures { IfOk result (λ links. (m : Dictionary) → IsTrieOf m trie.now →
-            AreLinks m trie.now.states.items links) }
+        ensures { IfOk result (AreLinksFor trie.now) }
     {
         let fails = trie.failures(alloc, order)?;
         Links::from_fails(alloc, trie, order, fails)

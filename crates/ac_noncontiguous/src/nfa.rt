@@ -7,19 +7,22 @@
 //!
 //! It is the automaton that is made first, fast to build and thrifty; the others are made from it by its read calls.
 mod automaton;
-pub(crate) mod lens;
+pub mod pattern_lens;
 pub mod read;
 pub(crate) mod starters;
 pub(crate) mod tables;
 
 ghost use Rattle.std.specs.Prelude.{◌≡◌, ◌≤◌, ◌+◌, if◌then◌else◌};
 ghost use Rattle.std.proofs.Props.{props};
+ghost use Rattle.ac_input.specs.Classes.{AreByteClasses};
+ghost use Rattle.ac_input.specs.Dictionary.{dictionary_of};
+ghost use Rattle.ac_input.specs.Limits.{IsWithinLimits};
 ghost use Rattle.ac_input.specs.Pairing.{IsPairing};
 ghost use Rattle.ac_input.specs.declared.primitives.number.TheConstants.{GREATEST};
-ghost use Rattle.ac_noncontiguous.specs.Nfa.{dictionary_from, AreTablesOf, AreByteClasses, last_special, IsHeldFor, AreParts};
+ghost use Rattle.ac_noncontiguous.specs.Nfa.{AreTablesOf, last_special, IsHeldFor, AreParts};
 ghost use Rattle.ac_noncontiguous.specs.Starters.{SkipsIdle};
 
-use crate::nfa::lens::Lens;
+use crate::nfa::pattern_lens::PatternLens;
 use crate::nfa::starters::Starters;
 use crate::nfa::tables::Tables;
 use ac_input::pairing::Pairing;
@@ -32,20 +35,19 @@ use ac_literal::prefilter::Prefilter;
 pub struct NFA {
     tables: Tables,
     starters: Starters,
-    lens: Lens,
+    lens: PatternLens,
     /// The last state at which a search has more to do than to read on.
     max_special: StateID,
     prefilter: Option<Prefilter>,
     pairing: Pairing,
     kind: MatchKind,
     ghost paired: { IsPairing pairing },
-    ghost stands: { ∥ AreTablesOf (dictionary_from lens.patterns.items pairing kind) tables ∥₁ },
-    ghost classed: { ∥ AreByteClasses (dictionary_from lens.patterns.items pairing kind)
-        tables.classes ∥₁ },
+    ghost within: { ∥ IsWithinLimits (dictionary_of lens pairing kind) ∥₁ },
+    ghost stands: { ∥ AreTablesOf (dictionary_of lens pairing kind) tables ∥₁ },
+    ghost classed: { ∥ AreByteClasses (dictionary_of lens pairing kind) tables.classes ∥₁ },
     ghost special: { max_special ≡ last_special tables prefilter },
     ghost skips: { ∥ SkipsIdle tables starters ∥₁ },
-    ghost held: { IsHeldFor (dictionary_from lens.patterns.items pairing kind)
-        prefilter } by { Prim.hlevel props },
+    ghost held: { IsHeldFor (dictionary_of lens pairing kind) prefilter } by { Prim.hlevel props },
 }
 
 /// The last state at which a search has more to do than to read on.
@@ -66,14 +68,13 @@ impl NFA {
     /// The automaton of these tables, patterns and settings.
     pub(crate) fn from_parts(
         tables: Tables,
-        lens: Lens,
+        lens: PatternLens,
         prefilter: Option<Prefilter>,
         pairing: Pairing,
         kind: MatchKind,
     ) -> NFA
-        requires { AreParts (dictionary_from lens.patterns.items pairing kind) tables prefilter }
-        ensures { IsMadeOf (dictionary_from lens.patterns.items pairing kind) tables prefilter
-            result }
+        requires { AreParts (dictionary_of lens pairing kind) tables prefilter }
+        ensures { IsMadeOf (dictionary_of lens pairing kind) tables prefilter result }
     {
         let max_special = last_special_of(&tables, prefilter.is_some());
         let starters = Starters::of(&tables);

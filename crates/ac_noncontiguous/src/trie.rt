@@ -15,13 +15,14 @@ ghost use Rattle.std.specs.Prelude.{◌≡◌, ℕ, Some, ◌+◌, ◌<◌, ◌�
 ghost use Rattle.ac_input.specs.Same.{other};
 ghost use Rattle.ac_input.specs.Pairing.{IsPairing};
 ghost use Rattle.ac_input.specs.LiveLaws.{canonical};
-ghost use Rattle.ac_input.specs.Dictionary.{Dictionary};
+ghost use Rattle.ac_input.specs.Dictionary.{Dictionary, dictionary_of};
 ghost use Rattle.ac_input.specs.declared.primitives.number.TheConstants.{GREATEST};
 ghost use Rattle.ac_input.specs.Limits.{without_patterns, with_pattern};
+ghost use Rattle.ac_literal.specs.Packed.{bytes_of};
 ghost use Rattle.ac_noncontiguous.specs.Own.{AreEnds};
 ghost use Rattle.ac_noncontiguous.specs.Tree.{IsTree, IsChildPlace, IsAdded, state_at, is_match, byte as byte_of};
 ghost use Rattle.ac_noncontiguous.specs.Entering.{IsMarked, IsChildStep, IsChildRefused, IsEnd, IsStuck};
-ghost use Rattle.ac_noncontiguous.specs.Standing.{dictionary_of, IsPatternRefused, IsBuildRefused};
+ghost use Rattle.ac_noncontiguous.specs.Standing.{IsPatternRefused, IsBuildRefused};
 
 mod children;
 mod failures;
@@ -58,7 +59,7 @@ pub(crate) struct State {
 
 /// Where the child for a byte is, or would be: the first child from the byte on, and the one before it.
 #[derive(Clone, Copy, Drop)]
-struct Place {
+struct ChildSlot {
     before: StateID,
     at: StateID,
 }
@@ -81,7 +82,7 @@ pub(crate) struct Trie {
 }
 
 impl Trie {
-    ghost use Rattle.ac_noncontiguous.specs.Kept.{KeepsSettings, IsNoted, IsTrieOf};
+    ghost use Rattle.ac_noncontiguous.specs.Kept.{KeepsSettings, IsNoted, IsTrieOf, TakesPattern, RefusesPattern};
 
     /// The trie of no patterns: the start alone.
     pub(crate) fn new(alloc: Global, kind: MatchKind, pairing: Pairing) -> Result<Trie, BuildError>
@@ -116,8 +117,8 @@ impl Trie {
         pairing: Pairing,
         kind: MatchKind,
     ) -> Result<Trie, BuildError>
-        ensures made { IfOk result (IsTrieOf (dictionary_of patterns.now pairing kind)) }
-        ensures refused { IfErr result (IsBuildRefused (dictionary_of patterns.now pairing kind)) }
+        ensures made { IfOk result (IsTrieOf (dictionary_of (bytes_of patterns.now) pairing kind)) }
+        ensures refused { IfErr result (IsBuildRefused (dictionary_of (bytes_of patterns.now) pairing kind)) }
     {
         let mut trie = Trie::new(alloc, kind, pairing)?;
         for pattern in patterns {
@@ -142,20 +143,20 @@ impl Trie {
     }
 
     /// Where the byte leads from the state, or where a child for it belongs.
-    fn place(&self, of: StateID, byte: u8) -> Place
+    fn place(&self, of: StateID, byte: u8) -> ChildSlot
         requires { of < length self.now.states.items }
         ensures { IsChildPlace self.now.states.items of byte result.before result.at }
     {
-        let Place { mut before, mut at } = self.from_where(of, byte);
+        let ChildSlot { mut before, mut at } = self.from_where(of, byte);
         while at != StateID::ZERO && self.state(at).byte < byte {
             before = at;
             at = self.state(at).sibling;
         }
-        Place { before, at }
+        ChildSlot { before, at }
     }
 
     /// Gives the state a child for the byte, at the place for it.
-    fn add_child(&mut self, of: StateID, byte: u8, place: Place) -> Result<StateID, BuildError>
+    fn add_child(&mut self, of: StateID, byte: u8, place: ChildSlot) -> Result<StateID, BuildError>
         requires within { of < length self.old.states.items }
         requires place { IsChildPlace self.old.states.items of byte place.before place.at }
         requires missing { 0 < place.at → byte < byte_of self.old.states.items place.at }
@@ -192,7 +193,7 @@ impl Trie {
     fn child_for(&mut self, of: StateID, byte: u8) -> Result<StateID, BuildError>
         requires { of < length self.old.states.items }
         ensures step { IfOk result
-            (λ id. IsChildStep self.old.states.items self.new.states.items of byte id) }
+            (IsChildStep self.old.states.items self.new.states.items of byte) }
         ensures refused { IfErr result (λ kind. IsChildRefused self.old.states.items of byte kind) }
         ensures rest { KeepsSettings self.old self.new }
     {
@@ -208,7 +209,7 @@ impl Trie {
     fn found_or_added(&mut self, of: StateID, byte: u8) -> Result<StateID, BuildError>
         requires { of < length self.old.states.items }
         ensures step { IfOk result
-            (λ id. IsChildStep self.old.states.items self.new.states.items of byte id) }
+            (IsChildStep self.old.states.items self.new.states.items of byte) }
         ensures refused { IfErr result (λ kind. IsChildRefused self.old.states.items of byte kind) }
         ensures rest { KeepsSettings self.old self.new }
     {
@@ -297,10 +298,8 @@ impl Trie {
     ///
     /// After an error the trie may have states of a pattern that wasn't added whole: it is given up.
     pub(crate) fn add(&mut self, pattern: &[u8]) -> Result<(), BuildError>
-        ensures added { IfOk result (λ _. (m : Dictionary) → IsTrieOf m self.old →
-            IsTrieOf (with_pattern m pattern.now) self.new) }
-        ensures refused { IfErr result
-            (λ kind. (m : Dictionary) → IsTrieOf m self.old → IsPatternRefused m pattern.now kind) }
+        ensures added { IfOk result (λ _. TakesPattern self.old pattern.now self.new) }
+        ensures refused { IfErr result (RefusesPattern self.old pattern.now) }
     {
         let number = self.ends.len();
         if number > PatternID::MAX.as_usize() {

@@ -2,9 +2,9 @@
 use Rattle.std.proofs.Common.{◌≡◌, ℕ, ◌+◌, ◌-◌, ◌<◌, ◌≤◌, Some, List, length, sym, ◌∙◌, ap, subst, ◌⊎◌, arith}
 use Rattle.std.specs.Prelude.{slice_get}
 use Rattle.std.proofs.lemmas.Option.{slice_get_within, same_Some}
-use Rattle.ac_input.specs.Occurrence.{Search, Occurrence, Occurs}
+use Rattle.ac_input.specs.Occurrence.{Search, Occurrence, Occurs, StartsAt}
 use Rattle.ac_input.proofs.OrderLemmas.{occurs-end, occurrence_from_parts}
-use Rattle.ac_plain.specs.Naive.{StartsAt, EndsAt}
+use Rattle.ac_plain.specs.Naive.{EndsAt}
 
 -- a search lies within its haystack where the same search does
 pub fits_too : {s t : Search} → s ≡ t → s.end ≤ length s.haystack → t.end ≤ length t.haystack

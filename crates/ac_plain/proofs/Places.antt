@@ -5,11 +5,11 @@ use Rattle.std.specs.Cmp.{nat_cmp_is}
 use Rattle.std.proofs.lemmas.Bool.{cases_lt}
 use Rattle.ac_input.specs.declared.search.MatchKind.{MatchKind}
 use Rattle.ac_input.specs.declared.search.MatchKind.TheVariants.{Standard, LeftmostFirst, LeftmostLongest}
-use Rattle.ac_input.specs.Occurrence.{Search, Occurrence, Occurs}
+use Rattle.ac_input.specs.Occurrence.{Search, Occurrence, Occurs, StartsAt}
 use Rattle.ac_input.specs.Best.{preference, IsLeast, IsBest}
 use Rattle.ac_input.proofs.OrderLemmas.{preference-itself, less-not_greater, occurrence_from_parts}
 use Rattle.ac_input.proofs.RisingLemmas.{less_by_number}
-use Rattle.ac_plain.specs.Naive.{StartsAt, LiesAlike}
+use Rattle.ac_plain.specs.Naive.{LiesAlike}
 
 -- the leftmost kinds prefer the earlier start
 earlier_start : (kind : MatchKind) → kind ≢ Standard → (a o : Occurrence) → a.start < o.start → preference kind a o ≡ Less

@@ -17,10 +17,6 @@ abbrev pub IsOnly : (Occurrence → Type 0) → Option Occurrence → Type 0
 IsOnly P None = (o : Occurrence) → ¬ P o
 IsOnly P (Some it) = P it × ((o : Occurrence) → P o → o ≡ it)
 
--- the occurrences of a search that start at a place
-abbrev pub StartsAt : Search → ℕ → Occurrence → Type 0
-StartsAt s at o = Occurs s o × (o.start ≡ at)
-
 -- the occurrences of a search that end at a place
 abbrev pub EndsAt : Search → ℕ → Occurrence → Type 0
 EndsAt s end o = Occurs s o × (o.end ≡ end)

@@ -11,12 +11,12 @@
 //! the calls that collect all picks or all occurrences take memory.
 ghost use Rattle.std.specs.Prelude.{◌≡◌, ◌≢◌, ◌↔◌, ◌+◌, ◌≤◌, None, map, length, option_map, slice_get, IsTrue, IfOk};
 ghost use Rattle.ac_input.specs.Same.{same_text};
-ghost use Rattle.ac_input.specs.Occurrence.{Occurs, starting_at};
+ghost use Rattle.ac_input.specs.Occurrence.{Occurs, starting_at, StartsAt};
 ghost use Rattle.ac_input.specs.Best.{preference, IsLeast, IsBest, asked_kind, IsAfter, IsNext};
 ghost use Rattle.ac_input.specs.Walk.{Repeats, IsPick, IsWalk};
 ghost use Rattle.ac_input.specs.Computed.{walk_of};
 ghost use Rattle.ac_input.specs.Listing.{IsListing};
-ghost use Rattle.ac_plain.specs.Naive.{search_for, IsOnly, StartsAt, EndsAt, EndsAfter, ReachesAfter, LiesAlike, preferred};
+ghost use Rattle.ac_plain.specs.Naive.{search_for, IsOnly, EndsAt, EndsAfter, ReachesAfter, LiesAlike, preferred};
 
 pub mod picks;
 
@@ -30,7 +30,7 @@ use std::marker::Model;
 /// An occurrence: which pattern lies where.
 ///
 /// A pattern is told by its number, counted from 0 in the order in which the patterns were given. There is no table here, so
-/// any number will do. `start` is the place of the first byte, and `end` the place behind the last one, both counted from the
+/// any number will do. `start` is the place of the first byte, and `end` the place after the last one, both counted from the
 /// haystack's start.
 #[derive(Clone, Copy, Debug, PartialEq, Eq)]
 pub struct Found {

@@ -14,46 +14,44 @@ use Rattle.ac_input.proofs.UnpairedLemmas.{walk_after-unpaired}
 use Rattle.ac_input.proofs.WalkLemmas.{walk_of-walk}
 use Rattle.ac_literal.specs.declared.packed.api.MatchKind.TheVariants as packed_kind
 use Rattle.ac_literal.specs.declared.packed.api.MatchKind as packed_kinds
-use Rattle.ac_literal.specs.Packed.{AreServed, Packed, pattern_at, search_kind, searched}
+use Rattle.ac_literal.specs.Packed.{AreServed, Packed, pattern_at, search_kind, part_search}
 use Rattle.ac_automaton.specs.Automaton.{Built, walk_in, listing_in}
 use Rattle.ac_automaton.specs.OverlappingIter.{CanRun}
 use Rattle.ac_automaton.specs.Replace.{LieInOrder}
-use Rattle.acsub.specs.Finder.{IsFinderOf, whole_search, whole_walk, whole_listing}
+use Rattle.acsub.specs.Finder.{IsFinderOf, IsServing, whole_search, whole_walk, whole_listing}
 use Rattle.acsub.specs.Lines.{rule_at}
 use Rattle.acsub.specs.Settings.{IsAccepted}
 use Rattle.acsub.specs.Sides.{patterns_of}
-use Rattle.acsub.specs.declared.finder.Finder.TheVariants as finders
+use Rattle.acsub.specs.Plan.{Plan}
+use Rattle.acsub.specs.declared.prepared.Finder.TheVariants as finders
 use Rattle.acsub.specs.declared.settings.Engine.TheVariants as engine
 use Rattle.acsub.specs.declared.settings.Mode.TheVariants as mode
 use Rattle.acsub.specs.declared.settings.SettingError.TheVariants as error
 use Rattle.acsub.specs.declared.settings.Settings.{Settings}
 use Rattle.acsub.proofs.RewriteLemmas.{walk-lies}
 
--- the walk of a packed search that serves the settings is the one that they ask
-pub packed-walk : {A : Type 0} (built : A → Built) (supports : A → Anchored → Type 0) (settings : Settings) (patterns : List (List ℕ)) (input : List ℕ) (searcher : Packed) → IsFinderOf built supports settings patterns (finders.Packed searcher)
-    → walk_of (search_kind searcher.kind) (searched searcher.patterns input 0 (length input)) ≡ whole_walk settings patterns input
-packed-walk built supports settings patterns input searcher serves =
-    ap (λ (k : kinds.MatchKind). walk_of k (searched searcher.patterns input 0 (length input))) serves.0.0
-    ∙ ap (λ (ps : List (List ℕ)). walk_of settings.kind (searched ps input 0 (length input))) serves.0.1
-    ∙ walk_after-unpaired settings.kind (whole_search settings patterns input) [] settings.pairing (λ byte. refl) serves.1 0 None
+-- the walk of a packed search that serves a plan is the one that the plan asks
+pub packed-walk : {A : Type 0} (built : A → Built) (supports : A → Anchored → Type 0) (plan : Plan) (input : List ℕ) (searcher : Packed) → IsFinderOf built supports plan.settings plan.rules (finders.Packed searcher)
+    → walk_of (search_kind searcher.kind) (part_search searcher.patterns input 0 (length input)) ≡ whole_walk plan input
+packed-walk built supports plan input searcher serves =
+    ap (λ (k : kinds.MatchKind). walk_of k (part_search searcher.patterns input 0 (length input))) serves.0.0
+    ∙ ap (λ (ps : List (List ℕ)). walk_of plan.settings.kind (part_search ps input 0 (length input))) serves.0.1
+    ∙ walk_after-unpaired plan.settings.kind (whole_search plan.settings (patterns_of plan.rules) input) [] plan.settings.pairing (λ byte. refl) serves.1 0 None
 
--- so is the walk of an automaton that was built for them
-pub automaton-walk : {A : Type 0} (built : A → Built) (supports : A → Anchored → Type 0) (settings : Settings) (patterns : List (List ℕ)) (input : List ℕ) (automaton : A) → IsFinderOf built supports settings patterns (finders.Automaton automaton)
-    → walk_in (built automaton) (whole_of input) ≡ whole_walk settings patterns input
-automaton-walk built supports settings patterns input automaton serves =
-    ap (λ (m : Dictionary). walk_of m.kind (search_in m (whole_of input))) serves.0
+-- so is the walk of an automaton that serves it
+pub automaton-walk : (b : Built) (supports : Anchored → Type 0) (plan : Plan) (input : List ℕ) → IsServing plan b supports
+    → walk_in b (whole_of input) ≡ whole_walk plan input
+automaton-walk b supports plan input serves = ap (λ (m : Dictionary). walk_of m.kind (search_in m (whole_of input))) serves.dictionary
 
 -- and its listing
-pub automaton-listing : {A : Type 0} (built : A → Built) (supports : A → Anchored → Type 0) (settings : Settings) (patterns : List (List ℕ)) (input : List ℕ) (automaton : A) → IsFinderOf built supports settings patterns (finders.Automaton automaton)
-    → listing_in (built automaton) (whole_of input) ≡ whole_listing settings patterns input
-automaton-listing built supports settings patterns input automaton serves =
-    ap (λ (m : Dictionary). listing_of (search_in m (whole_of input))) serves.0
+pub automaton-listing : (b : Built) (supports : Anchored → Type 0) (plan : Plan) (input : List ℕ) → IsServing plan b supports
+    → listing_in b (whole_of input) ≡ whole_listing plan input
+automaton-listing b supports plan input serves = ap (λ (m : Dictionary). listing_of (search_in m (whole_of input))) serves.dictionary
 
 -- under the standard kind it can list
-pub automaton-runs : {A : Type 0} (built : A → Built) (supports : A → Anchored → Type 0) (settings : Settings) (patterns : List (List ℕ)) (input : List ℕ) (automaton : A) → IsFinderOf built supports settings patterns (finders.Automaton automaton)
-    → settings.kind ≡ kind.Standard → CanRun (built automaton) (supports automaton) (whole_of input)
-automaton-runs built supports settings patterns input automaton serves standard =
-    ((serves.1, ap (λ (m : Dictionary). m.kind) serves.0 ∙ standard), refl)
+pub automaton-runs : (b : Built) (supports : Anchored → Type 0) (plan : Plan) (input : List ℕ) → IsServing plan b supports
+    → plan.settings.kind ≡ kind.Standard → CanRun b supports (whole_of input)
+automaton-runs b supports plan input serves standard = ((serves.start, ap (λ (m : Dictionary). m.kind) serves.dictionary ∙ standard), refl)
 
 -- packed search has no standard kind
 pub packed-leftmost : (k : packed_kinds.MatchKind) → search_kind k ≢ kind.Standard
@@ -61,10 +59,10 @@ packed-leftmost packed_kind.LeftmostFirst e = cc
 packed-leftmost packed_kind.LeftmostLongest e = cc
 
 -- the picks of a whole input lie in order
-pub whole-lies : (settings : Settings) (rules : List Rule) (input : List ℕ) → LieInOrder (length rules) (length input) 0 (whole_walk settings (patterns_of rules) input)
+pub whole-lies : (settings : Settings) (rules : List Rule) (input : List ℕ) → LieInOrder (length rules) (length input) 0 (whole_walk (record { settings = settings; rules = rules }) input)
 whole-lies settings rules input =
     let lies = walk-lies settings.kind (whole_search settings (patterns_of rules) input) 0 None _ (walk_of-walk settings.kind (whole_search settings (patterns_of rules) input) (omega arith)) in
-    subst (λ (count : ℕ). LieInOrder count (length input) 0 (whole_walk settings (patterns_of rules) input)) (length-map rules (λ (rule : Rule). rule.0)) lies
+    subst (λ (count : ℕ). LieInOrder count (length input) 0 (whole_walk (record { settings = settings; rules = rules }) input)) (length-map rules (λ (rule : Rule). rule.0)) lies
 
 -- overlapping matches are asked under the standard kind alone
 overlap-kind : (s : Settings) (rules : List Rule) (k : kinds.MatchKind) → IsAccepted s rules → s.mode ≡ mode.Overlap → s.kind ≡ k → k ≡ kind.Standard

@@ -5,7 +5,7 @@ use Rattle.std.proofs.Math.Seq.{take-append-add, take-append_seam}
 use Rattle.std.proofs.lemmas.List.{append-nil, take-take, take-append-le, length-take-le}
 use Rattle.std.proofs.lemmas.List.Folds.{concat-append}
 
--- the front of a buffer after a read behind it
+-- the front of a buffer after a read beyond it
 pub filled-more : (xs ys tail rest : List ℕ) (len filled n : ℕ) → filled + n ≤ len → filled ≤ length xs → n ≤ length ys → take (filled + n) (take len ((take filled xs ++ (ys ++ tail)) ++ rest)) ≡ take filled xs ++ take n ys
 filled-more xs ys tail rest len filled n fits within enough =
     let front : length (take filled xs) ≡ filled = length-take-le filled xs within in

@@ -8,6 +8,8 @@ pub mod ParseLemmas
 pub mod PlaceLemmas
 pub mod TypedLemmas
 pub mod FinderLemmas
+pub mod CountLemmas
+pub mod SendingLemmas
 pub mod BuiltLemmas
 pub mod StreamListLemmas
 pub mod StreamedLemmas

@@ -39,10 +39,10 @@ pub replaced-step : (at : ℕ) (o : Occurrence) (picks rest : List Occurrence) (
     → front ++ replaced_from at input replacements picks ≡ text
     → (front ++ (before ++ replacement)) ++ replaced_from o.end input replacements rest ≡ text
 replaced-step at o picks rest input replacements front before replacement text is is_before is_replacement e =
-    let behind = replaced_from o.end input replacements rest in
-    append_assoc front (before ++ replacement) behind
-    ∙ ap (λ (t : List ℕ). front ++ ((t ++ replacement) ++ behind)) is_before
-    ∙ ap (λ (t : List ℕ). front ++ ((slice_range input at o.start ++ t) ++ behind)) is_replacement
+    let later = replaced_from o.end input replacements rest in
+    append_assoc front (before ++ replacement) later
+    ∙ ap (λ (t : List ℕ). front ++ ((t ++ replacement) ++ later)) is_before
+    ∙ ap (λ (t : List ℕ). front ++ ((slice_range input at o.start ++ t) ++ later)) is_replacement
     ∙ ap (λ (os : List Occurrence). front ++ replaced_from at input replacements os) (sym is)
     ∙ e
 

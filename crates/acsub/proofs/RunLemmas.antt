@@ -22,7 +22,7 @@ use Rattle.acsub.specs.Settings.{IsAccepted}
 use Rattle.acsub.specs.Stream.{IsToldAs}
 use Rattle.acsub.specs.Transformed.{IsStreamed, output_of}
 use Rattle.acsub.specs.Run.{AnswersRun, HasBegun, IsFileBuildable, Ran, RanRules, RanToFailedWrite, Accepts, Prepares}
-use Rattle.acsub.specs.Finder.{Builds, IsBuildable}
+use Rattle.acsub.specs.Finder.{Builds, FailsToBuild, IsBuildable}
 use Rattle.acsub.specs.Plan.{Plan}
 
 -- nothing was moved
@@ -162,7 +162,7 @@ accepted_error settings file errors.Memory h = h
 accepted_error settings file errors.Position h = absurd h
 
 -- and so is why nothing was built of rules that are accepted
-pub built_error : (settings : Settings) (file : List ℕ) (rules : List Rule) (e : RunError) → IsRuleFile file rules → IsAccepted settings rules → Builds settings rules (Err e) → Prepares settings file (Err e)
+built_error : (settings : Settings) (file : List ℕ) (rules : List Rule) (e : RunError) → IsRuleFile file rules → IsAccepted settings rules → FailsToBuild settings rules e → Prepares settings file (Err e)
 built_error settings file rules (errors.Rule e) grammar accepted h = absurd h
 built_error settings file rules (errors.Setting e) grammar accepted h = absurd h
 built_error settings file rules (errors.Build kind) grammar accepted h = (rules, grammar, accepted, h)
@@ -171,3 +171,9 @@ built_error settings file rules (errors.Write e) grammar accepted h = absurd h
 built_error settings file rules errors.WriteZero grammar accepted h = absurd h
 built_error settings file rules errors.Memory grammar accepted h = (rules, grammar)
 built_error settings file rules errors.Position grammar accepted h = absurd h
+
+-- what was built of rules that are accepted is prepared
+pub built_answer : (settings : Settings) (file : List ℕ) (rules : List Rule) (result : Result Plan RunError) → IsRuleFile file rules → IsAccepted settings rules → Builds settings rules result → Prepares settings file result
+built_answer settings file rules (Ok plan) grammar accepted (same, buildable) =
+    subst (λ (p : Plan). Prepares settings file (Ok p)) (sym same) (refl, grammar, accepted, buildable)
+built_answer settings file rules (Err e) grammar accepted h = built_error settings file rules e grammar accepted h

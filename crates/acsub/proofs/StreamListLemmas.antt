@@ -1,5 +1,5 @@
 -- What a list over a stream has read and written, from one read to the next, and at its end.
-use Rattle.std.proofs.Common.{◌≡◌, ◌≢◌, ◌⊎◌, ⊎_elim, inl, inr, ℕ, suc, ◌+◌, ◌-◌, ◌<◌, ◌≤◌, true, false, List, [], ◌∷◌, ◌++◌, length, take, Option, Some, None, Result, Ok, Err, refl, sym, ap, ◌∙◌, subst, arith, append_assoc, add-zero}
+use Rattle.std.proofs.Common.{◌≡◌, ◌≢◌, ⊎_elim, inl, inr, ℕ, suc, ◌+◌, ◌-◌, ◌<◌, ◌≤◌, true, false, List, [], ◌∷◌, ◌++◌, length, take, Option, Some, None, Result, Ok, Err, refl, sym, ap, ◌∙◌, subst, arith, append_assoc, add-zero}
 use Rattle.std.specs.List.{concat}
 use Rattle.std.specs.Prelude.{IfErr, OnOk}
 use Rattle.std.proofs.lemmas.Bool.{false≢true}
@@ -23,8 +23,9 @@ use Rattle.ac_automaton.specs.Automaton.{Built}
 use Rattle.ac_automaton.specs.Moved.{AllFit, AreFilled, HasGiven, HasMoved, HasTaken, Moved, but_last}
 use Rattle.ac_automaton.specs.Output.{Sent, Stopped}
 use Rattle.ac_automaton.specs.Replace.{LieInOrder, matches_in}
-use Rattle.ac_automaton.specs.Stream.{CanBeCounted, CanStream, FindsHeld, IsConfigRefusal, IsOnCourse, IsSearched, IsStreamRefusal, ReadsNothing, Scanned, fresh_scan, matches_read, read_by, room_of}
-use Rattle.ac_automaton.specs.StreamIter.{AreAllGiven, HasGained, NextGives}
+use Rattle.ac_automaton.specs.Stream.{AreAllGiven, CanBeCounted, CanStream, FindsHeld, IsConfigRefusal, IsOnCourse, IsSearched, IsStreamRefusal, ReadsNothing, StreamProgress, fresh_progress, matches_read, read_by, room_of}
+use Rattle.ac_automaton.specs.StreamAnswer.{AnswersWriting, WroteToFailedWrite}
+use Rattle.ac_automaton.specs.StreamIter.{HasGained, NextGives}
 use Rattle.ac_automaton.specs.Watched.{IsOfWrite, has_ended, pieces_of, stalls_of}
 use Rattle.ac_automaton.specs.declared.watched.Watched.{Watched}
 use Rattle.ac_automaton.proofs.MovedLemmas.{given-then, turns-filled}
@@ -39,13 +40,13 @@ use Rattle.ac_automaton.specs.declared.error.StreamError.{StreamError}
 use Rattle.ac_automaton.specs.declared.error.StreamError.TheVariants as reads
 use Rattle.acsub.specs.Finder.{dictionary_for, whole_search}
 use Rattle.acsub.specs.Sides.{patterns_of, replacements_of}
-use Rattle.acsub.specs.Stream.{AnswersStream, IsToldAs, StreamedToFailedWrite, Streams}
+use Rattle.acsub.specs.Stream.{AnswersStream, IsToldAs, Streams}
 use Rattle.acsub.specs.Transformed.{IsOutputFront, IsStreamed, output_of, text_in}
 use Rattle.acsub.specs.declared.settings.Mode.{Mode}
 use Rattle.acsub.specs.declared.settings.Mode.TheVariants as modes
 use Rattle.acsub.specs.declared.settings.Settings.{Settings}
 use Rattle.acsub.proofs.StreamedLemmas.{filled-shortest, pieces-within}
-use Rattle.acsub.specs.StreamList.{AnswersList, HasListed, ListedToFailedWrite, ListsStream, SendsLines, StopsLines, StopsWriting, WritesLines, listed_in}
+use Rattle.acsub.specs.StreamList.{HasListed, IsListedFront, ListsStream, SendsLines, StopsLines, StopsWriting, WritesLines, listed_in}
 use Rattle.acsub.specs.declared.error.RunError.{RunError}
 
 -- ---- lines
@@ -55,7 +56,7 @@ listed-one : (o : Occurrence) → listed (o ∷ []) ≡ line o
 listed-one o = append-nil (line o)
 
 -- a further match of what is held
-module _ {W : Type 0} (contents : W → Option (List ℕ)) (s t u : Scanned) (o : Occurrence) (old mid new : Watched W) (held between after : List ℕ) (before : SendsLines contents s t old mid held between) (finds : FindsHeld t (Some o) u) where
+module _ {W : Type 0} (contents : W → Option (List ℕ)) (s t u : StreamProgress) (o : Occurrence) (old mid new : Watched W) (held between after : List ℕ) (before : SendsLines contents s t old mid held between) (finds : FindsHeld t (Some o) u) where
   -- the matches that were given, with it
   more-given : u.given ≡ s.given ++ (before.more ++ o ∷ [])
   more-given = finds.1 ∙ ap (λ (os : List Occurrence). os ++ o ∷ []) before.given ∙ append_assoc s.given before.more (o ∷ [])
@@ -83,7 +84,7 @@ module _ {W : Type 0} (contents : W → Option (List ℕ)) (s t u : Scanned) (o 
   }
 
 -- there is no further match
-module _ {W : Type 0} (contents : W → Option (List ℕ)) (s t u : Scanned) (old mid new : Watched W) (held between after : List ℕ) (before : SendsLines contents s t old mid held between) (finds : FindsHeld t None u) where
+module _ {W : Type 0} (contents : W → Option (List ℕ)) (s t u : StreamProgress) (old mid new : Watched W) (held between after : List ℕ) (before : SendsLines contents s t old mid held between) (finds : FindsHeld t None u) where
   pub lines-last : Sent contents mid new between after [] → SendsLines contents s u old new held after
   lines-last sent = record {
     same = ReadsNothing-then s t u before.same finds.0;
@@ -105,7 +106,7 @@ module _ {W : Type 0} (contents : W → Option (List ℕ)) (s t u : Scanned) (ol
   last-all countable = finds.3 (subst (λ (pieces : List (List ℕ)). CanBeCounted (concat pieces)) (sym before.same.pieces) countable)
 
 -- nothing was sent yet
-pub lines-none : {W : Type 0} (contents : W → Option (List ℕ)) (s : Scanned) (writer : Watched W) (held : List ℕ) → SendsLines contents s s writer writer held held
+pub lines-none : {W : Type 0} (contents : W → Option (List ℕ)) (s : StreamProgress) (writer : Watched W) (held : List ℕ) → SendsLines contents s s writer writer held held
 lines-none contents s writer held = record {
   same = record { on = omega arith; built = refl; pieces = refl; from = refl };
   more = [];
@@ -114,7 +115,7 @@ lines-none contents s writer held = record {
 }
 
 -- less is left to search after a match
-pub less-held : (s t u : Scanned) (o : Occurrence) → t.pieces ≡ s.pieces → FindsHeld t (Some o) u → length (read_by u) - u.at < length (read_by t) - t.at
+pub less-held : (s t u : StreamProgress) (o : Occurrence) → t.pieces ≡ s.pieces → FindsHeld t (Some o) u → length (read_by u) - u.at < length (read_by t) - t.at
 less-held s t u o same finds =
     let kept : length (read_by u) ≡ length (read_by t) = ap (λ (ps : List (List ℕ)). length (concat ps)) finds.0.pieces in
     let at : u.at ≡ o.end = finds.3 in
@@ -123,7 +124,7 @@ less-held s t u o same finds =
     omega arith
 
 -- the line of a match, and those of all that are held
-pub written-all : {W : Type 0} (contents : W → Option (List ℕ)) (o : Occurrence) (s t : Scanned) (old mid new : Watched W) (held : List ℕ) → Sent contents old mid [] held (line o) → SendsLines contents s t mid new held [] → AreAllGiven t → WritesLines contents o s t old new
+pub written-all : {W : Type 0} (contents : W → Option (List ℕ)) (o : Occurrence) (s t : StreamProgress) (old mid new : Watched W) (held : List ℕ) → Sent contents old mid [] held (line o) → SendsLines contents s t mid new held [] → AreAllGiven t → WritesLines contents o s t old new
 written-all contents o s t old mid new held first more all = record {
   same = more.same;
   more = more.more;
@@ -132,7 +133,7 @@ written-all contents o s t old mid new held first more all = record {
   all = all;
 }
 
-pub writing-stopped : {W : Type 0} (contents : W → Option (List ℕ)) (o : Occurrence) (s t : Scanned) (old mid new : Watched W) (held : List ℕ) → Sent contents old mid [] held (line o) → StopsLines contents s t mid new held → StopsWriting contents o s t old new
+pub writing-stopped : {W : Type 0} (contents : W → Option (List ℕ)) (o : Occurrence) (s t : StreamProgress) (old mid new : Watched W) (held : List ℕ) → Sent contents old mid [] held (line o) → StopsLines contents s t mid new held → StopsWriting contents o s t old new
 writing-stopped contents o s t old mid new held first more = record {
   same = more.same;
   more = more.more;
@@ -141,7 +142,7 @@ writing-stopped contents o s t old mid new held first more = record {
 }
 
 -- the first line stopped
-pub first-stopped : {W : Type 0} (contents : W → Option (List ℕ)) (o : Occurrence) (s : Scanned) (old new : Watched W) → Stopped contents old new [] (line o) → StopsWriting contents o s s old new
+pub first-stopped : {W : Type 0} (contents : W → Option (List ℕ)) (o : Occurrence) (s : StreamProgress) (old new : Watched W) → Stopped contents old new [] (line o) → StopsWriting contents o s s old new
 first-stopped contents o s old new stopped = record {
   same = record { on = omega arith; built = refl; pieces = refl; from = refl };
   more = [];
@@ -233,30 +234,30 @@ front-given b before (g ∷ gs) pieces given others o standard some is all late 
 -- ---- from one read to the next
 
 -- more pieces were read
-given-gained : {R : Type 0} (remaining : R → Option (List ℕ)) (s t : Scanned) (old mid new : Watched R) (gained : List (List ℕ)) (failed : ℕ) → HasGiven remaining old mid s.pieces 0 → AreFilled s.pieces → HasGained remaining s t mid new gained failed → HasGiven remaining old new t.pieces failed
+given-gained : {R : Type 0} (remaining : R → Option (List ℕ)) (s t : StreamProgress) (old mid new : Watched R) (gained : List (List ℕ)) (failed : ℕ) → HasGiven remaining old mid s.pieces 0 → AreFilled s.pieces → HasGained remaining s t mid new gained failed → HasGiven remaining old new t.pieces failed
 given-gained remaining s t old mid new gained failed g filled h = subst (λ (ps : List (List ℕ)). HasGiven remaining old new ps failed) (sym h.pieces) (given-then remaining old mid new s.pieces gained failed (λ _. filled) g h.read)
 
 -- the bytes of more pieces
-read-gained : {R : Type 0} (remaining : R → Option (List ℕ)) (s t : Scanned) (mid new : Watched R) (gained : List (List ℕ)) (failed : ℕ) → HasGained remaining s t mid new gained failed → read_by t ≡ read_by s ++ concat gained
+read-gained : {R : Type 0} (remaining : R → Option (List ℕ)) (s t : StreamProgress) (mid new : Watched R) (gained : List (List ℕ)) (failed : ℕ) → HasGained remaining s t mid new gained failed → read_by t ≡ read_by s ++ concat gained
 read-gained remaining s t mid new gained failed h = ap concat h.pieces ∙ concat-append s.pieces gained
 
 module _ {R W : Type 0} (remaining : R → Option (List ℕ)) (contents : W → Option (List ℕ)) (b : Built) where
   -- before the first read
-  pub listed-fresh : (reader : Watched R) (writer : Watched W) → b.dictionary.kind ≡ Standard → 1 ≤ shortest b.dictionary.patterns → has_ended reader ≡ false → HasListed remaining contents b (fresh_scan b) reader reader writer writer
+  pub listed-fresh : (reader : Watched R) (writer : Watched W) → b.dictionary.kind ≡ Standard → 1 ≤ shortest b.dictionary.patterns → has_ended reader ≡ false → HasListed remaining contents b (fresh_progress b) reader reader writer writer
   listed-fresh reader writer standard filled unended = record {
     built = refl;
     countable = omega arith;
-    all = (refl, nothing-matches b (matches_in b []) filled (matches-walk b [] standard));
+    all = record { searched = refl; all = nothing-matches b (matches_in b []) filled (matches-walk b [] standard); anew = λ done. refl };
     filled = tt;
     unended = unended;
     read = given-none remaining reader;
     written = taken-none contents writer;
   }
 
-  module _ (s t : Scanned) (r0 r r1 : Watched R) (w0 w : Watched W) (h : HasListed remaining contents b s r0 r w0 w) (course : IsOnCourse t) where
+  module _ (s t : StreamProgress) (r0 r r1 : Watched R) (w0 w : Watched W) (h : HasListed remaining contents b s r0 r w0 w) (course : IsOnCourse t) where
     -- where all is given, and nothing new was, the lines that were written are those of all that was read
     lines-same : (t.built ≡ s.built) → (t.given ≡ s.given) → AreAllGiven t → listed s.given ≡ listed_in b (read_by t)
-    lines-same built given all = ap listed (sym given ∙ all.1 ∙ ap (λ (c : Built). matches_in c (read_by t)) (built ∙ h.built))
+    lines-same built given all = ap listed (sym given ∙ all.all ∙ ap (λ (c : Built). matches_in c (read_by t)) (built ∙ h.built))
 
     -- in any case they are a beginning of these
     lines-begin : (t.built ≡ s.built) → (t.given ≡ s.given) → IsBeginning (listed s.given) (listed_in b (read_by t))
@@ -278,13 +279,13 @@ module _ {R W : Type 0} (remaining : R → Option (List ℕ)) (contents : W → 
         record { pieces = t.pieces; failed_reads = 0; taken = listed s.given; failed_writes = 0; stalled_writes = 0 },
         record { reader = given-gained remaining s t r0 r r1 gained 0 h.read h.filled has; writer = h.written },
         pieces-fit b t (has.built ∙ h.built) course,
-        (
-          (s.pieces ++ whole.0.0, filled-append s.pieces whole.0.0 h.filled whole.0.1, has.pieces ∙ ap (λ (ps : List (List ℕ)). s.pieces ++ ps) whole.0.2 ∙ sym (append_assoc s.pieces whole.0.0 ([] ∷ []))),
-          lines-same has.built given whole.1,
-          (refl, refl, refl),
-        ),
+        record {
+          whole = (s.pieces ++ whole.0.0, filled-append s.pieces whole.0.0 h.filled whole.0.1, has.pieces ∙ ap (λ (ps : List (List ℕ)). s.pieces ++ ps) whole.0.2 ∙ sym (append_assoc s.pieces whole.0.0 ([] ∷ [])));
+          written = lines-same has.built given whole.1;
+          failed = (refl, refl, refl);
+        },
       ),
-      whole.1.0,
+      whole.1.searched,
     )
 
     -- a read failed
@@ -293,7 +294,7 @@ module _ {R W : Type 0} (remaining : R → Option (List ℕ)) (contents : W → 
       record { pieces = t.pieces; failed_reads = 1; taken = listed s.given; failed_writes = 0; stalled_writes = 0 },
       record { reader = given-gained remaining s t r0 r r1 (filled ++ [] ∷ []) 1 h.read h.filled has; writer = h.written },
       pieces-fit b t (has.built ∙ h.built) course,
-      (lines-same has.built given all, (refl, refl, refl)),
+      record { written = lines-same has.built given all; failed = (refl, refl, refl) },
     )
 
     -- the input is too long
@@ -302,7 +303,7 @@ module _ {R W : Type 0} (remaining : R → Option (List ℕ)) (contents : W → 
       record { pieces = t.pieces; failed_reads = 0; taken = listed s.given; failed_writes = 0; stalled_writes = 0 },
       record { reader = given-gained remaining s t r0 r r1 gained 0 h.read h.filled has; writer = h.written },
       pieces-fit b t (has.built ∙ h.built) course,
-      (many, lines-begin has.built given, (refl, refl, refl)),
+      record { long = many; written = lines-begin has.built given; failed = (refl, refl, refl) },
     )
 
     -- what was read until the next match
@@ -310,7 +311,7 @@ module _ {R W : Type 0} (remaining : R → Option (List ℕ)) (contents : W → 
       -- something was read
       read-longer : length (read_by s) < length (read_by t)
       read-longer =
-          let searched : s.at ≡ length (read_by s) = h.all.0 in
+          let searched : s.at ≡ length (read_by s) = h.all.searched in
           let new : s.at < o.end = next.5.new in
           let within : o.end ≤ length (read_by t) = next.5.within in
           omega arith
@@ -322,7 +323,7 @@ module _ {R W : Type 0} (remaining : R → Option (List ℕ)) (contents : W → 
           absurd (omega arith)
 
       -- less is left to read, where places can be counted
-      pub less-left : (u : Scanned) → u.pieces ≡ t.pieces → 18446744073709551616 - length (read_by u) < 18446744073709551616 - length (read_by s)
+      pub less-left : (u : StreamProgress) → u.pieces ≡ t.pieces → 18446744073709551616 - length (read_by u) < 18446744073709551616 - length (read_by s)
       less-left u same =
           let kept : length (read_by u) ≡ length (read_by t) = ap (λ (ps : List (List ℕ)). length (concat ps)) same in
           let few : length (read_by t) ≤ 18446744073709551615 = next.5.countable in
@@ -342,17 +343,17 @@ module _ {R W : Type 0} (remaining : R → Option (List ℕ)) (contents : W → 
       written-front : listed_in b (concat (but_last t.pieces)) ≡ listed s.given
       written-front =
           let begun = course.begun in
-          let all : s.given ≡ matches_in b (read_by s) = h.all.1 ∙ ap (λ (c : Built). matches_in c (read_by s)) h.built in
+          let all : s.given ≡ matches_in b (read_by s) = h.all.all ∙ ap (λ (c : Built). matches_in c (read_by s)) h.built in
           let others : matches_in b (read_by t) ≡ (s.given ++ o ∷ []) ++ begun.0 = ap (λ (c : Built). matches_in c (read_by t)) (sym now-built) ∙ begun.1 ∙ ap (λ (os : List Occurrence). os ++ begun.0) next.3 in
           let standard = subst (λ (c : Built). c.dictionary.kind ≡ Standard) now-built course.standard in
           ap listed (front-given b s.pieces next.0 t.pieces s.given begun.0 o standard gained-some next.1.pieces all (next.6 gained-some) others)
 
       -- the lines of what was given since, and of all before
-      lines-since : (u : Scanned) (more : List Occurrence) → u.given ≡ t.given ++ more → listed u.given ≡ listed s.given ++ listed (o ∷ more)
+      lines-since : (u : StreamProgress) (more : List Occurrence) → u.given ≡ t.given ++ more → listed u.given ≡ listed s.given ++ listed (o ∷ more)
       lines-since u more given = ap listed (given ∙ ap (λ (os : List Occurrence). os ++ more) next.3 ∙ append_assoc s.given (o ∷ []) more) ∙ listed-append s.given (o ∷ more)
 
       -- all that can be listed was written
-      pub listed-more : (u : Scanned) (w1 : Watched W) → WritesLines contents o t u w w1 → HasListed remaining contents b u r0 r1 w0 w1
+      pub listed-more : (u : StreamProgress) (w1 : Watched W) → WritesLines contents o t u w w1 → HasListed remaining contents b u r0 r1 w0 w1
       listed-more u w1 lines = record {
         built = lines.same.built ∙ now-built;
         countable = subst (λ (ps : List (List ℕ)). CanBeCounted (concat ps)) (sym lines.same.pieces) next.5.countable;
@@ -364,8 +365,8 @@ module _ {R W : Type 0} (remaining : R → Option (List ℕ)) (contents : W → 
       }
 
       -- what is said of a write that failed
-      failed-write : (u : Scanned) (w1 : Watched W) (stalls : ℕ) → StopsWriting contents o t u w w1 → IsOnCourse u → stalls_of w1 ≡ stalls_of w + stalls
-          → (m : Moved) × HasMoved remaining contents r0 r1 w0 w1 m × AllFit (room_of b) m.pieces × ListedToFailedWrite b m stalls
+      failed-write : (u : StreamProgress) (w1 : Watched W) (stalls : ℕ) → StopsWriting contents o t u w w1 → IsOnCourse u → stalls_of w1 ≡ stalls_of w + stalls
+          → (m : Moved) × HasMoved remaining contents r0 r1 w0 w1 m × AllFit (room_of b) m.pieces × WroteToFailedWrite (listed_in b) (IsListedFront b) m stalls
       failed-write u w1 stalls stops on stalled =
           let before = listed s.given in
           let gained = stops.stopped.gained in
@@ -382,11 +383,11 @@ module _ {R W : Type 0} (remaining : R → Option (List ℕ)) (contents : W → 
             record { pieces = t.pieces; failed_reads = 0; taken = before ++ gained; failed_writes = 1; stalled_writes = stalls },
             record { reader = now-given; writer = taken-stopped contents w0 w w1 before (listed (o ∷ stops.more)) stalls stops.stopped h.written stalled },
             pieces-fit b t now-built course,
-            record { at_least = (gained, ap (λ (x : List ℕ). x ++ gained) (sym written-front)); at_most = (lost ++ begun.0, split); failed = (refl, refl, refl) },
+            record { at_least = (before, sym written-front, (gained, refl)); at_most = (lost ++ begun.0, split); failed = (refl, refl, refl) },
           )
 
       -- a write failed
-      pub ends-failed_write : (u : Scanned) (w1 : Watched W) (error : StreamError) → StopsWriting contents o t u w w1 → IsOnCourse u → IsOfWrite w w1 error → ListsStream remaining contents b r0 r1 w0 w1 (Err error)
+      pub ends-failed_write : (u : StreamProgress) (w1 : Watched W) (error : StreamError) → StopsWriting contents o t u w w1 → IsOnCourse u → IsOfWrite w w1 error → ListsStream remaining contents b r0 r1 w0 w1 (Err error)
       ends-failed_write u w1 (reads.Config error) stops on kind = absurd kind
       ends-failed_write u w1 (reads.Read error) stops on kind = absurd kind
       ends-failed_write u w1 (reads.Write error) stops on kind = failed-write u w1 0 stops on (kind ∙ sym (add-zero _))
@@ -395,7 +396,7 @@ module _ {R W : Type 0} (remaining : R → Option (List ℕ)) (contents : W → 
       ends-failed_write u w1 reads.Position stops on kind = absurd kind
 
       -- what was read, all in all
-      pub found-read : (u : Scanned) → ReadsNothing t u → (u.built ≡ b) × (pieces_of r1 ≡ pieces_of r0 ++ u.pieces)
+      pub found-read : (u : StreamProgress) → ReadsNothing t u → (u.built ≡ b) × (pieces_of r1 ≡ pieces_of r0 ++ u.pieces)
       found-read u same = (same.built ∙ now-built, now-given.pieces ∙ ap (λ (ps : List (List ℕ)). pieces_of r0 ++ ps) (sym same.pieces))
 
     -- a read failed, or there are more bytes than places
@@ -441,32 +442,34 @@ module _ (settings : Settings) (rules : List Rule) (b : Built) (built : b.dictio
   -- they are the front of it that ends where it ends
   lines-front : (x text : List ℕ) → text ≡ listed_in b x → IsOutputFront settings rules x text
   lines-front x text is = record {
-    cut = length x;
-    is_cut = subst (λ (m : Dictionary). IsCut m x (length x)) built (end-cut b x);
-    near = omega arith;
+    front = record {
+      cut = length x;
+      is_cut = subst (λ (m : Dictionary). IsCut m x (length x)) built (end-cut b x);
+      near = record { kept = omega arith; all = λ done. omega arith };
+      front = is ∙ lines-output x ∙ ap (output_of settings rules) (sym (take_all (length x) x (omega arith)));
+    };
     listed = λ _. refl;
-    front = is ∙ lines-output x ∙ ap (output_of settings rules) (sym (take_all (length x) x (omega arith)));
   }
 
   -- what a list answers is what a run answers that writes while it reads
-  failed-streams : (m : Moved) (stalls : ℕ) → ListedToFailedWrite b m stalls → StreamedToFailedWrite settings rules m stalls
+  failed-streams : (m : Moved) (stalls : ℕ) → WroteToFailedWrite (listed_in b) (IsListedFront b) m stalls → WroteToFailedWrite (output_of settings rules) (IsOutputFront settings rules) m stalls
   failed-streams m stalls h = record {
-    at_least = (listed_in b (concat (but_last m.pieces)), lines-front (concat (but_last m.pieces)) _ refl, h.at_least);
+    at_least = (h.at_least.0, lines-front (concat (but_last m.pieces)) h.at_least.0 h.at_least.1, h.at_least.2);
     at_most = subst (IsBeginning m.taken) (lines-output (concat m.pieces)) h.at_most;
     failed = h.failed;
   }
 
-  answers-told : (m : Moved) (error : StreamError) (told : RunError) → IsToldAs error told → AnswersList b m (Err error) → AnswersStream settings rules m (Err told)
-  answers-told m (reads.Config error) told t h = absurd h
-  answers-told m (reads.Read error) told t h = subst (λ (e : RunError). AnswersStream settings rules m (Err e)) (sym t) (lines-front (concat m.pieces) m.taken h.0, h.1)
+  answers-told : (m : Moved) (error : StreamError) (told : RunError) → IsToldAs error told → AnswersWriting (listed_in b) (IsListedFront b) m (Err error) → AnswersStream settings rules m (Err told)
+  answers-told m (reads.Config error) told t h = absurd t
+  answers-told m (reads.Read error) told t h = subst (λ (e : RunError). AnswersStream settings rules m (Err e)) (sym t) (record { written = lines-front (concat m.pieces) m.taken h.written; failed = h.failed })
   answers-told m (reads.Write error) told t h = subst (λ (e : RunError). AnswersStream settings rules m (Err e)) (sym t) (failed-streams m 0 h)
   answers-told m reads.WriteZero told t h = subst (λ (e : RunError). AnswersStream settings rules m (Err e)) (sym t) (failed-streams m 1 h)
   answers-told m reads.Memory told t h = subst (λ (e : RunError). AnswersStream settings rules m (Err e)) (sym t) h
-  answers-told m reads.Position told t h = subst (λ (e : RunError). AnswersStream settings rules m (Err e)) (sym t) (h.0, subst (IsBeginning m.taken) (lines-output (concat m.pieces)) h.1, h.2)
+  answers-told m reads.Position told t h = subst (λ (e : RunError). AnswersStream settings rules m (Err e)) (sym t) (record { long = h.long; written = subst (IsBeginning m.taken) (lines-output (concat m.pieces)) h.written; failed = h.failed })
 
   module _ {R W : Type 0} (remaining : R → Option (List ℕ)) (contents : W → Option (List ℕ)) (r0 r1 : Watched R) (w0 w1 : Watched W) where
     pub lists-streams : ListsStream remaining contents b r0 r1 w0 w1 (Ok tt) → Streams remaining contents r0 r1 w0 w1 settings rules (Ok tt)
-    lists-streams h = (h.0, h.1, pieces-within b settings rules h.0 built h.2, (h.3.0, h.3.1 ∙ lines-output (concat h.0.pieces), h.3.2))
+    lists-streams h = (h.0, h.1, pieces-within b settings rules h.0 built h.2, record { whole = h.3.whole; written = h.3.written ∙ lines-output (concat h.0.pieces); failed = h.3.failed })
 
     pub lists-told : (error : StreamError) (told : RunError) → IsToldAs error told → ListsStream remaining contents b r0 r1 w0 w1 (Err error) → Streams remaining contents r0 r1 w0 w1 settings rules (Err told)
     lists-told error told t h = (h.0, h.1, pieces-within b settings rules h.0 built h.2, answers-told h.0 error told t h.3)
@@ -497,12 +500,17 @@ refused-memory b supports reads.WriteZero can refused = absurd refused
 refused-memory b supports reads.Memory can refused = refl
 refused-memory b supports reads.Position can refused = absurd refused
 
--- what is answered for the search of a stream is never that it is refused
-pub lists-config : {R W : Type 0} (remaining : R → Option (List ℕ)) (contents : W → Option (List ℕ)) (b : Built) (r0 r1 : Watched R) (w0 w1 : Watched W) (error : StreamError) (refusal : MatchErrorKind) → ListsStream remaining contents b r0 r1 w0 w1 (Err error) → error ≢ reads.Config refusal
-lists-config remaining contents b r0 r1 w0 w1 error refusal h e = (subst (λ (other : StreamError). ListsStream remaining contents b r0 r1 w0 w1 (Err other)) e h).3
+-- an error that comes after the first read is no refusal
+pub begun-config : (error : StreamError) (refusal : MatchErrorKind) → IsBegun error → error ≢ reads.Config refusal
+begun-config error refusal begun e = subst IsBegun e begun
+
+-- nor is any such answer
+pub begun-accepted : (result : Result (Unit {0}) StreamError) → IfErr result IsBegun → IfErr result (λ error. (refusal : MatchErrorKind) → error ≢ reads.Config refusal)
+begun-accepted (Ok done) begun = tt
+begun-accepted (Err error) begun = λ refusal. begun-config error refusal begun
 
 -- an error of the next item comes after the first read
-pub gives-begun : {R : Type 0} (remaining : R → Option (List ℕ)) (s t : Scanned) (before after : Watched R) (error : StreamError) → NextGives remaining s t before after (Some (Err error)) → IsBegun error
+pub gives-begun : {R : Type 0} (remaining : R → Option (List ℕ)) (s t : StreamProgress) (before after : Watched R) (error : StreamError) → NextGives remaining s t before after (Some (Err error)) → IsBegun error
 gives-begun remaining s t before after (reads.Config error) gives = gives
 gives-begun remaining s t before after (reads.Read error) gives = tt
 gives-begun remaining s t before after (reads.Write error) gives = tt

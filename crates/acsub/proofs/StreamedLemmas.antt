@@ -1,10 +1,9 @@
 -- What a run that writes while it reads has written, from what the automaton's replacement over a stream has.
-use Rattle.std.proofs.Common.{◌≡◌, ◌≢◌, ℕ, ◌+◌, ◌≤◌, List, [], ◌∷◌, length, take, Option, Result, Ok, Err, inl, inr, suc, refl, sym, ap, ◌∙◌, subst, arith}
+use Rattle.std.proofs.Common.{◌≡◌, ◌≢◌, ℕ, ◌≤◌, List, [], ◌∷◌, length, take, Option, Result, Ok, Err, inl, inr, suc, refl, sym, ap, ◌∙◌, subst, arith}
 use Rattle.std.specs.List.{concat}
 use Rattle.std.proofs.lemmas.List.{append-nil, nil_from_length}
 use Rattle.ac_input.specs.declared.search.Anchored.{Anchored}
 use Rattle.ac_input.specs.declared.search.Anchored.TheVariants.{No}
-use Rattle.ac_input.specs.declared.steps.Steps.{Steps}
 use Rattle.ac_input.specs.BeginningLaws.{IsBeginning}
 use Rattle.ac_input.specs.Computed.{walk_of}
 use Rattle.ac_input.specs.Cut.{IsCut}
@@ -18,8 +17,9 @@ use Rattle.ac_input.proofs.RuleLemmas.{IsRuleFile-one}
 use Rattle.ac_automaton.specs.Automaton.{Built}
 use Rattle.ac_automaton.specs.Buffer.{kept_for, room_for}
 use Rattle.ac_automaton.specs.Moved.{AllFit, AreFilled, Moved}
-use Rattle.ac_automaton.specs.Stream.{IsConfigRefusal, room_of}
-use Rattle.ac_automaton.specs.StreamReplace.{AnswersReplace, IsReplaceStreamError, IsReplacedFront, ReplacedToFailedWrite, ReplacesStream, replaced_in}
+use Rattle.ac_automaton.specs.Stream.{IsConfigRefusal, IsNear, room_of}
+use Rattle.ac_automaton.specs.StreamAnswer.{AnswersWriting, WroteToFailedWrite}
+use Rattle.ac_automaton.specs.StreamReplace.{AcceptsReplacing, IsReplacedFront, ReplacesStream, replaced_in}
 use Rattle.ac_automaton.specs.Watched.{pieces_of}
 use Rattle.ac_automaton.specs.declared.error.MatchErrorKind.{MatchErrorKind}
 use Rattle.ac_automaton.specs.declared.error.StreamError.{StreamError}
@@ -31,11 +31,11 @@ use Rattle.acsub.specs.declared.settings.Mode.{Mode}
 use Rattle.acsub.specs.declared.settings.Mode.TheVariants as modes
 use Rattle.acsub.specs.declared.settings.Settings.{Settings}
 use Rattle.acsub.specs.Finder.{dictionary_for, whole_search}
-use Rattle.acsub.specs.Run.{CostsFile, CostsRun, IsReadByBuffer, RanRules, RanToFailedWrite, ReadsWithin}
+use Rattle.acsub.specs.Run.{IsReadByBuffer, RanRules, RanToFailedWrite, ReadsWithin}
 use Rattle.acsub.specs.Plan.{Plan}
 use Rattle.acsub.specs.Settings.{HasEmptyPattern, IsAccepted}
 use Rattle.acsub.specs.Sides.{patterns_of, replacements_of}
-use Rattle.acsub.specs.Stream.{AnswersStream, IsToldAs, StreamedToFailedWrite, Streams}
+use Rattle.acsub.specs.Stream.{AnswersStream, IsToldAs, Streams}
 use Rattle.acsub.proofs.RunLemmas.{HasMoved-nothing, nothing}
 use Rattle.acsub.specs.Transformed.{IsOutputFront, IsStreamed, output_of, stream_room, text_in}
 
@@ -61,9 +61,9 @@ config-none b supports settings rules refusal is can streamed (inr (inr empty)) 
 
 -- the search of a stream is not refused
 pub not-refused : {R W : Type 0} (b : Built) (supports : Anchored → Type 0) (settings : Settings) (rules : List Rule) (r r' : Watched R) (w w' : Watched W) (error : StreamError) (refusal : MatchErrorKind) → b.dictionary ≡ dictionary_for settings (patterns_of rules) → supports No → IsStreamed settings rules
-    → IsReplaceStreamError b supports r r' w w' error → error ≢ stream.Config refusal
+    → AcceptsReplacing b supports r r' w w' (Err error) → error ≢ stream.Config refusal
 not-refused b supports settings rules r r' w w' error refusal is can streamed refused e =
-    let g = subst (IsReplaceStreamError b supports r r' w w') e refused in
+    let g = subst (λ (other : StreamError). AcceptsReplacing b supports r r' w w' (Err other)) e refused in
     config-none b supports settings rules refusal is can streamed g.0
 
 -- ---- the text
@@ -78,44 +78,46 @@ replaced-output b settings rules x is mode =
 replaced-front : (b : Built) (settings : Settings) (rules : List Rule) (x text : List ℕ) → b.dictionary ≡ dictionary_for settings (patterns_of rules) → settings.mode ≡ modes.Replace → IsReplacedFront b (replacements_of rules) x text → IsOutputFront settings rules x text
 replaced-front b settings rules x text is mode f =
     record {
-      cut = f.cut;
-      is_cut = subst (λ (m : Dictionary). IsCut m x f.cut) is f.is_cut;
-      near = subst (λ (m : Dictionary). length x ≤ f.cut + kept_for (longest m.patterns)) is f.near;
+      front = record {
+        cut = f.cut;
+        is_cut = subst (λ (m : Dictionary). IsCut m x f.cut) is f.is_cut;
+        near = subst (λ (m : Dictionary). IsNear m x f.cut) is f.near;
+        front = f.front ∙ replaced-output b settings rules (take f.cut x) is mode;
+      };
       listed = λ other. let apart : modes.Replace ≡ modes.List = sym mode ∙ other in absurd (cc);
-      front = f.front ∙ replaced-output b settings rules (take f.cut x) is mode;
     }
 
 -- the front of a text is a beginning of it, whichever mode makes it
 front-begins : (settings : Settings) (rules : List Rule) (x text : List ℕ) (mode : Mode) → settings.mode ≡ mode → IsStreamed settings rules → IsOutputFront settings rules x text → IsBeginning text (output_of settings rules x)
 front-begins settings rules x text modes.Replace is streamed f =
-    let final = cut-final (dictionary_for settings (patterns_of rules)) x f.cut (replacements_of rules) streamed.0 f.is_cut in
-    subst (λ (t : List ℕ). IsBeginning t (output_of settings rules x)) (sym f.front)
-    (subst (λ (k : Mode). IsBeginning (text_in k settings.kind (replacements_of rules) (whole_search settings (patterns_of rules) (take f.cut x))) (text_in k settings.kind (replacements_of rules) (whole_search settings (patterns_of rules) x))) (sym is) final.0)
+    let final = cut-final (dictionary_for settings (patterns_of rules)) x f.front.cut (replacements_of rules) streamed.0 f.front.is_cut in
+    subst (λ (t : List ℕ). IsBeginning t (output_of settings rules x)) (sym f.front.front)
+    (subst (λ (k : Mode). IsBeginning (text_in k settings.kind (replacements_of rules) (whole_search settings (patterns_of rules) (take f.front.cut x))) (text_in k settings.kind (replacements_of rules) (whole_search settings (patterns_of rules) x))) (sym is) final.0)
 front-begins settings rules x text modes.List is streamed f =
-    let final = cut-final (dictionary_for settings (patterns_of rules)) x f.cut (replacements_of rules) streamed.0 f.is_cut in
-    subst (λ (t : List ℕ). IsBeginning t (output_of settings rules x)) (sym f.front)
-    (subst (λ (k : Mode). IsBeginning (text_in k settings.kind (replacements_of rules) (whole_search settings (patterns_of rules) (take f.cut x))) (text_in k settings.kind (replacements_of rules) (whole_search settings (patterns_of rules) x))) (sym is) final.1)
+    let final = cut-final (dictionary_for settings (patterns_of rules)) x f.front.cut (replacements_of rules) streamed.0 f.front.is_cut in
+    subst (λ (t : List ℕ). IsBeginning t (output_of settings rules x)) (sym f.front.front)
+    (subst (λ (k : Mode). IsBeginning (text_in k settings.kind (replacements_of rules) (whole_search settings (patterns_of rules) (take f.front.cut x))) (text_in k settings.kind (replacements_of rules) (whole_search settings (patterns_of rules) x))) (sym is) final.1)
 front-begins settings rules x text modes.Overlap is streamed f = absurd (streamed.1 is)
 
 -- ---- what the answers say
 
 -- a write that stopped
-replaced-stopped : (b : Built) (settings : Settings) (rules : List Rule) (m : Moved) (stalls : ℕ) → b.dictionary ≡ dictionary_for settings (patterns_of rules) → settings.mode ≡ modes.Replace → ReplacedToFailedWrite b (replacements_of rules) m stalls → StreamedToFailedWrite settings rules m stalls
+replaced-stopped : (b : Built) (settings : Settings) (rules : List Rule) (m : Moved) (stalls : ℕ) → b.dictionary ≡ dictionary_for settings (patterns_of rules) → settings.mode ≡ modes.Replace → WroteToFailedWrite (replaced_in b (replacements_of rules)) (IsReplacedFront b (replacements_of rules)) m stalls → WroteToFailedWrite (output_of settings rules) (IsOutputFront settings rules) m stalls
 replaced-stopped b settings rules m stalls is mode h =
     record {
-      at_least = (h.front, replaced-front b settings rules _ h.front is mode h.before, h.at_least);
+      at_least = (h.at_least.0, replaced-front b settings rules _ h.at_least.0 is mode h.at_least.1, h.at_least.2);
       at_most = subst (IsBeginning m.taken) (replaced-output b settings rules (concat m.pieces) is mode) h.at_most;
       failed = h.failed;
     }
 
 -- where the replacement stopped
-replaced-told : (b : Built) (settings : Settings) (rules : List Rule) (m : Moved) (error : StreamError) (told : RunError) → b.dictionary ≡ dictionary_for settings (patterns_of rules) → settings.mode ≡ modes.Replace → IsToldAs error told → AnswersReplace b (replacements_of rules) m (Err error) → AnswersStream settings rules m (Err told)
+replaced-told : (b : Built) (settings : Settings) (rules : List Rule) (m : Moved) (error : StreamError) (told : RunError) → b.dictionary ≡ dictionary_for settings (patterns_of rules) → settings.mode ≡ modes.Replace → IsToldAs error told → AnswersWriting (replaced_in b (replacements_of rules)) (IsReplacedFront b (replacements_of rules)) m (Err error) → AnswersStream settings rules m (Err told)
 replaced-told b settings rules m (stream.Config error) told is mode t a = absurd t
-replaced-told b settings rules m (stream.Read error) told is mode t a = subst (λ (e : RunError). AnswersStream settings rules m (Err e)) (sym t) (replaced-front b settings rules (concat m.pieces) m.taken is mode a.written, a.failed)
+replaced-told b settings rules m (stream.Read error) told is mode t a = subst (λ (e : RunError). AnswersStream settings rules m (Err e)) (sym t) (record { written = replaced-front b settings rules (concat m.pieces) m.taken is mode a.written; failed = a.failed })
 replaced-told b settings rules m (stream.Write error) told is mode t a = subst (λ (e : RunError). AnswersStream settings rules m (Err e)) (sym t) (replaced-stopped b settings rules m 0 is mode a)
 replaced-told b settings rules m stream.WriteZero told is mode t a = subst (λ (e : RunError). AnswersStream settings rules m (Err e)) (sym t) (replaced-stopped b settings rules m 1 is mode a)
 replaced-told b settings rules m stream.Memory told is mode t a = subst (λ (e : RunError). AnswersStream settings rules m (Err e)) (sym t) a
-replaced-told b settings rules m stream.Position told is mode t a = subst (λ (e : RunError). AnswersStream settings rules m (Err e)) (sym t) (a.long, subst (IsBeginning m.taken) (replaced-output b settings rules (concat m.pieces) is mode) a.written, a.failed)
+replaced-told b settings rules m stream.Position told is mode t a = subst (λ (e : RunError). AnswersStream settings rules m (Err e)) (sym t) (record { long = a.long; written = subst (IsBeginning m.taken) (replaced-output b settings rules (concat m.pieces) is mode) a.written; failed = a.failed })
 
 -- the room goes by the longest of the rules' patterns
 pub pieces-within : (b : Built) (settings : Settings) (rules : List Rule) (m : Moved) → b.dictionary ≡ dictionary_for settings (patterns_of rules) → AllFit (room_of b) m.pieces → AllFit (stream_room rules) m.pieces
@@ -124,7 +126,7 @@ pieces-within b settings rules m is short = subst (λ (d : Dictionary). AllFit (
 -- what was replaced over a stream, where that stopped
 pub streams-told : {R W : Type 0} (remaining : R → Option (List ℕ)) (contents : W → Option (List ℕ)) (b : Built) (settings : Settings) (rules : List Rule) (texts : List (List ℕ)) (r r' : Watched R) (w w' : Watched W) (error : StreamError) (told : RunError) → b.dictionary ≡ dictionary_for settings (patterns_of rules) → settings.mode ≡ modes.Replace → texts ≡ replacements_of rules → IsToldAs error told
     → ReplacesStream remaining contents b texts r r' w w' (Err error) → Streams remaining contents r r' w w' settings rules (Err told)
-streams-told remaining contents b settings rules texts r r' w w' error told is mode same t (m, moved, short, a) = (m, moved, pieces-within b settings rules m is short, replaced-told b settings rules m error told is mode t (subst (λ (ts : List (List ℕ)). AnswersReplace b ts m (Err error)) same a))
+streams-told remaining contents b settings rules texts r r' w w' error told is mode same t (m, moved, short, a) = (m, moved, pieces-within b settings rules m is short, replaced-told b settings rules m error told is mode t (subst (λ (ts : List (List ℕ)). AnswersWriting (replaced_in b ts) (IsReplacedFront b ts) m (Err error)) same a))
 
 -- there was no memory before anything was read
 pub streams-nothing : {R W : Type 0} (remaining : R → Option (List ℕ)) (contents : W → Option (List ℕ)) (settings : Settings) (rules : List Rule) (r : Watched R) (w : Watched W) → Streams remaining contents r r w w settings rules (Err errors.Memory)
@@ -133,22 +135,22 @@ streams-nothing remaining contents settings rules r w = (nothing, HasMoved-nothi
 -- ---- what a run says of it
 
 -- a write that stopped
-streamed_failed : (settings : Settings) (rules : List Rule) (m : Moved) (stalls : ℕ) → IsAccepted settings rules → IsStreamed settings rules → StreamedToFailedWrite settings rules m stalls → (file : List ℕ) → IsRuleFile file rules → RanToFailedWrite settings file m stalls
+streamed_failed : (settings : Settings) (rules : List Rule) (m : Moved) (stalls : ℕ) → IsAccepted settings rules → IsStreamed settings rules → WroteToFailedWrite (output_of settings rules) (IsOutputFront settings rules) m stalls → (file : List ℕ) → IsRuleFile file rules → RanToFailedWrite settings file m stalls
 streamed_failed settings rules m stalls accepted streamed h file grammar =
     record { rules = rules; grammar = grammar; accepted = accepted; streamed = λ _. h.at_least; whole_input = λ held. absurd (held streamed); written = h.at_most; failed = h.failed }
 
 -- the answer of a run that writes while it reads
 pub streamed_answer : {R W : Type 0} (remaining : R → Option (List ℕ)) (contents : W → Option (List ℕ)) (settings : Settings) (rules : List Rule) (r r' : Watched R) (w w' : Watched W) (result : Result (Unit {0}) RunError) → IsAccepted settings rules → IsStreamed settings rules
     → Streams remaining contents r r' w w' settings rules result → RanRules remaining contents r r' w w' settings rules result
-streamed_answer remaining contents settings rules r r' w w' (Ok done) accepted streamed (m, moved, short, (whole, written, failed)) = (m, moved, λ refusal. refusal, λ file grammar. record { rules = rules; grammar = grammar; accepted = accepted; whole = whole; written = written; failed = failed })
+streamed_answer remaining contents settings rules r r' w w' (Ok done) accepted streamed (m, moved, short, a) = (m, moved, λ refusal. refusal, λ file grammar. record { rules = rules; grammar = grammar; accepted = accepted; whole = a.whole; written = a.written; failed = a.failed })
 streamed_answer remaining contents settings rules r r' w w' (Err (errors.Rule e)) accepted streamed (m, moved, short, a) = absurd a
 streamed_answer remaining contents settings rules r r' w w' (Err (errors.Setting e)) accepted streamed (m, moved, short, a) = absurd a
 streamed_answer remaining contents settings rules r r' w w' (Err (errors.Build kind)) accepted streamed (m, moved, short, a) = absurd a
-streamed_answer remaining contents settings rules r r' w w' (Err (errors.Read e)) accepted streamed (m, moved, short, (front, failed)) = (m, moved, λ refusal. refusal, λ file grammar. record { rules = rules; grammar = grammar; accepted = accepted; streamed = λ _. front; whole_input = λ held. absurd (held streamed); written = front-begins settings rules (concat m.pieces) m.taken settings.mode refl streamed front; failed = failed })
+streamed_answer remaining contents settings rules r r' w w' (Err (errors.Read e)) accepted streamed (m, moved, short, a) = (m, moved, λ refusal. refusal, λ file grammar. record { rules = rules; grammar = grammar; accepted = accepted; streamed = λ _. a.written; whole_input = λ held. absurd (held streamed); written = front-begins settings rules (concat m.pieces) m.taken settings.mode refl streamed a.written; failed = a.failed })
 streamed_answer remaining contents settings rules r r' w w' (Err (errors.Write e)) accepted streamed (m, moved, short, a) = (m, moved, λ refusal. refusal, streamed_failed settings rules m 0 accepted streamed a)
 streamed_answer remaining contents settings rules r r' w w' (Err errors.WriteZero) accepted streamed (m, moved, short, a) = (m, moved, λ refusal. refusal, streamed_failed settings rules m 1 accepted streamed a)
 streamed_answer remaining contents settings rules r r' w w' (Err errors.Memory) accepted streamed (m, moved, short, a) = (m, moved, λ refusal. refusal, λ file grammar. record { rules = rules; grammar = grammar; accepted = λ some. absurd (some a.pieces); streamed = λ _. a.pieces; filled = subst AreFilled (sym a.pieces) tt; written = a.taken; failed = a.failed })
-streamed_answer remaining contents settings rules r r' w w' (Err errors.Position) accepted streamed (m, moved, short, (long, written, failed)) = (m, moved, λ refusal. refusal, λ file grammar. record { rules = rules; grammar = grammar; accepted = accepted; long = long; written = written; failed = failed })
+streamed_answer remaining contents settings rules r r' w w' (Err errors.Position) accepted streamed (m, moved, short, a) = (m, moved, λ refusal. refusal, λ file grammar. record { rules = rules; grammar = grammar; accepted = accepted; long = a.long; written = a.written; failed = a.failed })
 
 -- no read gave more than the buffer has room for
 pub streamed_short : {R W : Type 0} (remaining : R → Option (List ℕ)) (contents : W → Option (List ℕ)) (settings : Settings) (rules : List Rule) (r r' : Watched R) (w w' : Watched W) (result : Result (Unit {0}) RunError)
@@ -165,21 +167,9 @@ short_prepared settings file plan r r' same prepared short rules grammar streame
 pub nothing_short : {R : Type 0} (settings : Settings) (file : List ℕ) (r : Watched R) → IsReadByBuffer settings file r r
 nothing_short settings file r rules grammar streamed = ([], sym (append-nil (pieces_of r)), λ k d lt. absurd (omega arith))
 
--- ---- what it costs
-
--- nothing was read, and nothing counted
-pub nothing_cost : {R : Type 0} (settings : Settings) (rules : List Rule) (r : Watched R) (steps : Steps) (error : RunError) → CostsRun settings rules r r steps steps (Err error)
-nothing_cost settings rules r steps error =
-    record { gained = []; read = sym (append-nil (pieces_of r)); streamed = λ _. record { looked = omega arith; scanned = refl; moved = omega arith }; whole = λ _. tt; whole_input = λ _. refl }
-
 -- ---- the rules of a file
 
 -- what is streamed for the rules of a file is streamed for those that were prepared of it
 pub streamed_prepared : (settings : Settings) (file : List ℕ) (plan : Plan) (rules : List Rule) → plan.settings ≡ settings → IsRuleFile file plan.rules → IsRuleFile file rules → IsStreamed settings rules → IsStreamed plan.settings plan.rules
 streamed_prepared settings file plan rules same prepared grammar streamed =
     subst (λ (s : Settings). IsStreamed s plan.rules) (sym same) (subst (IsStreamed settings) (IsRuleFile-one file rules plan.rules grammar prepared) streamed)
-
--- the cost of what was prepared is the cost of a run
-pub cost_prepared : {R : Type 0} (settings : Settings) (file : List ℕ) (plan : Plan) (r r' : Watched R) (before after : Steps) (result : Result (Unit {0}) RunError) → plan.settings ≡ settings → IsRuleFile file plan.rules → CostsRun plan.settings plan.rules r r' before after result → CostsFile settings file r r' before after result
-cost_prepared settings file plan r r' before after result same prepared cost rules grammar =
-    subst (λ (s : Settings). CostsRun s rules r r' before after result) same (subst (λ (rs : List Rule). CostsRun plan.settings rs r r' before after result) (IsRuleFile-one file plan.rules rules prepared grammar) cost)

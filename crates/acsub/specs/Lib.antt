@@ -7,7 +7,10 @@ pub mod Command
 pub mod Words
 pub mod Tool
 pub mod Outcome
+pub mod Served
 pub mod Finder
+pub mod Matches
+pub mod Sending
 pub mod Plan
 pub mod Transformed
 pub mod Stream

@@ -18,7 +18,7 @@ use Rattle.acsub.specs.declared.tool.Fault.TheVariants as faults
 use Rattle.acsub.specs.declared.words.Words.{Words}
 use Rattle.acsub.specs.declared.words.WordsFault.{WordsFault}
 use Rattle.acsub.specs.declared.words.WordsFault.TheVariants.{Help, Bad, Memory, Pairing}
-use Rattle.acsub.specs.Run.{AnswersBadLine, IsRefusal, Ran}
+use Rattle.acsub.specs.Run.{Ran, Refuses}
 use Rattle.acsub.specs.Stream.{IsToldAs}
 use Rattle.acsub.specs.Tool.{IsFaultOf, exit_of, status_of}
 use Rattle.acsub.specs.Words.{Reads}
@@ -79,8 +79,7 @@ pub record RanFile {F R W : Type 0} (held : F → Option (List ℕ)) (remaining 
   pub file : List ℕ
   pub is_file : IsFile held file
   pub ran : Ran remaining contents reader_before reader_after writer_before writer_after settings file answer
-  pub bad_line : AnswersBadLine file answer
-  pub untouched : IsRefusal answer → NoneTouched reader_before reader_after writer_before writer_after
+  pub fault : Refuses settings file reader_before reader_after writer_before writer_after answer
 
 module _ {F R W : Type 0} (held : F → Option (List ℕ)) (remaining : R → Option (List ℕ)) (contents : W → Option (List ℕ)) where
   module _ (settings : Settings) (reader_before reader_after : Watched R) (writer_before writer_after : Watched W) where

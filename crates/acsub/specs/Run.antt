@@ -4,6 +4,7 @@ use Rattle.std.specs.List.{concat}
 use Rattle.ac_input.specs.BeginningLaws.{IsBeginning}
 use Rattle.ac_input.specs.Rules.{Rule, IsRuleFile, FirstBadLine}
 use Rattle.ac_input.specs.Steps.{looked_of, moved_of, scanned_of}
+use Rattle.ac_input.specs.Work.{lookups_per_byte}
 use Rattle.ac_input.specs.declared.steps.Steps.{Steps}
 use Rattle.ac_automaton.specs.Moved.{AllFit, AreFilled, AreWhole, Failed, HasMoved, Moved, NoneTouched}
 use Rattle.ac_automaton.specs.Stream.{CanBeCounted}
@@ -14,11 +15,13 @@ use Rattle.acsub.specs.declared.error.RunError.{RunError}
 use Rattle.acsub.specs.declared.error.RunError.TheVariants as errors
 use Rattle.acsub.specs.declared.settings.Settings.{Settings}
 use Rattle.acsub.specs.Finder.{IsBuildable, IsNotBuilt}
+use Rattle.acsub.specs.Matches.{IsHeldCost}
 use Rattle.acsub.specs.Plan.{Plan}
+use Rattle.acsub.specs.Served.{is_deterministic, served}
 use Rattle.acsub.specs.Settings.{IsAccepted, IsFirstExclusion}
 use Rattle.acsub.specs.Transformed.{IsOutputFront, IsPrompt, IsStreamed, output_of, stream_room}
 
--- The rules are in the grammar and go with the settings, the input was read to its end, and the text of all of it was written.
+-- The rules are in the grammar and go with the settings. The input was read to its end, and the text of all of it was written.
 pub record RanWhole (settings : Settings) (file : List ℕ) (m : Moved) : Type 0 where
   pub rules : List Rule
   pub grammar : IsRuleFile file rules
@@ -95,7 +98,7 @@ IsRefusal (Err errors.WriteZero) = ⊥
 IsRefusal (Err errors.Memory) = ⊥
 IsRefusal (Err errors.Position) = ⊥
 
--- the run went on behind its build, and came to the end or to a fault of a device
+-- the run went on after its build, and came to the end or to a fault of a device
 abbrev pub HasBegun : Result (Unit {0}) RunError → Type 0
 HasBegun (Ok done) = Unit {0}
 HasBegun (Err (errors.Rule e)) = ⊥
@@ -121,42 +124,61 @@ abbrev pub RanRules : {R W : Type 0} → (R → Option (List ℕ)) → (W → Op
 RanRules remaining contents reader_before reader_after writer_before writer_after settings rules result =
     (m : Moved) × HasMoved remaining contents reader_before reader_after writer_before writer_after m × ¬ IsRefusal result × ((file : List ℕ) → IsRuleFile file rules → AnswersRun settings file m result)
 
--- Where the text is written while the input is read, want of memory is found before anything is read.
-abbrev pub IsFoundBefore : {R W : Type 0} → Settings → List ℕ → Watched R → Watched R → Watched W → Watched W → Type 0
-IsFoundBefore settings file reader_before reader_after writer_before writer_after =
+-- Where the text is written while the input is read, a run is out of memory before anything is read.
+abbrev pub RefusesMemoryFirst : {R W : Type 0} → Settings → List ℕ → Watched R → Watched R → Watched W → Watched W → Type 0
+RefusesMemoryFirst settings file reader_before reader_after writer_before writer_after =
     (rules : List Rule) → IsRuleFile file rules → IsStreamed settings rules → NoneTouched reader_before reader_after writer_before writer_after
+
+-- the same, where the rules are known
+abbrev pub RunsOutFirst : {R W : Type 0} → Plan → Watched R → Watched R → Watched W → Watched W → Result (Unit {0}) RunError → Type 0
+RunsOutFirst plan reader_before reader_after writer_before writer_after result =
+    result ≡ Err errors.Memory → IsStreamed plan.settings plan.rules → NoneTouched reader_before reader_after writer_before writer_after
 
 -- what reads gave in between, no piece longer than there is room for
 abbrev pub ReadsWithin : {R : Type 0} → ℕ → Watched R → Watched R → Type 0
 ReadsWithin room before after = (gained : List (List ℕ)) × (pieces_of after ≡ pieces_of before ++ gained) × AllFit room gained
 
 -- Where the text is written while the input is read, no read gives more than the buffer has room for.
+abbrev pub ReadsByBuffer : {R : Type 0} → Plan → Watched R → Watched R → Type 0
+ReadsByBuffer plan before after = IsStreamed plan.settings plan.rules → ReadsWithin (stream_room plan.rules) before after
+
+-- the same, where the rules are those of a file
 abbrev pub IsReadByBuffer : {R : Type 0} → Settings → List ℕ → Watched R → Watched R → Type 0
 IsReadByBuffer settings file before after = (rules : List Rule) → IsRuleFile file rules → IsStreamed settings rules → ReadsWithin (stream_room rules) before after
 
--- What it may cost to read so many bytes, and to write their text while they are read: two states are looked at for each at most,
--- no place is scanned, and a seventh of them at most is moved within the buffer.
-pub record IsRunCost (n : ℕ) (before after : Steps) : Type 0 where
-  pub looked : looked_of after ≤ looked_of before + 2 * n
+-- What it may cost to read so many bytes, and to write their text while they are read. The looks for a byte go by what serves the
+-- plan; no place is scanned, and a seventh of the bytes at most is moved within the buffer.
+pub record IsRunCost (plan : Plan) (n : ℕ) (before after : Steps) : Type 0 where
+  pub looked : looked_of after ≤ looked_of before + lookups_per_byte (is_deterministic (served plan.settings plan.rules)) * n
   pub scanned : scanned_of after ≡ scanned_of before
   pub moved : 7 * moved_of after ≤ 7 * moved_of before + n
 
--- What a run costs. Where the text is written while the input is read, that goes by the bytes that were read, and where it came to
--- the end a state was looked at for each of them at least. A run that holds its input counts nothing.
-pub record CostsRun {R : Type 0} (settings : Settings) (rules : List Rule) (reader_before reader_after : Watched R) (before after : Steps) (result : Result (Unit {0}) RunError) : Type 0 where
+-- What a run costs, by the bytes that it read. A run that writes while it reads, and came to the end, has looked at a state for
+-- each of them at least.
+pub record CostsRun {R : Type 0} (plan : Plan) (reader_before reader_after : Watched R) (before after : Steps) (result : Result (Unit {0}) RunError) : Type 0 where
   pub gained : List (List ℕ)
   pub read : pieces_of reader_after ≡ pieces_of reader_before ++ gained
-  pub streamed : IsStreamed settings rules → IsRunCost (length (concat gained)) before after
-  pub whole : IsStreamed settings rules → OnOk result (looked_of before + length (concat gained) ≤ looked_of after)
-  pub whole_input : ¬ IsStreamed settings rules → after ≡ before
+  pub streamed : IsStreamed plan.settings plan.rules → IsRunCost plan (length (concat gained)) before after
+  pub whole : IsStreamed plan.settings plan.rules → OnOk result (looked_of before + length (concat gained) ≤ looked_of after)
+  pub whole_input : ¬ IsStreamed plan.settings plan.rules → IsHeldCost plan (length (concat gained)) before after
 
--- the same, where the rules are those of a file
-abbrev pub CostsFile : {R : Type 0} → Settings → List ℕ → Watched R → Watched R → Steps → Steps → Result (Unit {0}) RunError → Type 0
-CostsFile settings file reader_before reader_after before after result = (rules : List Rule) → IsRuleFile file rules → CostsRun settings rules reader_before reader_after before after result
+-- What a run costs whose rules are those of a file, and that it reads by its buffer.
+pub record CostsFile {R : Type 0} (settings : Settings) (file : List ℕ) (reader_before reader_after : Watched R) (before after : Steps) (result : Result (Unit {0}) RunError) : Type 0 where
+  pub steps : (rules : List Rule) → IsRuleFile file rules → CostsRun (record { settings = settings; rules = rules }) reader_before reader_after before after result
+  pub short : IsReadByBuffer settings file reader_before reader_after
 
 -- the first bad line is what is answered, and no other line
 abbrev pub AnswersBadLine : List ℕ → Result (Unit {0}) RunError → Type 0
 AnswersBadLine file result = (n : ℕ) → (result ≡ Err (errors.Rule (rule_errors.Line n))) ↔ FirstBadLine file n
+
+-- What an answer says of a run that stopped before it began. The first bad line is answered whatever memory does. A refusal has
+-- touched nothing; nor has a run that is out of memory, where the text is written while the input is read. A run that came to the
+-- end or to a fault of a device had passed no limit of a build.
+pub record Refuses {R W : Type 0} (settings : Settings) (file : List ℕ) (reader_before reader_after : Watched R) (writer_before writer_after : Watched W) (result : Result (Unit {0}) RunError) : Type 0 where
+  pub bad_line : AnswersBadLine file result
+  pub untouched : IsRefusal result → NoneTouched reader_before reader_after writer_before writer_after
+  pub memory : result ≡ Err errors.Memory → RefusesMemoryFirst settings file reader_before reader_after writer_before writer_after
+  pub within : HasBegun result → IsFileBuildable settings file
 
 -- The rules of the file, which go with the settings; or why there are none.
 abbrev pub Accepts : Settings → List ℕ → Result (List Rule) RunError → Type 0

@@ -23,7 +23,7 @@ IsExcluded s rules PackedFold = (s.engine ≡ Packed) × ¬ IsUnpaired s.pairing
 IsExcluded s rules PackedEmpty = (s.engine ≡ Packed) × HasEmptyPattern rules
 IsExcluded s rules PackedCount = (s.engine ≡ Packed) × ((length rules ≡ 0) ⊎ (MOST_PACKED < length rules))
 
--- the order in which reasons are told
+-- the order in which reasons are reported
 abbrev pub place_of : SettingError → ℕ
 place_of OverlapLeftmost = 0
 place_of PackedStandard = 1

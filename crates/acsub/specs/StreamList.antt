@@ -1,19 +1,15 @@
 -- Lists over streams: what an answer says of what was read and written, and what stands at each point.
-use Rattle.std.specs.Prelude.{◌≡◌, ℕ, List, ◌∷◌, ◌++◌, [], false, Option, Result, Ok, Err}
-use Rattle.std.specs.List.{concat}
-use Rattle.ac_input.specs.BeginningLaws.{IsBeginning}
+use Rattle.std.specs.Prelude.{◌≡◌, ℕ, List, ◌∷◌, ◌++◌, [], false, Option, Result}
 use Rattle.ac_input.specs.Occurrence.{Occurrence}
 use Rattle.ac_input.specs.Text.{listed}
 use Rattle.ac_automaton.specs.Automaton.{Built}
-use Rattle.ac_automaton.specs.Moved.{AllFit, AreFilled, AreWhole, Failed, HasGiven, HasMoved, HasTaken, Moved, but_last}
+use Rattle.ac_automaton.specs.Moved.{AllFit, AreFilled, HasGiven, HasMoved, HasTaken, Moved}
 use Rattle.ac_automaton.specs.Output.{Sent, Stopped}
 use Rattle.ac_automaton.specs.Replace.{matches_in}
-use Rattle.ac_automaton.specs.Stream.{CanBeCounted, ReadsNothing, Scanned, read_by, room_of}
-use Rattle.ac_automaton.specs.StreamIter.{AreAllGiven}
-use Rattle.ac_automaton.specs.StreamReplace.{MovedNothing}
+use Rattle.ac_automaton.specs.Stream.{AreAllGiven, CanBeCounted, ReadsNothing, StreamProgress, read_by, room_of}
+use Rattle.ac_automaton.specs.StreamAnswer.{AnswersWriting}
 use Rattle.ac_automaton.specs.Watched.{has_ended}
 use Rattle.ac_automaton.specs.declared.error.StreamError.{StreamError}
-use Rattle.ac_automaton.specs.declared.error.StreamError.TheVariants.{Config, Read, Write, WriteZero, Memory, Position}
 use Rattle.ac_automaton.specs.declared.watched.Watched.{Watched}
 
 -- a line for each match of a text
@@ -22,46 +18,33 @@ listed_in b x = listed (matches_in b x)
 
 -- ---- what an answer says
 
--- A write failed, or was handed bytes and took none: the lines of all that matches before the last piece were written, and
--- nothing but a beginning of the lines of all that was read.
-pub record ListedToFailedWrite (b : Built) (m : Moved) (stalls : ℕ) : Type 0 where
-  pub at_least : IsBeginning (listed_in b (concat (but_last m.pieces))) m.taken
-  pub at_most : IsBeginning m.taken (listed_in b (concat m.pieces))
-  pub failed : Failed m 0 1 stalls
-
--- what an answer says of what was moved
-abbrev pub AnswersList : Built → Moved → Result (Unit {0}) StreamError → Type 0
-AnswersList b m (Ok done) = AreWhole m.pieces × (m.taken ≡ listed_in b (concat m.pieces)) × Failed m 0 0 0
-AnswersList b m (Err (Config error)) = ⊥
-AnswersList b m (Err (Read error)) = (m.taken ≡ listed_in b (concat m.pieces)) × Failed m 1 0 0
-AnswersList b m (Err (Write error)) = ListedToFailedWrite b m 0
-AnswersList b m (Err WriteZero) = ListedToFailedWrite b m 1
-AnswersList b m (Err Memory) = MovedNothing m
-AnswersList b m (Err Position) = (¬ CanBeCounted (concat m.pieces)) × IsBeginning m.taken (listed_in b (concat m.pieces)) × Failed m 0 0 0
+-- the lines of what was read: all that can be listed of it
+abbrev pub IsListedFront : Built → List ℕ → List ℕ → Type 0
+IsListedFront b x text = text ≡ listed_in b x
 
 -- what a list over a stream read, no piece longer than the buffer, and wrote, and what it answered
 abbrev pub ListsStream : {R W : Type 0} → (R → Option (List ℕ)) → (W → Option (List ℕ)) → Built → Watched R → Watched R → Watched W → Watched W → Result (Unit {0}) StreamError → Type 0
 ListsStream remaining contents b reader_before reader_after writer_before writer_after result =
-    (m : Moved) × HasMoved remaining contents reader_before reader_after writer_before writer_after m × AllFit (room_of b) m.pieces × AnswersList b m result
+    (m : Moved) × HasMoved remaining contents reader_before reader_after writer_before writer_after m × AllFit (room_of b) m.pieces × AnswersWriting (listed_in b) (IsListedFront b) m result
 
 -- ---- what stands at each point of it
 
 -- In between nothing was read: the next matches of what was read were given, and a line for each was sent.
-pub record SendsLines {W : Type 0} (contents : W → Option (List ℕ)) (s t : Scanned) (old new : Watched W) (held_before held_after : List ℕ) : Type 0 where
+pub record SendsLines {W : Type 0} (contents : W → Option (List ℕ)) (s t : StreamProgress) (old new : Watched W) (held_before held_after : List ℕ) : Type 0 where
   pub same : ReadsNothing s t
   pub more : List Occurrence
   pub given : t.given ≡ s.given ++ more
   pub sent : Sent contents old new held_before held_after (listed more)
 
 -- In between nothing was read, and the sending of a line for each match that was given stopped at a write.
-pub record StopsLines {W : Type 0} (contents : W → Option (List ℕ)) (s t : Scanned) (old new : Watched W) (held_before : List ℕ) : Type 0 where
+pub record StopsLines {W : Type 0} (contents : W → Option (List ℕ)) (s t : StreamProgress) (old new : Watched W) (held_before : List ℕ) : Type 0 where
   pub same : ReadsNothing s t
   pub more : List Occurrence
   pub given : t.given ≡ s.given ++ more
   pub stopped : Stopped contents old new held_before (listed more)
 
 -- A line for a match was written, and one for each further match of what was read.
-pub record WritesLines {W : Type 0} (contents : W → Option (List ℕ)) (o : Occurrence) (s t : Scanned) (old new : Watched W) : Type 0 where
+pub record WritesLines {W : Type 0} (contents : W → Option (List ℕ)) (o : Occurrence) (s t : StreamProgress) (old new : Watched W) : Type 0 where
   pub same : ReadsNothing s t
   pub more : List Occurrence
   pub given : t.given ≡ s.given ++ more
@@ -69,14 +52,14 @@ pub record WritesLines {W : Type 0} (contents : W → Option (List ℕ)) (o : Oc
   pub all : AreAllGiven t
 
 -- The writing of these lines stopped.
-pub record StopsWriting {W : Type 0} (contents : W → Option (List ℕ)) (o : Occurrence) (s t : Scanned) (old new : Watched W) : Type 0 where
+pub record StopsWriting {W : Type 0} (contents : W → Option (List ℕ)) (o : Occurrence) (s t : StreamProgress) (old new : Watched W) : Type 0 where
   pub same : ReadsNothing s t
   pub more : List Occurrence
   pub given : t.given ≡ s.given ++ more
   pub stopped : Stopped contents old new [] (listed (o ∷ more))
 
 -- A list between two reads: all matches of what was read were given, and a line for each was written; nothing is held back.
-pub record HasListed {R W : Type 0} (remaining : R → Option (List ℕ)) (contents : W → Option (List ℕ)) (b : Built) (s : Scanned) (reader_before reader_after : Watched R) (writer_before writer_after : Watched W) : Type 0 where
+pub record HasListed {R W : Type 0} (remaining : R → Option (List ℕ)) (contents : W → Option (List ℕ)) (b : Built) (s : StreamProgress) (reader_before reader_after : Watched R) (writer_before writer_after : Watched W) : Type 0 where
   pub built : s.built ≡ b
   pub countable : CanBeCounted (read_by s)
   pub all : AreAllGiven s

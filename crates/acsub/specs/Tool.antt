@@ -1,5 +1,6 @@
 -- The lines that the program writes where something is wrong, and the statuses with which it ends.
-use Rattle.std.specs.Prelude.{◌≡◌, ℕ, List, ◌++◌, Result, Ok, Err, codes, decimal}
+use Rattle.std.specs.Prelude.{◌≡◌, ℕ, List, ◌++◌, OnOk, Option, Result, Ok, Err, codes, decimal}
+use Rattle.std.specs.Io.KnownBytes.{Appends}
 use Rattle.std.specs.declared.io.ErrorKind.{ErrorKind}
 use Rattle.std.specs.declared.io.ErrorKind.TheVariants as kind
 use Rattle.ac_input.specs.Pairing.{twice_of}
@@ -41,7 +42,7 @@ run_text errors.WriteZero = codes "write took no byte"
 run_text errors.Memory = codes "out of memory"
 run_text errors.Position = codes "input too long"
 
--- what is said of a fault, behind the program's name
+-- what is said of a fault, after the program's name
 abbrev pub fault_text : Fault → List ℕ
 fault_text faults.Words = codes "bad words"
 fault_text (faults.Pairs e) = codes "setting: " ++ (codes "byte " ++ decimal (twice_of e) ++ codes " is named twice")
@@ -71,12 +72,16 @@ status_of faults.Flush = 6
 abbrev pub line_of : Fault → List ℕ
 line_of fault = codes "acsub: " ++ fault_text fault ++ codes "\n"
 
+-- The line of a fault was written, where the write succeeded: what is written to in memory grew by it.
+abbrev pub WritesLine : {E F : Type 0} → (E → Option (List ℕ)) → E → E → Fault → Result (Unit {0}) F → Type 0
+WritesLine contents before after fault result = OnOk result (Appends (contents before) (contents after) (line_of fault))
+
 -- the status with which the program ends, by its outcome
 abbrev pub exit_of : Result (Unit {0}) Fault → ℕ
 exit_of (Ok done) = 0
 exit_of (Err fault) = status_of fault
 
--- what is told of an error of the system: want of memory, or this
+-- the fault that an error of the system gives: out of memory, or this
 abbrev pub IsFaultOf : ErrorKind → Fault → Fault → Type 0
 IsFaultOf kind.OutOfMemory other fault = fault ≡ faults.Run errors.Memory
 IsFaultOf _ other fault = fault ≡ other

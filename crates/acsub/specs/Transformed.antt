@@ -1,17 +1,16 @@
 -- The text that a run makes of its input, the front of it that is decided early, and when a run may write it early.
-use Rattle.std.specs.Prelude.{◌≡◌, ◌≢◌, ℕ, ◌+◌, ◌≤◌, List, length, take}
-use Rattle.std.specs.List.{concat}
-use Rattle.ac_input.specs.BeginningLaws.{IsBeginning}
+use Rattle.std.specs.Prelude.{◌≡◌, ◌≢◌, ℕ, List, length}
 use Rattle.ac_input.specs.declared.search.MatchKind.{MatchKind}
 use Rattle.ac_input.specs.declared.search.MatchKind.TheVariants.{Standard}
 use Rattle.ac_input.specs.Computed.{walk_of, listing_of}
-use Rattle.ac_input.specs.Cut.{IsCut}
 use Rattle.ac_input.specs.Occurrence.{Search}
 use Rattle.ac_input.specs.Rules.{Rule}
 use Rattle.ac_input.specs.Text.{replaced_from, listed}
 use Rattle.ac_input.specs.Work.{longest}
 use Rattle.ac_automaton.specs.Buffer.{kept_for, room_for}
-use Rattle.ac_automaton.specs.Moved.{Moved, but_last}
+use Rattle.ac_automaton.specs.Moved.{Moved}
+use Rattle.ac_automaton.specs.Stream.{IsFront}
+use Rattle.ac_automaton.specs.StreamAnswer.{WroteEarly}
 use Rattle.acsub.specs.declared.settings.Mode.{Mode}
 use Rattle.acsub.specs.declared.settings.Mode.TheVariants as modes
 use Rattle.acsub.specs.declared.settings.Settings.{Settings}
@@ -38,15 +37,12 @@ IsStreamed settings rules = (settings.kind ≡ Standard) × (settings.mode ≢ m
 abbrev pub stream_room : List Rule → ℕ
 stream_room rules = room_for (kept_for (longest (patterns_of rules)))
 
--- The text of the front of an input, up to a cut: no more of the input is left than its longest pattern has bytes, or one byte.
--- Where matches are listed nothing is left: the text is the list of all matches that end within the input.
+-- The text of the front of an input, as far as it can be written. Where matches are listed nothing is left: the text is the list of
+-- all matches that end within the input.
 pub record IsOutputFront (settings : Settings) (rules : List Rule) (x text : List ℕ) : Type 0 where
-  pub cut : ℕ
-  pub is_cut : IsCut (dictionary_for settings (patterns_of rules)) x cut
-  pub near : length x ≤ cut + kept_for (longest (patterns_of rules))
-  pub listed : settings.mode ≡ modes.List → cut ≡ length x
-  pub front : text ≡ output_of settings rules (take cut x)
+  pub front : IsFront (dictionary_for settings (patterns_of rules)) (output_of settings rules) x text
+  pub listed : settings.mode ≡ modes.List → front.cut ≡ length x
 
 -- at least that was written of an input which could be written before the last of its pieces was read
 abbrev pub IsPrompt : Settings → List Rule → Moved → Type 0
-IsPrompt settings rules m = (front : List ℕ) × IsOutputFront settings rules (concat (but_last m.pieces)) front × IsBeginning front m.taken
+IsPrompt settings rules = WroteEarly (IsOutputFront settings rules)

@@ -75,8 +75,8 @@ match_kind_of rows = option_and_then kind_named (first_of (codes "kind") rows)
 abbrev pub engine_of : List Row → Option Engine
 engine_of rows = option_and_then engine_named (first_of (codes "engine") rows)
 
-abbrev pub depth_of : List Row → Option ℕ
-depth_of rows = option_map number_of (one_of (codes "dense-depth") rows)
+abbrev pub dense_depth_of : List Row → Option ℕ
+dense_depth_of rows = option_map number_of (one_of (codes "dense-depth") rows)
 
 abbrev pub pairs_text : List Row → Option Text
 pairs_text rows = first_of (codes "pairs") rows
@@ -144,7 +144,7 @@ pub record AsksFor (rows : List Row) (w : Words) : Type 0 where
   pub pairing : IsPairedBy rows w.settings.pairing
   pub engine : engine_of rows ≡ Some w.settings.engine
   pub prefilter : w.settings.prefilter ≡ not (is_given (codes "no-prefilter") rows)
-  pub dense_depth : depth_of rows ≡ w.settings.dense_depth
+  pub dense_depth : dense_depth_of rows ≡ w.settings.dense_depth
   pub byte_classes : w.settings.byte_classes ≡ not (is_given (codes "no-byte-classes") rows)
 
 -- each value names what its argument asks for, as clap saw to

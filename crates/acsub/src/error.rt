@@ -17,8 +17,8 @@ pub enum RunError {
     Rule(RuleError),
     /// The settings exclude one another, or don't go with the rules.
     Setting(SettingError),
-    /// No automaton can be built of the patterns: it would have too many states, they are too many, or one is too long. Want of
-    /// memory for it is [`RunError::Memory`], and stands in no other kind.
+    /// No automaton can be built of the patterns: it would have too many states, they are too many, or one is too long. Out of
+    /// memory is [`RunError::Memory`] here too.
     Build(BuildErrorKind),
     /// A read failed.
     Read(io::Error),

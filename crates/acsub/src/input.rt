@@ -15,7 +15,7 @@ const PIECE: usize = 65536;
 /// Reads up to the first empty read, each read with room for 64 KiB. That room is taken before the read, so that nothing is taken
 /// after the empty one.
 ///
-/// The vector grows by doubling, so each byte is moved a few times at most; but of the room that is taken only the next piece is
+/// The vector grows by doubling, so each byte is moved a few times at most. Of the room that is taken only the next piece is
 /// written to, so no more memory is touched than the input and a piece.
 pub fn read_whole<R: Read>(alloc: Global, reader: &mut Watched<R>) -> Result<Vec<u8>, RunError>
     requires { has_ended reader.old ≡ false }

@@ -1,7 +1,7 @@
 //! The lines of a list.
 //!
-//! A line tells a match: the number of its pattern, its start and its end, in decimal, with a space between two of them and
-//! a line feed after the last. It is put together in an array, from its end, so that nothing is moved.
+//! A line has the number of a match's pattern, its start and its end, in decimal. There is a space between two of them, and a
+//! line feed after the last. A line is put together in an array, from its end, so that nothing is moved.
 ghost use Rattle.std.specs.Prelude.{◌≡◌, ◌+◌, ◌<◌, ◌≤◌, ◌∷◌, ◌++◌, drop, length, decimal};
 ghost use Rattle.ac_input.specs.Text.{line};
 
@@ -31,7 +31,7 @@ impl Model for Line {
 }
 
 impl Line {
-    /// The line that tells a match.
+    /// The line of a match.
     pub fn new(found: &Match) -> Line
         ensures { result ≡ line found.now }
     {
@@ -53,14 +53,14 @@ impl Line {
     }
 }
 
-/// Puts a number and a byte before the place, and tells where they begin.
-fn put_number(bytes: &mut [u8], end: usize, number: usize, behind: u8) -> usize
+/// Puts a number and a byte before the place, and returns where they begin.
+fn put_number(bytes: &mut [u8], end: usize, number: usize, last: u8) -> usize
     requires room { length (decimal number) < end }
     requires within { end ≤ length bytes.old }
     ensures begins { result + length (decimal number) + 1 ≡ end }
-    ensures written { drop result bytes.new ≡ decimal number ++ behind ∷ drop end bytes.old }
+    ensures written { drop result bytes.new ≡ decimal number ++ last ∷ drop end bytes.old }
 {
-    bytes[end - 1] = behind;
+    bytes[end - 1] = last;
     write_digits(number as u64, bytes, end - 1)
 }
 

@@ -1,21 +1,41 @@
 //! What a run has settled before it reads.
 //!
-//! A [`Prepared`] holds the settings, the rules, which go with them, and by what the rules' patterns are found. The matches of an
-//! input come from it by one call, and all that overlap by another, whatever finds them.
-ghost use Rattle.std.specs.Prelude.{◌≡◌, ◌↔◌, IfSome, IsSome};
-ghost use Rattle.ac_input.specs.declared.search.Anchored.TheVariants.{No};
+//! A [`Prepared`] holds the settings, the rules, which go with them, and what finds the matches of the rules' patterns. It is made
+//! before the input is read, and takes all its memory then. Which search serves stands in one definition, `served`. How an
+//! automaton is built stands in its impl of [`Serve`]; all else is said and proved of any automaton.
+ghost use Rattle.std.specs.Prelude.{◌≡◌, ◌≢◌, ◌↔◌, IfOk, IfSome, IsSome, length};
 ghost use Rattle.ac_input.specs.declared.search.MatchKind.TheVariants.{Standard};
-ghost use Rattle.acsub.specs.Finder.{IsFinderOf, dictionary_for, whole_walk, whole_listing};
+ghost use Rattle.ac_literal.specs.Packed.{AreServed, bytes_of, search_kind};
+ghost use Rattle.acsub.specs.Finder.{Builds, IsFinderOf, IsPackedFor, IsServing, builder_settings, whole_listing, whole_walk};
+ghost use Rattle.acsub.specs.Matches.{IsUncounted, left_in};
+ghost use Rattle.acsub.specs.Served.{Noncontiguous};
+ghost use Rattle.acsub.specs.Settings.{IsAccepted};
 ghost use Rattle.acsub.specs.Sides.{patterns_of};
 ghost use Rattle.acsub.specs.Transformed.{IsStreamed};
 
-use crate::finder::Finder;
+use crate::error::RunError;
 use crate::matches::Matches;
 use crate::rules::Rules;
-use crate::settings::{Mode, Settings, is_streamed};
+use crate::settings::{Engine, Mode, Settings, is_streamed};
 use ac_automaton::automaton::Automaton;
-use ac_input::search::Input;
+use ac_input::search::{Input, MatchKind};
+use ac_literal::packed::{self, Config, Searcher};
+use ac_noncontiguous::builder::Builder;
+use ac_noncontiguous::nfa::NFA;
+use std::alloc::{AllocError, Global};
 use std::marker::Model;
+
+/// The automaton that serves all engines but packed search.
+pub type Chosen = NFA;
+
+/// What finds matches.
+#[derive(Drop)]
+enum Finder<A> {
+    /// An automaton.
+    Automaton(A),
+    /// Packed search.
+    Packed(Searcher),
+}
 
 /// What is settled before the input is read. A contract sees the settings and the rules.
 #[derive(Drop)]
@@ -28,20 +48,18 @@ pub struct Prepared<A: Automaton> {
 impl<A: Automaton> Model for Prepared<A> {
     ghost use Rattle.acsub.specs.Finder.{IsFinderOf};
     ghost use Rattle.acsub.specs.Plan.{Plan};
-    ghost use Rattle.acsub.specs.Sides.{patterns_of};
 
     ghost Value = { Plan };
 
     ghost view = { λ p. record { settings = p.settings; rules = p.rules } };
 
-    ghost invariant = { λ p.
-        IsFinderOf A.built A.supports p.settings (patterns_of p.rules) p.finder };
+    ghost invariant = { λ p. IsFinderOf A.built A.supports p.settings p.rules p.finder };
 }
 
 impl<A: Automaton> Prepared<A> {
     /// The settings and rules, and what was made for them.
-    pub fn new(settings: &Settings, rules: Rules, finder: Finder<A>) -> Prepared<A>
-        requires { IsFinderOf A.built A.supports settings.now (patterns_of rules) finder }
+    fn new(settings: &Settings, rules: Rules, finder: Finder<A>) -> Prepared<A>
+        requires { IsFinderOf A.built A.supports settings.now rules finder }
         ensures { result ≡ record { settings = settings.now; rules = rules } }
     {
         Prepared {
@@ -68,9 +86,7 @@ impl<A: Automaton> Prepared<A> {
     /// The automaton that finds the matches of what is read, where the text is written while the input is read.
     pub fn streamed(&self) -> Option<&A>
         ensures some { IsSome result ↔ IsStreamed self.now.settings self.now.rules }
-        ensures built { IfSome result (λ automaton. (A.built automaton.now).dictionary
-            ≡ dictionary_for self.now.settings (patterns_of self.now.rules)) }
-        ensures supports { IfSome result (λ automaton. A.supports automaton.now No) }
+        ensures serves { IfSome result (λ a. IsServing self.now (A.built a.now) (A.supports a.now)) }
     {
         match &self.finder {
             Finder::Automaton(automaton) => {
@@ -86,28 +102,123 @@ impl<A: Automaton> Prepared<A> {
 
     /// The matches of an input, one after another.
     pub fn picks<'a>(&'a self, input: &'a [u8]) -> Matches<'a, A>
-        ensures { result ≡ whole_walk self.now.settings (patterns_of self.now.rules) input.now }
+        ensures walk { left_in result ≡ whole_walk self.now input.now }
+        ensures fresh { IsUncounted self.now (length input.now) result }
     {
         match &self.finder {
             Finder::Automaton(automaton) => {
-                Matches::of_walk(automaton.try_find_iter(Input::new(input)).unwrap())
+                Matches::Walk(automaton.try_find_iter(Input::new(input)).unwrap())
             }
-            Finder::Packed(searcher) => Matches::of_packed(searcher.find_iter(input)),
+            Finder::Packed(searcher) => Matches::Packed(searcher.find_iter(input)),
         }
     }
 
     /// All occurrences in an input, one after another, which are found under the standard kind alone.
     pub fn overlapping<'a>(&'a self, input: &'a [u8]) -> Matches<'a, A>
         requires { self.now.settings.kind ≡ Standard }
-        ensures { result ≡ whole_listing self.now.settings (patterns_of self.now.rules) input.now }
+        ensures listing { left_in result ≡ whole_listing self.now input.now }
+        ensures fresh { IsUncounted self.now (length input.now) result }
     {
         match &self.finder {
-            Finder::Automaton(automaton) => Matches::of_overlapping(
+            Finder::Automaton(automaton) => Matches::Overlapping(
                 automaton
                     .try_find_overlapping_iter(Input::new(input))
                     .unwrap(),
             ),
             Finder::Packed(_) => unreachable!(),
         }
+    }
+}
+
+/// An automaton that serves runs.
+pub trait Serve: Automaton {
+    ghost use Rattle.std.specs.Prelude.{◌≡◌};
+    ghost use Rattle.acsub.specs.Finder.{BuildsAutomaton};
+    ghost use Rattle.acsub.specs.Served.{Serving, served};
+
+    /// By which name it serves.
+    ghost serving: { Serving };
+
+    /// One for the rules' patterns, by the settings.
+    fn build(alloc: Global, settings: &Settings, rules: &Rules) -> Result<Self, RunError>
+        requires { served settings.now rules.now ≡ serving }
+        ensures { BuildsAutomaton Self.built Self.supports settings.now rules.now result };
+}
+
+impl Serve for NFA {
+    ghost use Rattle.acsub.specs.Served.{Noncontiguous};
+
+    ghost serving = { Noncontiguous };
+
+    fn build(alloc: Global, settings: &Settings, rules: &Rules) -> Result<NFA, RunError> {
+        let patterns = rules.patterns(alloc)?;
+        Ok(builder_for(settings).build(alloc, patterns.as_slice())?)
+    }
+}
+
+/// Makes all that a run has before it reads, of rules that go with the settings.
+pub fn build(alloc: Global, settings: &Settings, rules: Rules) -> Result<Prepared<Chosen>, RunError>
+    requires { IsAccepted settings.now rules }
+    ensures { Builds settings.now rules result }
+{
+    match settings.engine {
+        Engine::Packed => {
+            let searcher = packed_for(alloc, settings.kind, &rules)?;
+            Ok(Prepared::new(settings, rules, Finder::Packed(searcher)))
+        }
+        Engine::Auto | Engine::Noncontiguous | Engine::Contiguous | Engine::Dfa => {
+            let automaton = Chosen::build(alloc, settings, &rules)?;
+            Ok(Prepared::new(settings, rules, Finder::Automaton(automaton)))
+        }
+    }
+}
+
+/// The builder of the noncontiguous automaton, by the settings.
+fn builder_for(settings: &Settings) -> Builder
+    ensures { result ≡ builder_settings settings.now Noncontiguous }
+{
+    let mut builder = Builder::new();
+    builder
+        .match_kind(settings.kind)
+        .pairing(settings.pairing)
+        .prefilter(settings.prefilter);
+    if let Some(depth) = settings.dense_depth {
+        builder.dense_depth(depth);
+    }
+    builder
+}
+
+/// A packed search for the rules' patterns, which it serves.
+fn packed_for(alloc: Global, kind: MatchKind, rules: &Rules) -> Result<Searcher, AllocError>
+    requires kind { kind ≢ Standard }
+    requires served { AreServed (patterns_of rules.now) }
+    ensures { IfOk result (IsPackedFor kind (patterns_of rules.now)) }
+{
+    let patterns = rules.patterns(alloc)?;
+    build_packed(alloc, kind, patterns.as_slice())
+}
+
+/// A packed search for the patterns, which it serves.
+fn build_packed(alloc: Global, kind: MatchKind, patterns: &[&[u8]]) -> Result<Searcher, AllocError>
+    requires kind { kind ≢ Standard }
+    requires served { AreServed (bytes_of patterns.now) }
+    ensures { IfOk result (IsPackedFor kind (bytes_of patterns.now)) }
+{
+    let mut config = Config::new();
+    let mut builder = config.match_kind(packed_kind(kind)).builder(alloc);
+    builder.try_extend(patterns)?;
+    let made = builder.build()?;
+    Ok(made.unwrap())
+}
+
+/// The kind, as packed search names it.
+fn packed_kind(kind: MatchKind) -> packed::MatchKind
+    requires { kind ≢ Standard }
+    ensures { search_kind result ≡ kind }
+{
+    match kind {
+        MatchKind::Standard => unreachable!(),
+        MatchKind::LeftmostFirst => packed::MatchKind::LeftmostFirst,
+        MatchKind::LeftmostLongest => packed::MatchKind::LeftmostLongest,
     }
 }

@@ -2,13 +2,10 @@
 //!
 //! Each function goes on from one match to the next, and sends what stands between and what is put in its place. Nothing of the
 //! text is kept.
-ghost use Rattle.std.specs.Prelude.{◌≡◌, ◌≤◌, ◌<◌, length, None, slice_range, slice_index_or, IfErr, OnOk, OnErr};
-ghost use Rattle.ac_input.specs.Text.{replaced_from, line, listed};
-ghost use Rattle.acsub.specs.Lines.{rule_at};
-ghost use Rattle.ac_automaton.specs.Output.{Sent, Stopped};
+ghost use Rattle.std.specs.Prelude.{length};
 ghost use Rattle.ac_automaton.specs.Replace.{LieInOrder};
-ghost use Rattle.ac_automaton.specs.Watched.{IsOfWrite};
-ghost use Rattle.acsub.specs.Sides.{replacements_of};
+ghost use Rattle.acsub.specs.Matches.{KeepsCount, left_in};
+ghost use Rattle.acsub.specs.Sending.{SendsList, SendsReplaced};
 
 use crate::line::Line;
 use crate::matches::Matches;
@@ -17,6 +14,7 @@ use ac_automaton::automaton::Automaton;
 use ac_automaton::error::StreamError;
 use ac_automaton::output::Output;
 use ac_automaton::watched::Watched;
+use ac_input::steps::Steps;
 use std::io::Write;
 
 /// Sends the input with each pick exchanged for its replacement.
@@ -26,16 +24,15 @@ pub fn send_replaced<A: Automaton, W: Write>(
     rules: &Rules,
     output: &mut Output,
     writer: &mut Watched<W>,
+    steps: &mut Steps,
 ) -> Result<(), StreamError>
-    requires { LieInOrder (length rules.now) (length input.now) 0 picks.old }
-    ensures sent { OnOk result (Sent W.contents writer.old writer.new output.old output.new
-        (replaced_from 0 input.now (replacements_of rules.now) picks.old)) }
-    ensures stopped { OnErr result (Stopped W.contents writer.old writer.new output.old
-        (replaced_from 0 input.now (replacements_of rules.now) picks.old)) }
-    ensures kind { IfErr result (IsOfWrite writer.old writer.new) }
+    requires { LieInOrder (length rules.now) (length input.now) 0 (left_in picks.old) }
+    ensures sent { SendsReplaced W.contents input.now rules.now picks.old
+        writer.old writer.new output.old output.new result }
+    ensures counts { KeepsCount picks.old picks.new steps.old steps.new }
 {
     let mut at = 0;
-    while let Some(found) = picks.next() {
+    while let Some(found) = picks.next_counted(steps) {
         output.send_exchanged(
             writer,
             &input[at..found.start()],
@@ -51,14 +48,13 @@ pub fn send_list<A: Automaton, W: Write>(
     matches: &mut Matches<'_, A>,
     output: &mut Output,
     writer: &mut Watched<W>,
+    steps: &mut Steps,
 ) -> Result<(), StreamError>
-    ensures sent { OnOk result (Sent W.contents writer.old writer.new output.old output.new
-        (listed matches.old)) }
-    ensures stopped { OnErr result (Stopped W.contents writer.old writer.new output.old
-        (listed matches.old)) }
-    ensures kind { IfErr result (IsOfWrite writer.old writer.new) }
+    ensures sent { SendsList W.contents matches.old
+        writer.old writer.new output.old output.new result }
+    ensures counts { KeepsCount matches.old matches.new steps.old steps.new }
 {
-    while let Some(found) = matches.next() {
+    while let Some(found) = matches.next_counted(steps) {
         output.send(writer, Line::new(&found).as_bytes())?;
     }
     Ok(())

@@ -4,13 +4,13 @@
 //! Either side may be empty. Anything else, as CR, a space, an empty line, a third column or a last line without LF,
 //! makes the line a bad one.
 //!
-//! The file is read twice. The first pass looks for a bad line and counts the rules; it takes no memory, so which line is
-//! reported never depends on memory. The second pass runs only over a rule file: it decodes the sides, and can fail only
-//! for memory. Each pass looks at each byte a few times and never goes back.
+//! The file is read twice. The first pass looks for a bad line and counts the rules. It takes no memory, so which line is
+//! reported never depends on memory. The second pass runs only over a rule file. It decodes the sides, and fails only where
+//! it is out of memory. Each pass looks at each byte a few times and never goes back.
 
-ghost use Rattle.std.specs.Prelude.{◌≡◌, ◌↔◌, ◌==◌, ◌<◌, ℕ, List, ◌∷◌, ◌++◌, length, map, Contains, IsTrue, IfOk, IfErr, MatchOption, MatchResult};
-ghost use Rattle.ac_input.specs.Rules.{Rule, Spells, IsRuleFile, FirstBadLine, BeginsWithNoRule};
-ghost use Rattle.acsub.specs.Lines.{HasRules, IsSpelling, IsSplitAt, BeginsWithLine, rule_at};
+ghost use Rattle.std.specs.Prelude.{◌≡◌, ◌↔◌, ◌==◌, ◌<◌, ℕ, length, Contains, IsTrue, IfNone, IfOk, IfErr, IfSome, MatchOption, MatchResult};
+ghost use Rattle.ac_input.specs.Rules.{Spells, IsRuleFile, FirstBadLine, BeginsWithNoRule};
+ghost use Rattle.acsub.specs.Lines.{HasCount, HasRules, IsFirstLine, IsSpelling, IsSplitAt, rule_at};
 ghost use Rattle.ac_literal.specs.Packed.{bytes_of};
 ghost use Rattle.acsub.specs.Sides.{patterns_of, replacements_of};
 ghost use Rattle.acsub.specs.declared.rules.RuleError.TheVariants.{Memory};
@@ -154,9 +154,7 @@ pub fn read_rules(alloc: Global, bytes: &[u8]) -> Result<Rules, RuleError>
 
 /// The number of rules, or the number of the first bad line.
 fn count_rules(bytes: &[u8]) -> Result<usize, usize>
-    ensures { MatchResult result
-        (λ count. (rules : List Rule) × IsRuleFile bytes.now rules × (count ≡ length rules))
-        (λ line. FirstBadLine bytes.now line) }
+    ensures { MatchResult result (HasCount bytes.now) (FirstBadLine bytes.now) }
 {
     let mut count = 0;
     let mut rest = bytes;
@@ -173,7 +171,7 @@ fn count_rules(bytes: &[u8]) -> Result<usize, usize>
 
 /// The rules of bytes that are known to be a rule file, of which there are `count`.
 fn decode_rules(alloc: Global, bytes: &[u8], count: usize) -> Result<Rules, RuleError>
-    requires { (rules : List Rule) × IsRuleFile bytes.now rules × (count ≡ length rules) }
+    requires { HasCount bytes.now count }
     ensures rules { IfOk result (λ rules. IsRuleFile bytes.now rules) }
     ensures memory { IfErr result (λ e. e ≡ RuleError.Memory) }
 {
@@ -196,8 +194,7 @@ struct Line<'a> {
 
 /// The rule that the bytes begin with.
 fn first_line(bytes: &[u8]) -> Option<Line<'_>>
-    ensures { MatchOption result (BeginsWithNoRule bytes.now)
-        (λ line. BeginsWithLine bytes.now line.pattern.now line.replacement.now line.rest.now) }
+    ensures { MatchOption result (BeginsWithNoRule bytes.now) (IsFirstLine bytes.now) }
 {
     let (pattern, after) = split_at_byte(bytes, b'\t')?;
     let (replacement, rest) = split_at_byte(after, b'\n')?;
@@ -214,8 +211,8 @@ fn first_line(bytes: &[u8]) -> Option<Line<'_>>
 
 /// What stands before the first such byte, and what after it.
 fn split_at_byte(bytes: &[u8], separator: u8) -> Option<(&[u8], &[u8])>
-    ensures { MatchOption result (¬ Contains bytes.now separator)
-        (λ parts. IsSplitAt bytes.now separator parts.0.now parts.1.now) }
+    ensures none { IfNone result (¬ Contains bytes.now separator) }
+    ensures some { IfSome result (λ parts. IsSplitAt bytes.now separator parts.0.now parts.1.now) }
 {
     let at = memchr(separator, bytes)?;
     Some((&bytes[..at], &bytes[at + 1..]))

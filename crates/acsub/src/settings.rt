@@ -1,4 +1,4 @@
-//! What a run is told to do.
+//! What a run is to do.
 //!
 //! The settings say which text is written, what counts as a match, and by which engine matches are found. The engine and its
 //! own settings never change the text. Some settings exclude one another; [`check`] says which, before anything is read.
@@ -39,7 +39,7 @@ pub enum Engine {
     Packed,
 }
 
-/// What a run is told to do.
+/// What a run is to do.
 #[derive(Clone, Copy, PartialEq, Eq)]
 pub struct Settings {
     /// What is written.
@@ -121,8 +121,8 @@ pub fn check(settings: &Settings, rules: &Rules) -> Result<(), SettingError>
     Ok(())
 }
 
-/// Whether the text is written while the input is still read: the matches are those of the standard kind, which no later byte can
-/// change, no pattern is empty, and not all that overlap is listed.
+/// Whether the text is written while the input is still read: under the standard kind, where no later byte can change a match, if
+/// no pattern is empty and not all that overlap is listed.
 pub fn is_streamed(settings: &Settings, rules: &Rules) -> bool
     ensures { IsTrue result ↔ IsStreamed settings.now rules.now }
 {

@@ -6,12 +6,13 @@
 ghost use Rattle.std.specs.Prelude.{◌≡◌, ◌≢◌, Err, false, IfErr};
 ghost use Rattle.ac_input.specs.declared.search.Anchored.TheVariants.{No};
 ghost use Rattle.ac_automaton.specs.Moved.{NoneTouched};
+ghost use Rattle.ac_automaton.specs.StreamReplace.{CostsStream};
 ghost use Rattle.ac_automaton.specs.Watched.{has_ended};
 ghost use Rattle.ac_automaton.specs.declared.error.MatchErrorKind.{MatchErrorKind};
 ghost use Rattle.ac_automaton.specs.declared.error.StreamError.TheVariants.{Config};
 ghost use Rattle.acsub.specs.Finder.{dictionary_for};
 ghost use Rattle.acsub.specs.Sides.{patterns_of};
-ghost use Rattle.acsub.specs.Stream.{CostsToStream, IsToldAs, Streams};
+ghost use Rattle.acsub.specs.Stream.{IsToldAs, Streams};
 ghost use Rattle.acsub.specs.Transformed.{IsStreamed};
 ghost use Rattle.acsub.specs.declared.error.RunError.TheVariants.{Memory};
 ghost use Rattle.acsub.specs.declared.settings.Mode.TheVariants.{Replace};
@@ -46,7 +47,7 @@ pub fn stream_text<A: Automaton, R: Read, W: Write>(
     requires streamed { IsStreamed prepared.now.settings prepared.now.rules }
     ensures streams { Streams R.remaining W.contents reader.old reader.new writer.old writer.new
         prepared.now.settings prepared.now.rules result }
-    ensures costs { CostsToStream (A.built automaton.now) reader.old reader.new
+    ensures costs { CostsStream (A.built automaton.now) reader.old reader.new
         steps.old steps.new result }
     ensures memory { IfErr result (λ error. error ≡ Memory
         → NoneTouched reader.old reader.new writer.old writer.new) }
@@ -75,7 +76,7 @@ pub(crate) fn stream_replaced<A: Automaton, R: Read, W: Write>(
     requires mode { prepared.now.settings.mode ≡ Replace }
     ensures streams { Streams R.remaining W.contents reader.old reader.new writer.old writer.new
         prepared.now.settings prepared.now.rules result }
-    ensures costs { CostsToStream (A.built automaton.now) reader.old reader.new
+    ensures costs { CostsStream (A.built automaton.now) reader.old reader.new
         steps.old steps.new result }
     ensures memory { IfErr result (λ error. error ≡ Memory
         → NoneTouched reader.old reader.new writer.old writer.new) }

@@ -1,16 +1,17 @@
 //! The whole program: words in, a status out.
 //!
-//! [`program`] takes the words as the system hands them over, and [`tool`] does the rest: it reads the words, then the rule file
+//! [`program`] takes the words as the system hands them over, and [`tool`] does the rest. It reads the words, then the rule file
 //! whole, then runs over a reader and a writer, and flushes the writer. Help that is asked for is written and flushed like the text
-//! of a run. A fault is told by one line on the error stream, and by the status. Faults are found in this order: words, rule file,
-//! run, flush. After a fault of the run the writer is still flushed, and the fault that is told is that of the run.
-ghost use Rattle.std.specs.Prelude.{◌≡◌, false, map, string_bytes, OnOk};
-ghost use Rattle.std.specs.Io.KnownBytes.{Appends};
+//! of a run.
+//!
+//! A fault is reported by one line on the error stream, and by the status. Faults are found in this order: words, rule file, run,
+//! flush. After a fault of the run the writer is still flushed, and the fault of the run is the one that is reported.
+ghost use Rattle.std.specs.Prelude.{◌≡◌, false, map, string_bytes};
 ghost use Rattle.std.specs.IoError.{error_kind};
 ghost use Rattle.std.specs.Process.{exit_status};
 ghost use Rattle.ac_automaton.specs.Watched.{has_ended};
 ghost use Rattle.acsub.specs.Outcome.{AnswersFile, AnswersHelp, AnswersTool, Collects, EndsProgram, EndsTool, Finishes, ReadsFile, WritesText};
-ghost use Rattle.acsub.specs.Tool.{IsFaultOf, line_of, status_of};
+ghost use Rattle.acsub.specs.Tool.{IsFaultOf, WritesLine, status_of};
 
 use crate::error::RunError;
 use crate::run::run;
@@ -149,8 +150,7 @@ pub fn tell<E: Write>(fault: &Fault, errors: &mut E) -> u8
 
 /// Writes the line of a fault.
 fn write_line<E: Write>(fault: &Fault, errors: &mut E) -> io::Result<()>
-    ensures { OnOk result (Appends (E.contents errors.old) (E.contents errors.new)
-        (line_of fault.now)) }
+    ensures { WritesLine E.contents errors.old errors.new fault.now result }
 {
     writeln!(errors, "acsub: {fault}")
 }
@@ -218,7 +218,7 @@ fn write_text<W: Write>(text: &str, writer: &mut Watched<W>) -> Result<(), RunEr
     }
 }
 
-/// Flushes the writer after a run. A fault of the run is told before one of the flush.
+/// Flushes the writer after a run. A fault of the run is reported before one of the flush.
 fn finish<W: Write>(ran: Result<(), RunError>, writer: &mut Watched<W>) -> Result<(), Fault>
     ensures { Finishes W.contents ran writer.old writer.new result }
 {

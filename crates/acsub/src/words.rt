@@ -3,8 +3,8 @@
 //! `acsub MODE RULES [--kind K] [--fold] [--pairs HEX] [--engine E] [--no-prefilter] [--dense-depth N] [--no-byte-classes]`
 //!
 //! clap splits the words, names the values that an argument takes and writes the help; what a value means is said here. The
-//! command stands as data in `specs/Command.antt`, so the contract of `read_words` says of all words what comes of them, by
-//! clap's own account of which words such a command takes and which value each argument then has.
+//! command stands as data in `specs/Command.antt`. So the contract of `read_words` says of all words what comes of them. It goes
+//! by clap's own account of which words such a command takes, and which value each argument then has.
 ghost use Rattle.std.specs.Prelude.{◌≡◌, ◌∷◌, [], ◌++◌, ◌<◌, ℕ, List, Some, IfOk, MatchResult, false, length, map, option_map, string_bytes};
 ghost use Rattle.clap.specs.Words.{first_of, rule_of};
 ghost use Rattle.acsub.specs.Command.{AddsEngine, AddsMatching, IsCommand, Shows, choice, flag, option, placed};

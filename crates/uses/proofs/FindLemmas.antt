@@ -1,8 +1,9 @@
 -- What the answer of a search says of a whole text.
 use Rattle.std.proofs.Common.{◌≡◌, ℕ, ◌-◌, ◌≤◌, ◌<◌, Bool, true, false, List, [], length, get_or, take, Option, Some, None, Result, Ok, IsTrue, refl, sym, ap, ◌∙◌, subst, arith}
-use Rattle.std.specs.Prelude.{◌↔◌, slice_range, is_some, IfOk}
+use Rattle.std.specs.Prelude.{◌↔◌, slice_range, is_some}
 use Rattle.std.proofs.lemmas.Grind.{common_steps}
 use Rattle.std.proofs.lemmas.Option.{get_or_from_slice_get, slice_get_within}
+use Rattle.ac_input.specs.declared.search.Anchored.{Anchored}
 use Rattle.ac_input.specs.declared.search.Anchored.TheVariants.{Yes}
 use Rattle.ac_input.specs.declared.search.MatchKind.{MatchKind}
 use Rattle.ac_input.specs.declared.search.MatchKind.TheVariants.{Standard}
@@ -15,27 +16,29 @@ use Rattle.ac_input.proofs.BestLemmas.{best-computed}
 use Rattle.ac_input.proofs.LiveLemmas.{standard-no_later}
 use Rattle.ac_input.proofs.OrderLemmas.{occurs-end, same_text-length, slice_range-length}
 use Rattle.ac_input.proofs.WalkLemmas.{best_of-occurs}
-use Rattle.ac_automaton.specs.Automaton.{Built, IsFound}
+use Rattle.ac_automaton.specs.Automaton.{Built, AnswersFind, IsFound}
+use Rattle.ac_automaton.specs.declared.error.MatchErrorKind.{MatchErrorKind}
 use Rattle.ac_automaton.proofs.IterLemmas.{shortest-le}
 use Rattle.uses.specs.Callers.{BeginsWithPattern, HasOccurrence, IsFirstEnd, first_in}
 
 -- the answer to a search that was asked so
-pub found-for : {E : Type 0} (b : Built) (asked known : Asked) (result : Result (Option Occurrence) E) (r : Option Occurrence) → IfOk result (IsFound b asked) → result ≡ Ok r → asked ≡ known → IsFound b known r
-found-for {E} b asked known result r found is same =
-    subst (λ (q : Result (Option Occurrence) E). IfOk q (IsFound b known)) is (subst (λ (a : Asked). IfOk result (IsFound b a)) same found)
+pub found-for : (b : Built) (supports : Anchored → Type 0) (asked known : Asked) (result : Result (Option Occurrence) MatchErrorKind) (r : Option Occurrence) → AnswersFind b supports asked result → result ≡ Ok r → asked ≡ known → IsFound b known r
+found-for b supports asked known result r answers is same =
+    let found = subst (λ (q : Result (Option Occurrence) MatchErrorKind). AnswersFind b supports asked q) is answers in
+    subst (λ (a : Asked). IsFound b a r) same found.1
 
 -- the answer of a whole text is its match
 pub found-first : (b : Built) (text : List ℕ) (r : Option Occurrence) → IsFound b (whole_of text) r → r ≡ first_in b.dictionary text
 found-first b text r found = best-computed b.dictionary.kind (whole b.dictionary text false) (omega arith) r found
 
 -- the answer to an anchored search, and to an earliest one
-pub found-anchored : {E : Type 0} (b : Built) (text : List ℕ) (new asked : Asked) (result : Result (Option Occurrence) E) (r : Option Occurrence) → IfOk result (IsFound b asked) → result ≡ Ok r → asked ≡ record new { anchored = Yes } → new ≡ whole_of text → IsBest b.dictionary.kind (whole b.dictionary text true) r
-found-anchored {E} b text new asked result r found is made whole_text =
-    found-for b asked (record (whole_of text) { anchored = Yes }) result r found is (made ∙ ap (λ (a : Asked). record a { anchored = Yes }) whole_text)
+pub found-anchored : (b : Built) (supports : Anchored → Type 0) (text : List ℕ) (new asked : Asked) (result : Result (Option Occurrence) MatchErrorKind) (r : Option Occurrence) → AnswersFind b supports asked result → result ≡ Ok r → asked ≡ record new { anchored = Yes } → new ≡ whole_of text → IsBest b.dictionary.kind (whole b.dictionary text true) r
+found-anchored b supports text new asked result r found is made whole_text =
+    found-for b supports asked (record (whole_of text) { anchored = Yes }) result r found is (made ∙ ap (λ (a : Asked). record a { anchored = Yes }) whole_text)
 
-pub found-earliest : {E : Type 0} (b : Built) (text : List ℕ) (new asked : Asked) (result : Result (Option Occurrence) E) (r : Option Occurrence) → IfOk result (IsFound b asked) → result ≡ Ok r → asked ≡ record new { earliest = true } → new ≡ whole_of text → IsBest Standard (whole b.dictionary text false) r
-found-earliest {E} b text new asked result r found is made whole_text =
-    found-for b asked (record (whole_of text) { earliest = true }) result r found is (made ∙ ap (λ (a : Asked). record a { earliest = true }) whole_text)
+pub found-earliest : (b : Built) (supports : Anchored → Type 0) (text : List ℕ) (new asked : Asked) (result : Result (Option Occurrence) MatchErrorKind) (r : Option Occurrence) → AnswersFind b supports asked result → result ≡ Ok r → asked ≡ record new { earliest = true } → new ≡ whole_of text → IsBest Standard (whole b.dictionary text false) r
+found-earliest b supports text new asked result r found is made whole_text =
+    found-for b supports asked (record (whole_of text) { earliest = true }) result r found is (made ∙ ap (λ (a : Asked). record a { earliest = true }) whole_text)
 
 -- a pattern that begins the text occurs at its start
 pub begins-occurs : (m : Dictionary) (text : List ℕ) → BeginsWithPattern m text → HasOccurrence (whole m text true)

@@ -1,19 +1,20 @@
 -- What overlapping searches show of a whole text.
 use Rattle.std.proofs.Common.{◌≡◌, ℕ, false, List, Result, Ok, ap, sym, ◌∙◌, subst, arith}
-use Rattle.std.specs.Prelude.{IfOk}
+use Rattle.ac_input.specs.declared.search.Anchored.{Anchored}
 use Rattle.ac_input.specs.Dictionary.{whole}
 use Rattle.ac_input.specs.Input.{Asked, whole_of}
 use Rattle.ac_input.specs.Listing.{IsListing}
 use Rattle.ac_input.specs.Occurrence.{Occurrence}
 use Rattle.ac_input.proofs.ListingLemmas.{listing_of-lists}
 use Rattle.ac_automaton.specs.Automaton.{Built, listing_in}
-use Rattle.ac_automaton.specs.OverlappingIter.{Run, rest_of}
+use Rattle.ac_automaton.specs.OverlappingIter.{AnswersOverlappingIter, Run, rest_of}
+use Rattle.ac_automaton.specs.declared.error.MatchErrorKind.{MatchErrorKind}
 
 -- what is left of a run that has not begun is all of it
-pub left-listing : {E : Type 0} (b : Built) (text : List ℕ) (asked : Asked) (result : Result Run E) (run : Run) → IfOk result (λ matches. rest_of matches ≡ listing_in b asked) → result ≡ Ok run → asked ≡ whole_of text → rest_of run ≡ listing_in b (whole_of text)
-left-listing {E} b text asked result run all is whole_text =
-    let left = subst (λ (q : Result Run E). IfOk q (λ matches. rest_of matches ≡ listing_in b asked)) is all in
-    left ∙ ap (listing_in b) whole_text
+pub left-listing : (b : Built) (supports : Anchored → Type 0) (text : List ℕ) (asked : Asked) (result : Result Run MatchErrorKind) (run : Run) → AnswersOverlappingIter b supports asked result → result ≡ Ok run → asked ≡ whole_of text → rest_of run ≡ listing_in b (whole_of text)
+left-listing b supports text asked result run answers is whole_text =
+    let all = subst (λ (q : Result Run MatchErrorKind). AnswersOverlappingIter b supports asked q) is answers in
+    all.2 ∙ ap (listing_in b) whole_text
 
 -- what was collected of the listing of a text is its listing
 pub collected-listing : (b : Built) (text : List ℕ) (os : List Occurrence) → os ≡ listing_in b (whole_of text) → IsListing (whole b.dictionary text false) os

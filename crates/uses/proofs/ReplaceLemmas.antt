@@ -1,12 +1,13 @@
 -- What replacements make of a text.
-use Rattle.std.proofs.Common.{◌≡◌, ℕ, ◌≤◌, Bool, true, false, List, [], ◌∷◌, ◌++◌, length, drop, get_or, Some, None, Ok, inl, inr, sym, ap, ◌∙◌, append_assoc, arith}
-use Rattle.std.specs.Prelude.{slice_range}
+use Rattle.std.proofs.Common.{◌≡◌, ℕ, ◌≤◌, Bool, true, false, List, [], ◌∷◌, ◌++◌, length, map, drop, get_or, Some, None, Result, Ok, Err, inl, inr, sym, ap, ◌∙◌, append_assoc, arith}
+use Rattle.std.specs.Prelude.{slice_range, IfOk, OnOk}
 use Rattle.std.specs.Borrow.{Bor, MutBor}
 use Rattle.std.specs.Fn.{Called}
 use Rattle.std.specs.List.{filter}
 use Rattle.std.proofs.lemmas.Bool.{false≢true}
 use Rattle.std.proofs.lemmas.List.Folds.{drop_split}
 use Rattle.ac_input.specs.Chain.{IsChain}
+use Rattle.ac_input.specs.declared.search.Anchored.{Anchored}
 use Rattle.ac_input.specs.Dictionary.{whole}
 use Rattle.ac_input.specs.Occurrence.{Search, Occurrence}
 use Rattle.ac_input.specs.Same.{IsUnpaired}
@@ -14,9 +15,19 @@ use Rattle.ac_input.specs.Walk.{Here}
 use Rattle.ac_input.proofs.TextLemmas.{replaced-identity}
 use Rattle.ac_input.proofs.WalkLemmas.{walk_after-none, walk_of-walk}
 use Rattle.ac_automaton.specs.Automaton.{Built}
-use Rattle.ac_automaton.specs.Replace.{IsReplacedWith, LieInOrder, MemoryReplacer, calls_of, cuts_none, matches_in, text_matches_in, with_replaced}
+use Rattle.ac_automaton.specs.Replace.{AnswersReplaceAll, AnswersReplaceAllWith, IsReplacedWith, LieInOrder, MemoryReplacer, calls_of, cuts_none, matches_in, text_matches_in, with_replaced}
+use Rattle.ac_automaton.specs.declared.error.ReplaceError.{ReplaceError}
 use Rattle.ac_automaton.proofs.ReplaceLemmas.{matches-lie}
 use Rattle.uses.specs.Callers.{HasOccurrence}
+
+-- what a replacement that succeeds gives
+pub if-replaced : {D : Type 0} (held : D → List ℕ) (matches : Built → List ℕ → List Occurrence) (b : Built) (supports : Anchored → Type 0) (text : List ℕ) (replacements : List (Bor (List ℕ))) (r : Result D ReplaceError) → AnswersReplaceAll held matches b supports text replacements r → IfOk r (λ d. held d ≡ with_replaced text (map (λ p. p.now) replacements) (matches b text))
+if-replaced {D} held matches b supports text replacements (Ok d) answers = answers.1
+if-replaced {D} held matches b supports text replacements (Err error) answers = tt
+
+pub if-replaced_with : {F D : Type 0} (held : D → List ℕ) (matches : Built → List ℕ → List Occurrence) (g : MemoryReplacer F D) (b : Built) (supports : Anchored → Type 0) (text : List ℕ) (f : F) (old new : D) (r : Result (Unit {0}) ReplaceError) → AnswersReplaceAllWith held matches g b supports text f old new r → OnOk r (IsReplacedWith held g text (matches b text) f old new)
+if-replaced_with {F} {D} held matches g b supports text f old new (Ok done) answers = answers.1
+if-replaced_with {F} {D} held matches g b supports text f old new (Err error) answers = tt
 
 -- a text in which each match is replaced by its pattern, where no byte is paired
 pub replaced-same : (b : Built) (text : List ℕ) (patterns : List (List ℕ)) → IsUnpaired b.dictionary.pairing → patterns ≡ b.dictionary.patterns → with_replaced text patterns (matches_in b text) ≡ text

@@ -1,9 +1,10 @@
 -- What the list of a state says of the end of a text.
 use Rattle.std.proofs.Common.{◌≡◌, ◌≢◌, ℕ, ◌≤◌, ◌<◌, false, List, [], ◌∷◌, length, map, take, drop, Some, None, IsTrue, inl, inr, Result, Ok, refl, sym, ◌∙◌, subst, arith}
-use Rattle.std.specs.Prelude.{◌↔◌, IfOk}
+use Rattle.std.specs.Prelude.{◌↔◌}
 use Rattle.std.proofs.lemmas.Bool.{cases_lt, false≢true}
 use Rattle.std.proofs.lemmas.List.{length-take-le, take-append-drop}
 use Rattle.ac_input.specs.Number.{StateID}
+use Rattle.ac_input.specs.declared.search.Anchored.{Anchored}
 use Rattle.ac_input.specs.declared.search.MatchKind.{MatchKind}
 use Rattle.ac_input.specs.declared.search.MatchKind.TheVariants.{Standard, LeftmostFirst, LeftmostLongest}
 use Rattle.ac_input.specs.Dictionary.{Dictionary, whole}
@@ -11,7 +12,8 @@ use Rattle.ac_input.specs.Occurrence.{Occurrence, Occurs}
 use Rattle.ac_input.specs.Tells.{TellsUnanchored, ending}
 use Rattle.ac_input.proofs.ContainsLemmas.{Contains-head, Contains-nil}
 use Rattle.ac_input.proofs.BeginningLemmas.{longer-occurs, occurs-longer}
-use Rattle.ac_automaton.specs.Automaton.{Leads, PassesPlain, has_some, is_matching}
+use Rattle.ac_automaton.specs.Automaton.{AnswersStart, Leads, PassesPlain, has_some, is_matching}
+use Rattle.ac_automaton.specs.declared.error.MatchErrorKind.{MatchErrorKind}
 use Rattle.uses.specs.Callers.{EndsWithPattern, IsFirstEnd}
 
 -- under the standard kind some pattern is listed where one ends the text
@@ -78,25 +80,27 @@ first-listed m text k ns read listed before =
 pub none-listed : (m : Dictionary) (text : List ℕ) → ((at : ℕ) → at ≤ length text → IsReadTo m text at []) → IsFirstEnd (whole m text false) None
 none-listed m text before (o, occurs) = (before o.end occurs.within.2).none refl o occurs refl
 
--- the value of a call that succeeded
-pub ok-value : {X E : Type 0} (P : X → Type 0) (r : Result X E) (x : X) → IfOk r P → r ≡ Ok x → P x
-ok-value {X} {E} P r x holds is = subst (λ (q : Result X E). IfOk q P) is holds
+-- the start of a call that succeeded
+pub start-reached : (supports : Anchored → Type 0) (Reaches : Anchored → List ℕ → StateID → Type 0) (anchored : Anchored) (r : Result StateID MatchErrorKind) (sid : StateID) → AnswersStart supports Reaches anchored r → r ≡ Ok sid → Reaches anchored [] sid
+start-reached supports Reaches anchored r sid answers is =
+    let start = subst (λ (q : Result StateID MatchErrorKind). AnswersStart supports Reaches anchored q) is answers in
+    start.1
 
 -- ---- a walk from the start, which matches nothing
 
 -- What is known of a walk over a text: what its states tell, where it began, that no state between matches, and where it stands.
-pub record HasWalked (m : Dictionary) (text : List ℕ) (Reads : List ℕ → StateID → Type 0) (matches : StateID → List ℕ) (start end : StateID) (taken : ℕ) : Type 0 where
+pub record HasWalked (m : Dictionary) (text : List ℕ) (Reaches : List ℕ → StateID → Type 0) (matches : StateID → List ℕ) (start end : StateID) (taken : ℕ) : Type 0 where
   pub standard : m.kind ≡ Standard
-  pub tells : (front : List ℕ) (sid : StateID) → Reads front sid → TellsUnanchored m.kind m front (matches sid)
-  pub begun : Reads [] start
+  pub tells : (front : List ℕ) (sid : StateID) → Reaches front sid → TellsUnanchored m.kind m front (matches sid)
+  pub begun : Reaches [] start
   pub unmatched : ¬ (matches start ≢ [])
   pub within : taken ≤ length text
-  pub plain : PassesPlain Reads (is_matching matches) start text taken
-  pub stands : Leads Reads start (take taken text) end
+  pub plain : PassesPlain Reaches (is_matching matches) start text taken
+  pub stands : Leads Reaches start (take taken text) end
 
 -- before the place where it stands nothing ends
-walked-none : (m : Dictionary) (text : List ℕ) (Reads : List ℕ → StateID → Type 0) (matches : StateID → List ℕ) (start end : StateID) (taken : ℕ) → HasWalked m text Reads matches start end taken → (at : ℕ) → at < taken → IsReadTo m text at []
-walked-none m text Reads matches start end taken walked at earlier = elim (cases_lt 0 at) [
+walked-none : (m : Dictionary) (text : List ℕ) (Reaches : List ℕ → StateID → Type 0) (matches : StateID → List ℕ) (start end : StateID) (taken : ℕ) → HasWalked m text Reaches matches start end taken → (at : ℕ) → at < taken → IsReadTo m text at []
+walked-none m text Reaches matches start end taken walked at earlier = elim (cases_lt 0 at) [
   | inl some ↦
       let passed = walked.plain at some earlier in
       let told = walked.tells (take at text) passed.0 (passed.1 [] walked.begun) in
@@ -108,19 +112,19 @@ walked-none m text Reads matches start end taken walked at earlier = elim (cases
 ]
 
 -- where it stands at a match, that is the first end
-pub walked-first : (m : Dictionary) (text : List ℕ) (Reads : List ℕ → StateID → Type 0) (matches : StateID → List ℕ) (start end : StateID) (taken : ℕ) → HasWalked m text Reads matches start end taken → matches end ≢ [] → IsFirstEnd (whole m text false) (Some taken)
-walked-first m text Reads matches start end taken walked listed =
+pub walked-first : (m : Dictionary) (text : List ℕ) (Reaches : List ℕ → StateID → Type 0) (matches : StateID → List ℕ) (start end : StateID) (taken : ℕ) → HasWalked m text Reaches matches start end taken → matches end ≢ [] → IsFirstEnd (whole m text false) (Some taken)
+walked-first m text Reaches matches start end taken walked listed =
     let told = walked.tells (take taken text) end (walked.stands [] walked.begun) in
-    first-listed m text taken (matches end) (read-to m text taken (matches end) walked.within walked.standard told) listed (walked-none m text Reads matches start end taken walked)
+    first-listed m text taken (matches end) (read-to m text taken (matches end) walked.within walked.standard told) listed (walked-none m text Reaches matches start end taken walked)
 
 -- where it stands at the end, at no match, nothing occurs
-pub walked-over : (m : Dictionary) (text : List ℕ) (Reads : List ℕ → StateID → Type 0) (matches : StateID → List ℕ) (start end : StateID) (taken : ℕ) → HasWalked m text Reads matches start end taken → ¬ (matches end ≢ []) → (taken < length text → IsTrue (is_matching matches end)) → IsFirstEnd (whole m text false) None
-walked-over m text Reads matches start end taken walked unlisted stops =
+pub walked-over : (m : Dictionary) (text : List ℕ) (Reaches : List ℕ → StateID → Type 0) (matches : StateID → List ℕ) (start end : StateID) (taken : ℕ) → HasWalked m text Reaches matches start end taken → ¬ (matches end ≢ []) → (taken < length text → IsTrue (is_matching matches end)) → IsFirstEnd (whole m text false) None
+walked-over m text Reaches matches start end taken walked unlisted stops =
     let nothing = list-none (matches end) unlisted in
     let told = walked.tells (take taken text) end (walked.stands [] walked.begun) in
     let last = subst (IsReadTo m text taken) nothing (read-to m text taken (matches end) walked.within walked.standard told) in
     none-listed m text (λ at within. elim (cases_lt at taken) [
-      | inl earlier ↦ walked-none m text Reads matches start end taken walked at earlier
+      | inl earlier ↦ walked-none m text Reaches matches start end taken walked at earlier
       | inr later ↦ elim (cases_lt taken (length text)) [
         | inl more ↦ absurd (unmatching (matches end) nothing (stops more))
         | inr all ↦ let here : taken ≡ at = omega (arith, walked.within) in subst (λ (k : ℕ). IsReadTo m text k []) here last

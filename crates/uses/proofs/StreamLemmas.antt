@@ -16,7 +16,7 @@ use Rattle.ac_automaton.specs.Automaton.{Built}
 use Rattle.ac_automaton.specs.Moved.{AreFilled}
 use Rattle.ac_automaton.specs.Output.{Sent}
 use Rattle.ac_automaton.specs.Replace.{LieInOrder, matches_in}
-use Rattle.ac_automaton.specs.Stream.{Scanned, read_by}
+use Rattle.ac_automaton.specs.Stream.{StreamProgress, read_by}
 use Rattle.ac_automaton.specs.StreamIter.{HasGained, NextGives}
 use Rattle.ac_automaton.specs.StreamReplace.{ReplacesStream, replaced_in}
 use Rattle.ac_automaton.specs.StreamReplaceWith.{IsWriterChain, ReplacesStreamWith, StreamReplacer}
@@ -38,7 +38,7 @@ consumed-whole old new text bytes is consumes ended = by new (subst (λ (known :
     by (Some rest) consumes ended = consumes ∙ ap (λ (t : List ℕ). bytes ++ t) ended ∙ append-nil bytes
 
 -- what was read of a text, and what is left of it, is the text
-stream-read : {R : Type 0} (rest : R → List ℕ) (text : List ℕ) (s t : Scanned) (before after : Watched R) (gained : List (List ℕ)) (failed : ℕ) → text ≡ read_by s ++ rest (inner_of before) → HasGained (λ r. Some (rest r)) s t before after gained failed → text ≡ read_by t ++ rest (inner_of after)
+stream-read : {R : Type 0} (rest : R → List ℕ) (text : List ℕ) (s t : StreamProgress) (before after : Watched R) (gained : List (List ℕ)) (failed : ℕ) → text ≡ read_by s ++ rest (inner_of before) → HasGained (λ r. Some (rest r)) s t before after gained failed → text ≡ read_by t ++ rest (inner_of after)
 stream-read rest text s t before after gained failed is gains =
     is
     ∙ ap (λ (u : List ℕ). read_by s ++ u) gains.read.device
@@ -46,14 +46,14 @@ stream-read rest text s t before after gained failed is gains =
     ∙ ap (λ (u : List ℕ). u ++ rest (inner_of after)) (sym (ap concat gains.pieces ∙ concat-append s.pieces gained))
 
 -- A search of a text stands somewhere: what it read, and what it gave.
-pub record HasFound {R : Type 0} (rest : R → List ℕ) (b : Built) (text : List ℕ) (s : Scanned) (reader : Watched R) (found : List Occurrence) : Type 0 where
+pub record HasFound {R : Type 0} (rest : R → List ℕ) (b : Built) (text : List ℕ) (s : StreamProgress) (reader : Watched R) (found : List Occurrence) : Type 0 where
   pub built : s.built ≡ b
   pub unended : has_ended reader ≡ false
   pub read : text ≡ read_by s ++ rest (inner_of reader)
   pub given : found ≡ s.given
 
 -- it gave one more match
-pub found-more : {R : Type 0} (rest : R → List ℕ) (b : Built) (text : List ℕ) (s t : Scanned) (before after : Watched R) (found more : List Occurrence) (o : Occurrence) → HasFound rest b text s before found → NextGives (λ r. Some (rest r)) s t before after (Some (Ok o)) → more ≡ found ++ o ∷ [] → HasFound rest b text t after more
+pub found-more : {R : Type 0} (rest : R → List ℕ) (b : Built) (text : List ℕ) (s t : StreamProgress) (before after : Watched R) (found more : List Occurrence) (o : Occurrence) → HasFound rest b text s before found → NextGives (λ r. Some (rest r)) s t before after (Some (Ok o)) → more ≡ found ++ o ∷ [] → HasFound rest b text t after more
 found-more rest b text s t before after found more o has gives is =
     record {
       built = gives.1.built ∙ has.built;
@@ -63,7 +63,7 @@ found-more rest b text s t before after found more o has gives is =
     }
 
 -- it gave all matches
-pub found-all : {R : Type 0} (rest : R → List ℕ) (b : Built) (text : List ℕ) (s t : Scanned) (before after : Watched R) (found : List Occurrence) → length text ≤ 18446744073709551615 → HasFound rest b text s before found → NextGives (λ r. Some (rest r)) s t before after None → found ≡ matches_in b text
+pub found-all : {R : Type 0} (rest : R → List ℕ) (b : Built) (text : List ℕ) (s t : StreamProgress) (before after : Watched R) (found : List Occurrence) → length text ≤ 18446744073709551615 → HasFound rest b text s before found → NextGives (λ r. Some (rest r)) s t before after None → found ≡ matches_in b text
 found-all rest b text s t before after found few has gives =
     let read = stream-read rest text s t before after gives.0 0 has.read gives.1 in
     elim gives.2 [
@@ -76,7 +76,7 @@ found-all rest b text s t before after found few has gives =
           ]
       | inr (whole, all, ended) ↦
           let same : text ≡ read_by t = read ∙ ap (λ (u : List ℕ). read_by t ++ u) ended ∙ append-nil (read_by t) in
-          has.given ∙ sym gives.3 ∙ all.1 ∙ ap (λ (c : Built). matches_in c (read_by t)) (gives.1.built ∙ has.built) ∙ ap (matches_in b) (sym same)
+          has.given ∙ sym gives.3 ∙ all.all ∙ ap (λ (c : Built). matches_in c (read_by t)) (gives.1.built ∙ has.built) ∙ ap (matches_in b) (sym same)
     ]
 
 -- ---- closures that write what matched

@@ -1,9 +1,9 @@
 -- How many matches a walk has, how much of a text they cover, and what it costs to go over them.
 use Rattle.std.proofs.Common.{◌≡◌, ℕ, ◌+◌, ◌-◌, ◌≤◌, false, List, [], ◌∷◌, length, Result, Ok, ◌∙◌, ap, subst, arith, None}
 use Rattle.std.specs.List.{Contains}
-use Rattle.std.specs.Prelude.{IfOk}
 use Rattle.ac_input.proofs.ContainsLemmas.{Contains-head, Contains-tail}
 use Rattle.ac_input.specs.Occurrence.{Search, Occurrence}
+use Rattle.ac_input.specs.declared.search.Anchored.{Anchored}
 use Rattle.ac_input.specs.declared.steps.Steps.{Steps}
 use Rattle.ac_input.specs.Dictionary.{whole}
 use Rattle.ac_input.specs.Input.{Asked, whole_of}
@@ -11,7 +11,8 @@ use Rattle.ac_input.specs.Laws.{IsApart}
 use Rattle.ac_input.specs.Steps.{looked_of}
 use Rattle.ac_input.proofs.WalkLemmas.{walk-rising, walk-within, walk_of-walk}
 use Rattle.ac_automaton.specs.Automaton.{Built, walk_in}
-use Rattle.ac_automaton.specs.Iter.{IsOnItsWay, Walk, left_of}
+use Rattle.ac_automaton.specs.Iter.{AnswersFindIter, IsOnItsWay, Walk, left_of}
+use Rattle.ac_automaton.specs.declared.error.MatchErrorKind.{MatchErrorKind}
 use Rattle.ac_automaton.specs.Replace.{LieInOrder, matches_in}
 use Rattle.ac_automaton.proofs.ReplaceLemmas.{matches-lie}
 use Rattle.uses.specs.Callers.{bytes_in}
@@ -47,10 +48,10 @@ matches-few b text =
     (λ o has. let lies = walk-within b.dictionary.kind s 0 None (matches_in b text) o walk has in omega (arith, lies.1, lies.2))
 
 -- what is left of a walk that has not begun is all of it
-pub left-all : {E : Type 0} (b : Built) (text : List ℕ) (asked : Asked) (result : Result Walk E) (w : Walk) → IfOk result (λ matches. left_of matches ≡ walk_in b asked) → result ≡ Ok w → asked ≡ whole_of text → left_of w ≡ matches_in b text
-left-all {E} b text asked result w all is whole_text =
-    let left = subst (λ (q : Result Walk E). IfOk q (λ matches. left_of matches ≡ walk_in b asked)) is all in
-    left ∙ ap (walk_in b) whole_text
+pub left-all : (b : Built) (supports : Anchored → Type 0) (text : List ℕ) (asked : Asked) (result : Result Walk MatchErrorKind) (w : Walk) → AnswersFindIter b supports asked result → result ≡ Ok w → asked ≡ whole_of text → left_of w ≡ matches_in b text
+left-all b supports text asked result w answers is whole_text =
+    let all = subst (λ (q : Result Walk MatchErrorKind). AnswersFindIter b supports asked q) is answers in
+    all.2 ∙ ap (walk_in b) whole_text
 
 -- A walk over the matches of a text stands somewhere, and so many states were looked at.
 pub record HasPassed (b : Built) (text : List ℕ) (begun now : Steps) (w : Walk) : Type 0 where

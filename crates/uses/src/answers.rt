@@ -137,7 +137,7 @@ pub fn shows_in_turn<T: Abort, A: Automaton>(
     state: &mut OverlappingState,
     want: &[Pick],
 )
-    requires { CameFrom (A.built automaton.now) (A.Reads automaton.now) (A.matches automaton.now)
+    requires { CameFrom (A.built automaton.now) (A.Reaches automaton.now) (A.matches automaton.now)
         input.now state.old }
 {
     for at in 0..want.len() + 2 {

@@ -25,7 +25,7 @@ struct Row {
 
 /// The state to which a text leads.
 fn reached<A: Automaton>(automaton: &A, anchored: Anchored, text: &[u8]) -> Option<StateID>
-    ensures { IfSome result (IsState (A.Reads automaton.now)) }
+    ensures { IfSome result (IsState (A.Reaches automaton.now)) }
 {
     let mut sid = automaton.start_state(anchored).ok()?;
     for byte in text {
@@ -40,7 +40,7 @@ fn matches_at<A: Automaton>(
     automaton: &A,
     sid: StateID,
 ) -> Result<Vec<usize>, AllocError>
-    requires { IsState (A.Reads automaton.now) sid }
+    requires { IsState (A.Reaches automaton.now) sid }
 {
     let mut matches = Vec::new(alloc);
     if automaton.is_match(sid) {
@@ -53,7 +53,7 @@ fn matches_at<A: Automaton>(
 
 /// Asserts what the state says; it is special where a search has more to do than to read on.
 fn says<T: Abort, A: Automaton>(rt: &T, automaton: &A, sid: StateID, row: &Row)
-    requires { IsState (A.Reads automaton.now) sid }
+    requires { IsState (A.Reaches automaton.now) sid }
 {
     let matches = !row.matches.is_empty();
     let special = row.dead || matches || row.start && automaton.prefilter().is_some();

@@ -21,7 +21,7 @@ impl<'a, A: Automaton> Automaton for OneStart<'a, A> {
     ghost supports = { λ a anchored.
         (anchored ≡ a.anchored) × A.supports a.automaton.now anchored };
 
-    ghost Reads = { λ a anchored text sid. A.Reads a.automaton.now anchored text sid };
+    ghost Reaches = { λ a anchored text sid. A.Reaches a.automaton.now anchored text sid };
 
     ghost matches = { λ a sid. A.matches a.automaton.now sid };
 

@@ -3,7 +3,7 @@ use crate::answers::same;
 use crate::engines::{Asked, Case, Letters, all};
 use crate::one_start::OneStart;
 use ac_input::search::{Anchored, Input, MatchKind, StartKind};
-use ac_noncontiguous::{Automaton, MatchError, MatchErrorKind, OverlappingState};
+use ac_noncontiguous::{Automaton, MatchError, MatchErrorKind, OverlappingState, ReplaceError};
 use std::alloc::Global;
 use std::process::Abort;
 use std::test::Fail;
@@ -46,8 +46,28 @@ fn refusals_of<A: Automaton>(automaton: &A, input: &Input<'_>) -> Result<Refusal
     })
 }
 
-/// Asserts why a search is refused, also one that would be over at once.
-fn is_refused<T: Abort, A: Automaton>(rt: &T, automaton: &A, row: &Row) -> Result<(), Fail> {
+/// Why a replacement is refused, other than for memory.
+fn replacing<A: Automaton>(automaton: &A, alloc: Global) -> Option<MatchErrorKind> {
+    let mut dst = Vec::new(alloc);
+    match automaton.try_replace_all_with_bytes(alloc, b"a", &mut dst, |_, _, _| Ok(true)) {
+        Err(ReplaceError::Match(error)) => Some(reason(error)),
+        _ => None,
+    }
+}
+
+/// Asserts why a search is refused, also one that would be over at once. A replacement, which is never anchored, is refused
+/// exactly where there is no start for it.
+fn is_refused<T: Abort, A: Automaton>(
+    rt: &T,
+    alloc: Global,
+    automaton: &A,
+    row: &Row,
+) -> Result<(), Fail> {
+    let unstarted = match row.starts {
+        StartKind::Anchored => Some(MatchErrorKind::InvalidInputUnanchored),
+        _ => None,
+    };
+    assert!(rt; replacing(automaton, alloc) == unstarted);
     let input = Input::new(b"a").anchored(row.anchored);
     let found = refusals_of(automaton, &input)?;
     let over = refusals_of(automaton, &input.range(1..0))?;
@@ -67,16 +87,17 @@ impl Case for Row {
     fn check<T: Abort, A: Automaton>(
         &self,
         rt: &T,
-        _alloc: Global,
+        alloc: Global,
         automaton: &A,
     ) -> Result<(), Fail> {
         let anchored = match self.starts {
-            StartKind::Both => return is_refused(rt, automaton, self),
+            StartKind::Both => return is_refused(rt, alloc, automaton, self),
             StartKind::Unanchored => Anchored::No,
             StartKind::Anchored => Anchored::Yes,
         };
         is_refused(
             rt,
+            alloc,
             &OneStart {
                 automaton,
                 anchored,

@@ -171,193 +171,175 @@ impl Case for Row {
     }
 }
 
+/// Standard matches, byte for byte, and a closure that goes on to the end.
+const CASED: Row = Row {
+    shows: "",
+    patterns: &[],
+    kind: Standard,
+    letters: Cased,
+    text: "",
+    replacements: &[],
+    until: None,
+    makes: "",
+    bytes: b"",
+};
+
+/// Words that begin one another.
+const APPEND: Row = Row {
+    patterns: &[b"append", b"appendage", b"app"],
+    kind: LeftmostFirst,
+    text: "append the app to the appendage",
+    replacements: &["0", "1", "2"],
+    ..CASED
+};
+
 const ROWS: &[Row] = &[
     Row {
         shows: "three words",
         patterns: &[b"fox", b"brown", b"quick"],
-        kind: Standard,
-        letters: Cased,
         text: "The quick brown fox.",
         replacements: &["sloth", "grey", "slow"],
-        until: None,
         makes: "The slow grey sloth.",
         bytes: b"The slow grey sloth.",
+        ..CASED
     },
     Row {
         shows: "the first of several patterns at one place",
-        patterns: &[b"append", b"appendage", b"app"],
-        kind: LeftmostFirst,
-        letters: Cased,
-        text: "append the app to the appendage",
         replacements: &["x", "y", "z"],
-        until: None,
         makes: "x the z to the xage",
         bytes: b"x the z to the xage",
+        ..APPEND
     },
     Row {
         shows: "an empty pattern is replaced at each place",
         patterns: &[b""],
-        kind: Standard,
-        letters: Cased,
         text: "ab",
         replacements: &["-"],
-        until: None,
         makes: "-a-b-",
         bytes: b"-a-b-",
+        ..CASED
     },
     Row {
         shows: "an empty pattern beside another, under the standard kind",
         patterns: &[b"ab", b""],
-        kind: Standard,
-        letters: Cased,
         text: "aab",
         replacements: &["X", "-"],
-        until: None,
         makes: "-a-a-b-",
         bytes: b"-a-a-b-",
+        ..CASED
     },
     Row {
         shows: "an empty pattern after another, under a leftmost kind",
         patterns: &[b"ab", b""],
-        kind: LeftmostFirst,
-        letters: Cased,
         text: "aab",
         replacements: &["X", "-"],
-        until: None,
         makes: "-aX",
         bytes: b"-aX",
+        ..APPEND
     },
     Row {
         shows: "no patterns",
-        patterns: &[],
-        kind: Standard,
-        letters: Cased,
         text: "ab",
-        replacements: &[],
-        until: None,
         makes: "ab",
         bytes: b"ab",
+        ..CASED
     },
     Row {
         shows: "each byte that is a pattern",
         patterns: &[b"o"],
-        kind: Standard,
-        letters: Cased,
         text: "foo",
         replacements: &["O"],
-        until: None,
         makes: "fOO",
         bytes: b"fOO",
+        ..CASED
     },
     Row {
         shows: "the longest of several patterns at one place",
         patterns: &[b"a", b"ab"],
         kind: LeftmostLongest,
-        letters: Cased,
         text: "xayabbbz",
         replacements: &["1", "2"],
-        until: None,
         makes: "x1y2bbz",
         bytes: b"x1y2bbz",
+        ..CASED
     },
     Row {
         shows: "the shorter pattern, which comes first",
         patterns: &[b"a", b"ab"],
-        kind: LeftmostFirst,
-        letters: Cased,
         text: "xayabbbz",
         replacements: &["1", "2"],
-        until: None,
         makes: "x1y1bbbz",
         bytes: b"x1y1bbbz",
+        ..APPEND
     },
     Row {
         shows: "letters in both cases",
         patterns: &[b"FOO"],
-        kind: Standard,
         letters: Folded,
         text: "foo Foo",
         replacements: &["x"],
-        until: None,
         makes: "x x",
         bytes: b"x x",
+        ..CASED
     },
     Row {
         shows: "a byte that is no letter has one case",
         patterns: &[b"["],
-        kind: Standard,
         letters: Folded,
         text: "{[",
         replacements: &["-"],
-        until: None,
         makes: "{-",
         bytes: b"{-",
+        ..CASED
     },
     Row {
         shows: "paired digits",
         patterns: &[b"0a"],
-        kind: Standard,
         letters: Paired(&[(b'0', b'1')]),
         text: "1a0a",
         replacements: &["x"],
-        until: None,
         makes: "xx",
         bytes: b"xx",
+        ..CASED
     },
     Row {
         shows: "a match within a character is replaced among bytes alone",
         patterns: &[b"\xa9"],
-        kind: Standard,
-        letters: Cased,
         text: "aé",
         replacements: &["x"],
-        until: None,
         makes: "aé",
         bytes: b"a\xc3x",
+        ..CASED
     },
     Row {
         shows: "the number of each pattern",
-        patterns: &[b"append", b"appendage", b"app"],
-        kind: LeftmostFirst,
-        letters: Cased,
-        text: "append the app to the appendage",
-        replacements: &["0", "1", "2"],
-        until: None,
         makes: "0 the 2 to the 0age",
         bytes: b"0 the 2 to the 0age",
+        ..APPEND
     },
     Row {
         shows: "the rest is copied after a closure stopped",
-        patterns: &[b"append", b"appendage", b"app"],
-        kind: LeftmostFirst,
-        letters: Cased,
-        text: "append the app to the appendage",
-        replacements: &["0", "1", "2"],
         until: Some(At::Stops(2)),
         makes: "0 the 2 to the appendage",
         bytes: b"0 the 2 to the appendage",
+        ..APPEND
     },
     Row {
         shows: "what was appended stays where a closure returns out of memory",
-        patterns: &[b"append", b"appendage", b"app"],
-        kind: LeftmostFirst,
-        letters: Cased,
-        text: "append the app to the appendage",
-        replacements: &["0", "1", "2"],
         until: Some(At::Fails(2)),
         makes: "0 the ",
         bytes: b"0 the ",
+        ..APPEND
     },
     Row {
         shows: "a closure is not called for a match within a character, but for one among bytes",
         patterns: &[b"\xa9"],
-        kind: Standard,
-        letters: Cased,
         text: "aé",
         replacements: &["0"],
         until: Some(At::Stops(0)),
         makes: "aé",
         bytes: b"a\xc30",
+        ..CASED
     },
 ];
 

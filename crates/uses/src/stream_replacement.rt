@@ -1,7 +1,8 @@
 //! What replacement over a stream writes, and when; and what it writes where a read or a write fails.
 //!
-//! All that is decided is written before each read, and what is kept back is not longer than the longest pattern. So where a read or
-//! a write fails, one of several fronts of the text was written, and a row names them.
+//! All that is decided is written before each read: where nothing of what was read may still begin a match that is all of it, and
+//! else what is kept back is not longer than the longest pattern. So where a read or a write fails, one of several fronts of the text
+//! was written, and a row names them.
 ghost use Rattle.std.specs.Prelude.{◌≡◌, false};
 ghost use Rattle.ac_automaton.specs.Watched.{has_ended};
 
@@ -176,49 +177,70 @@ impl Case for Row {
     }
 }
 
+/// Reads and writes that all succeed.
+const DONE: Row = Row {
+    shows: "",
+    patterns: &[],
+    replacements: &[],
+    letters: Cased,
+    given: Given::Whole(b""),
+    by: &[],
+    due: &[],
+    room: AMPLE,
+    closure_fails: None,
+    outcome: Outcome::Done,
+    written: &[],
+};
+
+/// Three words in a text of twenty bytes, by one, two and seven bytes a read.
+const FOX: Row = Row {
+    patterns: &[b"fox", b"brown", b"quick"],
+    replacements: &[b"0", b"1", b"2"],
+    given: Given::Whole(b"The quick brown fox."),
+    by: &[
+        By { most: 1, reads: 21 },
+        By { most: 2, reads: 11 },
+        By { most: 7, reads: 4 },
+    ],
+    ..DONE
+};
+
 const ROWS: &[Row] = &[
     Row {
         shows: "three words",
-        patterns: &[b"fox", b"brown", b"quick"],
         replacements: &[b"sloth", b"grey", b"slow"],
-        letters: Cased,
-        given: Given::Whole(b"The quick brown fox."),
-        by: &[
-            By { most: 1, reads: 21 },
-            By { most: 2, reads: 11 },
-            By { most: 7, reads: 4 },
-        ],
-        due: &[],
-        room: AMPLE,
-        closure_fails: None,
-        outcome: Outcome::Done,
         written: &[b"The slow grey sloth."],
+        ..FOX
     },
     Row {
         shows: "each byte that is a pattern",
         patterns: &[b"o"],
         replacements: &[b"O"],
-        letters: Cased,
         given: Given::Whole(b"foo"),
         by: &[By { most: 2, reads: 3 }],
-        due: &[],
-        room: AMPLE,
-        closure_fails: None,
-        outcome: Outcome::Done,
         written: &[b"fOO"],
+        ..DONE
     },
     Row {
-        shows: "no patterns: one byte is kept back",
-        patterns: &[],
-        replacements: &[],
-        letters: Cased,
+        shows: "no patterns: nothing is kept back",
         given: Given::Whole(b"ab"),
         by: &[By { most: 1, reads: 3 }],
-        due: &[0, 0, 1],
+        due: &[0, 1, 2],
+        written: &[b"ab"],
+        ..DONE
+    },
+    Row {
+        shows: "each line is written before the next is read, however long the longest pattern is",
+        patterns: &[b"xxxxxxxxxxxxxxxxxxxxxxxxxxxxxxxxxxxxxxxxxxxxxxxxxxxxxxxxxxxx"],
+        replacements: &[b"y"],
+        letters: Cased,
+        given: Given::Whole(b"one 1\ntwo 2\nsix 6\n"),
+        by: &[By { most: 6, reads: 4 }],
+        due: &[0, 6, 12, 18],
         room: AMPLE,
         closure_fails: None,
         outcome: Outcome::Done,
-        written: &[b"ab"],
+        written: &[b"one 1\ntwo 2\nsix 6\n"],
     },
     Row {
         shows: "letters in both cases",
@@ -227,11 +249,8 @@ const ROWS: &[Row] = &[
         letters: Folded,
         given: Given::Whole(b"foo Foo"),
         by: &[By { most: 1, reads: 8 }, By { most: 7, reads: 2 }],
-        due: &[],
-        room: AMPLE,
-        closure_fails: None,
-        outcome: Outcome::Done,
         written: &[b"x x"],
+        ..DONE
     },
     Row {
         shows: "paired digits",
@@ -240,236 +259,156 @@ const ROWS: &[Row] = &[
         letters: Paired(&[(b'0', b'1')]),
         given: Given::Whole(b"1a0a"),
         by: &[By { most: 1, reads: 5 }, By { most: 3, reads: 3 }],
-        due: &[],
-        room: AMPLE,
-        closure_fails: None,
-        outcome: Outcome::Done,
         written: &[b"xx"],
+        ..DONE
     },
     Row {
-        shows: "a match is written before the next read, and of the rest no more than three bytes are kept back",
+        shows: "all is written before the next read, but for what may still begin a match",
         patterns: &[b"fox"],
         replacements: &[b"sloth"],
-        letters: Cased,
         given: Given::Whole(b"a foxes"),
         by: &[By { most: 1, reads: 8 }],
-        due: &[0, 0, 0, 0, 1, 7, 7, 7],
-        room: AMPLE,
-        closure_fails: None,
-        outcome: Outcome::Done,
+        due: &[0, 1, 2, 2, 2, 7, 8, 9],
         written: &[b"a slothes"],
+        ..DONE
     },
     Row {
         shows: "each of three words is written before the next read, and of the rest no more than five bytes are kept back",
-        patterns: &[b"fox", b"brown", b"quick"],
         replacements: &[b"sloth", b"grey", b"slow"],
-        letters: Cased,
-        given: Given::Whole(b"The quick brown fox."),
         by: &[By { most: 1, reads: 21 }],
         due: &[
             0, 0, 0, 0, 0, 0, 1, 2, 3, 8, 8, 8, 8, 8, 8, 13, 13, 13, 13, 19, 19,
         ],
-        room: AMPLE,
-        closure_fails: None,
-        outcome: Outcome::Done,
         written: &[b"The slow grey sloth."],
+        ..FOX
     },
     Row {
         shows: "an empty read within a match ends the input",
         patterns: &[b"fox"],
         replacements: &[b"sloth"],
-        letters: Cased,
         given: Given::Pauses(b"fo", b"x"),
         by: &[By { most: 1, reads: 3 }, By { most: 2, reads: 2 }],
-        due: &[],
-        room: AMPLE,
-        closure_fails: None,
-        outcome: Outcome::Done,
         written: &[b"fo"],
+        ..DONE
     },
     Row {
         shows: "an empty read after a match ends the input",
         patterns: &[b"fox"],
         replacements: &[b"sloth"],
-        letters: Cased,
         given: Given::Pauses(b"The fox", b" ran"),
         by: &[By { most: 1, reads: 8 }, By { most: 7, reads: 2 }],
-        due: &[],
-        room: AMPLE,
-        closure_fails: None,
-        outcome: Outcome::Done,
         written: &[b"The sloth"],
+        ..DONE
     },
     Row {
         shows: "a read fails after a match and two bytes more",
         patterns: &[b"fox"],
         replacements: &[b"sloth"],
-        letters: Cased,
         given: Given::Fails(b"The fox r", b"uns"),
         by: &[By { most: 1, reads: 10 }, By { most: 4, reads: 4 }],
-        due: &[],
-        room: AMPLE,
-        closure_fails: None,
         outcome: Outcome::Read(ErrorKind::Interrupted),
-        written: &[b"The sloth", b"The sloth ", b"The sloth r"],
+        written: &[b"The sloth r"],
+        ..DONE
     },
     Row {
         shows: "a read fails within a match",
         patterns: &[b"fox"],
         replacements: &[b"sloth"],
-        letters: Cased,
         given: Given::Fails(b"The fo", b"x ran"),
         by: &[By { most: 1, reads: 7 }, By { most: 7, reads: 2 }],
-        due: &[],
-        room: AMPLE,
-        closure_fails: None,
         outcome: Outcome::Read(ErrorKind::Interrupted),
-        written: &[b"The", b"The ", b"The f", b"The fo"],
+        written: &[b"The", b"The "],
+        ..DONE
     },
     Row {
         shows: "a read fails next to a match",
         patterns: &[b"fox"],
         replacements: &[b"sloth"],
-        letters: Cased,
         given: Given::Fails(b"The fox", b" ran"),
         by: &[By { most: 1, reads: 8 }, By { most: 2, reads: 5 }],
-        due: &[],
-        room: AMPLE,
-        closure_fails: None,
         outcome: Outcome::Read(ErrorKind::Interrupted),
-        written: &[b"The ", b"The sloth"],
+        written: &[b"The sloth"],
+        ..DONE
     },
     Row {
         shows: "the first read fails",
         patterns: &[b"fox"],
         replacements: &[b"sloth"],
-        letters: Cased,
         given: Given::Fails(b"", b"The fox ran"),
         by: &[By { most: 1, reads: 1 }],
-        due: &[],
-        room: AMPLE,
-        closure_fails: None,
         outcome: Outcome::Read(ErrorKind::Interrupted),
         written: &[b""],
+        ..DONE
     },
     Row {
         shows: "a writer that takes one byte a call",
         patterns: &[b"fox"],
         replacements: &[b"sloth"],
-        letters: Cased,
         given: Given::Whole(b"The fox ran"),
         by: &[By { most: 1, reads: 12 }, By { most: 7, reads: 3 }],
-        due: &[],
         room: Room {
             bytes: 13,
             most: 1,
             fails: false,
         },
-        closure_fails: None,
-        outcome: Outcome::Done,
         written: &[b"The sloth ran"],
+        ..DONE
     },
     Row {
         shows: "a write fails within what replaces a match, after one read of all",
         patterns: &[b"fox"],
         replacements: &[b"sloth"],
-        letters: Cased,
         given: Given::Whole(b"The fox"),
         by: &[By { most: 20, reads: 2 }],
-        due: &[],
         room: Room {
             bytes: 5,
             most: 20,
             fails: true,
         },
-        closure_fails: None,
         outcome: Outcome::Write(ErrorKind::Interrupted),
         written: &[b"The s"],
+        ..DONE
     },
     Row {
         shows: "a write takes none within what replaces a match, after one read of all",
         patterns: &[b"fox"],
         replacements: &[b"sloth"],
-        letters: Cased,
         given: Given::Whole(b"The fox"),
         by: &[By { most: 20, reads: 2 }],
-        due: &[],
         room: Room {
             bytes: 5,
             most: 20,
             fails: false,
         },
-        closure_fails: None,
         outcome: Outcome::WriteZero,
         written: &[b"The s"],
+        ..DONE
     },
     Row {
         shows: "the number of each pattern",
-        patterns: &[b"fox", b"brown", b"quick"],
-        replacements: &[b"0", b"1", b"2"],
-        letters: Cased,
-        given: Given::Whole(b"The quick brown fox."),
-        by: &[
-            By { most: 1, reads: 21 },
-            By { most: 2, reads: 11 },
-            By { most: 7, reads: 4 },
-        ],
-        due: &[],
-        room: AMPLE,
-        closure_fails: None,
-        outcome: Outcome::Done,
         written: &[b"The 2 1 0."],
+        ..FOX
     },
     Row {
         shows: "a closure's error at the first match is returned unchanged, and what comes before the match was written",
-        patterns: &[b"fox", b"brown", b"quick"],
-        replacements: &[b"0", b"1", b"2"],
-        letters: Cased,
-        given: Given::Whole(b"The quick brown fox."),
-        by: &[
-            By { most: 1, reads: 21 },
-            By { most: 2, reads: 11 },
-            By { most: 7, reads: 4 },
-        ],
-        due: &[],
-        room: AMPLE,
         closure_fails: Some((2, Outcome::Memory)),
         outcome: Outcome::Memory,
         written: &[b"The "],
+        ..FOX
     },
     Row {
         shows: "a closure's error at the second match, of a kind that a writer's would have",
-        patterns: &[b"fox", b"brown", b"quick"],
-        replacements: &[b"0", b"1", b"2"],
-        letters: Cased,
-        given: Given::Whole(b"The quick brown fox."),
-        by: &[
-            By { most: 1, reads: 21 },
-            By { most: 2, reads: 11 },
-            By { most: 7, reads: 4 },
-        ],
-        due: &[],
-        room: AMPLE,
         closure_fails: Some((1, Outcome::WriteZero)),
         outcome: Outcome::WriteZero,
         written: &[b"The 2 "],
+        ..FOX
     },
     Row {
         shows: "a closure's error at the last match, as if the search were refused",
-        patterns: &[b"fox", b"brown", b"quick"],
-        replacements: &[b"0", b"1", b"2"],
-        letters: Cased,
-        given: Given::Whole(b"The quick brown fox."),
-        by: &[
-            By { most: 1, reads: 21 },
-            By { most: 2, reads: 11 },
-            By { most: 7, reads: 4 },
-        ],
-        due: &[],
-        room: AMPLE,
         closure_fails: Some((0, Outcome::Config(MatchErrorKind::UnsupportedEmpty))),
         outcome: Outcome::Config(MatchErrorKind::UnsupportedEmpty),
         written: &[b"The 2 1 "],
+        ..FOX
     },
 ];
 
@@ -479,33 +418,25 @@ const LONG: &[Row] = &[
         shows: "100,000 matches, byte by byte",
         patterns: &[b"ab"],
         replacements: &[b"c"],
-        letters: Cased,
         given: Given::Repeated(b"ab", 100_000),
         by: &[By {
             most: 1,
             reads: 200_001,
         }],
-        due: &[],
-        room: AMPLE,
-        closure_fails: None,
-        outcome: Outcome::Done,
         written: &[&[b'c'; 100_000]],
+        ..DONE
     },
     Row {
         shows: "a buffer for 72,000 bytes: the second read is for the one byte that is left free, then what is held is moved",
         patterns: &[&[b'a'; 9_000]],
         replacements: &[b"-"],
-        letters: Cased,
         given: Given::Whole(&[b'a'; 90_000]),
         by: &[By {
             most: 71_999,
             reads: 4,
         }],
-        due: &[],
-        room: AMPLE,
-        closure_fails: None,
-        outcome: Outcome::Done,
         written: &[b"----------"],
+        ..DONE
     },
 ];
 
@@ -537,21 +468,21 @@ impl Case for Fronts {
     }
 }
 
-/// No more than three bytes are kept back, and what replaces a match is written as soon as the match was read.
+/// All is written before the next read but for what may begin a fox, and what replaces a match once the match was read.
 const FRONTS_BY: &[By] = &[
+    By { most: 1, reads: 1 },
+    By { most: 1, reads: 2 },
+    By { most: 1, reads: 3 },
     By { most: 1, reads: 4 },
-    By { most: 1, reads: 5 },
-    By { most: 1, reads: 6 },
+    By { most: 1, reads: 7 },
+    By { most: 1, reads: 7 },
+    By { most: 1, reads: 7 },
+    By { most: 1, reads: 7 },
     By { most: 1, reads: 7 },
     By { most: 1, reads: 8 },
-    By { most: 1, reads: 8 },
-    By { most: 1, reads: 8 },
-    By { most: 1, reads: 8 },
-    By { most: 1, reads: 8 },
+    By { most: 1, reads: 9 },
+    By { most: 1, reads: 10 },
     By { most: 1, reads: 11 },
-    By { most: 1, reads: 12 },
-    By { most: 1, reads: 12 },
-    By { most: 1, reads: 12 },
 ];
 
 const FRONTS: &[Fronts] = &[

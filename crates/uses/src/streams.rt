@@ -127,126 +127,103 @@ const SMALL: &[usize] = &[1, 2, 7, 100];
 /// A run of bytes that begin no pattern.
 const POINTS: &[u8] = &[b'.'; 198];
 
+/// A reader that gives a text and ends, in pieces of a few bytes, and one that has all of it.
+const PLAIN: Row = Row {
+    shows: "",
+    patterns: &[],
+    letters: Cased,
+    text: &[],
+    after: b"",
+    fails: false,
+    most: SMALL,
+    finds: &[],
+};
+
 const ROWS: &[Row] = &[
     Row {
         shows: "three words",
         patterns: &[b"fox", b"brown", b"quick"],
-        letters: Cased,
         text: &[b"The quick brown fox."],
-        after: b"",
-        fails: false,
-        most: SMALL,
         finds: &[(2, 4, 9), (1, 10, 15), (0, 16, 19)],
+        ..PLAIN
     },
     Row {
         shows: "one match after another, none of which overlap",
         patterns: &[b"aa"],
-        letters: Cased,
         text: &[b"aaaaa"],
-        after: b"",
-        fails: false,
-        most: SMALL,
         finds: &[(0, 0, 2), (0, 2, 4)],
+        ..PLAIN
     },
     Row {
         shows: "what ends first, where one pattern begins another",
         patterns: &[b"append", b"appendage", b"app"],
-        letters: Cased,
         text: &[b"append the app to the appendage"],
-        after: b"",
-        fails: false,
-        most: SMALL,
         finds: &[(2, 0, 3), (2, 11, 14), (2, 22, 25)],
+        ..PLAIN
     },
     Row {
         shows: "what ends first, where one pattern is inside another",
         patterns: &[b"b", b"abc", b"abcd"],
-        letters: Cased,
         text: &[b"abcd"],
-        after: b"",
-        fails: false,
-        most: SMALL,
         finds: &[(0, 1, 2)],
+        ..PLAIN
     },
     Row {
         shows: "the first of two equal patterns",
         patterns: &[b"a", b"a"],
-        letters: Cased,
         text: &[b"a"],
-        after: b"",
-        fails: false,
-        most: SMALL,
         finds: &[(0, 0, 1)],
+        ..PLAIN
     },
     Row {
         shows: "a pattern that another begins",
         patterns: &[b"Samwise", b"Sam"],
-        letters: Cased,
         text: &[b"Samwise"],
-        after: b"",
-        fails: false,
-        most: SMALL,
         finds: &[(1, 0, 3)],
+        ..PLAIN
     },
     Row {
         shows: "letters in both cases",
         patterns: &[b"FOO", b"bAr", b"BaZ"],
         letters: Folded,
         text: &[b"foo bar baz"],
-        after: b"",
-        fails: false,
-        most: SMALL,
         finds: &[(0, 0, 3), (1, 4, 7), (2, 8, 11)],
+        ..PLAIN
     },
     Row {
         shows: "a byte that is no letter has one case",
         patterns: &[b"["],
         letters: Folded,
         text: &[b"{["],
-        after: b"",
-        fails: false,
-        most: SMALL,
         finds: &[(0, 1, 2)],
+        ..PLAIN
     },
     Row {
         shows: "paired digits",
         patterns: &[b"0a"],
         letters: Paired(&[(b'0', b'1')]),
         text: &[b"1a0a"],
-        after: b"",
-        fails: false,
-        most: SMALL,
         finds: &[(0, 0, 2), (0, 2, 4)],
+        ..PLAIN
     },
     Row {
         shows: "no patterns",
-        patterns: &[],
-        letters: Cased,
         text: &[b"ab"],
-        after: b"",
-        fails: false,
-        most: SMALL,
-        finds: &[],
+        ..PLAIN
     },
     Row {
         shows: "a long beginning that never comes to a match",
         patterns: &[b"aaaaaaaaaaaaaaaaaaaab"],
-        letters: Cased,
         text: &[&[b'a'; 1000]],
-        after: b"",
-        fails: false,
-        most: SMALL,
-        finds: &[],
+        ..PLAIN
     },
     Row {
         shows: "a match across the end of the buffer, which one read fills",
         patterns: &[b"fox"],
-        letters: Cased,
         text: &[&[b'-'; 65_534], b"fox"],
-        after: b"",
-        fails: false,
         most: &[65_536],
         finds: &[(0, 65_534, 65_537)],
+        ..PLAIN
     },
 ];
 
@@ -256,39 +233,32 @@ const STARTS: &[Row] = &[
     Row {
         shows: "one first byte",
         patterns: &[b"qx"],
-        letters: Cased,
         text: &[b"qx", POINTS, b"qq", POINTS, b"qxqx", POINTS, b"qqx"],
-        after: b"",
-        fails: false,
         most: &[1, 7, 1000],
         finds: &[(0, 0, 2), (0, 400, 402), (0, 402, 404), (0, 603, 605)],
+        ..PLAIN
     },
     Row {
         shows: "two first bytes",
         patterns: &[b"qx", b"zx"],
-        letters: Cased,
         text: &[b"qx", POINTS, b"qz", POINTS, b"zxqx", POINTS, b"qzx"],
-        after: b"",
-        fails: false,
         most: &[1, 7, 1000],
         finds: &[(0, 0, 2), (1, 400, 402), (0, 402, 404), (1, 603, 605)],
+        ..PLAIN
     },
     Row {
         shows: "three first bytes, the greatest of all and the first pattern's",
         patterns: &[b"qx", b"\xFFx", b"\x00x"],
-        letters: Cased,
         text: &[
             b"\xFFx", POINTS, b"\xFFq", POINTS, b"qx\xFFx", POINTS, b"\xFFqx",
         ],
-        after: b"",
-        fails: false,
         most: &[1, 7, 1000],
         finds: &[(1, 0, 2), (0, 400, 402), (1, 402, 404), (0, 603, 605)],
+        ..PLAIN
     },
     Row {
         shows: "three first bytes, the least of all and the greatest",
         patterns: &[b"qx", b"\xFFx", b"\x00x"],
-        letters: Cased,
         text: &[
             b"\x00x",
             POINTS,
@@ -298,27 +268,23 @@ const STARTS: &[Row] = &[
             POINTS,
             b"\x00\xFFx",
         ],
-        after: b"",
-        fails: false,
         most: &[1, 7, 1000],
         finds: &[(2, 0, 2), (1, 400, 402), (2, 402, 404), (1, 603, 605)],
+        ..PLAIN
     },
     Row {
         shows: "four first bytes, one of which no text has, the greatest of all and the first pattern's",
         patterns: &[b"qx", b"\xFFx", b"\x00x", b"kx"],
-        letters: Cased,
         text: &[
             b"\xFFx", POINTS, b"\xFFq", POINTS, b"qx\xFFx", POINTS, b"\xFFqx",
         ],
-        after: b"",
-        fails: false,
         most: &[1, 7, 1000],
         finds: &[(1, 0, 2), (0, 400, 402), (1, 402, 404), (0, 603, 605)],
+        ..PLAIN
     },
     Row {
         shows: "four first bytes, the least of all and the greatest",
         patterns: &[b"qx", b"\xFFx", b"\x00x", b"kx"],
-        letters: Cased,
         text: &[
             b"\x00x",
             POINTS,
@@ -328,30 +294,27 @@ const STARTS: &[Row] = &[
             POINTS,
             b"\x00\xFFx",
         ],
-        after: b"",
-        fails: false,
         most: &[1, 7, 1000],
         finds: &[(2, 0, 2), (1, 400, 402), (2, 402, 404), (1, 603, 605)],
+        ..PLAIN
     },
     Row {
         shows: "a letter in both cases and a digit: three first bytes",
         patterns: &[b"qX", b"7x"],
         letters: Folded,
         text: &[b"Qx", POINTS, b"Q7", POINTS, b"7XQx", POINTS, b"Q7X"],
-        after: b"",
-        fails: false,
         most: &[1, 7, 1000],
         finds: &[(0, 0, 2), (1, 400, 402), (0, 402, 404), (1, 603, 605)],
+        ..PLAIN
     },
     Row {
         shows: "two letters in both cases: four first bytes",
         patterns: &[b"qX", b"Kx"],
         letters: Folded,
         text: &[b"qx", POINTS, b"qk", POINTS, b"kXqx", POINTS, b"qkX"],
-        after: b"",
-        fails: false,
         most: &[1, 7, 1000],
         finds: &[(0, 0, 2), (1, 400, 402), (0, 402, 404), (1, 603, 605)],
+        ..PLAIN
     },
 ];
 
@@ -372,72 +335,66 @@ const SCRIPTED: &[Row] = &[
     Row {
         shows: "a read that fails after a match",
         patterns: &[b"fox"],
-        letters: Cased,
         text: &[b"The fox r"],
         after: b"uns",
         fails: true,
         most: &[1, 9],
         finds: &[(0, 4, 7)],
+        ..PLAIN
     },
     Row {
         shows: "a read that fails next to a match",
         patterns: &[b"fox"],
-        letters: Cased,
         text: &[b"The fox"],
         after: b" ran",
         fails: true,
         most: &[1, 7],
         finds: &[(0, 4, 7)],
+        ..PLAIN
     },
     Row {
         shows: "a read that fails within a match",
         patterns: &[b"fox"],
-        letters: Cased,
         text: &[b"The fo"],
         after: b"x ran",
         fails: true,
         most: &[1, 2],
-        finds: &[],
+        ..PLAIN
     },
     Row {
         shows: "a first read that fails",
         patterns: &[b"fox"],
-        letters: Cased,
         text: &[b""],
         after: b"fox",
         fails: true,
         most: &[1],
-        finds: &[],
+        ..PLAIN
     },
     Row {
         shows: "an empty read within a match ends the input",
         patterns: &[b"fox"],
-        letters: Cased,
         text: &[b"fo"],
         after: b"x",
-        fails: false,
         most: &[1, 2],
-        finds: &[],
+        ..PLAIN
     },
     Row {
         shows: "an empty read between two matches ends the input",
         patterns: &[b"fox"],
-        letters: Cased,
         text: &[b"a fox"],
         after: b" fox",
-        fails: false,
         most: &[1, 2],
         finds: &[(0, 2, 5)],
+        ..PLAIN
     },
     Row {
         shows: "a second match that was read with the first is given before the next read",
         patterns: &[b"fox"],
-        letters: Cased,
         text: &[b"fox fox fox"],
         after: b"fox",
-        fails: false,
         most: &[7],
         finds: &[(0, 0, 3), (0, 4, 7), (0, 8, 11)],
+        ..PLAIN
     },
 ];
 

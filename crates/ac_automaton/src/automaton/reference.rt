@@ -11,7 +11,7 @@ impl<'a, A: Automaton> Automaton for &'a A {
 
     ghost supports = { λ a anchored. A.supports a.now anchored };
 
-    ghost Reads = { λ a anchored text sid. A.Reads a.now anchored text sid };
+    ghost Reaches = { λ a anchored text sid. A.Reaches a.now anchored text sid };
 
     ghost matches = { λ a sid. A.matches a.now sid };
 

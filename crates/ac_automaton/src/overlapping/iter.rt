@@ -2,14 +2,13 @@
 //!
 //! [`FindOverlappingIter`] holds an automaton, an input, and where the search began and stands. It takes no memory, and looks at the
 //! states of one walk over the span, however many matches it shows.
-ghost use Rattle.std.specs.Prelude.{◌≡◌, ◌↔◌, IsOk, IfOk, IfErr};
 ghost use Rattle.std.specs.Iterator.{YieldsFirst, item_count};
-ghost use Rattle.ac_automaton.specs.Automaton.{listing_in};
-ghost use Rattle.ac_automaton.specs.OverlappingIter.{fresh_run, rest_of, IsRunAfter, RunCounts, IsWithinOneWalk, CanRun, IsRunRefusal};
+ghost use Rattle.ac_automaton.specs.OverlappingIter.{AnswersOverlappingIter, GivesFirst, RunCounts, IsWithinOneWalk, rest_of};
 
 use crate::automaton::Automaton;
 use crate::error::MatchError;
-use crate::overlapping::{Place, advance, begin, with_found};
+use crate::overlapping::search::{advance, begin};
+use crate::overlapping::{Position, with_found};
 use ac_input::history::Count;
 use ac_input::primitives::StateID;
 use ac_input::search::{Anchored, Input, Match};
@@ -26,7 +25,7 @@ pub struct FindOverlappingIter<'a, 'h, A: Automaton> {
     automaton: &'a A,
     input: Input<'h>,
     start: StateID,
-    place: Place,
+    place: Position,
     shown: Count,
     sums: Steps,
 }
@@ -44,8 +43,8 @@ impl<'a, 'h, A: Automaton> Model for FindOverlappingIter<'a, 'h, A> {
 
     ghost invariant = { λ i.
         ((A.built i.automaton.now).dictionary.kind ≡ Standard)
-        × A.Reads i.automaton.now i.input.anchored [] i.start
-        × StandsAt (A.Reads i.automaton.now i.input.anchored) (A.matches i.automaton.now)
+        × A.Reaches i.automaton.now i.input.anchored [] i.start
+        × StandsAt (A.Reaches i.automaton.now i.input.anchored) (A.matches i.automaton.now)
         (A.built i.automaton.now).dictionary (A.built i.automaton.now).deterministic
         (searched (A.built i.automaton.now) i.input) i.place i.shown.value i.sums };
 }
@@ -57,13 +56,8 @@ pub fn find_overlapping_iter<'a, 'h, A: Automaton>(
     automaton: &'a A,
     input: Input<'h>,
 ) -> Result<FindOverlappingIter<'a, 'h, A>, MatchError>
-    ensures run { IfOk result (λ matches. matches ≡ fresh_run (A.built automaton.now) input.entry) }
-    ensures all { IfOk result (λ matches. rest_of matches ≡ listing_in (A.built automaton.now)
-        input.entry) }
-    ensures supported { IsOk result ↔ CanRun (A.built automaton.now) (A.supports automaton.now)
-        input.entry }
-    ensures refused { IfErr result (IsRunRefusal (A.built automaton.now)
-        (A.supports automaton.now) input.entry) }
+    ensures { AnswersOverlappingIter (A.built automaton.now) (A.supports automaton.now) input.entry
+        result }
 {
     let beginning = begin(automaton, &input)?;
     match input.get_anchored() {
@@ -83,8 +77,7 @@ impl<'a, 'h, A: Automaton> FindOverlappingIter<'a, 'h, A> {
     /// The next match, as `next` gives it; and counts what it does.
     /// A caller: `uses::callers::overlap::pass_occurrences`.
     pub fn next_counted(&mut self, steps: &mut Steps) -> Option<Match>
-        ensures yields { YieldsFirst rest_of self.old result self.new }
-        ensures run { IsRunAfter self.old result self.new }
+        ensures gives { GivesFirst self.old result self.new }
         ensures sums { RunCounts self.old self.new steps.old steps.new }
         ensures work { IsWithinOneWalk self.new }
     {

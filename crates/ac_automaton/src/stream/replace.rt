@@ -1,17 +1,18 @@
 //! Replacement over a stream.
 //!
 //! What was read is written with each match exchanged for the replacement of its pattern. A match that was found is never taken
-//! back, and what is still to be found begins at the cut or behind it; so everything before the cut is written before the next
-//! read, and a reader that waits keeps back no more bytes than the longest pattern has, or one. What is written is gathered into
-//! one buffer, which is sent before each read: a stream over a file makes about one write a read.
+//! back, and what is still to be found begins at the cut or after it; so everything before the cut is written before the next
+//! read. Where nothing of what was read is live that is all of it; else a reader that waits keeps back no more bytes than the
+//! longest pattern has, or one. What is written is gathered into one buffer, which is sent before each read: a stream over a file
+//! makes about one write a read.
 //!
 //! Nothing is tried again, and nothing is flushed. Both buffers are taken before the first read, and no memory after that.
 ghost use Rattle.std.specs.Prelude.{◌≡◌, ◌+◌, ◌-◌, ◌≤◌, [], drop, false, length, map, slice_range, IfErr, IfOk, OnErr, OnOk};
-ghost use Rattle.ac_automaton.specs.Stream.{CanStream, IsOnCourse, ScanCounts, fresh_scan};
-ghost use Rattle.ac_automaton.specs.StreamReplace.{CostsStream, HasSearched, IsBegun, IsPlaced, IsReplaceStreamError, ReplacesStream, SendsDecided, SendsMatch, StopsSending};
-ghost use Rattle.ac_automaton.specs.Watched.{IsOfWrite, has_ended};
+ghost use Rattle.ac_automaton.specs.Stream.{GoesOn, IsOnCourse, fresh_progress};
+ghost use Rattle.ac_automaton.specs.StreamReplace.{AcceptsReplacing, AnswersDecided, AnswersMatch, CostsStream, HasSearched, IsBegun, IsPlaced, ReplacesStream};
+ghost use Rattle.ac_automaton.specs.Watched.{has_ended};
 
-use super::scan::Scan;
+use super::search::StreamSearch;
 use crate::automaton::Automaton;
 use crate::error::StreamError;
 use crate::output::Output;
@@ -33,28 +34,24 @@ pub(super) fn part(held: &[u8], from: usize, start: usize, end: usize) -> &[u8]
 /// Finds the next match of what was read, and sends the text from a place to its end. It answers where that is, or none where there
 /// is no further match.
 fn send_match<A: Automaton, W: Write>(
-    scan: &mut Scan<'_, A>,
+    stream: &mut StreamSearch<'_, A>,
     replacements: &[&[u8]],
     at: usize,
     output: &mut Output,
     writer: &mut Watched<W>,
     steps: &mut Steps,
 ) -> Result<Option<usize>, StreamError>
-    requires placed { IsPlaced scan.old at }
-    requires one_each { length replacements.now ≡ length scan.old.built.dictionary.patterns }
-    ensures sent { IfOk result (SendsMatch W.contents (map (λ r. r.now) replacements.now)
-        scan.old scan.new at writer.old writer.new output.old output.new) }
-    ensures stopped { OnErr result (StopsSending W.contents (map (λ r. r.now) replacements.now)
-        scan.old scan.new at writer.old writer.new output.old) }
-    ensures kind { IfErr result (IsOfWrite writer.old writer.new) }
-    ensures counts { ScanCounts scan.old scan.new steps.old steps.new }
-    ensures kept { IsOnCourse scan.new }
+    requires placed { IsPlaced stream.old at }
+    requires one_each { length replacements.now ≡ length stream.old.built.dictionary.patterns }
+    ensures sent { AnswersMatch W.contents (map (λ r. r.now) replacements.now)
+        stream.old stream.new at writer.old writer.new output.old output.new result }
+    ensures goes { GoesOn stream.old stream.new steps.old steps.new }
 {
-    let Some(found) = scan.next_held(steps) else {
+    let Some(found) = stream.next_held(steps) else {
         return Ok(None);
     };
-    let from = scan.from();
-    let before = part(scan.held(), from, at, found.start());
+    let from = stream.from();
+    let before = part(stream.held(), from, at, found.start());
     let replacement = replacements[found.pattern().as_usize()];
     output.send_exchanged(writer, before, replacement)?;
     Ok(Some(found.end()))
@@ -62,31 +59,26 @@ fn send_match<A: Automaton, W: Write>(
 
 /// Sends the text from a place up to the cut, and holds nothing back. It answers where the cut is.
 fn send_decided<A: Automaton, W: Write>(
-    scan: &mut Scan<'_, A>,
+    stream: &mut StreamSearch<'_, A>,
     replacements: &[&[u8]],
     at: usize,
     output: &mut Output,
     writer: &mut Watched<W>,
     steps: &mut Steps,
 ) -> Result<usize, StreamError>
-    requires placed { IsPlaced scan.old at }
-    requires one_each { length replacements.now ≡ length scan.old.built.dictionary.patterns }
-    ensures sent { IfOk result (SendsDecided W.contents (map (λ r. r.now) replacements.now)
-        scan.old scan.new at writer.old writer.new output.old) }
-    ensures none { OnOk result (output.new ≡ []) }
-    ensures stopped { OnErr result (StopsSending W.contents (map (λ r. r.now) replacements.now)
-        scan.old scan.new at writer.old writer.new output.old) }
-    ensures kind { IfErr result (IsOfWrite writer.old writer.new) }
-    ensures counts { ScanCounts scan.old scan.new steps.old steps.new }
-    ensures kept { IsOnCourse scan.new }
+    requires placed { IsPlaced stream.old at }
+    requires one_each { length replacements.now ≡ length stream.old.built.dictionary.patterns }
+    ensures sent { AnswersDecided W.contents (map (λ r. r.now) replacements.now)
+        stream.old stream.new at writer.old writer.new output.old output.new result }
+    ensures goes { GoesOn stream.old stream.new steps.old steps.new }
 {
     let mut written = at;
-    while let Some(end) = send_match(scan, replacements, written, output, writer, steps)? {
+    while let Some(end) = send_match(stream, replacements, written, output, writer, steps)? {
         written = end;
     }
-    let cut = scan.cut();
-    let from = scan.from();
-    output.send_all(writer, part(scan.held(), from, written, cut))?;
+    let cut = stream.cut();
+    let from = stream.from();
+    output.send_all(writer, part(stream.held(), from, written, cut))?;
     Ok(cut)
 }
 
@@ -101,30 +93,30 @@ pub(super) fn rest(held: &[u8], from: usize, start: usize) -> &[u8]
 
 /// Reads on to the end of the input. Before each read all that is decided is written, and at the end what is left.
 fn replace_read<A: Automaton, R: Read, W: Write>(
-    scan: &mut Scan<'_, A>,
+    stream: &mut StreamSearch<'_, A>,
     output: &mut Output,
     reader: &mut Watched<R>,
     writer: &mut Watched<W>,
     replacements: &[&[u8]],
     steps: &mut Steps,
 ) -> Result<(), StreamError>
-    requires fresh { scan.old ≡ fresh_scan scan.old.built }
-    requires course { IsOnCourse scan.old }
+    requires fresh { stream.old ≡ fresh_progress stream.old.built }
+    requires course { IsOnCourse stream.old }
     requires none { output.old ≡ [] }
     requires open { has_ended reader.old ≡ false }
-    requires one_each { length replacements.now ≡ length scan.old.built.dictionary.patterns }
-    ensures replaced { ReplacesStream R.remaining W.contents scan.old.built
+    requires one_each { length replacements.now ≡ length stream.old.built.dictionary.patterns }
+    ensures replaced { ReplacesStream R.remaining W.contents stream.old.built
         (map (λ r. r.now) replacements.now) reader.old reader.new writer.old writer.new result }
     ensures begun { IfErr result IsBegun }
-    ensures searched { HasSearched scan.old scan.new reader.old reader.new steps.old steps.new
+    ensures searched { HasSearched stream.old stream.new reader.old reader.new steps.old steps.new
         result }
 {
     let mut at = 0;
-    while scan.read_more(reader, steps)? > 0 {
-        at = send_decided(scan, replacements, at, output, writer, steps)?;
+    while stream.read_more(reader, steps)? > 0 {
+        at = send_decided(stream, replacements, at, output, writer, steps)?;
     }
-    let from = scan.from();
-    output.send_all(writer, rest(scan.held(), from, at))
+    let from = stream.from();
+    output.send_all(writer, rest(stream.held(), from, at))
 }
 
 /// Writes what is read with each match exchanged for the replacement of its pattern, and counts what it does.
@@ -141,13 +133,19 @@ pub fn replace_all_counted<A: Automaton, R: Read, W: Write>(
         ≡ length (A.built automaton.now).dictionary.patterns }
     ensures replaced { ReplacesStream R.remaining W.contents (A.built automaton.now)
         (map (λ r. r.now) replacements.now) reader.old reader.new writer.old writer.new result }
-    ensures can { OnOk result (CanStream (A.built automaton.now) (A.supports automaton.now)) }
-    ensures refused { IfErr result (IsReplaceStreamError (A.built automaton.now)
-        (A.supports automaton.now) reader.old reader.new writer.old writer.new) }
+    ensures accepted { AcceptsReplacing (A.built automaton.now) (A.supports automaton.now)
+        reader.old reader.new writer.old writer.new result }
     ensures cost { CostsStream (A.built automaton.now) reader.old reader.new
         steps.old steps.new result }
 {
-    let mut scan = Scan::new(automaton, alloc)?;
+    let mut stream = StreamSearch::new(automaton, alloc)?;
     let mut output = Output::new(alloc)?;
-    replace_read(&mut scan, &mut output, reader, writer, replacements, steps)
+    replace_read(
+        &mut stream,
+        &mut output,
+        reader,
+        writer,
+        replacements,
+        steps,
+    )
 }

@@ -8,13 +8,13 @@
 //! is flushed. The one buffer is taken before the first read, and no memory after that.
 ghost use Rattle.std.specs.Prelude.{◌≡◌, ◌+◌, false, length, IfErr, IfOk};
 ghost use Rattle.ac_automaton.specs.Replace.{IsForMatches, RepliesAt, TakesMatches};
-ghost use Rattle.ac_automaton.specs.Stream.{IsOnCourse, fresh_scan};
+ghost use Rattle.ac_automaton.specs.Stream.{IsOnCourse, fresh_progress};
 ghost use Rattle.ac_automaton.specs.StreamReplace.{IsAtCut, IsPlaced};
-ghost use Rattle.ac_automaton.specs.StreamReplaceWith.{GoesOn, PassesMatch, ReadsAndReplaces, ReplacesStreamWith, StopsChain};
+ghost use Rattle.ac_automaton.specs.StreamReplaceWith.{ContinuesChain, PassesMatch, ReadsAndReplaces, ReplacesStreamWith, StopsChain};
 ghost use Rattle.ac_automaton.specs.Watched.{has_ended};
 
 use super::replace::{part, rest};
-use super::scan::Scan;
+use super::search::StreamSearch;
 use crate::automaton::Automaton;
 use crate::error::StreamError;
 use crate::watched::{Watched, write_whole};
@@ -42,7 +42,7 @@ where
 /// Finds the next match of what was read, writes the text from a place to its start, and calls the closure. It answers where the
 /// match ends, or none where there is no further match.
 fn replace_match<A: Automaton, W: Write, F>(
-    scan: &mut Scan<'_, A>,
+    stream: &mut StreamSearch<'_, A>,
     at: usize,
     writer: &mut Watched<W>,
     replace_with: &mut F,
@@ -50,20 +50,20 @@ fn replace_match<A: Automaton, W: Write, F>(
 ) -> Result<Option<usize>, StreamError>
 where
     F: FnMut(&Match, &[u8], &mut Watched<W>) -> Result<(), StreamError>,
-    requires placed { IsPlaced scan.old at }
-    requires ready { IsForMatches F.FnMut (length scan.old.built.dictionary.patterns)
+    requires placed { IsPlaced stream.old at }
+    requires ready { IsForMatches F.FnMut (length stream.old.built.dictionary.patterns)
         replace_with.old }
-    ensures passes { IfOk result (PassesMatch W.contents F.FnMut scan.old scan.new at
+    ensures passes { IfOk result (PassesMatch W.contents F.FnMut stream.old stream.new at
         replace_with.old replace_with.new writer.old writer.new) }
-    ensures stops { IfErr result (StopsChain W.contents F.FnMut scan.old at
+    ensures stops { IfErr result (StopsChain W.contents F.FnMut stream.old at
         replace_with.old writer.old writer.new) }
-    ensures kept { IsOnCourse scan.new }
+    ensures kept { IsOnCourse stream.new }
 {
-    let Some(found) = scan.next_held(steps) else {
+    let Some(found) = stream.next_held(steps) else {
         return Ok(None);
     };
-    let from = scan.from();
-    let held = scan.held();
+    let from = stream.from();
+    let held = stream.held();
     let before = part(held, from, at, found.start());
     let matched = part(held, from, found.start(), found.end());
     write_whole(writer, before)?;
@@ -73,7 +73,7 @@ where
 
 /// Replaces one match after another, and writes the text up to the cut. It answers where the cut is.
 fn replace_decided<A: Automaton, W: Write, F>(
-    scan: &mut Scan<'_, A>,
+    stream: &mut StreamSearch<'_, A>,
     at: usize,
     writer: &mut Watched<W>,
     replace_with: &mut F,
@@ -81,50 +81,50 @@ fn replace_decided<A: Automaton, W: Write, F>(
 ) -> Result<usize, StreamError>
 where
     F: FnMut(&Match, &[u8], &mut Watched<W>) -> Result<(), StreamError>,
-    requires placed { IsPlaced scan.old at }
-    requires ready { IsForMatches F.FnMut (length scan.old.built.dictionary.patterns)
+    requires placed { IsPlaced stream.old at }
+    requires ready { IsForMatches F.FnMut (length stream.old.built.dictionary.patterns)
         replace_with.old }
-    ensures goes_on { IfOk result (λ to. GoesOn W.contents F.FnMut scan.old scan.new at to
+    ensures goes_on { IfOk result (λ to. ContinuesChain W.contents F.FnMut stream.old stream.new at to
         replace_with.old replace_with.new writer.old writer.new) }
-    ensures at_cut { IfOk result (IsAtCut scan.new) }
-    ensures stops { IfErr result (StopsChain W.contents F.FnMut scan.old at
+    ensures at_cut { IfOk result (IsAtCut stream.new) }
+    ensures stops { IfErr result (StopsChain W.contents F.FnMut stream.old at
         replace_with.old writer.old writer.new) }
-    ensures kept { IsOnCourse scan.new }
+    ensures kept { IsOnCourse stream.new }
 {
     let mut written = at;
-    while let Some(end) = replace_match(scan, written, writer, replace_with, steps)? {
+    while let Some(end) = replace_match(stream, written, writer, replace_with, steps)? {
         written = end;
     }
-    let cut = scan.cut();
-    let from = scan.from();
-    write_whole(writer, part(scan.held(), from, written, cut))?;
+    let cut = stream.cut();
+    let from = stream.from();
+    write_whole(writer, part(stream.held(), from, written, cut))?;
     Ok(cut)
 }
 
 /// Reads on to the end of the input. Before each read all that is decided is written, and at the end what is left.
 fn replace_read<A: Automaton, R: Read, W: Write, F>(
-    scan: &mut Scan<'_, A>,
+    stream: &mut StreamSearch<'_, A>,
     reader: &mut Watched<R>,
     writer: &mut Watched<W>,
     replace_with: &mut F,
 ) -> Result<(), StreamError>
 where
     F: FnMut(&Match, &[u8], &mut Watched<W>) -> Result<(), StreamError>,
-    requires fresh { scan.old ≡ fresh_scan scan.old.built }
-    requires course { IsOnCourse scan.old }
+    requires fresh { stream.old ≡ fresh_progress stream.old.built }
+    requires course { IsOnCourse stream.old }
     requires open { has_ended reader.old ≡ false }
-    requires ready { IsForMatches F.FnMut (length scan.old.built.dictionary.patterns)
+    requires ready { IsForMatches F.FnMut (length stream.old.built.dictionary.patterns)
         replace_with.old }
-    ensures { ReadsAndReplaces W.contents F.FnMut R.remaining scan.old.built replace_with.old
+    ensures { ReadsAndReplaces W.contents F.FnMut R.remaining stream.old.built replace_with.old
         reader.old reader.new writer.old writer.new result }
 {
     let mut steps = Steps::new();
     let mut at = 0;
-    while scan.read_more(reader, &mut steps)? > 0 {
-        at = replace_decided(scan, at, writer, replace_with, &mut steps)?;
+    while stream.read_more(reader, &mut steps)? > 0 {
+        at = replace_decided(stream, at, writer, replace_with, &mut steps)?;
     }
-    let from = scan.from();
-    write_whole(writer, rest(scan.held(), from, at))
+    let from = stream.from();
+    write_whole(writer, rest(stream.held(), from, at))
 }
 
 /// Writes what is read, and in place of each match what the closure writes.
@@ -144,6 +144,6 @@ where
         (A.supports automaton.now) replace_with reader.old reader.new writer.old writer.new
         result }
 {
-    let mut scan = Scan::new(automaton, alloc)?;
-    replace_read(&mut scan, reader, writer, &mut replace_with)
+    let mut stream = StreamSearch::new(automaton, alloc)?;
+    replace_read(&mut stream, reader, writer, &mut replace_with)
 }

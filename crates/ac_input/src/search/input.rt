@@ -10,7 +10,7 @@ use std::ops::Range;
 /// end at the first end that it finds.
 ///
 /// It holds a reference and no memory of its own. The span always ends within the haystack. It may start one past its end: then
-/// the search is over ([`Input::is_done`]), as a walk is behind an empty match at the end.
+/// the search is over ([`Input::is_done`]), as a walk is after an empty match at the end.
 #[derive(Clone, Drop)]
 pub struct Input<'h> {
     haystack: &'h [u8],

@@ -1,7 +1,8 @@
 //! Builders and searchers of packed search.
 ghost use Rattle.std.specs.Prelude.{◌≡◌, ◌↔◌, ◌≤◌, [], length, IfOk, OnOk, OnErr, IsSome, IfSome};
 ghost use Rattle.std.specs.Iterator.{YieldsFirst, item_count};
-ghost use Rattle.ac_literal.specs.Packed.{fresh, added, added_all, built, least_len, bytes_of, leftmost_first, matches_of, HasBeginning, AreServed, IsBestIn, IsBestOf};
+ghost use Rattle.ac_input.specs.Work.{shortest};
+ghost use Rattle.ac_literal.specs.Packed.{fresh, added, added_all, built, bytes_of, leftmost_first, matches_of, HasBeginning, AreServed, IsBestIn, IsBestOf};
 
 use crate::packed::pattern::Patterns;
 use crate::packed::scanner::{Pace, Scanner};
@@ -196,7 +197,7 @@ impl Builder {
 
     /// The length of the shortest pattern; `usize::MAX` where it has none.
     pub fn minimum_len(&self) -> usize
-        ensures { result ≡ least_len self.now.patterns }
+        ensures { result ≡ shortest self.now.patterns }
     {
         self.patterns.minimum_len()
     }
@@ -359,11 +360,11 @@ pub struct FindIter<'s, 'h> {
 impl<'s, 'h> Model for FindIter<'s, 'h> {
     ghost use Rattle.std.specs.Prelude.{List, length, ◌≤◌};
     ghost use Rattle.ac_input.specs.Occurrence.{Occurrence};
-    ghost use Rattle.ac_literal.specs.Packed.{matches_from};
+    ghost use Rattle.ac_literal.specs.Packed.{matches_left};
 
     ghost Value = { List Occurrence };
 
-    ghost view = { λ i. matches_from i.searcher.now i.haystack.now i.at };
+    ghost view = { λ i. matches_left i.searcher.now i.haystack.now i.at };
 
     ghost invariant = { λ i. i.at ≤ length i.haystack.now };
 }

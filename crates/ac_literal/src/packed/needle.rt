@@ -7,7 +7,7 @@ ghost use Rattle.std.specs.Prelude.{◌≡◌, ◌<◌, ◌≤◌, [], ◌∷◌
 ghost use Rattle.ac_input.specs.Best.{IsBest};
 ghost use Rattle.ac_literal.specs.declared.packed.api.MatchKind.{MatchKind as Kind};
 ghost use Rattle.ac_literal.specs.Packed.{search_kind, in_span};
-ghost use Rattle.ac_literal.specs.Scanner.{IsOnly};
+ghost use Rattle.ac_literal.specs.Scanner.{IsOnlyPattern};
 
 use crate::packed::pattern::Patterns;
 use ac_input::primitives::PatternID;
@@ -20,7 +20,7 @@ pub fn only_needle(
     alloc: Global,
     patterns: &Patterns,
 ) -> Result<Option<memmem::Finder<'static>>, AllocError>
-    ensures { IfOk result (IsOnly patterns.now) }
+    ensures { IfOk result (IsOnlyPattern patterns.now) }
 {
     if patterns.len() != 1 {
         return Ok(None);

@@ -5,7 +5,8 @@
 //! settled once, when a searcher is built.
 ghost use Rattle.std.specs.Prelude.{◌≡◌, ℕ, ◌<◌, ◌≤◌, [], ◌∷◌, ◌++◌, ◌==◌, length, IfOk, OnOk, OnErr};
 ghost use Rattle.ac_input.specs.Best.{preference};
-ghost use Rattle.ac_literal.specs.Packed.{search_kind, pattern_at, least_len};
+ghost use Rattle.ac_input.specs.Work.{shortest};
+ghost use Rattle.ac_literal.specs.Packed.{search_kind, pattern_at};
 ghost use Rattle.ac_literal.specs.RabinKarp.{lying, IsOrder, IsPlace};
 
 use crate::packed::api::MatchKind;
@@ -65,7 +66,7 @@ impl Patterns {
         self.by_id[number.as_usize()].as_slice()
     }
 
-    /// Adds a copy of the pattern behind the others.
+    /// Adds a copy of the pattern after the others.
     pub fn add(&mut self, pattern: &[u8]) -> Result<(), AllocError>
         ensures ok { OnOk result (self.new ≡ self.old ++ pattern.now ∷ []) }
         ensures err { OnErr result (self.new ≡ self.old) }
@@ -95,7 +96,7 @@ impl Patterns {
 
     /// The length of the shortest pattern, or the greatest number where there is none. It looks at each pattern's length.
     pub fn minimum_len(&self) -> usize
-        ensures { result ≡ least_len self.now }
+        ensures { result ≡ shortest self.now }
     {
         let mut least = usize::MAX;
         for pattern in &self.by_id {
@@ -145,7 +146,7 @@ impl Patterns {
         }
     }
 
-    /// Where the number belongs among numbers in order: behind those that the kind doesn't prefer to it.
+    /// Where the number belongs among numbers in order: after those that the kind doesn't prefer to it.
     fn place_of(&self, kind: MatchKind, order: &[PatternID], number: PatternID) -> usize
         requires number { number < length self.now }
         requires order { IsOrder kind self.now (length order.now) order.now }

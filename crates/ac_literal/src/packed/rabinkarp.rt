@@ -3,7 +3,7 @@
 //! All patterns are at least `hash_len` bytes long, and the table has the hash of the first so many bytes of each: of 16 at the
 //! most, which tell patterns apart well enough. The hash of as many bytes of the haystack is rolled on by a byte at a time: the
 //! next one follows from the last one, the byte that leaves and the byte that comes. A byte counts twice as much as the one
-//! behind it, modulo 2 to the 64, so that a step is a multiplication, two sums and a shift. Or it is made anew at one place,
+//! after it, modulo 2 to the 64, so that a step is a multiplication, two sums and a shift. Or it is made anew at one place,
 //! where a match is thought to begin.
 //!
 //! The entries stand in one vector, the least preferred pattern first. The low bits of a hash name one of 1024 buckets, whose
@@ -49,7 +49,7 @@ pub struct RabinKarp {
     hash_2pow: u64,
 }
 
-/// A hash with one more byte behind the others.
+/// A hash with one more byte after the others.
 #[inline(always)]
 fn add(hash: u64, byte: u8) -> u64
     ensures { result ≡ (hash * 2 + byte) % 2 ^ 64 }

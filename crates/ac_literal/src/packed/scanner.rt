@@ -2,7 +2,7 @@
 //!
 //! One pattern alone is left to a search for a needle (`needle`). Where there are more, the haystack is gone over in blocks of 32 places, whose marks come at once. Where a block has none, no pattern begins in it.
 //! Otherwise each marked place is looked at by the hash of the bytes there, from the first to the last; the first place at which
-//! a pattern lies has the match. What is left behind the last whole block is searched by the rolling hash.
+//! a pattern lies has the match. What is left after the last whole block is searched by the rolling hash.
 //!
 //! Where much of the text is marked, to look at each mark costs more than to roll a hash over all places. So after a block that
 //! has more than 8 marks the hash alone searches the next 64 places, and then marks are asked again. If they are too many again,
@@ -15,7 +15,7 @@ ghost use Rattle.std.specs.Prelude.{◌≡◌, ◌+◌, ◌<◌, ◌≤◌, leng
 ghost use Rattle.ac_literal.specs.Packed.{AreServed, in_span};
 ghost use Rattle.ac_literal.specs.RabinKarp.{NoneBefore};
 ghost use Rattle.ac_literal.specs.Teddy.{HasMarks};
-ghost use Rattle.ac_literal.specs.Scanner.{IsScanner, IsScannerOf, IsScanned, IsScannedTo, IsSameScanner};
+ghost use Rattle.ac_literal.specs.Scanner.{IsScanner, IsScannerOf, IsScannerAnswer, IsScannerAnswerTo, IsSameScanner};
 
 use crate::packed::api::MatchKind;
 use crate::packed::needle::{clone_needle, find_needle, only_needle};
@@ -152,7 +152,7 @@ impl Scanner {
         requires none { NoneBefore (in_span patterns.now haystack.now span) at }
         requires few { marks < 4294967296 }
         requires marks { HasMarks (in_span patterns.now haystack.now span) at marks }
-        ensures { IsScannedTo self.now patterns.now haystack.now span (at + 32) result }
+        ensures { IsScannerAnswerTo self.now patterns.now haystack.now span (at + 32) result }
     {
         let mut left = marks;
         while left != 0 {
@@ -183,7 +183,7 @@ impl Scanner {
         requires none { NoneBefore (in_span patterns.now haystack.now span) at }
         ensures more { at < result.0 }
         ensures end { result.0 + self.now.table.hash_len ≤ span.end + 1 }
-        ensures found { IsScannedTo self.now patterns.now haystack.now span result.0 result.1 }
+        ensures found { IsScannerAnswerTo self.now patterns.now haystack.now span result.0 result.1 }
     {
         let len = self.table.hash_len();
         let to = span.end - len + 1;
@@ -224,7 +224,7 @@ impl Scanner {
         requires scanner { IsScanner patterns.now self.now }
         requires order { span.start ≤ span.end }
         requires within { span.end ≤ length haystack.now }
-        ensures { IsScanned self.now patterns.now haystack.now span result }
+        ensures { IsScannerAnswer self.now patterns.now haystack.now span result }
     {
         let len = self.table.hash_len();
         if span.end - span.start < len {

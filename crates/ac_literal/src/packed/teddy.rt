@@ -287,7 +287,7 @@ impl Teddy {
     }
 
     /// The next block that has a mark, of those that lie whole before the place `to`, and its marks; or no marks, and the place
-    /// behind the last block. Each place of a block has `len` bytes.
+    /// after the last block. Each place of a block has `len` bytes.
     pub fn next_marks(&self, haystack: &[u8], from: usize, to: usize, len: usize) -> (usize, u64)
         requires near { LooksBefore len self.now }
         requires order { from ≤ to }

@@ -4,7 +4,7 @@
 //! rarest byte, by a rough guess of how often bytes occur in text. What is paired with the byte is added with it, and so
 //! counts when the rarest is chosen.
 //!
-//! Where a rare byte is found, a match may have begun before it: as far before as the byte stands behind the beginning of any
+//! Where a rare byte is found, a match may have begun before it: as far before as the byte stands after the beginning of any
 //! pattern, and not only of the pattern for which it was chosen. So the place of each byte of each pattern is recorded.
 ghost use Rattle.std.specs.Prelude.{◌≡◌, ℕ, ◌<◌, [], List, length, slice_index, slice_set, max, IsTrue};
 ghost use Rattle.std.specs.List.{Contains};
@@ -92,7 +92,7 @@ fn chosen(few: FewBytes, pairing: &Pairing, pattern: &[u8]) -> FewBytes
 
 /// The rare bytes of the patterns so far.
 ///
-/// The place of every byte of every pattern is recorded, also of those behind the rare one.
+/// The place of every byte of every pattern is recorded, also of those after the rare one.
 #[derive(Clone, Copy)]
 pub struct RareBytesBuilder {
     pub few: FewBytes,

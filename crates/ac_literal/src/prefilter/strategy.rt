@@ -27,7 +27,7 @@ pub enum Strategy {
     RareBytes(RareBytes),
 }
 
-/// Bytes of which each pattern holds one, and for every byte how far behind the beginning of a pattern it stands at most.
+/// Bytes of which each pattern holds one, and for every byte how far after the beginning of a pattern it stands at most.
 #[derive(Clone, Copy)]
 pub struct RareBytes {
     pub needles: Needles,

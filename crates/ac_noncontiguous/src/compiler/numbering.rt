@@ -1,13 +1,13 @@
 //! The numbers of the states of the automaton.
 //!
 //! A search asks of each state that it comes to whether some pattern matches there, so those states have the lowest numbers but
-//! the first two: then one comparison tells. They come in breadth-first order, as the states behind the starts do, so that the
+//! the first two: then one comparison tells. They come in breadth-first order, as the states after the starts do, so that the
 //! states that are met most often lie near to one another.
 ghost use Rattle.std.specs.Prelude.{◌≡◌, ◌+◌, ◌<◌, ◌≤◌, ◌++◌, length, true, false, slice_index, EachIndex, IfOk};
 ghost use Rattle.std.specs.List.{filter};
 ghost use Rattle.ac_input.specs.declared.primitives.number.TheConstants.{GREATEST};
 ghost use Rattle.ac_noncontiguous.specs.Order.{IsBreadthFirst};
-ghost use Rattle.ac_noncontiguous.specs.Numbering.{is_chosen, AreListed, AreFirstNumbers, FitsTrie, IsNumbering, IsLastMatch};
+ghost use Rattle.ac_noncontiguous.specs.Numbering.{is_chosen, AreListed, AreFirstNumbers, FitsTrie, IsNumbering, AreInRuns, IsLastMatch};
 
 use crate::links::Links;
 use crate::trie::Trie;
@@ -16,7 +16,7 @@ use std::alloc::{AllocError, Global};
 
 /// The trie states in the order of their numbers.
 #[derive(Drop)]
-struct Places {
+struct Listed {
     /// For each state its trie state.
     at: Vec<StateID>,
     /// The number of the unanchored start.
@@ -45,7 +45,7 @@ pub(super) fn is_chosen(links: &Links, id: StateID, matching: bool) -> bool
     if matching { some } else { !some }
 }
 
-/// Puts those of the trie states behind the others at which some pattern matches, or none does.
+/// Puts those of the trie states after the others at which some pattern matches, or none does.
 fn push_chosen(
     states: &[StateID],
     links: &Links,
@@ -66,7 +66,7 @@ fn push_chosen(
 }
 
 /// The trie states in the order of their numbers, where these are all but the start.
-fn list(alloc: Global, states: &[StateID], links: &Links) -> Result<Places, AllocError>
+fn list(alloc: Global, states: &[StateID], links: &Links) -> Result<Listed, AllocError>
     requires within { EachIndex states.now
         (λ k. slice_index states.now k < length links.now.ranges.items) }
     requires few { length states.now + 4 ≤ GREATEST + 1 }
@@ -80,7 +80,7 @@ fn list(alloc: Global, states: &[StateID], links: &Links) -> Result<Places, Allo
     at.push(StateID::ZERO)?;
     at.push(StateID::ZERO)?;
     push_chosen(states, links, false, &mut at)?;
-    Ok(Places { at, start })
+    Ok(Listed { at, start })
 }
 
 /// The number of each trie state.
@@ -126,8 +126,10 @@ impl Numbering {
         ensures made { IfOk result (IsNumbering (length trie.now.states.items)) }
         ensures matches { IfOk result
             (λ it. IsLastMatch links.now.ranges.items it.at.items it.start it.max_match) }
+        ensures runs { IfOk result
+            (λ it. AreInRuns trie.now.states.items it.at.items it.start) }
     {
-        let Places { at, start } = list(alloc, &order[1..], links)?;
+        let Listed { at, start } = list(alloc, &order[1..], links)?;
         let of = inverse(alloc, &at, trie.len())?;
         Ok(Numbering {
             at,

@@ -5,7 +5,8 @@
 ghost use Rattle.std.specs.Prelude.{◌≡◌, ℕ, ◌+◌, ◌<◌, ◌||◌, length, true, IfOk};
 ghost use Rattle.ac_input.specs.Alphabet.{has, is_edge, alphabet_len};
 ghost use Rattle.ac_noncontiguous.specs.Numbering.{IsNumbering};
-ghost use Rattle.ac_noncontiguous.specs.Layout.{IsParted, AreAlone, AreClassesOfTrie, LeadAlike, KeepsRows, IsRowAppended, IsRowOf, AreRowsOf};
+ghost use Rattle.ac_input.specs.Classes.{IsParted};
+ghost use Rattle.ac_noncontiguous.specs.Layout.{AreAlone, AreClassesOfTrie, LeadAlike, KeepsRows, IsRowAppended, IsRowOf, AreRowsOf};
 
 use crate::compiler::edges::edges;
 use crate::compiler::numbering::Numbering;

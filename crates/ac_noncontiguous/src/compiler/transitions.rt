@@ -6,7 +6,7 @@
 //! Most states have one child or none, and then need no look at each of the 256 bytes.
 ghost use Rattle.std.specs.Prelude.{◌≡◌, ◌+◌, ◌<◌, ◌++◌, length, true, false, IsTrue, IfOk};
 ghost use Rattle.ac_noncontiguous.specs.Numbering.{IsNumbering};
-ghost use Rattle.ac_noncontiguous.specs.Only.{HasOneAtMost, to_only};
+ghost use Rattle.ac_noncontiguous.specs.Only.{HasOneAtMost, AppendsOnly};
 ghost use Rattle.ac_noncontiguous.specs.Layout.{AreAppended, HasAll, IsAppended, AreLaidOut};
 
 use crate::compiler::edges::edges;
@@ -73,8 +73,8 @@ fn push_only(
 ) -> Result<(), AllocError>
     requires numbering { IsNumbering (length trie.now.states.items) numbering.now }
     requires within { of < length trie.now.states.items }
-    ensures { IfOk result
-        (λ _. transitions.new.items ≡ transitions.old.items ++ to_only trie.now numbering.now of) }
+    ensures { IfOk result (λ _.
+        AppendsOnly trie.now numbering.now of transitions.old.items transitions.new.items) }
 {
     let child = trie.state(of).child;
     if child == StateID::ZERO {

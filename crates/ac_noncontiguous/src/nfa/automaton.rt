@@ -1,6 +1,6 @@
 //! Searching with the automaton.
-ghost use Rattle.std.specs.Prelude.{◌<◌, take, length, IsTrue};
-ghost use Rattle.ac_automaton.specs.Automaton.{IsReached, Leads, IsReadCost, TakesSome, PassesPlain, is_matching};
+ghost use Rattle.std.specs.Prelude.{take};
+ghost use Rattle.ac_automaton.specs.Automaton.{IsReached, Advances, IsReadCost, is_matching};
 ghost use Rattle.ac_noncontiguous.specs.Reads.{built_as, matches_at, IsRead};
 ghost use Rattle.ac_noncontiguous.specs.Idle.{PassesIdle};
 
@@ -39,13 +39,8 @@ impl NFA {
         steps: &mut Steps,
     ) -> Advance
         requires { IsReached (IsRead self.now anchored) sid }
-        ensures taken { TakesSome bytes.now result.taken }
-        ensures reads { Leads (IsRead self.now anchored) sid
-            (take result.taken bytes.now) result.sid }
-        ensures plain { PassesPlain (IsRead self.now anchored)
-            (is_matching (matches_at self.now)) sid bytes.now result.taken }
-        ensures stops { result.taken < length bytes.now
-            → IsTrue (is_matching (matches_at self.now) result.sid) }
+        ensures goes { Advances (IsRead self.now anchored) (is_matching (matches_at self.now)) sid
+            bytes.now result }
         ensures cost { IsReadCost (built_as self.now) (IsRead self.now) anchored sid
             (take result.taken bytes.now) steps.old steps.new }
     {
@@ -77,7 +72,7 @@ impl Automaton for NFA {
 
     ghost supports = { λ nfa anchored. Unit {0} };
 
-    ghost Reads = { IsRead };
+    ghost Reaches = { IsRead };
 
     ghost matches = { matches_at };
 
@@ -197,19 +192,19 @@ impl Automaton for NFA {
     }
 
     fn patterns_len(&self) -> usize {
-        self.lens.each.len()
+        self.lens.len()
     }
 
     fn pattern_len(&self, pattern: PatternID) -> usize {
-        self.lens.each[pattern.as_usize()] as usize
+        self.lens.pattern_len(pattern)
     }
 
     fn min_pattern_len(&self) -> usize {
-        self.lens.least
+        self.lens.shortest()
     }
 
     fn max_pattern_len(&self) -> usize {
-        self.lens.most
+        self.lens.longest()
     }
 
     fn memory_usage(&self) -> usize {

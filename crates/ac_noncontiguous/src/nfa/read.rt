@@ -9,9 +9,13 @@
 ghost use Rattle.std.specs.Prelude.{◌≡◌, ◌<◌, IfOk};
 
 use crate::nfa::NFA;
+use crate::nfa::pattern_lens::PatternLens;
 use crate::nfa::tables::{Transition, part};
 use ac_input::alphabet::ByteClasses;
+use ac_input::pairing::Pairing;
 use ac_input::primitives::{PatternID, StateID};
+use ac_input::search::Anchored;
+use ac_input::steps::Steps;
 use ac_literal::prefilter::Prefilter;
 use std::alloc::{AllocError, Global};
 use std::marker::Model;
@@ -91,8 +95,10 @@ impl<'a> Iterator for TransIter<'a> {
 }
 
 impl NFA {
-    ghost use Rattle.ac_noncontiguous.specs.Reads.{matches_at};
-    ghost use Rattle.ac_noncontiguous.specs.ReadCalls.{state_len, fail_in, depth_in, edges_in, classes_in, special_in, ClassesAreThose, CountsIn, FailsIn, IsDeepIn, ListsIn, EdgesLeadIn, SpecialIn, StandForSome, TextsBegin, IsCopy};
+    ghost use Rattle.std.specs.Prelude.{List, ℕ};
+    ghost use Rattle.ac_input.specs.Pairing.{IsPairing};
+    ghost use Rattle.ac_noncontiguous.specs.Reads.{built_as, matches_at};
+    ghost use Rattle.ac_noncontiguous.specs.ReadCalls.{AlikeIn, state_len, fail_in, depth_in, edges_in, classes_in, special_in, ClassesAreThose, CountsIn, IsWithin, FailsIn, IsDeepIn, ListsIn, EdgesLeadIn, MayBeMet, LeadsIn, SpecialIn, StandForSome, TextsBegin, AreRead, OrderedIn, IsCopy};
 
     /// How many states there are.
     pub fn state_len(&self) -> usize
@@ -140,7 +146,7 @@ impl NFA {
     pub fn iter_matches(&self, sid: StateID) -> MatchIter<'_>
         requires { sid < state_len self.now }
         ensures value { result ≡ matches_at self.now sid }
-        ensures lists { ListsIn self.now sid (matches_at self.now sid) }
+        ensures lists { ListsIn self.now sid result }
     {
         MatchIter {
             rest: self.match_list(sid),
@@ -167,6 +173,7 @@ impl NFA {
     pub fn byte_classes(&self) -> &ByteClasses
         ensures value { result.now ≡ classes_in self.now }
         ensures classes { ClassesAreThose self.now }
+        ensures alike { AlikeIn self.now }
     {
         &self.tables.classes
     }
@@ -184,11 +191,48 @@ impl NFA {
         }
     }
 
+    /// The state to which a byte leads from a state, where the search began with this anchoring: all failures are followed.
+    ///
+    /// It answers as a search goes, from any state to which a search may come, the dead one included. It counts nothing.
+    pub fn lead(&self, anchored: Anchored, sid: StateID, byte: u8) -> StateID
+        requires { MayBeMet self.now anchored sid }
+        ensures { LeadsIn self.now anchored sid byte result }
+    {
+        let mut steps = Steps::new();
+        self.tables.next(anchored, sid, byte, &mut steps)
+    }
+
     /// Each state from 2 on stands for a text: canonical bytes that begin an entered pattern. State 1 stands for none.
     pub fn states_stand(&self)
         ensures some { StandForSome self.now }
         ensures begin { TextsBegin self.now }
+        ensures within { IsWithin self.now }
     {}
+
+    /// Which states are read by searches: those from 2 on by their own texts, and the dead one by dead texts.
+    pub fn states_are_read(&self)
+        ensures { AreRead self.now }
+    {}
+
+    /// In which order the states come.
+    pub fn states_are_ordered(&self)
+        ensures { OrderedIn self.now }
+    {}
+
+    /// How long the patterns are.
+    pub fn pattern_lens(&self) -> &PatternLens
+        ensures { result.now ≡ (built_as self.now).dictionary.patterns }
+    {
+        &self.lens
+    }
+
+    /// Which bytes stand for one another.
+    pub fn pairing(&self) -> &Pairing
+        ensures value { result.now ≡ (built_as self.now).dictionary.pairing }
+        ensures paired { IsPairing result.now }
+    {
+        &self.pairing
+    }
 
     /// The prefilter once more, if one is held.
     fn clone_prefilter(&self, alloc: Global) -> Result<Option<Prefilter>, AllocError>
@@ -215,7 +259,7 @@ impl NFA {
     pub(crate) fn memory_of_parts(&self) -> usize {
         self.tables
             .memory_usage()
-            .saturating_add(self.lens.each.len().saturating_mul(4))
+            .saturating_add(self.lens.memory_usage())
             .saturating_add(match &self.prefilter {
                 Some(prefilter) => prefilter.memory_usage(),
                 None => 0,

@@ -7,7 +7,7 @@
 ghost use Rattle.std.specs.Prelude.{◌≡◌, ◌≤◌, ◌+◌, false, length, take, drop, IfOk};
 ghost use Rattle.ac_input.specs.Input.{is_anchored};
 ghost use Rattle.ac_noncontiguous.specs.Nfa.{fail_of};
-ghost use Rattle.ac_noncontiguous.specs.Lookups.{IsKept, IsVisited, Leads, AreRisingIn, IsNextIn, LeadsNext, AreSame};
+ghost use Rattle.ac_noncontiguous.specs.Lookups.{IsKept, IsVisited, StepsTo, AreRisingIn, IsNextIn, LeadsNext, AreSame};
 
 use ac_input::alphabet::ByteClasses;
 use ac_input::primitives::{PatternID, StateID};
@@ -48,7 +48,7 @@ pub(crate) struct Transition {
 /// start, the anchored start, the others.
 #[derive(Drop)]
 pub(crate) struct Tables {
-    /// The states, and one entry more behind them.
+    /// The states, and one entry more after them.
     pub states: Vec<State>,
     pub transitions: Vec<Transition>,
     pub rows: Vec<StateID>,
@@ -111,7 +111,7 @@ impl Tables {
     #[inline]
     fn step_by_range(&self, sid: StateID, byte: u8) -> StateID
         requires { IsKept self.now sid }
-        ensures { Leads self.now sid byte result }
+        ensures { StepsTo self.now sid byte result }
     {
         let at = sid.as_usize();
         self.find(
@@ -125,7 +125,7 @@ impl Tables {
     #[inline]
     pub(crate) fn step(&self, sid: StateID, byte: u8) -> StateID
         requires { IsKept self.now sid }
-        ensures { Leads self.now sid byte result }
+        ensures { StepsTo self.now sid byte result }
     {
         let row = self.states[sid.as_usize()].row;
         if row == NO_ROW {
@@ -140,7 +140,7 @@ impl Tables {
     #[inline(never)]
     fn follow(&self, sid: StateID, byte: u8, steps: &mut Steps) -> StateID
         requires visited { IsVisited self.now false sid }
-        requires stuck { Leads self.now sid byte 1 }
+        requires stuck { StepsTo self.now sid byte 1 }
         ensures { LeadsNext self.now false 1 sid byte result steps.old steps.new }
     {
         let mut from = sid;

@@ -11,6 +11,7 @@ ghost use Rattle.ac_input.specs.Dictionary.{Dictionary};
 ghost use Rattle.ac_noncontiguous.specs.Tree.{depth};
 ghost use Rattle.ac_noncontiguous.specs.Kept.{IsTrieOf};
 ghost use Rattle.ac_noncontiguous.specs.Links.{AreFails};
+ghost use Rattle.ac_noncontiguous.specs.Assembly.{AreFailsFor};
 ghost use Rattle.ac_noncontiguous.specs.Order.{IsBreadthFirst};
 ghost use Rattle.ac_noncontiguous.specs.Children.{AreChildrenOfAll};
 ghost use Rattle.ac_noncontiguous.specs.Failures.{IsChildOf, IsToldBy, AreShallower, IsWithinDepth, IsNextByFails, IsFailureByFails, IsFinalIn};
@@ -119,8 +120,7 @@ impl Trie {
     ) -> Result<Vec<Option<StateID>>, AllocError>
         requires { IsBreadthFirst self.now.states.items order.now }
         ensures shallower { IfOk result (λ fails. AreShallower self.now.states.items fails.items) }
-        ensures fails { IfOk result (λ fails. (m : Dictionary) → IsTrieOf m self.now →
-            AreFails m self.now.states.items fails.items) }
+        ensures fails { IfOk result (λ fails. AreFailsFor self.now fails.items) }
     {
         let children = self.children(alloc)?;
         let mut fails = vec![in alloc; None; self.states.len()]?;

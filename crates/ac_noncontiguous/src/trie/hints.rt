@@ -7,11 +7,11 @@
 //! Only children that aren't the first of their parent are noted. The table has room for twice as many as were noted since it
 //! grew, and at most 16 megabytes; where there is no memory to grow, it starts anew.
 ghost use Rattle.std.specs.Prelude.{◌≡◌, ℕ, ◌<◌, length, Some, IsTrue};
-ghost use Rattle.ac_noncontiguous.specs.Tree.{IsWay, IsChildBelow};
+ghost use Rattle.ac_noncontiguous.specs.Tree.{IsSiblingWalk, IsChildBelow};
 ghost use Rattle.ac_noncontiguous.specs.Edges.{IsChildFor};
 ghost use Rattle.ac_noncontiguous.specs.Kept.{KeepsSettings};
 
-use super::{Place, Trie};
+use super::{ChildSlot, Trie};
 use ac_input::primitives::StateID;
 use std::alloc::Global;
 
@@ -128,12 +128,12 @@ impl Trie {
     }
 
     /// From where to walk along the children of the state to the place for the byte.
-    pub(super) fn from_where(&self, of: StateID, byte: u8) -> Place
+    pub(super) fn from_where(&self, of: StateID, byte: u8) -> ChildSlot
         requires { of < length self.now.states.items }
-        ensures { IsWay self.now.states.items of byte result.before result.at }
+        ensures { IsSiblingWalk self.now.states.items of byte result.before result.at }
     {
         let first = self.state(of).child;
-        let none = Place {
+        let none = ChildSlot {
             before: StateID::ZERO,
             at: first,
         };
@@ -142,7 +142,7 @@ impl Trie {
         }
         match self.known_before(of, byte) {
             None => none,
-            Some(before) => Place {
+            Some(before) => ChildSlot {
                 before,
                 at: self.state(before).sibling,
             },

@@ -3,7 +3,8 @@
 //! A trie knows of each pattern in which state it ends. A pass from the last pattern back makes a list for each state, in rising
 //! order of number; it takes four bytes a state and four a pattern, and time in proportion to both.
 ghost use Rattle.std.specs.Prelude.{◌<◌, length, IfOk};
-ghost use Rattle.ac_noncontiguous.specs.Own.{AreOwn, AppendsOwn};
+ghost use Rattle.ac_noncontiguous.specs.Assembly.{AreOwnOf};
+ghost use Rattle.ac_noncontiguous.specs.Own.{AppendsOwn};
 
 use super::Trie;
 use ac_input::primitives::{PatternID, StateID};
@@ -20,8 +21,7 @@ pub(crate) struct OwnPatterns {
 impl Trie {
     /// The patterns that end in each state.
     pub(crate) fn own_patterns(&self, alloc: Global) -> Result<OwnPatterns, AllocError>
-        ensures { IfOk result (λ own. AreOwn (length self.now.states.items) self.now.ends.items 0
-            own.first.items own.next.items) }
+        ensures { IfOk result (AreOwnOf self.now) }
     {
         let len = self.ends.len();
         let mut first = vec![in alloc; len as u32; self.states.len()]?;
@@ -45,8 +45,7 @@ impl Trie {
         id: StateID,
         list: &mut Vec<PatternID>,
     ) -> Result<(), AllocError>
-        requires own { AreOwn (length self.now.states.items) self.now.ends.items 0
-            own.now.first.items own.now.next.items }
+        requires own { AreOwnOf self.now own.now }
         requires within { id < length self.now.states.items }
         ensures { IfOk result
             (λ _. AppendsOwn self.now.ends.items id list.old.items list.new.items) }

@@ -5,19 +5,20 @@
 //! one buffer, which is written before each read, so that a stream over a file makes about one write a read.
 //!
 //! Both buffers are taken before the first read, and no memory after that. Nothing is tried again, and nothing is flushed.
-ghost use Rattle.std.specs.Prelude.{◌≡◌, ◌≤◌, [], false, IfErr, OnErr, OnOk};
+ghost use Rattle.std.specs.Prelude.{◌≡◌, ◌≢◌, ◌≤◌, [], false, IfErr, OnErr, OnOk};
 ghost use Rattle.ac_input.specs.declared.search.Anchored.TheVariants.{No};
 ghost use Rattle.ac_input.specs.declared.search.MatchKind.TheVariants.{Standard};
 ghost use Rattle.ac_input.specs.Work.{shortest};
 ghost use Rattle.ac_automaton.specs.Moved.{NoneTouched};
-ghost use Rattle.ac_automaton.specs.Stream.{CanBeCounted, CanStream, IsOnCourse, ScanCounts, fresh_scan, read_by};
-ghost use Rattle.ac_automaton.specs.StreamIter.{AreAllGiven, progress_of, reader_name, reader_of};
+ghost use Rattle.ac_automaton.specs.Stream.{AreAllGiven, CanBeCounted, CanStream, IsOnCourse, ScanCounts, fresh_progress, read_by};
+ghost use Rattle.ac_automaton.specs.StreamIter.{progress_of, reader_name, reader_of};
 ghost use Rattle.ac_automaton.specs.StreamReplace.{CostsStream, IsBegun};
 ghost use Rattle.ac_automaton.specs.Watched.{IsOfWrite, has_ended};
+ghost use Rattle.ac_automaton.specs.declared.error.MatchErrorKind.{MatchErrorKind};
 ghost use Rattle.ac_automaton.specs.declared.error.StreamError.TheVariants as stream;
 ghost use Rattle.acsub.specs.Finder.{dictionary_for};
 ghost use Rattle.acsub.specs.Sides.{patterns_of};
-ghost use Rattle.acsub.specs.Stream.{CostsToStream, Streams};
+ghost use Rattle.acsub.specs.Stream.{Streams};
 ghost use Rattle.acsub.specs.StreamList.{ListsStream, SendsLines, StopsLines, StopsWriting, WritesLines};
 ghost use Rattle.acsub.specs.Transformed.{IsStreamed};
 ghost use Rattle.acsub.specs.declared.error.RunError.TheVariants.{Memory};
@@ -98,7 +99,7 @@ fn list_read<A: Automaton, R: Read, W: Write>(
     writer: &mut Watched<W>,
     steps: &mut Steps,
 ) -> Result<(), StreamError>
-    requires fresh { progress_of matches.old ≡ fresh_scan (progress_of matches.old).built }
+    requires fresh { progress_of matches.old ≡ fresh_progress (progress_of matches.old).built }
     requires standard { (progress_of matches.old).built.dictionary.kind ≡ Standard }
     requires filled { 1 ≤ shortest (progress_of matches.old).built.dictionary.patterns }
     requires empty { output.old ≡ [] }
@@ -135,6 +136,8 @@ fn list_stream<A: Automaton, R: Read, W: Write>(
         steps.old steps.new result }
     ensures memory { IfErr result (λ error. error ≡ stream.Memory
         → NoneTouched reader.old reader.new writer.old writer.new) }
+    ensures accepted { IfErr result (λ error. (refusal : MatchErrorKind)
+        → error ≢ stream.Config refusal) }
 {
     let mut output = Output::new(alloc)?;
     let mut matches = stream_find_iter(reader, automaton, alloc)?;
@@ -160,7 +163,7 @@ pub(crate) fn stream_list<A: Automaton, R: Read, W: Write>(
     requires mode { prepared.now.settings.mode ≡ List }
     ensures streams { Streams R.remaining W.contents reader.old reader.new writer.old writer.new
         prepared.now.settings prepared.now.rules result }
-    ensures costs { CostsToStream (A.built automaton.now) reader.old reader.new
+    ensures costs { CostsStream (A.built automaton.now) reader.old reader.new
         steps.old steps.new result }
     ensures memory { IfErr result (λ error. error ≡ Memory
         → NoneTouched reader.old reader.new writer.old writer.new) }

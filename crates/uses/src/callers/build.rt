@@ -1,9 +1,8 @@
 //! Building automata.
 ghost use Rattle.std.specs.Prelude.{◌≡◌, ◌↔◌, false, IfOk, IfErr, IsTrue, None};
-ghost use Rattle.ac_input.specs.Dictionary.{Dictionary, whole};
+ghost use Rattle.ac_input.specs.Dictionary.{Dictionary, dictionary_of, whole};
 ghost use Rattle.ac_literal.specs.Packed.{bytes_of};
 ghost use Rattle.ac_noncontiguous.specs.Reads.{built_as};
-ghost use Rattle.ac_noncontiguous.specs.Standing.{dictionary_of};
 ghost use Rattle.ac_noncontiguous.specs.declared.error.BuildErrorKind.TheVariants.{Memory};
 ghost use Rattle.uses.specs.Callers.{FindsBytes, FindsFolded, HasOccurrence};
 
@@ -41,7 +40,7 @@ pub fn thrifty(
     pairing: Pairing,
 ) -> Result<NFA, BuildError>
     ensures dictionary { IfOk result (λ nfa. (built_as nfa).dictionary
-        ≡ dictionary_of patterns.now pairing kind) }
+        ≡ dictionary_of (bytes_of patterns.now) pairing kind) }
     ensures prefilter { IfOk result (λ nfa. (built_as nfa).prefilter ≡ None) }
 {
     let mut builder = NFA::builder();
@@ -53,7 +52,7 @@ pub fn thrifty(
     builder.build(alloc, patterns)
 }
 
-/// An automaton of no patterns. Its build is refused for want of memory alone.
+/// An automaton of no patterns. Its build is refused only where memory is.
 pub fn of_nothing(alloc: Global) -> Result<NFA, BuildError>
     ensures { IfErr result (λ error. error ≡ Memory) }
 {

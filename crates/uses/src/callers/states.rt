@@ -50,7 +50,7 @@ pub fn patterns_at<A: Automaton>(
     alloc: Global,
     sid: StateID,
 ) -> Result<Vec<PatternID>, AllocError>
-    requires { IsState (A.Reads automaton.now) sid }
+    requires { IsState (A.Reaches automaton.now) sid }
     ensures { IfOk result (λ v. v.items ≡ A.matches automaton.now sid) }
 {
     let mut patterns = Vec::new(alloc);

@@ -7,6 +7,7 @@ use ac_noncontiguous::{
 };
 use std::alloc::{AllocError, Global};
 use std::fmt::Display;
+use std::io::{self, ErrorKind};
 use std::process::Abort;
 
 /// Asserts what the error says.
@@ -58,14 +59,25 @@ fn past_says<T: Abort, E: Display + Drop>(rt: &T, alloc: Global, refused: Option
     says(rt, alloc, &error, "number 2147483647 is past 2147483646");
 }
 
+/// Asserts what a stream says that stopped, also with an error of the system in it.
+fn stopped_says<T: Abort>(rt: &T, alloc: Global) {
+    let read = StreamError::Read(io::Error::from(ErrorKind::Interrupted));
+    let write = StreamError::Write(io::Error::from(ErrorKind::BrokenPipe));
+    says(rt, alloc, &read, "read failed: operation interrupted");
+    says(rt, alloc, &write, "write failed: broken pipe");
+    says(rt, alloc, &StreamError::WriteZero, "write took no byte");
+    says(rt, alloc, &StreamError::Memory, "out of memory");
+    says(rt, alloc, &StreamError::Position, "input too long");
+}
+
 #[test]
 fn what_errors_say(rt: HostRuntime) {
     let alloc = rt.alloc();
     for (kind, text) in REFUSALS {
         refusal_says(&rt, alloc, kind, text);
     }
+    stopped_says(&rt, alloc);
     says(&rt, alloc, &ReplaceError::Memory, "out of memory");
-    says(&rt, alloc, &StreamError::Memory, "out of memory");
     says(&rt, alloc, &BuildError::from(AllocError), "out of memory");
     says(
         &rt,

@@ -1,3 +1,4 @@
+-- The best from where the search has come to is the best of all.
 use Rattle.std.proofs.Common.{ap, refl}
 use Rattle.ac_input.specs.Input.{is_anchored}
 use Rattle.ac_automaton.specs.Automaton.{kind_asked, searched}

@@ -1,3 +1,4 @@
+-- How far the search has come.
 use Rattle.std.proofs.Common.{◌-◌}
 use Rattle.ac_automaton.specs.Automaton.{searched}
 use Rattle.ac_automaton.proofs.FindLemmas.{HasCome}

@@ -1,3 +1,4 @@
+-- A walk from where the prefilter points is one from the place that was asked.
 use Rattle.std.proofs.Common.{ap}
 use Rattle.ac_input.specs.Input.{is_anchored}
 use Rattle.ac_automaton.specs.Automaton.{kind_asked}

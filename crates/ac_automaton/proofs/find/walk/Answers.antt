@@ -1,3 +1,4 @@
+-- How the walk ends, and how it goes on.
 use Rattle.std.proofs.Common.{◌≡◌, ◌∙◌, ◌&&◌, Bool, ℕ, ◌-◌, List, sym, ap, subst, arith, refl}
 use Rattle.std.proofs.lemmas.Bool.{false≢true}
 use Rattle.std.specs.Option.{is_some}
@@ -6,7 +7,8 @@ use Rattle.ac_automaton.specs.declared.cursor.End.TheVariants.{Found, Idle}
 use Rattle.ac_automaton.specs.Automaton.{kind_asked}
 use Rattle.ac_automaton.specs.Find.{WalkSays, IsWalkCost}
 use Rattle.ac_automaton.proofs.CursorLemmas.{alive-from, part-empty}
-use Rattle.ac_automaton.proofs.WalkLemmas.{HasWalked, walked-none, told-best, none-listed, IsDone, Ended, Died, Won, answer-says, answer-work, back-says, back-work, walked-on, won-found, not_won-none, is_none-found}
+use Rattle.ac_automaton.proofs.WalkLemmas.{HasWalked, walked-none, told-best, none-listed}
+use Rattle.ac_automaton.proofs.WalkEndLemmas.{IsDone, Ended, Died, Won, answer-says, answer-work, back-says, back-work, walked-on, won-found, not_won-none, is_none-found}
 use Rattle.ac_automaton.proofs.find.walk.Goals as goal
 use Rattle.ac_automaton.proofs.find.walk.Goals.{then-first_wins, else-first_wins, then-won-via-then-won, then-won-via-else-won+then-cursor-end, then-won-via-else-won+else-cursor-end+then-is_dead}
 
@@ -15,7 +17,7 @@ loop-best-init g c =
     let b = g.A.Automaton.built c.args.automaton.now in
     let asked = c.args.input.now in
     let at = c.args.at in
-    let reads = subst (λ (text : List ℕ). g.A.Automaton.Reads c.args.automaton.now asked.anchored text c.args.start) (sym (part-empty asked.haystack at)) c.requires.starts in (
+    let reads = subst (λ (text : List ℕ). g.A.Automaton.Reaches c.args.automaton.now asked.anchored text c.args.start) (sym (part-empty asked.haystack at)) c.requires.starts in (
       record { behind = c.requires.from; ordered = omega arith; within = c.requires.to; inside = rw c.end-end.ensures.value at c.end-end.ensures.within; reads = reads },
       refl,
       walked-none b.dictionary asked.anchored asked.earliest b.deterministic asked.haystack (record { start = at; end = asked.span.end }) c.args.steps.now c.requires.to,

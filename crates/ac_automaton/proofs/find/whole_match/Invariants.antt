@@ -1,3 +1,4 @@
+-- No entry so far counts.
 use Rattle.std.proofs.Common.{◌-◌}
 use Rattle.ac_automaton.proofs.TakenLemmas.{NoneCountsBefore}
 use Rattle.ac_automaton.proofs.find.whole_match.Given as goal

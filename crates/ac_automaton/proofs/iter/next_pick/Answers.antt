@@ -1,3 +1,4 @@
+-- Where the best repeats the last pick, the next one begins a byte further on.
 use Rattle.std.proofs.Common.{refl, arith}
 use Rattle.ac_input.specs.Walk.{Further}
 use Rattle.ac_automaton.proofs.IterLemmas.{pick-ended, work-further}

@@ -1,3 +1,4 @@
+-- The matches passed over are none of those that are left.
 use Rattle.std.proofs.Common.{◌≡◌, length}
 use Rattle.ac_automaton.specs.Iter.{left_of}
 use Rattle.ac_automaton.specs.Replace.{text_left_of}

@@ -1,3 +1,4 @@
+-- What was made so far, and the rest replaced, are the whole.
 use Rattle.std.proofs.Common.{◌≡◌, ◌++◌, length, map}
 use Rattle.std.specs.Str.{IsCharBoundary}
 use Rattle.std.specs.String.{string_bytes}

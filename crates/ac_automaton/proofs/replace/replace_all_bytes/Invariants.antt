@@ -1,3 +1,4 @@
+-- What was made so far, and the rest replaced, are the whole.
 use Rattle.std.proofs.Common.{◌≡◌, ◌≤◌, ◌++◌, length, map}
 use Rattle.ac_input.specs.Text.{replaced_from}
 use Rattle.ac_automaton.specs.Iter.{left_of}

@@ -1,3 +1,4 @@
+-- How far the chain of calls has come.
 use Rattle.std.proofs.Common.{length}
 use Rattle.std.specs.Str.{IsCharBoundary}
 use Rattle.std.specs.String.{string_bytes}

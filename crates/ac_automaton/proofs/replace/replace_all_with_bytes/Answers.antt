@@ -13,7 +13,7 @@ pub loop-found-init : goal.loop-found-init
 loop-found-init g c =
     let x = c.args.haystack.now in
     let b = g.A.Automaton.built c.args.automaton.now in
-    let all : left_of c.in_ok-matches.matches ≡ matches_in b x = same-input b x _ _ _ c.in_ok-matches.ensures.all c.new.ensures refl in
+    let all : left_of c.in_ok-matches.matches ≡ matches_in b x = same-input b x _ _ _ c.in_ok-matches.ensures.2 c.new.ensures refl in
     record {
       callable = c.requires;
       lies = rw all (matches-lie b x);
@@ -39,23 +39,24 @@ loop-found-preserved g c =
       comes = rw c.end-at.ensures.value (comes-further _ _ _ _ _ _ _ _ _ before.comes _ _ seen _ _ (replied (λ v. v.items) g.F.FnMut _ _ _ _ _ _ _ _ _ _ _ c.replace_with.ensures (c.in_ok-goes_on.was ∙ ap Ok go) refl (rw (c.end-at.ensures.value, c.start-in-Some.ensures.value)) (c.in_ok-extend_from_slice.ensures.items ∙ rw c.start.ensures.value)));
     }
 
-pub returns-in_err-goes_on-clause-refused : goal.returns-in_err-goes_on-clause-refused
-returns-in_err-goes_on-clause-refused g c =
+pub returns-in_err-goes_on : goal.returns-in_err-goes_on
+returns-in_err-goes_on g c =
     let before = c.loop-found.invariant in
     let seen : left_of c.loop-found.matches ≡ c.in-Some.found ∷ left_of c.next.new.self = c.in-Some.ensures.steps in
     let p = err_from_is_err_and c.from_residual-in_err-goes_on.result c.from_residual-in_err-goes_on.ensures.1 in
     let can : g.A.Automaton.supports c.args.automaton.now No = search rules in
     rw (p.1, p.2) (can, comes-to_call_refused _ _ _ _ _ _ _ _ _ before.comes _ _ seen _ _ (refused (λ v. v.items) g.F.FnMut _ _ _ _ _ _ _ _ _ _ _ c.replace_with.ensures c.in_err-goes_on.was refl (rw (c.end-at.ensures.value, c.start-in-Some.ensures.value)) (c.in_ok-extend_from_slice.ensures.items ∙ rw c.start.ensures.value)))
 
-pub returns-then-not-goes_on-clause-replaced : goal.returns-then-not-goes_on-clause-replaced
-returns-then-not-goes_on-clause-replaced g c =
+pub returns-then-not-goes_on : goal.returns-then-not-goes_on
+returns-then-not-goes_on g c =
     let before = c.loop-found.invariant in
     let seen : left_of c.loop-found.matches ≡ c.in-Some.found ∷ left_of c.next.new.self = c.in-Some.ensures.steps in
     let stop : c.in_ok-goes_on.goes_on ≡ false = search rules in
-    comes-to_false _ _ _ _ _ _ _ _ _ before.comes _ _ seen _ _ _ _ (replied (λ v. v.items) g.F.FnMut _ _ _ _ _ _ _ _ _ _ _ c.replace_with.ensures (c.in_ok-goes_on.was ∙ ap Ok stop) refl (rw (c.end-at.ensures.value, c.start-in-Some.ensures.value)) (c.in_ok-extend_from_slice.ensures.items ∙ rw c.start.ensures.value)) c.in_ok-extend_from_slice-2.ensures.items (take_rest c.args.haystack.now c.end-at.result ∙ ap (λ (n : ℕ). drop n c.args.haystack.now) c.end-at.ensures.value)
+    let can : g.A.Automaton.supports c.args.automaton.now No = search rules in
+    (can, comes-to_false _ _ _ _ _ _ _ _ _ before.comes _ _ seen _ _ _ _ (replied (λ v. v.items) g.F.FnMut _ _ _ _ _ _ _ _ _ _ _ c.replace_with.ensures (c.in_ok-goes_on.was ∙ ap Ok stop) refl (rw (c.end-at.ensures.value, c.start-in-Some.ensures.value)) (c.in_ok-extend_from_slice.ensures.items ∙ rw c.start.ensures.value)) c.in_ok-extend_from_slice-2.ensures.items (take_rest c.args.haystack.now c.end-at.result ∙ ap (λ (n : ℕ). drop n c.args.haystack.now) c.end-at.ensures.value))
 
-pub returns-in_err-extend_from_slice-2-clause-refused : goal.returns-in_err-extend_from_slice-2-clause-refused
-returns-in_err-extend_from_slice-2-clause-refused g c =
+pub returns-in_err-extend_from_slice-2 : goal.returns-in_err-extend_from_slice-2
+returns-in_err-extend_from_slice-2 g c =
     let before = c.loop-found.invariant in
     let seen : left_of c.loop-found.matches ≡ c.in-Some.found ∷ left_of c.next.new.self = c.in-Some.ensures.steps in
     let stop : c.in_ok-goes_on.goes_on ≡ false = search rules in

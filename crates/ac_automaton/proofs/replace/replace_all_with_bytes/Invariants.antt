@@ -1,3 +1,4 @@
+-- How far the chain of calls has come.
 use Rattle.std.proofs.Common.{◌≤◌, length}
 use Rattle.ac_automaton.specs.Iter.{left_of}
 use Rattle.ac_automaton.specs.Replace.{LieInOrder, IsForMatches, calls_of, matches_in}

@@ -1,4 +1,4 @@
--- Each read puts its piece behind those before it.
+-- Each read puts its piece after those before it.
 use Rattle.std.proofs.Common.{◌≡◌, ◌+◌, ◌-◌, ◌≤◌, [], ◌∷◌, ◌++◌, length, take, length-take, length-drop, refl, sym, ap, ◌∙◌, arith}
 use Rattle.std.specs.List.{concat}
 use Rattle.std.proofs.lemmas.List.{append-nil}
@@ -14,7 +14,7 @@ pub returns-in-Err : goal.returns-in-Err
 returns-in-Err g c =
     let before = c.loop-input.invariant in
     let read = c.in-Err.ensures in
-    let gave = given-failed g.R.Read.remaining c.loop-input.reader c.read.new.self before.open_still read.failed read.writes read.device in
+    let gave = given-failed g.R.Read.remaining c.loop-input.reader c.read.new.self before.open_still read.gave read.writes read.device in
     (before.gained ++ [] ∷ [], given-push g.R.Read.remaining c.args.reader.now c.loop-input.reader c.read.new.self before.gained [] 1 before.gave gave)
 
 pub returns-then-n-eq0 : goal.returns-then-n-eq0

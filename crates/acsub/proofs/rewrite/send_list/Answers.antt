@@ -1,21 +1,27 @@
 -- Each line is that of the next pick.
-use Rattle.std.proofs.Common.{◌++◌, [], refl}
+use Rattle.std.proofs.Common.{ℕ, List, ◌++◌, [], refl, subst}
 use Rattle.std.proofs.lemmas.Result.{err_from_is_err_and}
 use Rattle.ac_input.specs.Text.{line, listed}
+use Rattle.ac_automaton.specs.Output.{Sent}
 use Rattle.ac_automaton.proofs.OutputLemmas.{Sent-none, Sent-then}
-use Rattle.acsub.proofs.RewriteLemmas.{Stopped-within, listed-step}
+use Rattle.acsub.specs.Matches.{left_in}
+use Rattle.acsub.proofs.RewriteLemmas.{listed-end, listed-step}
+use Rattle.acsub.proofs.SendingLemmas.{sends-stopped}
 use Rattle.acsub.proofs.rewrite.send_list.Goals as goal
 
 pub loop-found-init : goal.loop-found-init
-loop-found-init g c = record { front = []; sent = Sent-none _ c.args.writer.now c.args.output.now; order = refl }
+loop-found-init g c = record { front = []; sent = Sent-none _ c.args.writer.now c.args.output.now; order = refl; counted = λ plan n begun h. h }
 
-pub returns-in_err-send-clause-stopped : goal.returns-in_err-send-clause-stopped
-returns-in_err-send-clause-stopped g c =
+pub returns-in_err-send-clause-sent : goal.returns-in_err-send-clause-sent
+returns-in_err-send-clause-sent g c =
     let p = err_from_is_err_and c.from_residual.result c.from_residual.ensures.1 in
     let before = c.loop-found.invariant in
     let found = c.in-Some.found in
-    let sent = rw (c.as_bytes.ensures, c.new.ensures) at c.in_err-send.ensures.stopped in
-    rw p.1 (Stopped-within _ _ _ _ _ _ before.front (line found) (listed c.next.new.self) _ before.sent sent (listed-step found _ _ before.front _ c.in-Some.ensures.steps before.order))
+    let stopped = rw (c.as_bytes.ensures, c.new.ensures) at c.in_err-send.ensures.sent in
+    rw (p.1, p.2) (sends-stopped _ _ _ _ _ _ before.front (line found) _ before.sent (listed (left_in c.next_counted.new.self)) c.send.new.self _ (listed-step found _ _ before.front _ c.in-Some.ensures.yields before.order) stopped)
+
+pub returns-in_err-send-clause-counts : goal.returns-in_err-send-clause-counts
+returns-in_err-send-clause-counts g c = λ plan n begun h. c.next_counted.ensures.counts plan n begun (c.loop-found.invariant.counted plan n begun h)
 
 pub loop-found-preserved : goal.loop-found-preserved
 loop-found-preserved g c =
@@ -25,5 +31,14 @@ loop-found-preserved g c =
     record {
       front = before.front ++ line found;
       sent = Sent-then _ _ _ _ _ _ _ before.front (line found) before.sent sent;
-      order = listed-step found _ _ before.front _ c.in-Some.ensures.steps before.order;
+      order = listed-step found _ _ before.front _ c.in-Some.ensures.yields before.order;
+      counted = λ plan n begun h. c.next_counted.ensures.counts plan n begun (before.counted plan n begun h);
     }
+
+pub returns-clause-sent : goal.returns-clause-sent
+returns-clause-sent g c =
+    let before = c.loop-found.invariant in
+    subst (λ (text : List ℕ). Sent g.W.Write.contents c.args.writer.now c.loop-found.writer c.args.output.now c.loop-found.output text) (listed-end _ before.front _ c.in_default.ensures.yields.0 before.order) before.sent
+
+pub returns-clause-counts : goal.returns-clause-counts
+returns-clause-counts g c = λ plan n begun h. c.next_counted.ensures.counts plan n begun (c.loop-found.invariant.counted plan n begun h)

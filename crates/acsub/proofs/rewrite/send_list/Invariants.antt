@@ -1,14 +1,16 @@
 use Rattle.std.proofs.Common.{◌≡◌, ℕ, List, ◌++◌, length}
 use Rattle.ac_input.specs.Text.{listed}
 use Rattle.ac_automaton.specs.Output.{Sent}
+use Rattle.acsub.specs.Matches.{KeepsCount, left_in}
 use Rattle.acsub.proofs.rewrite.send_list.Given as goal
 
 abbrev pub invariant-loop-found : goal.invariant-loop-found
 invariant-loop-found g l = record {
   front : List ℕ;
   sent : Sent g.W.Write.contents l.fn.writer l.writer l.fn.output l.output front;
-  order : front ++ listed l.matches ≡ listed l.fn.matches;
+  order : front ++ listed (left_in l.matches) ≡ listed (left_in l.fn.matches);
+  counted : KeepsCount l.fn.matches l.matches l.fn.steps l.steps;
 }
 
 abbrev pub decreases-loop-found : goal.decreases-loop-found
-decreases-loop-found g l = length l.matches
+decreases-loop-found g l = length (left_in l.matches)

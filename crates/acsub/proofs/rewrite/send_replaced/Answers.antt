@@ -1,60 +1,64 @@
 -- Each piece stands before the next pick, or in its place.
-use Rattle.std.proofs.Common.{ℕ, ◌++◌, List, [], refl, ap, ◌∙◌, arith}
+use Rattle.std.proofs.Common.{ℕ, ◌++◌, List, [], length, refl, ap, ◌∙◌, arith}
 use Rattle.std.specs.Prelude.{slice_range}
-use Rattle.std.proofs.lemmas.Result.{err_from_is_err_and, on_err_weaker, on_ok_weaker}
+use Rattle.std.proofs.lemmas.Result.{err_from_is_err_and}
 use Rattle.std.proofs.lemmas.List.{take_rest}
 use Rattle.acsub.specs.Lines.{rule_at}
+use Rattle.acsub.specs.Matches.{left_in}
 use Rattle.acsub.specs.Sides.{replacements_of}
 use Rattle.ac_automaton.proofs.OutputLemmas.{Sent-none, Sent-then}
-use Rattle.acsub.proofs.RewriteLemmas.{Sent-last, Stopped-last, Stopped-within, replaced-step, replaced-end, replacement_of_rule, lies-first}
+use Rattle.acsub.proofs.RewriteLemmas.{lies-first, replaced-end, replaced-step, replacement_of_rule}
+use Rattle.acsub.proofs.SendingLemmas.{sends-last, sends-stopped}
 use Rattle.acsub.proofs.rewrite.send_replaced.Goals as goal
 
 pub loop-found-init : goal.loop-found-init
 loop-found-init g c =
-    record { front = []; sent = Sent-none _ c.args.writer.now c.args.output.now; order = refl; lies = c.requires; within = omega arith }
+    record { front = []; sent = Sent-none _ c.args.writer.now c.args.output.now; order = refl; lies = c.requires; within = omega arith; counted = λ plan n begun h. h }
 
 pub replacement-requires : goal.replacement-requires
 replacement-requires g c =
     let number = c.as_usize.ensures.value ∙ c.pattern.ensures in
-    omega (arith, number, (lies-first _ _ _ _ _ _ c.in-Some.ensures.steps c.loop-found.invariant.lies).0)
+    omega (arith, number, (lies-first _ _ _ _ _ _ c.in-Some.ensures.yields c.loop-found.invariant.lies).0)
 
-pub returns-in_err-send_exchanged-clause-stopped : goal.returns-in_err-send_exchanged-clause-stopped
-returns-in_err-send_exchanged-clause-stopped g c =
+pub returns-in_err-send_exchanged-clause-sent : goal.returns-in_err-send_exchanged-clause-sent
+returns-in_err-send_exchanged-clause-sent g c =
     let p = err_from_is_err_and c.from_residual.result c.from_residual.ensures.1 in
     let before = c.loop-found.invariant in
-    let seen = c.in-Some.ensures.steps in
-    let lies = lies-first _ _ _ _ _ _ seen before.lies in
+    let seen = c.in-Some.ensures.yields in
+    let lies = lies-first (length c.args.rules.now) (length c.args.input.now) c.loop-found.at (left_in c.loop-found.picks) (left_in c.next_counted.new.self) c.in-Some.found seen before.lies in
     let number = c.as_usize.ensures.value ∙ c.pattern.ensures in
-    rw p.1 (Stopped-within _ _ _ _ _ _ before.front _ _ _ before.sent c.in_err-send_exchanged.ensures.stopped
-    (replaced-step c.loop-found.at _ _ _ c.args.input.now (replacements_of c.args.rules.now) before.front _ _ _ seen
+    rw (p.1, p.2) (sends-stopped _ _ _ _ _ _ before.front _ _ before.sent _ c.send_exchanged.new.self _
+    (replaced-step c.loop-found.at c.in-Some.found (left_in c.loop-found.picks) (left_in c.next_counted.new.self) c.args.input.now (replacements_of c.args.rules.now) before.front _ _ _ seen
     (ap (λ (k : ℕ). slice_range c.args.input.now c.loop-found.at k) c.start.ensures.value)
-    (c.replacement.ensures ∙ ap (λ (n : ℕ). (rule_at c.args.rules.now n).1) number ∙ replacement_of_rule c.args.rules.now _ lies.0) before.order))
+    (c.replacement.ensures ∙ ap (λ (n : ℕ). (rule_at c.args.rules.now n).1) number ∙ replacement_of_rule c.args.rules.now _ lies.0) before.order)
+    c.in_err-send_exchanged.ensures.sent)
+
+pub returns-in_err-send_exchanged-clause-counts : goal.returns-in_err-send_exchanged-clause-counts
+returns-in_err-send_exchanged-clause-counts g c = λ plan n begun h. c.next_counted.ensures.counts plan n begun (c.loop-found.invariant.counted plan n begun h)
 
 pub loop-found-preserved : goal.loop-found-preserved
 loop-found-preserved g c =
     let before = c.loop-found.invariant in
-    let seen = c.in-Some.ensures.steps in
-    let lies = lies-first _ _ _ _ _ _ seen before.lies in
+    let seen = c.in-Some.ensures.yields in
+    let lies = lies-first (length c.args.rules.now) (length c.args.input.now) c.loop-found.at (left_in c.loop-found.picks) (left_in c.next_counted.new.self) c.in-Some.found seen before.lies in
     let number = c.as_usize.ensures.value ∙ c.pattern.ensures in
     let end = c.end-at.ensures.value in
     record {
       front = _;
       sent = Sent-then _ _ _ _ _ _ _ before.front _ before.sent c.in_ok-send_exchanged.ensures.sent;
-      order = rw end (replaced-step c.loop-found.at _ _ _ c.args.input.now (replacements_of c.args.rules.now) before.front _ _ _ seen
+      order = rw end (replaced-step c.loop-found.at c.in-Some.found (left_in c.loop-found.picks) (left_in c.next_counted.new.self) c.args.input.now (replacements_of c.args.rules.now) before.front _ _ _ seen
           (ap (λ (k : ℕ). slice_range c.args.input.now c.loop-found.at k) c.start.ensures.value)
           (c.replacement.ensures ∙ ap (λ (n : ℕ). (rule_at c.args.rules.now n).1) number ∙ replacement_of_rule c.args.rules.now _ lies.0) before.order);
       lies = rw end lies.4;
       within = omega (arith, end, lies.3);
+      counted = λ plan n begun h. c.next_counted.ensures.counts plan n begun (before.counted plan n begun h);
     }
 
 pub returns-clause-sent : goal.returns-clause-sent
 returns-clause-sent g c =
     let before = c.loop-found.invariant in
-    let end = replaced-end c.loop-found.at _ c.args.input.now (replacements_of c.args.rules.now) before.front _ c.in_default.ensures.steps.0 before.order in
-    on_ok_weaker c.send.result (λ sent. Sent-last _ _ _ _ _ _ _ before.front _ _ before.sent sent (ap (λ (t : List ℕ). before.front ++ t) (take_rest c.args.input.now c.loop-found.at) ∙ end)) c.send.ensures.sent
+    let end = replaced-end c.loop-found.at _ c.args.input.now (replacements_of c.args.rules.now) before.front _ c.in_default.ensures.yields.0 before.order in
+    sends-last _ _ _ _ _ _ before.front _ _ before.sent _ c.send.result (ap (λ (t : List ℕ). before.front ++ t) (take_rest c.args.input.now c.loop-found.at) ∙ end) c.send.ensures.sent
 
-pub returns-clause-stopped : goal.returns-clause-stopped
-returns-clause-stopped g c =
-    let before = c.loop-found.invariant in
-    let end = replaced-end c.loop-found.at _ c.args.input.now (replacements_of c.args.rules.now) before.front _ c.in_default.ensures.steps.0 before.order in
-    on_err_weaker c.send.result (λ stopped. Stopped-last _ _ _ _ _ _ before.front _ _ before.sent stopped (ap (λ (t : List ℕ). before.front ++ t) (take_rest c.args.input.now c.loop-found.at) ∙ end)) c.send.ensures.stopped
+pub returns-clause-counts : goal.returns-clause-counts
+returns-clause-counts g c = λ plan n begun h. c.next_counted.ensures.counts plan n begun (c.loop-found.invariant.counted plan n begun h)

@@ -4,18 +4,18 @@ use Rattle.acsub.proofs.rules.first_line.Goals as goal
 use Rattle.acsub.proofs.rules.first_line.Goals.{else-is_spelling-via-then-is_spelling+else-is_spelling-2, else-is_spelling-via-else-is_spelling}
 
 pub returns-in_err-pattern : goal.returns-in_err-pattern
-returns-in_err-pattern c = rw c.from_residual.ensures (BeginsWithNoRule-no_tab c.args.bytes.now c.in_err-pattern.ensures)
+returns-in_err-pattern c = rw c.from_residual.ensures (BeginsWithNoRule-no_tab c.args.bytes.now c.in_err-pattern.ensures.none)
 
 pub returns-in_err-replacement : goal.returns-in_err-replacement
 returns-in_err-replacement c =
-    let tab = c.in_ok-pattern.ensures in
+    let tab = c.in_ok-pattern.ensures.some in
     rw c.from_residual-in_err-replacement.ensures
-    (BeginsWithNoRule-no_feed c.args.bytes.now c.in_ok-pattern.pattern.now c.in_ok-pattern.after.now tab.0 tab.1 c.in_err-replacement.ensures)
+    (BeginsWithNoRule-no_feed c.args.bytes.now c.in_ok-pattern.pattern.now c.in_ok-pattern.after.now tab.0 tab.1 c.in_err-replacement.ensures.none)
 
 pub returns-else-is_spelling : goal.returns-else-is_spelling
 returns-else-is_spelling c =
-    let tab = c.in_ok-pattern.ensures in
-    let feed = c.in_ok-replacement.ensures in
+    let tab = c.in_ok-pattern.ensures.some in
+    let feed = c.in_ok-replacement.ensures.some in
     BeginsWithNoRule-no_digits c.args.bytes.now c.in_ok-pattern.pattern.now c.in_ok-pattern.after.now c.in_ok-replacement.replacement.now c.in_ok-replacement.rest.now tab.0 tab.1 feed.0 feed.1
     (elim c.else-is_spelling.branch [
       | else-is_spelling-via-then-is_spelling+else-is_spelling-2 w ↦ λ p. absurd (false≢true (w.if-is_spelling-2.ensures.1 p.1))

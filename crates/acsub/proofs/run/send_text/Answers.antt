@@ -1,10 +1,21 @@
--- The picks of the whole input lie in order, and overlapping matches are asked under the standard kind alone.
+-- The picks of the whole input lie in order, and overlapping matches are asked under the standard kind alone. Of each search all is
+-- counted.
 use Rattle.std.proofs.Common.{sym, ◌∙◌}
+use Rattle.acsub.proofs.CountLemmas.{counted-cost}
 use Rattle.acsub.proofs.FinderLemmas.{whole-lies, overlap-standard}
 use Rattle.acsub.proofs.run.send_text.Goals as goal
 
 pub send_replaced-requires : goal.send_replaced-requires
-send_replaced-requires g c = rw (c.picks-picks.ensures, c.rules.ensures) (whole-lies c.args.prepared.now.settings c.args.prepared.now.rules c.args.input.now)
+send_replaced-requires g c = rw (c.picks-picks.ensures.walk, c.rules.ensures) (whole-lies c.args.prepared.now.settings c.args.prepared.now.rules c.args.input.now)
 
 pub overlapping-requires : goal.overlapping-requires
 overlapping-requires g c = overlap-standard c.args.prepared.now.settings c.args.prepared.now.rules c.requires.accepted (sym c.mode.ensures ∙ c.in-Overlap.is)
+
+pub returns-in-Replace-clause-cost : goal.returns-in-Replace-clause-cost
+returns-in-Replace-clause-cost g c = counted-cost c.args.prepared.now _ c.args.steps.now _ _ (c.send_replaced.ensures.counts c.args.prepared.now _ c.args.steps.now (c.picks-picks.ensures.fresh c.args.steps.now))
+
+pub returns-in-List-clause-cost : goal.returns-in-List-clause-cost
+returns-in-List-clause-cost g c = counted-cost c.args.prepared.now _ c.args.steps.now _ _ (c.send_list.ensures.counts c.args.prepared.now _ c.args.steps.now (c.picks.ensures.fresh c.args.steps.now))
+
+pub returns-in-Overlap-clause-cost : goal.returns-in-Overlap-clause-cost
+returns-in-Overlap-clause-cost g c = counted-cost c.args.prepared.now _ c.args.steps.now _ _ (c.send_list-in-Overlap.ensures.counts c.args.prepared.now _ c.args.steps.now (c.overlapping.ensures.fresh c.args.steps.now))

@@ -1,5 +1,6 @@
 -- A run that writes while it reads answers as its road does.
 use Rattle.std.proofs.Common.{refl}
+use Rattle.acsub.proofs.CountLemmas.{streamed-cost}
 use Rattle.acsub.proofs.StreamedLemmas.{streamed_answer, streamed_short}
 use Rattle.acsub.proofs.run.transform.Goals as goal
 
@@ -12,3 +13,7 @@ pub returns-in-Some-clause-short : goal.returns-in-Some-clause-short
 returns-in-Some-clause-short g c = λ streamed.
     let plan = c.args.prepared.now in
     streamed_short g.R.Read.remaining g.W.Write.contents plan.settings plan.rules c.args.reader.now c.stream_text.new.reader c.args.writer.now c.stream_text.new.writer c.stream_text.result c.stream_text.ensures.streams
+
+pub returns-in-Some-clause-cost : goal.returns-in-Some-clause-cost
+returns-in-Some-clause-cost g c =
+    streamed-cost c.args.prepared.now (g.A.Automaton.built c.in-Some.automaton.now) (g.A.Automaton.supports c.in-Some.automaton.now) c.args.reader.now c.stream_text.new.reader c.args.steps.now c.stream_text.new.steps c.stream_text.result c.in-Some.ensures.serves (c.in-Some.ensures.some.0 refl) c.stream_text.ensures.costs

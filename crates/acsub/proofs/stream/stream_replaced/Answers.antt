@@ -15,7 +15,7 @@ returns-in_err-replacements-clause-streams g c =
 pub told-requires : goal.told-requires
 told-requires g c = λ refusal e.
     let plan = c.args.prepared.now in
-    not-refused (g.A.Automaton.built c.args.automaton.now) (g.A.Automaton.supports c.args.automaton.now) plan.settings plan.rules _ _ _ _ c.in-Err.error refusal c.requires.built c.requires.supports c.requires.streamed c.in-Err.ensures.refused e
+    not-refused (g.A.Automaton.built c.args.automaton.now) (g.A.Automaton.supports c.args.automaton.now) plan.settings plan.rules _ _ _ _ c.in-Err.error refusal c.requires.built c.requires.supports c.requires.streamed c.in-Err.ensures.accepted e
 
 pub returns-clause-streams : goal.returns-clause-streams
 returns-clause-streams g c =

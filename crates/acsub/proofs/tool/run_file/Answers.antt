@@ -6,5 +6,5 @@ pub returns : goal.returns
 returns g c =
     let ran = c.run-ran in
     run-finished g.F.File.Read.remaining g.R.Read.remaining g.W.Write.contents c.args.words.now.settings c.args.reader.now ran.new.reader c.args.writer.now ran.new.writer c.finish.new.writer ran.result c.finish.result
-    (record { file = c.as_slice.result.now; is_file = rw c.as_slice.ensures.value c.in_ok-rules.ensures; ran = ran.ensures.answered; bad_line = ran.ensures.bad_line; untouched = ran.ensures.untouched })
+    (record { file = c.as_slice.result.now; is_file = rw c.as_slice.ensures.value c.in_ok-rules.ensures; ran = ran.ensures.answered; fault = ran.ensures.fault })
     c.finish.ensures

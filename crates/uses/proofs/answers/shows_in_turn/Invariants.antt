@@ -4,5 +4,5 @@ use Rattle.uses.proofs.answers.shows_in_turn.Given as goal
 
 abbrev pub invariant-loop-at : goal.invariant-loop-at
 invariant-loop-at g l =
-    CameFrom (g.A.Automaton.built l.automaton) (g.A.Automaton.Reads l.automaton)
+    CameFrom (g.A.Automaton.built l.automaton) (g.A.Automaton.Reaches l.automaton)
     (g.A.Automaton.matches l.automaton) l.input l.state

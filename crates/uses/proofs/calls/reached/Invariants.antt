@@ -3,4 +3,4 @@ use Rattle.ac_automaton.specs.Automaton.{IsReached}
 use Rattle.uses.proofs.calls.reached.Given as goal
 
 abbrev pub invariant-loop-byte : goal.invariant-loop-byte
-invariant-loop-byte g l = IsReached (g.A.Automaton.Reads l.automaton l.anchored) l.sid
+invariant-loop-byte g l = IsReached (g.A.Automaton.Reaches l.automaton l.anchored) l.sid

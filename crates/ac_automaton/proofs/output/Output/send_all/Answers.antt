@@ -1,10 +1,15 @@
 -- What the first sending held back the second writes.
-use Rattle.std.proofs.lemmas.Result.{on_err_weaker}
-use Rattle.ac_automaton.proofs.OutputLemmas.{Stopped-and_held}
+use Rattle.std.proofs.Common.{refl}
+use Rattle.std.proofs.lemmas.Result.{err_from_is_err_and}
+use Rattle.ac_automaton.proofs.OutputLemmas.{Sends-and_held}
 use Rattle.ac_automaton.proofs.output.Output.send_all.Goals as goal
 
-pub returns-clause-stopped : goal.returns-clause-stopped
-returns-clause-stopped g c =
-    on_err_weaker c.send_held.result
-    (Stopped-and_held g.W.Write.contents c.args.writer.now c.send.new.writer c.send_held.new.writer c.args.self.now c.send.new.self c.args.bytes.now c.in_ok-send.ensures.sent)
-    c.send_held.ensures.stopped
+pub returns-in_err-send-clause-sent : goal.returns-in_err-send-clause-sent
+returns-in_err-send-clause-sent g c =
+    let p = err_from_is_err_and c.from_residual.result c.from_residual.ensures.1 in
+    let stopped = c.in_err-send.ensures.sent in
+    rw (p.1, p.2) (stopped.0, stopped.1, refl)
+
+pub returns-clause-sent : goal.returns-clause-sent
+returns-clause-sent g c =
+    Sends-and_held g.W.Write.contents c.args.writer.now c.send.new.writer c.send_held.new.writer c.args.self.now c.send.new.self _ c.args.bytes.now c.send_held.result c.in_ok-send.ensures.sent (rw c.send_held.ensures.none at c.send_held.ensures.sent)

@@ -1,13 +1,14 @@
 -- The second sending follows the first.
-use Rattle.std.proofs.lemmas.Result.{err_from_is_err_and, on_err_weaker}
-use Rattle.ac_automaton.proofs.OutputLemmas.{Stopped-more, Stopped-then}
+use Rattle.std.proofs.lemmas.Result.{err_from_is_err_and}
+use Rattle.ac_automaton.proofs.OutputLemmas.{Sends-more, Sends-then}
 use Rattle.ac_automaton.proofs.output.Output.send_exchanged.Goals as goal
 
-pub returns-in_err-send-clause-stopped : goal.returns-in_err-send-clause-stopped
-returns-in_err-send-clause-stopped g c =
+pub returns-in_err-send : goal.returns-in_err-send
+returns-in_err-send g c =
     let p = err_from_is_err_and c.from_residual.result c.from_residual.ensures.1 in
-    rw p.1 (Stopped-more _ c.args.writer.now c.send.new.writer c.args.self.now c.args.before.now c.args.replacement.now c.in_err-send.ensures.stopped)
+    rw (p.1, p.2) (record { sent = Sends-more g.W.Write.contents c.args.writer.now c.send.new.writer c.args.self.now c.send.new.self c.args.before.now c.args.replacement.now _ c.in_err-send.ensures.sent })
 
-pub returns-clause-stopped : goal.returns-clause-stopped
-returns-clause-stopped g c =
-    on_err_weaker c.send-2.result (Stopped-then _ c.args.writer.now c.send.new.writer c.send-2.new.writer c.args.self.now c.send.new.self c.args.before.now c.args.replacement.now c.in_ok-send.ensures.sent) c.send-2.ensures.stopped
+pub returns : goal.returns
+returns g c = record {
+  sent = Sends-then g.W.Write.contents c.args.writer.now c.send.new.writer c.send-2.new.writer c.args.self.now c.send.new.self c.send-2.new.self c.args.before.now c.args.replacement.now c.send-2.result c.in_ok-send.ensures.sent c.send-2.ensures.sent;
+}

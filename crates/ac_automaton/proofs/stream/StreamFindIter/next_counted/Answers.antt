@@ -1,6 +1,6 @@
 -- Turn by turn, up to an item or to the end.
 use Rattle.std.proofs.Common.{[], refl, arith}
-use Rattle.ac_automaton.proofs.ScanLemmas.{counts-none}
+use Rattle.ac_automaton.proofs.StreamSearchLemmas.{counts-none}
 use Rattle.ac_automaton.proofs.StreamIterLemmas.{counts-join, gained-none, stopped-failed, stopped-found, stopped-over, turn-smaller, turned-failed, turned-found, turned-more, turned-over}
 use Rattle.ac_automaton.proofs.stream.StreamFindIter.next_counted.Goals as goal
 
@@ -8,60 +8,57 @@ pub loop-found-init : goal.loop-found-init
 loop-found-init g c = record {
   turned = record {
     gained = [];
-    has = gained-none g.R.Read.remaining c.args.self.now.scan c.args.self.now.reader.now;
+    has = gained-none g.R.Read.remaining c.args.self.now.stream c.args.self.now.reader.now;
     filled = tt;
     given = refl;
     fresh = λ some. absurd (some refl);
     first = λ none. (refl, refl);
     unended = λ some. absurd (some refl);
     on = omega arith;
-    last = refl;
-    counts = counts-none c.args.self.now.scan c.args.steps.now;
+    last = omega arith;
+    counts = counts-none c.args.self.now.stream c.args.steps.now;
   };
   same_reference = refl;
 }
 
 pub loop-found-preserved : goal.loop-found-preserved
 loop-found-preserved g c = record {
-  turned = turned-more g.R.Read.remaining c.args.self.now.scan c.loop-found.self.scan c.search_or_read.new.scan c.args.self.now.reader.now c.loop-found.self.reader.now c.search_or_read.new.reader c.args.steps.now c.loop-found.steps c.search_or_read.new.steps c.loop-found.invariant.turned c.in-More.ensures.gives c.search_or_read.ensures.counts;
+  turned = turned-more g.R.Read.remaining c.args.self.now.stream c.loop-found.self.stream c.search_or_read.new.stream c.args.self.now.reader.now c.loop-found.self.reader.now c.search_or_read.new.reader c.args.steps.now c.loop-found.steps c.search_or_read.new.steps c.loop-found.invariant.turned c.in-More.ensures.gives c.search_or_read.ensures.goes.0;
   same_reference = c.loop-found.invariant.same_reference;
 }
 
 pub loop-found-smaller : goal.loop-found-smaller
-loop-found-smaller g c = turn-smaller g.R.Read.remaining c.loop-found.self.scan c.search_or_read.new.scan c.loop-found.self.reader.now c.search_or_read.new.reader c.in-More.ensures.gives
+loop-found-smaller g c = turn-smaller g.R.Read.remaining c.loop-found.self.stream c.search_or_read.new.stream c.loop-found.self.reader.now c.search_or_read.new.reader c.in-More.ensures.gives
 
 pub returns-in-Found-clause-gives : goal.returns-in-Found-clause-gives
-returns-in-Found-clause-gives g c = turned-found g.R.Read.remaining c.args.self.now.scan c.loop-found.self.scan c.search_or_read.new.scan c.args.self.now.reader.now c.loop-found.self.reader.now c.search_or_read.new.reader c.args.steps.now c.loop-found.steps _ c.loop-found.invariant.turned c.in-Found.ensures.gives
+returns-in-Found-clause-gives g c = (
+  turned-found g.R.Read.remaining c.args.self.now.stream c.loop-found.self.stream c.search_or_read.new.stream c.args.self.now.reader.now c.loop-found.self.reader.now c.search_or_read.new.reader c.args.steps.now c.loop-found.steps _ c.loop-found.invariant.turned c.in-Found.ensures.gives,
+  λ stopped. absurd (stopped-found g.R.Read.remaining c.args.self.now.stream c.loop-found.self.stream c.search_or_read.new.stream c.args.self.now.reader.now c.loop-found.self.reader.now c.search_or_read.new.reader c.args.steps.now c.loop-found.steps _ c.loop-found.invariant.turned c.in-Found.ensures.gives stopped),
+  c.loop-found.invariant.same_reference,
+)
 
-pub returns-in-Found-clause-same_reference : goal.returns-in-Found-clause-same_reference
-returns-in-Found-clause-same_reference g c = c.loop-found.invariant.same_reference
-
-pub returns-in-Found-clause-counts : goal.returns-in-Found-clause-counts
-returns-in-Found-clause-counts g c = counts-join c.args.self.now.scan c.loop-found.self.scan c.search_or_read.new.scan c.args.steps.now c.loop-found.steps c.search_or_read.new.steps c.loop-found.invariant.turned.counts c.search_or_read.ensures.counts
+pub returns-in-Found-clause-goes : goal.returns-in-Found-clause-goes
+returns-in-Found-clause-goes g c =
+    (counts-join c.args.self.now.stream c.loop-found.self.stream c.search_or_read.new.stream c.args.steps.now c.loop-found.steps c.search_or_read.new.steps c.loop-found.invariant.turned.counts c.search_or_read.ensures.goes.0, c.search_or_read.ensures.goes.1)
 
 pub returns-in-Over-clause-gives : goal.returns-in-Over-clause-gives
-returns-in-Over-clause-gives g c = turned-over g.R.Read.remaining c.args.self.now.scan c.loop-found.self.scan c.search_or_read.new.scan c.args.self.now.reader.now c.loop-found.self.reader.now c.search_or_read.new.reader c.args.steps.now c.loop-found.steps c.loop-found.invariant.turned c.in-Over.ensures.gives
+returns-in-Over-clause-gives g c = (
+  turned-over g.R.Read.remaining c.args.self.now.stream c.loop-found.self.stream c.search_or_read.new.stream c.args.self.now.reader.now c.loop-found.self.reader.now c.search_or_read.new.reader c.args.steps.now c.loop-found.steps c.loop-found.invariant.turned c.in-Over.ensures.gives,
+  stopped-over g.R.Read.remaining c.args.self.now.stream c.loop-found.self.stream c.search_or_read.new.stream c.args.self.now.reader.now c.loop-found.self.reader.now c.search_or_read.new.reader c.args.steps.now c.loop-found.steps c.loop-found.invariant.turned c.in-Over.ensures.gives,
+  c.loop-found.invariant.same_reference,
+)
 
-pub returns-in-Over-clause-same_reference : goal.returns-in-Over-clause-same_reference
-returns-in-Over-clause-same_reference g c = c.loop-found.invariant.same_reference
-
-pub returns-in-Over-clause-counts : goal.returns-in-Over-clause-counts
-returns-in-Over-clause-counts g c = counts-join c.args.self.now.scan c.loop-found.self.scan c.search_or_read.new.scan c.args.steps.now c.loop-found.steps c.search_or_read.new.steps c.loop-found.invariant.turned.counts c.search_or_read.ensures.counts
+pub returns-in-Over-clause-goes : goal.returns-in-Over-clause-goes
+returns-in-Over-clause-goes g c =
+    (counts-join c.args.self.now.stream c.loop-found.self.stream c.search_or_read.new.stream c.args.steps.now c.loop-found.steps c.search_or_read.new.steps c.loop-found.invariant.turned.counts c.search_or_read.ensures.goes.0, c.search_or_read.ensures.goes.1)
 
 pub returns-in-Failed-clause-gives : goal.returns-in-Failed-clause-gives
-returns-in-Failed-clause-gives g c = turned-failed g.R.Read.remaining c.args.self.now.scan c.loop-found.self.scan c.search_or_read.new.scan c.args.self.now.reader.now c.loop-found.self.reader.now c.search_or_read.new.reader c.args.steps.now c.loop-found.steps c.in-Failed.error c.loop-found.invariant.turned c.in-Failed.ensures.gives
+returns-in-Failed-clause-gives g c = (
+  turned-failed g.R.Read.remaining c.args.self.now.stream c.loop-found.self.stream c.search_or_read.new.stream c.args.self.now.reader.now c.loop-found.self.reader.now c.search_or_read.new.reader c.args.steps.now c.loop-found.steps c.in-Failed.error c.loop-found.invariant.turned c.in-Failed.ensures.gives,
+  λ stopped. absurd (stopped-failed g.R.Read.remaining c.args.self.now.stream c.loop-found.self.stream c.search_or_read.new.stream c.args.self.now.reader.now c.loop-found.self.reader.now c.search_or_read.new.reader c.args.steps.now c.loop-found.steps c.in-Failed.error c.loop-found.invariant.turned c.in-Failed.ensures.gives stopped),
+  c.loop-found.invariant.same_reference,
+)
 
-pub returns-in-Failed-clause-same_reference : goal.returns-in-Failed-clause-same_reference
-returns-in-Failed-clause-same_reference g c = c.loop-found.invariant.same_reference
-
-pub returns-in-Failed-clause-counts : goal.returns-in-Failed-clause-counts
-returns-in-Failed-clause-counts g c = counts-join c.args.self.now.scan c.loop-found.self.scan c.search_or_read.new.scan c.args.steps.now c.loop-found.steps c.search_or_read.new.steps c.loop-found.invariant.turned.counts c.search_or_read.ensures.counts
-
-pub returns-in-Found-clause-stopped : goal.returns-in-Found-clause-stopped
-returns-in-Found-clause-stopped g c = λ stopped. absurd (stopped-found g.R.Read.remaining c.args.self.now.scan c.loop-found.self.scan c.search_or_read.new.scan c.args.self.now.reader.now c.loop-found.self.reader.now c.search_or_read.new.reader c.args.steps.now c.loop-found.steps _ c.loop-found.invariant.turned c.in-Found.ensures.gives stopped)
-
-pub returns-in-Over-clause-stopped : goal.returns-in-Over-clause-stopped
-returns-in-Over-clause-stopped g c = stopped-over g.R.Read.remaining c.args.self.now.scan c.loop-found.self.scan c.search_or_read.new.scan c.args.self.now.reader.now c.loop-found.self.reader.now c.search_or_read.new.reader c.args.steps.now c.loop-found.steps c.loop-found.invariant.turned c.in-Over.ensures.gives
-
-pub returns-in-Failed-clause-stopped : goal.returns-in-Failed-clause-stopped
-returns-in-Failed-clause-stopped g c = λ stopped. absurd (stopped-failed g.R.Read.remaining c.args.self.now.scan c.loop-found.self.scan c.search_or_read.new.scan c.args.self.now.reader.now c.loop-found.self.reader.now c.search_or_read.new.reader c.args.steps.now c.loop-found.steps c.in-Failed.error c.loop-found.invariant.turned c.in-Failed.ensures.gives stopped)
+pub returns-in-Failed-clause-goes : goal.returns-in-Failed-clause-goes
+returns-in-Failed-clause-goes g c =
+    (counts-join c.args.self.now.stream c.loop-found.self.stream c.search_or_read.new.stream c.args.steps.now c.loop-found.steps c.search_or_read.new.steps c.loop-found.invariant.turned.counts c.search_or_read.ensures.goes.0, c.search_or_read.ensures.goes.1)

@@ -5,9 +5,9 @@ use Rattle.ac_automaton.proofs.stream.StreamFindIter.next_counted.Given as goal
 
 abbrev pub invariant-loop-found : goal.invariant-loop-found
 invariant-loop-found g l = record {
-  turned : HasTurned g.R.Read.remaining l.fn.self.scan l.self.scan l.fn.self.reader.now l.self.reader.now l.initial.steps l.steps;
+  turned : HasTurned g.R.Read.remaining l.fn.self.stream l.self.stream l.fn.self.reader.now l.self.reader.now l.initial.steps l.steps;
   same_reference : l.self.reader.ghost_name ≡ l.fn.self.reader.ghost_name;
 }
 
 abbrev pub decreases-loop-found : goal.decreases-loop-found
-decreases-loop-found g l = 18446744073709551616 - length (read_by l.self.scan)
+decreases-loop-found g l = 18446744073709551616 - length (read_by l.self.stream)

@@ -4,13 +4,13 @@ use Rattle.ac_automaton.specs.StreamReplace.{HasReplaced}
 use Rattle.ac_automaton.specs.Watched.{has_ended}
 use Rattle.ac_automaton.proofs.stream.replace.replace_read.Given as goal
 
-abbrev pub invariant-loop-scan : goal.invariant-loop-scan
-invariant-loop-scan g l = record {
-  replaced : HasReplaced g.R.Read.remaining g.W.Write.contents (map (λ r. r.now) l.replacements) l.fn.scan.built l.scan l.at l.fn.reader l.reader l.fn.writer l.writer;
+abbrev pub invariant-loop-stream : goal.invariant-loop-stream
+invariant-loop-stream g l = record {
+  replaced : HasReplaced g.R.Read.remaining g.W.Write.contents (map (λ r. r.now) l.replacements) l.fn.stream.built l.stream l.at l.fn.reader l.reader l.fn.writer l.writer;
   empty : l.output ≡ [];
   more : has_ended l.reader ≡ false;
-  counted : ScanCounts l.fn.scan l.scan l.fn.steps l.steps;
+  counted : ScanCounts l.fn.stream l.stream l.fn.steps l.steps;
 }
 
-abbrev pub decreases-loop-scan : goal.decreases-loop-scan
-decreases-loop-scan g l = 18446744073709551616 - length (read_by l.scan)
+abbrev pub decreases-loop-stream : goal.decreases-loop-stream
+decreases-loop-stream g l = 18446744073709551616 - length (read_by l.stream)

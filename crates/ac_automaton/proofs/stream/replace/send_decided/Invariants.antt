@@ -5,9 +5,9 @@ use Rattle.ac_automaton.proofs.stream.replace.send_decided.Given as goal
 
 abbrev pub invariant-loop-end : goal.invariant-loop-end
 invariant-loop-end g l = record {
-  sent : SendsTo g.W.Write.contents (map (λ r. r.now) l.replacements) l.fn.scan l.scan l.fn.at l.written l.fn.writer l.writer l.fn.output l.output;
-  counted : ScanCounts l.fn.scan l.scan l.fn.steps l.steps;
+  sent : SendsTo g.W.Write.contents (map (λ r. r.now) l.replacements) l.fn.stream l.stream l.fn.at l.written l.fn.writer l.writer l.fn.output l.output;
+  counted : ScanCounts l.fn.stream l.stream l.fn.steps l.steps;
 }
 
 abbrev pub decreases-loop-end : goal.decreases-loop-end
-decreases-loop-end g l = length (read_by l.scan) - l.scan.at
+decreases-loop-end g l = length (read_by l.stream) - l.stream.at

@@ -1,10 +1,10 @@
 use Rattle.std.proofs.Common.{◌-◌, length}
 use Rattle.ac_automaton.specs.Stream.{read_by}
-use Rattle.ac_automaton.specs.StreamReplaceWith.{GoesOn}
+use Rattle.ac_automaton.specs.StreamReplaceWith.{ContinuesChain}
 use Rattle.ac_automaton.proofs.stream.replace_with.replace_decided.Given as goal
 
 abbrev pub invariant-loop-end : goal.invariant-loop-end
-invariant-loop-end g l = GoesOn g.W.Write.contents g.F.FnMut l.fn.scan l.scan l.fn.at l.written l.fn.replace_with l.replace_with l.fn.writer l.writer
+invariant-loop-end g l = ContinuesChain g.W.Write.contents g.F.FnMut l.fn.stream l.stream l.fn.at l.written l.fn.replace_with l.replace_with l.fn.writer l.writer
 
 abbrev pub decreases-loop-end : goal.decreases-loop-end
-decreases-loop-end g l = length (read_by l.scan) - l.scan.at
+decreases-loop-end g l = length (read_by l.stream) - l.stream.at

@@ -4,11 +4,11 @@ use Rattle.ac_automaton.specs.StreamReplaceWith.{HasReplacedWith}
 use Rattle.ac_automaton.specs.Watched.{has_ended}
 use Rattle.ac_automaton.proofs.stream.replace_with.replace_read.Given as goal
 
-abbrev pub invariant-loop-scan : goal.invariant-loop-scan
-invariant-loop-scan g l = record {
-  replaced : HasReplacedWith g.W.Write.contents g.F.FnMut g.R.Read.remaining l.fn.scan.built l.scan l.at l.fn.reader l.reader l.fn.replace_with l.replace_with l.fn.writer l.writer;
+abbrev pub invariant-loop-stream : goal.invariant-loop-stream
+invariant-loop-stream g l = record {
+  replaced : HasReplacedWith g.W.Write.contents g.F.FnMut g.R.Read.remaining l.fn.stream.built l.stream l.at l.fn.reader l.reader l.fn.replace_with l.replace_with l.fn.writer l.writer;
   more : has_ended l.reader ≡ false;
 }
 
-abbrev pub decreases-loop-scan : goal.decreases-loop-scan
-decreases-loop-scan g l = 18446744073709551616 - length (read_by l.scan)
+abbrev pub decreases-loop-stream : goal.decreases-loop-stream
+decreases-loop-stream g l = 18446744073709551616 - length (read_by l.stream)

@@ -26,8 +26,8 @@ returns-then-has_one_at_most c =
     let part : ¬ HasAll c.args.numbering.now.start c.args.state = λ has. let all = c.has_all-all.ensures.yes has in let not = c.if-not-all.true in absurd (cc) in
     let one = c.has_one_at_most.ensures c.if-has_one_at_most.true in
     IfOk-weaker c.push_only.result _ _
-    (λ _ items. subst (λ (xs : List Transition). IsAppended c.args.trie.now c.args.numbering.now c.args.back c.args.state c.args.transitions.now.items xs) (sym items)
-    (laid-only c.args.trie.now c.args.numbering.now c.args.back c.args.state c.index-of.result.now c.args.transitions.now.items (own_inverse-pairing _ c.args.trie.now.paired) c.requires.numbering c.if-state-eq1.false part within read one))
+    (λ _ items. subst (λ (xs : List Transition). IsAppended c.args.trie.now c.args.numbering.now c.args.back c.args.state c.args.transitions.now.items xs) (sym items.0)
+    (laid-only c.args.trie.now c.args.numbering.now c.args.back c.args.state c.index-of.result.now c.args.transitions.now.items (own_inverse-pairing _ c.args.trie.now.paired) c.requires.numbering c.if-state-eq1.false part within read one items.1))
     c.push_only.ensures
 
 pub returns : goal.returns

@@ -1,7 +1,9 @@
-use Rattle.std.proofs.Common.{ap, length, arith}
+use Rattle.std.proofs.Common.{◌≡◌, ℕ, List, take, drop, ap, ap₂, sym, subst, ◌∙◌, length, arith}
 use Rattle.ac_noncontiguous.specs.declared.nfa.tables.State.{State}
+use Rattle.ac_noncontiguous.specs.Reads.{matches_at}
+use Rattle.ac_noncontiguous.specs.ReadCalls.{ListsIn}
 use Rattle.ac_noncontiguous.proofs.LookupLemmas.{kept-read}
-use Rattle.ac_noncontiguous.proofs.ReadCallLemmas.{below-kept, kept-matches}
+use Rattle.ac_noncontiguous.proofs.ReadCallLemmas.{below-kept, kept-matches, lists-in}
 use Rattle.ac_noncontiguous.proofs.nfa.NFA.match_list.Goals as goal
 
 pub part-requires : goal.part-requires
@@ -14,3 +16,13 @@ part-requires c =
     let within = kept-matches a.tables c.args.sid h in
     let all = ap length c.deref.ensures.value in
     omega (arith, from, len, within, all)
+
+pub returns-clause-lists : goal.returns-clause-lists
+returns-clause-lists c =
+    let a = c.args.self.now in
+    let h = below-kept a c.args.sid c.requires in
+    let here = kept-read a.tables c.args.sid c.as_usize.result c.index-state.result.now h c.as_usize.ensures.value c.index-state.ensures in
+    let same : matches_at a c.args.sid ≡ c.part.result.now =
+    ap₂ (λ (len from : ℕ). take len (drop from a.tables.matches.items)) (ap (λ (s : State). s.matches_len) here) (ap (λ (s : State). s.matches) here)
+    ∙ (ap (λ (xs : List ℕ). take c.index-state.result.now.matches_len (drop c.index-state.result.now.matches xs)) (sym c.deref.ensures.value) ∙ sym c.part.ensures) in
+    subst (ListsIn a c.args.sid) same (lists-in a c.args.sid c.requires)

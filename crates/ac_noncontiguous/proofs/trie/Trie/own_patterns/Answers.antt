@@ -1,7 +1,7 @@
 -- A pass from the last pattern back makes the list of each state.
 use Rattle.std.proofs.Common.{◌≡◌, ℕ, ◌+◌, ◌-◌, ◌<◌, length, subst, sym, arith}
 use Rattle.std.proofs.lemmas.List.{get_or_read}
-use Rattle.ac_noncontiguous.specs.Own.{EndsIn, AreOwn}
+use Rattle.ac_noncontiguous.specs.Own.{EndsIn, AreOwnChains}
 use Rattle.ac_noncontiguous.proofs.OwnLemmas.{own-filled, own-skipped, own-more, own-read, none-read}
 use Rattle.ac_noncontiguous.proofs.trie.Trie.own_patterns.Goals as goal
 
@@ -10,7 +10,7 @@ loop-from-init c =
     let states : c.len.result ≡ length c.args.self.now.states.items = omega arith in
     let filled = c.in_ok-first.ensures.items_if_clones_equal (λ y same. same) in (
       omega arith,
-      subst (λ (n : ℕ). AreOwn n c.args.self.now.ends.items c.len-len.result c.in_ok-first.first.items c.in_ok-next.next.items) states
+      subst (λ (n : ℕ). AreOwnChains n c.args.self.now.ends.items c.len-len.result c.in_ok-first.first.items c.in_ok-next.next.items) states
           (own-filled _ _ c.args.self.now.ends.items _ _ (omega arith) filled (omega (arith, c.in_ok-next.ensures.len))),
     )
 
@@ -33,7 +33,7 @@ loop-from-preserved c =
     let states = length c.args.self.now.states.items in
     let back : c.loop-from.from ≡ from + 1 = omega arith in
     let within : from < length ends = omega (arith, c.loop-from.invariant.0) in
-    let o = subst (λ (n : ℕ). AreOwn states ends n c.loop-from.first.items c.loop-from.next.items) back c.loop-from.invariant.1 in
+    let o = subst (λ (n : ℕ). AreOwnChains states ends n c.loop-from.first.items c.loop-from.next.items) back c.loop-from.invariant.1 in
     (omega (arith, c.loop-from.invariant.0), own-skipped states from ends _ _ (none-read ends from c.index.result.now within c.index.ensures c.in_default.is) o)
 
 pub loop-from-preserved-in-Some : goal.loop-from-preserved-in-Some
@@ -46,6 +46,6 @@ loop-from-preserved-in-Some c =
     let within : from < length ends = omega (arith, c.loop-from.invariant.0) in
     let here = subst (λ (i : ℕ). EndsIn ends i from) (sym c.as_usize-id.ensures.value) (own-read ends from c.in-Some.id c.index.result.now within c.index.ensures c.in-Some.is) in
     let id_in = c.args.self.now.placed from c.as_usize-id.result here in
-    let o = subst (λ (n : ℕ). AreOwn states ends n first c.loop-from.next.items) back c.loop-from.invariant.1 in
+    let o = subst (λ (n : ℕ). AreOwnChains states ends n first c.loop-from.next.items) back c.loop-from.invariant.1 in
     let read = get_or_read first c.as_usize-id.result c.index-in-Some.result.now (omega (arith, id_in, o.lens.0)) c.index-in-Some.ensures 0 in
     (omega (arith, c.loop-from.invariant.0), own-more states from c.as_usize-id.result c.index-in-Some.result.now ends first c.loop-from.next.items here id_in read o)

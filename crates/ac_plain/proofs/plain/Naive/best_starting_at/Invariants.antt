@@ -1,6 +1,6 @@
 use Rattle.std.proofs.Common.{◌<◌}
+use Rattle.ac_input.specs.Occurrence.{StartsAt}
 use Rattle.ac_input.specs.Best.{IsLeast}
-use Rattle.ac_plain.specs.Naive.{StartsAt}
 use Rattle.ac_plain.proofs.plain.Naive.best_starting_at.Given as goal
 
 abbrev pub invariant-loop-number : goal.invariant-loop-number

@@ -1,7 +1,7 @@
 -- Before each read all that can be listed is written.
 use Rattle.std.proofs.Common.{Err, Ok, refl, sym, subst, ◌∙◌}
 use Rattle.std.proofs.lemmas.Result.{err_from_is_err_and}
-use Rattle.ac_automaton.specs.Stream.{Scanned}
+use Rattle.ac_automaton.specs.Stream.{StreamProgress}
 use Rattle.ac_automaton.proofs.StreamCountLemmas.{ScanCounts-none, ScanCounts-then}
 use Rattle.ac_automaton.proofs.StreamAnswerLemmas.{cost-read}
 use Rattle.ac_automaton.proofs.StreamReplaceLemmas.{write-begun}
@@ -11,10 +11,10 @@ use Rattle.acsub.proofs.stream.list.list_read.Goals as goal
 
 pub loop-next-init : goal.loop-next-init
 loop-next-init g c =
-    let s = c.args.matches.now.scan in
+    let s = c.args.matches.now.stream in
     let reader = c.args.matches.now.reader.now in
     record {
-      listed = subst (λ (t : Scanned). HasListed g.R.Read.remaining g.W.Write.contents s.built t reader reader c.args.writer.now c.args.writer.now) (sym c.requires.fresh)
+      listed = subst (λ (t : StreamProgress). HasListed g.R.Read.remaining g.W.Write.contents s.built t reader reader c.args.writer.now c.args.writer.now) (sym c.requires.fresh)
           (listed-fresh g.R.Read.remaining g.W.Write.contents s.built reader c.args.writer.now c.requires.standard c.requires.filled c.requires.unended);
       empty = c.requires.empty;
       same_reference = refl;
@@ -24,79 +24,79 @@ loop-next-init g c =
 pub returns-in_err-found-clause-lists : goal.returns-in_err-found-clause-lists
 returns-in_err-found-clause-lists g c =
     let p = err_from_is_err_and c.from_residual.result c.from_residual.ensures.1 in
-    rw (p.1, p.2) (next-stopped g.R.Read.remaining g.W.Write.contents c.args.matches.now.scan.built c.loop-next.matches.scan c.next_counted.new.self.scan c.args.matches.now.reader.now c.loop-next.matches.reader.now c.next_counted.new.self.reader.now c.args.writer.now c.loop-next.writer c.loop-next.invariant.listed c.next_counted.ensures.kept c.in_err-found.field-0.0 (rw c.in_err-found.was at c.in-Some.ensures.gives))
+    rw (p.1, p.2) (next-stopped g.R.Read.remaining g.W.Write.contents c.args.matches.now.stream.built c.loop-next.matches.stream c.next_counted.new.self.stream c.args.matches.now.reader.now c.loop-next.matches.reader.now c.next_counted.new.self.reader.now c.args.writer.now c.loop-next.writer c.loop-next.invariant.listed c.next_counted.ensures.goes.1 c.in_err-found.field-0.0 (rw c.in_err-found.was at c.in-Some.ensures.gives.0))
 
 pub returns-in_err-found-clause-costs : goal.returns-in_err-found-clause-costs
 returns-in_err-found-clause-costs g c =
     let p = err_from_is_err_and c.from_residual.result c.from_residual.ensures.1 in
-    let told = stopped-read g.R.Read.remaining g.W.Write.contents c.args.matches.now.scan.built c.loop-next.matches.scan c.next_counted.new.self.scan c.args.matches.now.reader.now c.loop-next.matches.reader.now c.next_counted.new.self.reader.now c.args.writer.now c.loop-next.writer c.loop-next.invariant.listed c.next_counted.ensures.kept c.in_err-found.field-0.0 (rw c.in_err-found.was at c.in-Some.ensures.gives) in
-    rw p.1 (cost-read c.args.matches.now.scan.built c.args.matches.now.scan c.next_counted.new.self.scan c.args.matches.now.reader.now c.next_counted.new.self.reader.now c.args.steps.now c.next_counted.new.steps (Err p.0) c.requires.fresh (record {
+    let told = stopped-read g.R.Read.remaining g.W.Write.contents c.args.matches.now.stream.built c.loop-next.matches.stream c.next_counted.new.self.stream c.args.matches.now.reader.now c.loop-next.matches.reader.now c.next_counted.new.self.reader.now c.args.writer.now c.loop-next.writer c.loop-next.invariant.listed c.next_counted.ensures.goes.1 c.in_err-found.field-0.0 (rw c.in_err-found.was at c.in-Some.ensures.gives.0) in
+    rw p.1 (cost-read c.args.matches.now.stream.built c.args.matches.now.stream c.next_counted.new.self.stream c.args.matches.now.reader.now c.next_counted.new.self.reader.now c.args.steps.now c.next_counted.new.steps (Err p.0) c.requires.fresh (record {
       built = told.0;
       read = told.1;
-      counts = ScanCounts-then c.args.matches.now.scan c.loop-next.matches.scan c.next_counted.new.self.scan c.args.steps.now c.loop-next.steps c.next_counted.new.steps c.loop-next.invariant.counted c.next_counted.ensures.counts;
-      course = c.next_counted.ensures.kept;
+      counts = ScanCounts-then c.args.matches.now.stream c.loop-next.matches.stream c.next_counted.new.self.stream c.args.steps.now c.loop-next.steps c.next_counted.new.steps c.loop-next.invariant.counted c.next_counted.ensures.goes.0;
+      course = c.next_counted.ensures.goes.1;
       searched = tt;
     }))
 
 pub loop-next-smaller : goal.loop-next-smaller
 loop-next-smaller g c =
-    let next = rw c.in_ok-found.was at c.in-Some.ensures.gives in
-    less-left g.R.Read.remaining g.W.Write.contents c.args.matches.now.scan.built c.loop-next.matches.scan c.next_counted.new.self.scan c.args.matches.now.reader.now c.loop-next.matches.reader.now c.next_counted.new.self.reader.now c.args.writer.now c.loop-next.writer c.loop-next.invariant.listed c.next_counted.ensures.kept c.in_ok-found.found next c.write_lines.new.matches.scan c.in_ok-write_lines.ensures.written.same.pieces
+    let next = rw c.in_ok-found.was at c.in-Some.ensures.gives.0 in
+    less-left g.R.Read.remaining g.W.Write.contents c.args.matches.now.stream.built c.loop-next.matches.stream c.next_counted.new.self.stream c.args.matches.now.reader.now c.loop-next.matches.reader.now c.next_counted.new.self.reader.now c.args.writer.now c.loop-next.writer c.loop-next.invariant.listed c.next_counted.ensures.goes.1 c.in_ok-found.found next c.write_lines.new.matches.stream c.in_ok-write_lines.ensures.written.same.pieces
 
 pub loop-next-preserved : goal.loop-next-preserved
 loop-next-preserved g c =
-    let next = rw c.in_ok-found.was at c.in-Some.ensures.gives in
-    let first = ScanCounts-then c.args.matches.now.scan c.loop-next.matches.scan c.next_counted.new.self.scan c.args.steps.now c.loop-next.steps c.next_counted.new.steps c.loop-next.invariant.counted c.next_counted.ensures.counts in
-    let listed = listed-more g.R.Read.remaining g.W.Write.contents c.args.matches.now.scan.built c.loop-next.matches.scan c.next_counted.new.self.scan c.args.matches.now.reader.now c.loop-next.matches.reader.now c.next_counted.new.self.reader.now c.args.writer.now c.loop-next.writer c.loop-next.invariant.listed c.next_counted.ensures.kept c.in_ok-found.found next c.write_lines.new.matches.scan c.write_lines.new.writer c.in_ok-write_lines.ensures.written in
+    let next = rw c.in_ok-found.was at c.in-Some.ensures.gives.0 in
+    let first = ScanCounts-then c.args.matches.now.stream c.loop-next.matches.stream c.next_counted.new.self.stream c.args.steps.now c.loop-next.steps c.next_counted.new.steps c.loop-next.invariant.counted c.next_counted.ensures.goes.0 in
+    let listed = listed-more g.R.Read.remaining g.W.Write.contents c.args.matches.now.stream.built c.loop-next.matches.stream c.next_counted.new.self.stream c.args.matches.now.reader.now c.loop-next.matches.reader.now c.next_counted.new.self.reader.now c.args.writer.now c.loop-next.writer c.loop-next.invariant.listed c.next_counted.ensures.goes.1 c.in_ok-found.found next c.write_lines.new.matches.stream c.write_lines.new.writer c.in_ok-write_lines.ensures.written in
     record {
       listed = rw c.write_lines.ensures.reader listed;
       empty = c.in_ok-write_lines.ensures.none;
-      same_reference = c.write_lines.ensures.same_reference ∙ c.next_counted.ensures.same_reference ∙ c.loop-next.invariant.same_reference;
-      counted = ScanCounts-then c.args.matches.now.scan c.next_counted.new.self.scan c.write_lines.new.matches.scan c.args.steps.now c.next_counted.new.steps c.write_lines.new.steps first c.write_lines.ensures.counts;
+      same_reference = c.write_lines.ensures.same_reference ∙ c.next_counted.ensures.gives.2 ∙ c.loop-next.invariant.same_reference;
+      counted = ScanCounts-then c.args.matches.now.stream c.next_counted.new.self.stream c.write_lines.new.matches.stream c.args.steps.now c.next_counted.new.steps c.write_lines.new.steps first c.write_lines.ensures.counts;
     }
 
 pub returns-in_err-write_lines-clause-lists : goal.returns-in_err-write_lines-clause-lists
 returns-in_err-write_lines-clause-lists g c =
     let p = err_from_is_err_and c.from_residual-in_err-write_lines.result c.from_residual-in_err-write_lines.ensures.1 in
-    let next = rw c.in_ok-found.was at c.in-Some.ensures.gives in
-    let lists = ends-failed_write g.R.Read.remaining g.W.Write.contents c.args.matches.now.scan.built c.loop-next.matches.scan c.next_counted.new.self.scan c.args.matches.now.reader.now c.loop-next.matches.reader.now c.next_counted.new.self.reader.now c.args.writer.now c.loop-next.writer c.loop-next.invariant.listed c.next_counted.ensures.kept c.in_ok-found.found next c.write_lines.new.matches.scan c.write_lines.new.writer c.in_err-write_lines.field-0.0 c.in_err-write_lines.ensures.stopped c.write_lines.ensures.kept c.in_err-write_lines.ensures.kind in
+    let next = rw c.in_ok-found.was at c.in-Some.ensures.gives.0 in
+    let lists = ends-failed_write g.R.Read.remaining g.W.Write.contents c.args.matches.now.stream.built c.loop-next.matches.stream c.next_counted.new.self.stream c.args.matches.now.reader.now c.loop-next.matches.reader.now c.next_counted.new.self.reader.now c.args.writer.now c.loop-next.writer c.loop-next.invariant.listed c.next_counted.ensures.goes.1 c.in_ok-found.found next c.write_lines.new.matches.stream c.write_lines.new.writer c.in_err-write_lines.field-0.0 c.in_err-write_lines.ensures.stopped c.write_lines.ensures.kept c.in_err-write_lines.ensures.kind in
     rw (p.1, p.2) (rw c.write_lines.ensures.reader lists)
 
 pub returns-in_err-write_lines-clause-costs : goal.returns-in_err-write_lines-clause-costs
 returns-in_err-write_lines-clause-costs g c =
     let p = err_from_is_err_and c.from_residual-in_err-write_lines.result c.from_residual-in_err-write_lines.ensures.1 in
-    let next = rw c.in_ok-found.was at c.in-Some.ensures.gives in
-    let told = found-read g.R.Read.remaining g.W.Write.contents c.args.matches.now.scan.built c.loop-next.matches.scan c.next_counted.new.self.scan c.args.matches.now.reader.now c.loop-next.matches.reader.now c.next_counted.new.self.reader.now c.args.writer.now c.loop-next.writer c.loop-next.invariant.listed c.next_counted.ensures.kept c.in_ok-found.found next c.write_lines.new.matches.scan c.in_err-write_lines.ensures.stopped.same in
-    let first = ScanCounts-then c.args.matches.now.scan c.loop-next.matches.scan c.next_counted.new.self.scan c.args.steps.now c.loop-next.steps c.next_counted.new.steps c.loop-next.invariant.counted c.next_counted.ensures.counts in
-    rw p.1 (cost-read c.args.matches.now.scan.built c.args.matches.now.scan c.write_lines.new.matches.scan c.args.matches.now.reader.now c.write_lines.new.matches.reader.now c.args.steps.now c.write_lines.new.steps (Err p.0) c.requires.fresh (record {
+    let next = rw c.in_ok-found.was at c.in-Some.ensures.gives.0 in
+    let told = found-read g.R.Read.remaining g.W.Write.contents c.args.matches.now.stream.built c.loop-next.matches.stream c.next_counted.new.self.stream c.args.matches.now.reader.now c.loop-next.matches.reader.now c.next_counted.new.self.reader.now c.args.writer.now c.loop-next.writer c.loop-next.invariant.listed c.next_counted.ensures.goes.1 c.in_ok-found.found next c.write_lines.new.matches.stream c.in_err-write_lines.ensures.stopped.same in
+    let first = ScanCounts-then c.args.matches.now.stream c.loop-next.matches.stream c.next_counted.new.self.stream c.args.steps.now c.loop-next.steps c.next_counted.new.steps c.loop-next.invariant.counted c.next_counted.ensures.goes.0 in
+    rw p.1 (cost-read c.args.matches.now.stream.built c.args.matches.now.stream c.write_lines.new.matches.stream c.args.matches.now.reader.now c.write_lines.new.matches.reader.now c.args.steps.now c.write_lines.new.steps (Err p.0) c.requires.fresh (record {
       built = told.0;
       read = rw c.write_lines.ensures.reader told.1;
-      counts = ScanCounts-then c.args.matches.now.scan c.next_counted.new.self.scan c.write_lines.new.matches.scan c.args.steps.now c.next_counted.new.steps c.write_lines.new.steps first c.write_lines.ensures.counts;
+      counts = ScanCounts-then c.args.matches.now.stream c.next_counted.new.self.stream c.write_lines.new.matches.stream c.args.steps.now c.next_counted.new.steps c.write_lines.new.steps first c.write_lines.ensures.counts;
       course = c.write_lines.ensures.kept;
       searched = tt;
     }))
 
 pub returns-clause-lists : goal.returns-clause-lists
 returns-clause-lists g c =
-    let next = c.in_default.ensures.gives in
-    (ends-whole g.R.Read.remaining g.W.Write.contents c.args.matches.now.scan.built c.loop-next.matches.scan c.next_counted.new.self.scan c.args.matches.now.reader.now c.loop-next.matches.reader.now c.next_counted.new.self.reader.now c.args.writer.now c.loop-next.writer c.loop-next.invariant.listed c.next_counted.ensures.kept next).0
+    let next = c.in_default.ensures.gives.0 in
+    (ends-whole g.R.Read.remaining g.W.Write.contents c.args.matches.now.stream.built c.loop-next.matches.stream c.next_counted.new.self.stream c.args.matches.now.reader.now c.loop-next.matches.reader.now c.next_counted.new.self.reader.now c.args.writer.now c.loop-next.writer c.loop-next.invariant.listed c.next_counted.ensures.goes.1 next).0
 
 pub returns-clause-costs : goal.returns-clause-costs
 returns-clause-costs g c =
-    let next = c.in_default.ensures.gives in
-    let told = ended-read g.R.Read.remaining g.W.Write.contents c.args.matches.now.scan.built c.loop-next.matches.scan c.next_counted.new.self.scan c.args.matches.now.reader.now c.loop-next.matches.reader.now c.next_counted.new.self.reader.now c.args.writer.now c.loop-next.writer c.loop-next.invariant.listed c.next_counted.ensures.kept next in
-    cost-read c.args.matches.now.scan.built c.args.matches.now.scan c.next_counted.new.self.scan c.args.matches.now.reader.now c.next_counted.new.self.reader.now c.args.steps.now c.next_counted.new.steps (Ok tt) c.requires.fresh (record {
+    let next = c.in_default.ensures.gives.0 in
+    let told = ended-read g.R.Read.remaining g.W.Write.contents c.args.matches.now.stream.built c.loop-next.matches.stream c.next_counted.new.self.stream c.args.matches.now.reader.now c.loop-next.matches.reader.now c.next_counted.new.self.reader.now c.args.writer.now c.loop-next.writer c.loop-next.invariant.listed c.next_counted.ensures.goes.1 next in
+    cost-read c.args.matches.now.stream.built c.args.matches.now.stream c.next_counted.new.self.stream c.args.matches.now.reader.now c.next_counted.new.self.reader.now c.args.steps.now c.next_counted.new.steps (Ok tt) c.requires.fresh (record {
       built = told.0;
       read = told.1;
-      counts = ScanCounts-then c.args.matches.now.scan c.loop-next.matches.scan c.next_counted.new.self.scan c.args.steps.now c.loop-next.steps c.next_counted.new.steps c.loop-next.invariant.counted c.next_counted.ensures.counts;
-      course = c.next_counted.ensures.kept;
-      searched = (ends-whole g.R.Read.remaining g.W.Write.contents c.args.matches.now.scan.built c.loop-next.matches.scan c.next_counted.new.self.scan c.args.matches.now.reader.now c.loop-next.matches.reader.now c.next_counted.new.self.reader.now c.args.writer.now c.loop-next.writer c.loop-next.invariant.listed c.next_counted.ensures.kept next).1;
+      counts = ScanCounts-then c.args.matches.now.stream c.loop-next.matches.stream c.next_counted.new.self.stream c.args.steps.now c.loop-next.steps c.next_counted.new.steps c.loop-next.invariant.counted c.next_counted.ensures.goes.0;
+      course = c.next_counted.ensures.goes.1;
+      searched = (ends-whole g.R.Read.remaining g.W.Write.contents c.args.matches.now.stream.built c.loop-next.matches.stream c.next_counted.new.self.stream c.args.matches.now.reader.now c.loop-next.matches.reader.now c.next_counted.new.self.reader.now c.args.writer.now c.loop-next.writer c.loop-next.invariant.listed c.next_counted.ensures.goes.1 next).1;
     })
 
 pub returns-in_err-found-clause-begun : goal.returns-in_err-found-clause-begun
 returns-in_err-found-clause-begun g c =
     let p = err_from_is_err_and c.from_residual.result c.from_residual.ensures.1 in
-    rw (p.1, p.2) (gives-begun g.R.Read.remaining c.loop-next.matches.scan c.next_counted.new.self.scan c.loop-next.matches.reader.now c.next_counted.new.self.reader.now c.in_err-found.field-0.0 (rw c.in_err-found.was at c.in-Some.ensures.gives))
+    rw (p.1, p.2) (gives-begun g.R.Read.remaining c.loop-next.matches.stream c.next_counted.new.self.stream c.loop-next.matches.reader.now c.next_counted.new.self.reader.now c.in_err-found.field-0.0 (rw c.in_err-found.was at c.in-Some.ensures.gives.0))
 
 pub returns-in_err-write_lines-clause-begun : goal.returns-in_err-write_lines-clause-begun
 returns-in_err-write_lines-clause-begun g c =

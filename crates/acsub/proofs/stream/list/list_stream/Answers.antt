@@ -1,7 +1,7 @@
 -- Both buffers are taken first; then the list reads on.
 use Rattle.std.proofs.lemmas.Result.{err_from_is_err_and}
 use Rattle.ac_automaton.proofs.StreamAnswerLemmas.{cost-none}
-use Rattle.acsub.proofs.StreamListLemmas.{never-memory, nothing-listed, refused-memory}
+use Rattle.acsub.proofs.StreamListLemmas.{begun-accepted, never-memory, nothing-listed, refused-memory}
 use Rattle.acsub.proofs.stream.list.list_stream.Goals as goal
 
 pub returns-in_err-output-clause-lists : goal.returns-in_err-output-clause-lists
@@ -13,7 +13,7 @@ pub returns-in_err-matches-clause-lists : goal.returns-in_err-matches-clause-lis
 returns-in_err-matches-clause-lists g c =
     let p = err_from_is_err_and c.from_residual-in_err-matches.result c.from_residual-in_err-matches.ensures.1 in
     let b = g.A.Automaton.built c.args.automaton.now in
-    let memory = refused-memory b (g.A.Automaton.supports c.args.automaton.now) c.in_err-matches.field-0.0 c.requires.can c.in_err-matches.ensures.refused in
+    let memory = refused-memory b (g.A.Automaton.supports c.args.automaton.now) c.in_err-matches.field-0.0 c.requires.can c.in_err-matches.ensures.answer in
     let untouched = rw c.in_err-matches.was at c.stream_find_iter.follows.holds-at-none in
     rw (p.1, p.2, memory, untouched) (nothing-listed g.R.Read.remaining g.W.Write.contents b c.args.reader.now c.args.writer.now)
 
@@ -25,3 +25,6 @@ returns-in_err-matches-clause-costs g c =
 
 pub returns-clause-memory : goal.returns-clause-memory
 returns-clause-memory g c = never-memory _ c.list_read-outcome.result c.list_read-outcome.ensures.begun
+
+pub returns-clause-accepted : goal.returns-clause-accepted
+returns-clause-accepted g c = begun-accepted c.list_read-outcome.result c.list_read-outcome.ensures.begun

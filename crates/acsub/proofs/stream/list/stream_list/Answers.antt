@@ -1,5 +1,5 @@
 -- The lines are the text of a list, and an error is told as a run tells it.
-use Rattle.acsub.proofs.StreamListLemmas.{lists-config, lists-streams, lists-told, streamed-can}
+use Rattle.acsub.proofs.StreamListLemmas.{lists-streams, lists-told, streamed-can}
 use Rattle.acsub.proofs.stream.list.stream_list.Goals as goal
 
 pub list_stream-requires-clause-can : goal.list_stream-requires-clause-can
@@ -13,8 +13,7 @@ returns-in-Ok-clause-streams g c =
     lists-streams plan.settings plan.rules (g.A.Automaton.built c.args.automaton.now) c.requires.built c.requires.mode g.R.Read.remaining g.W.Write.contents c.args.reader.now c.list_stream.new.reader c.args.writer.now c.list_stream.new.writer (rw c.in-Ok.is at c.list_stream.ensures.lists)
 
 pub told-requires : goal.told-requires
-told-requires g c = λ refusal.
-    lists-config g.R.Read.remaining g.W.Write.contents (g.A.Automaton.built c.args.automaton.now) c.args.reader.now c.list_stream.new.reader c.args.writer.now c.list_stream.new.writer c.in-Err.error refusal (rw c.in-Err.is at c.list_stream.ensures.lists)
+told-requires g c = rw c.in-Err.is at c.list_stream.ensures.accepted
 
 pub returns-in-Err-clause-streams : goal.returns-in-Err-clause-streams
 returns-in-Err-clause-streams g c =

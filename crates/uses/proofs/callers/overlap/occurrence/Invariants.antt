@@ -7,6 +7,6 @@ use Rattle.uses.proofs.callers.overlap.occurrence.Given as goal
 abbrev pub invariant-loop : goal.invariant-loop
 invariant-loop g l =
     record {
-      came : CameFrom (g.A.Automaton.built l.automaton) (g.A.Automaton.Reads l.automaton) (g.A.Automaton.matches l.automaton) l.input l.state;
+      came : CameFrom (g.A.Automaton.built l.automaton) (g.A.Automaton.Reaches l.automaton) (g.A.Automaton.matches l.automaton) l.input l.state;
       shown : shown_of l.state ≡ min l.counter (length (listing_in (g.A.Automaton.built l.automaton) (whole_of l.text)));
     }

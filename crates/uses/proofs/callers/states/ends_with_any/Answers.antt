@@ -13,6 +13,6 @@ returns g c =
     let m = (g.A.Automaton.built a).dictionary in
     let all : c.loop-byte.byte-index ≡ length x = omega arith in
     let whole = ap (λ (n : ℕ). take n x) all ∙ take-length x in
-    let reads = subst (λ (t : List ℕ). g.A.Automaton.Reads a No t sid) whole c.loop-byte.invariant in
+    let reads = subst (λ (t : List ℕ). g.A.Automaton.Reaches a No t sid) whole c.loop-byte.invariant in
     let ends = tells-ends m.kind m x (g.A.Automaton.matches a sid) c.requires.standard (g.met.A.Automaton.tells a No x sid reads) in
     (λ yes. ends.0 (c.is_match.ensures.0 yes), λ has. c.is_match.ensures.1 (ends.1 has))

@@ -3,4 +3,4 @@ use Rattle.ac_input.specs.declared.search.Anchored.TheVariants.{No}
 use Rattle.uses.proofs.callers.states.ends_with_any.Given as goal
 
 abbrev pub invariant-loop-byte : goal.invariant-loop-byte
-invariant-loop-byte g l = g.A.Automaton.Reads l.automaton No (take l.byte-index l.text) l.sid
+invariant-loop-byte g l = g.A.Automaton.Reaches l.automaton No (take l.byte-index l.text) l.sid

@@ -6,10 +6,10 @@ use Rattle.uses.proofs.callers.stream.all_matches.Goals as goal
 pub loop-next-preserved : goal.loop-next-preserved
 loop-next-preserved g c =
     let b = g.A.Automaton.built c.args.automaton.now in
-    let next = rw c.in_ok-next.was at c.in-Some.ensures.gives in
-    found-more (λ r. r.now) b c.args.text.now c.loop-next.matches.scan c.next_counted.new.self.scan c.loop-next.matches.reader.now c.next_counted.new.self.reader.now c.loop-next.found.items _ c.in_ok-next.field-0 c.loop-next.invariant next (search rules)
+    let next = rw c.in_ok-next.was at c.in-Some.ensures.gives.0 in
+    found-more (λ r. r.now) b c.args.text.now c.loop-next.matches.stream c.next_counted.new.self.stream c.loop-next.matches.reader.now c.next_counted.new.self.reader.now c.loop-next.found.items _ c.in_ok-next.field-0 c.loop-next.invariant next (search rules)
 
 pub returns : goal.returns
 returns g c =
     let b = g.A.Automaton.built c.args.automaton.now in
-    found-all (λ r. r.now) b c.args.text.now c.loop-next.matches.scan c.next_counted.new.self.scan c.loop-next.matches.reader.now c.next_counted.new.self.reader.now c.loop-next.found.items (omega arith) c.loop-next.invariant c.in_default.ensures.gives
+    found-all (λ r. r.now) b c.args.text.now c.loop-next.matches.stream c.next_counted.new.self.stream c.loop-next.matches.reader.now c.next_counted.new.self.reader.now c.loop-next.found.items (omega arith) c.loop-next.invariant c.in_default.ensures.gives.0

@@ -1,9 +1,10 @@
-use Rattle.std.proofs.Common.{◌≡◌, ℕ, ◌+◌, List, [], ◌∷◌, drop, is_some, if◌then◌else◌, MatchOption, sym, subst}
+-- Each call shows the first of the rest, and the sums stay within one walk.
+use Rattle.std.proofs.Common.{rules, ◌≡◌, ℕ, ◌+◌, List, [], ◌∷◌, drop, is_some, if◌then◌else◌, MatchOption, sym, subst}
 use Rattle.ac_input.specs.Number.{StateID}
 use Rattle.ac_input.specs.Computed.{listing_of}
 use Rattle.ac_input.specs.Input.{search_in}
 use Rattle.ac_automaton.specs.Overlapping.{StandsAt}
-use Rattle.ac_automaton.proofs.OverlappingLemmas.{stands-after, stands-work, yields-next}
+use Rattle.ac_automaton.proofs.OverlappingStateLemmas.{stands-after, stands-work, yields-next}
 use Rattle.ac_automaton.proofs.overlapping.iter.FindOverlappingIter.next_counted.Goals as goal
 
 pub invariant_of-self : goal.invariant_of-self
@@ -12,15 +13,15 @@ invariant_of-self g c =
     let m = (g.A.Automaton.built i.automaton.now).dictionary in
     let d = (g.A.Automaton.built i.automaton.now).deterministic in
     let s = search_in m i.input in
-    let R = g.A.Automaton.Reads i.automaton.now i.input.anchored in
+    let R = g.A.Automaton.Reaches i.automaton.now i.input.anchored in
     let E = g.A.Automaton.matches i.automaton.now in
     let stands = c.self.invariant.2 in
     let shows = c.advance-shown.ensures.shows (drop i.shown.value (listing_of s)) stands.left in
     let after = stands-after R E m d s i.place i.shown.value c.advance-shown.result i.sums c.new-done.result c.advance-shown.new.steps c.add.new.self stands shows c.advance-shown.ensures.pays c.new-done.ensures c.add.ensures in
     (c.self.invariant.0, c.self.invariant.1, subst (λ (k : ℕ). StandsAt R E m d s c.advance-shown.result.place k c.add.new.self) (sym c.with_found-self-inside.ensures) after)
 
-pub returns-clause-yields : goal.returns-clause-yields
-returns-clause-yields g c =
+pub returns-clause-gives : goal.returns-clause-gives
+returns-clause-gives g c =
     let i = c.self.inside in
     let s = search_in (g.A.Automaton.built i.automaton.now).dictionary i.input in
     let L = listing_of s in
@@ -30,7 +31,7 @@ returns-clause-yields g c =
     let shows = c.advance-shown.ensures.shows (drop n L) stands.left in
     let yields = yields-next L n r shows.0 in
     let counted = subst (λ (k : ℕ). MatchOption r ((drop n L ≡ []) × (drop k L ≡ [])) (λ o. drop n L ≡ o ∷ drop k L)) (sym c.with_found-self-inside.ensures) yields in
-    rw (← c.self.view_is) counted
+    (rw (← c.self.view_is) counted, search rules)
 
 pub returns-clause-work : goal.returns-clause-work
 returns-clause-work g c =
@@ -38,7 +39,7 @@ returns-clause-work g c =
     let m = (g.A.Automaton.built i.automaton.now).dictionary in
     let d = (g.A.Automaton.built i.automaton.now).deterministic in
     let s = search_in m i.input in
-    let R = g.A.Automaton.Reads i.automaton.now i.input.anchored in
+    let R = g.A.Automaton.Reaches i.automaton.now i.input.anchored in
     let E = g.A.Automaton.matches i.automaton.now in
     let stands = c.self.invariant.2 in
     let shows = c.advance-shown.ensures.shows (drop i.shown.value (listing_of s)) stands.left in

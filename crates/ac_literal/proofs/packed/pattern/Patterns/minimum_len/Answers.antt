@@ -1,8 +1,8 @@
 -- The least length of the patterns so far.
 use Rattle.std.proofs.Common.{◌≡◌, ◌++◌, ◌∷◌, [], List, ℕ, Vec, Global, ap, ap₂, sym, ◌∙◌, take, map, min, length, arith}
 use Rattle.std.proofs.lemmas.List.{map_more, take_all}
-use Rattle.ac_literal.specs.Packed.{least_len}
-use Rattle.ac_literal.proofs.PatternLemmas.{least_len-push}
+use Rattle.ac_input.specs.Work.{shortest}
+use Rattle.ac_literal.proofs.PatternLemmas.{shortest-push}
 use Rattle.ac_literal.proofs.packed.pattern.Patterns.minimum_len.Goals as goal
 
 abbrev bytes_of : Vec ℕ Global → List ℕ
@@ -14,10 +14,10 @@ loop-pattern-preserved c =
     let more = map_more bytes_of c.deref-pattern-items.result.now c.loop-pattern.pattern-index c.pattern-item.result c.loop-pattern-test.true in
     let pattern = ap bytes_of c.pattern-item.is in
     let long : c.len.result ≡ length c.pattern-item.result.items = omega (arith, c.pattern-item.result.ok.0) in
-    c.min-least.ensures ∙ ap₂ min c.loop-pattern.invariant long ∙ sym (least_len-push front c.pattern-item.result.items)
-    ∙ ap (λ (p : List ℕ). least_len (front ++ p ∷ [])) pattern ∙ ap least_len (sym more)
+    c.min-least.ensures ∙ ap₂ min c.loop-pattern.invariant long ∙ sym (shortest-push front c.pattern-item.result.items)
+    ∙ ap (λ (p : List ℕ). shortest (front ++ p ∷ [])) pattern ∙ ap shortest (sym more)
 
 pub returns : goal.returns
 returns c =
     let all = take_all c.loop-pattern.pattern-index c.deref-pattern-items.result.now c.loop-pattern-test.false in
-    c.loop-pattern.invariant ∙ ap (λ (vs : List (Vec ℕ Global)). least_len (map bytes_of vs)) (all ∙ c.deref-pattern-items.ensures.value) ∙ ap least_len c.self.view_is
+    c.loop-pattern.invariant ∙ ap (λ (vs : List (Vec ℕ Global)). shortest (map bytes_of vs)) (all ∙ c.deref-pattern-items.ensures.value) ∙ ap shortest c.self.view_is

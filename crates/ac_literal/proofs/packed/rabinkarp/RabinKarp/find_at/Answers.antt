@@ -1,8 +1,8 @@
 -- The bucket of the place's hash, an entry at a time.
 use Rattle.std.proofs.Common.{◌≡◌, sym, ◌∙◌, arith}
+use Rattle.ac_input.specs.Occurrence.{StartsAt}
 use Rattle.ac_input.specs.Best.{IsLeast}
-use Rattle.ac_literal.specs.Packed.{search_kind, searched}
-use Rattle.ac_literal.specs.RabinKarp.{StartsAt}
+use Rattle.ac_literal.specs.Packed.{search_kind, part_search}
 use Rattle.ac_literal.proofs.TableLemmas.{search-head, search-next, search-found, search-none, when_found, when_absent}
 use Rattle.ac_literal.proofs.packed.rabinkarp.RabinKarp.find_at.Goals as goal
 
@@ -13,7 +13,7 @@ loop-link-init c =
 pub returns-then-is_some : goal.returns-then-is_some
 returns-then-is_some c =
     let found = rw c.entry-entry.ensures at c.match_at-found.ensures in
-    let s = searched c.args.patterns.now c.args.haystack.now c.args.span.start c.args.span.end in
+    let s = part_search c.args.patterns.now c.args.haystack.now c.args.span.start c.args.span.end in
     when_found (IsLeast (search_kind c.args.self.now.kind) (StartsAt s c.args.at)) _ _ c.match_at-found.result (sym c.is_some.ensures ∙ c.if-is_some.true) found
     (search-found c.args.patterns.now c.args.haystack.now c.args.span.start c.args.span.end c.args.at c.args.hash c.args.self.now c.requires.table c.requires.hash c.loop-link.link c.requires.within c.loop-link.invariant c.loop-link-test.true)
 

@@ -1,17 +1,17 @@
 -- The first place at which something is found.
 use Rattle.std.proofs.Common.{◌≢◌, true, sym, ◌∙◌, arith}
 use Rattle.std.specs.Prelude.{is_some}
-use Rattle.ac_literal.specs.Packed.{searched}
+use Rattle.ac_literal.specs.Packed.{part_search}
 use Rattle.ac_literal.proofs.FindLemmas.{found-first, found-place, starts-later, hash-roll}
 use Rattle.ac_literal.proofs.packed.rabinkarp.RabinKarp.find_between.Goals as goal
 
 pub returns-then-is_some : goal.returns-then-is_some
 returns-then-is_some c =
-    found-first c.args.self.now.kind (searched c.args.patterns.now c.args.haystack.now c.args.span.start c.args.span.end) c.loop-at.at c.args.to c.find_at-found.result (sym c.is_some.ensures ∙ c.if-is_some.true) c.loop-at.invariant.none c.find_at-found.ensures
+    found-first c.args.self.now.kind (part_search c.args.patterns.now c.args.haystack.now c.args.span.start c.args.span.end) c.loop-at.at c.args.to c.find_at-found.result (sym c.is_some.ensures ∙ c.if-is_some.true) c.loop-at.invariant.none c.find_at-found.ensures
 
 pub loop-at-preserved : goal.loop-at-preserved
 loop-at-preserved c =
-    let s = searched c.args.patterns.now c.args.haystack.now c.args.span.start c.args.span.end in
+    let s = part_search c.args.patterns.now c.args.haystack.now c.args.span.start c.args.span.end in
     let absent : is_some c.find_at-found.result ≢ true = λ e. cc in
     record {
       first = omega (arith, c.loop-at.invariant.first);
@@ -22,5 +22,5 @@ loop-at-preserved c =
 
 pub returns : goal.returns
 returns c =
-    let s = searched c.args.patterns.now c.args.haystack.now c.args.span.start c.args.span.end in
+    let s = part_search c.args.patterns.now c.args.haystack.now c.args.span.start c.args.span.end in
     found-place c.args.self.now.kind s c.loop-at.at c.args.to c.find_at.result (omega arith) c.loop-at.invariant.none c.find_at.ensures

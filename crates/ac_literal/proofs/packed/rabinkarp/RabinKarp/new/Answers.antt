@@ -2,7 +2,7 @@
 use Rattle.std.proofs.Common.{◌≡◌, ◌+◌, ◌<◌, ◌≤◌, ℕ, List, get_or, length, take, ap, sym, refl, ◌∙◌, arith}
 use Rattle.std.proofs.lemmas.List.{get_or_read, length-take-le, length-set, length_push}
 use Rattle.ac_literal.specs.RabinKarp.{hash_of, IsOrder}
-use Rattle.ac_literal.proofs.PatternLemmas.{least_len-least, least_len-full}
+use Rattle.ac_literal.proofs.PatternLemmas.{shortest-least, shortest-full}
 use Rattle.ac_literal.proofs.TableLemmas.{AreEntries-none, AreEntries-push}
 use Rattle.ac_literal.proofs.packed.rabinkarp.RabinKarp.new.Goals as goal
 
@@ -16,7 +16,7 @@ slice_bounds-hash_of-end c =
     let ordered : IsOrder c.args.kind c.args.patterns.now (length c.args.patterns.now) order = rw c.deref-number-items.ensures.value c.in_ok-order.ensures in
     let number = get_or_read order c.loop-number.number-index c.number-item.result c.loop-number-test.true c.number-item.is 0 in
     let inside : c.number-item.result < length c.args.patterns.now = omega (arith, ordered.below c.loop-number.number-index (omega (arith, ordered.len))) in
-    let short : c.min-hash_len.result ≤ length c.get.result.now = rw c.get.ensures (omega (arith, c.min-hash_len.ensures, c.minimum_len.ensures, least_len-least c.args.patterns.now c.number-item.result inside)) in
+    let short : c.min-hash_len.result ≤ length c.get.result.now = rw c.get.ensures (omega (arith, c.min-hash_len.ensures, c.minimum_len.ensures, shortest-least c.args.patterns.now c.number-item.result inside)) in
     sym (length-take-le c.min-hash_len.result c.get.result.now short)
 
 pub loop-number-preserved : goal.loop-number-preserved
@@ -32,7 +32,7 @@ loop-number-preserved c =
     record { entries = pushed; count = length_push _ _ ∙ ap (λ (n : ℕ). n + 1) old.count; heads = length-set _ _ _ ∙ old.heads })
 
 pub power_of-requires : goal.power_of-requires
-power_of-requires c = omega (arith, c.min-hash_len.ensures, c.minimum_len.ensures, least_len-full c.args.patterns.now c.requires.full)
+power_of-requires c = omega (arith, c.min-hash_len.ensures, c.minimum_len.ensures, shortest-full c.args.patterns.now c.requires.full)
 
 pub returns : goal.returns
 returns c =
@@ -41,8 +41,8 @@ returns c =
     let ordered : IsOrder c.args.kind patterns (length patterns) order = rw c.deref-number-items.ensures.value c.in_ok-order.ensures in
     record {
       table = record {
-        some = omega (arith, c.min-hash_len.ensures, c.minimum_len.ensures, least_len-full patterns c.requires.full);
-        short = λ number h. omega (arith, c.min-hash_len.ensures, c.minimum_len.ensures, least_len-least patterns number h);
+        some = omega (arith, c.min-hash_len.ensures, c.minimum_len.ensures, shortest-full patterns c.requires.full);
+        short = λ number h. omega (arith, c.min-hash_len.ensures, c.minimum_len.ensures, shortest-least patterns number h);
         power = c.power_of.ensures;
         order = order;
         ordered = ordered;

@@ -1,8 +1,8 @@
 -- Blocks without marks are passed, and the marks of the next one are those of what starts in it.
 use Rattle.std.proofs.Common.{◌≡◌, ℕ, List, [], ◌∷◌, sym, subst}
 use Rattle.ac_input.specs.Best.{IsBest}
-use Rattle.ac_literal.specs.Packed.{search_kind, searched}
-use Rattle.ac_literal.specs.Scanner.{IsOnly}
+use Rattle.ac_literal.specs.Packed.{search_kind, part_search}
+use Rattle.ac_literal.specs.Scanner.{IsOnlyPattern}
 use Rattle.ac_literal.proofs.OnlyLemmas.{found-from}
 use Rattle.ac_literal.proofs.TeddyLemmas.{none-passed, has-marks}
 use Rattle.ac_literal.proofs.packed.scanner.Scanner.find_part.Goals as goal
@@ -28,6 +28,6 @@ returns-in-Some-clause-found c =
     let patterns = c.args.patterns.now in
     let kind = c.args.self.now.table.kind in
     let needle = c.in-Some.needle in
-    let only : patterns ≡ needle ∷ [] = subst (IsOnly patterns) c.in-Some.is c.requires.scanner.only in
-    let best = subst (λ (ps : List (List ℕ)). IsBest (search_kind kind) (searched ps c.args.haystack.now c.args.at c.args.span.end) c.find_needle-found.result) (sym only) (c.find_needle-found.ensures kind) in
+    let only : patterns ≡ needle ∷ [] = subst (IsOnlyPattern patterns) c.in-Some.is c.requires.scanner.only in
+    let best = subst (λ (ps : List (List ℕ)). IsBest (search_kind kind) (part_search ps c.args.haystack.now c.args.at c.args.span.end) c.find_needle-found.result) (sym only) (c.find_needle-found.ensures kind) in
     found-from patterns c.args.haystack.now c.args.span.start c.args.at c.args.span.end c.requires.none c.requires.start (search_kind kind) _ c.find_needle-found.result best

@@ -3,6 +3,7 @@ use Rattle.std.proofs.Common.{◌≡◌, ℕ, ◌-◌, ◌<◌, List, length, ta
 use Rattle.std.proofs.lemmas.List.Elements.{Contains-get_or}
 use Rattle.ac_noncontiguous.specs.Numbering.{AreFirstNumbers}
 use Rattle.ac_noncontiguous.proofs.PlacesLemmas.{order-short, order-start, order-rest, slice-rest, listed-rest, places-listed, last-listed, numbers-first}
+use Rattle.ac_noncontiguous.proofs.RunLemmas.{places-runs}
 use Rattle.ac_noncontiguous.proofs.compiler.numbering.Numbering.new.Goals as goal
 
 pub list-requires-clause-within : goal.list-requires-clause-within
@@ -56,4 +57,5 @@ returns c =
         numbers = numbers-first states places.at.items c.in_ok-of.of.items places.start c.args.trie.now.tree.start.0 p (c.in_ok-of.ensures.0 ∙ c.len.ensures) first;
       };
       matches = last-listed _ c.args.order.now places c.last_match.result listed c.last_match.ensures.yes c.last_match.ensures.no;
+      runs = places-runs c.args.trie.now.states.items _ c.args.order.now places c.args.trie.now.tree c.requires.order listed;
     }

@@ -1,8 +1,6 @@
 use Rattle.std.proofs.Common.{arith}
 use Rattle.std.proofs.lemmas.Bool.{leb-true, le-leb}
-use Rattle.ac_input.specs.Input.{is_anchored}
-use Rattle.ac_noncontiguous.specs.Reads.{dictionary}
-use Rattle.ac_noncontiguous.proofs.ReadLemmas.{reached-matches, reached-many}
+use Rattle.ac_noncontiguous.proofs.ReadLemmas.{state-matches, state-many}
 use Rattle.ac_noncontiguous.proofs.nfa.automaton.NFAAutomaton.is_match.Goals as goal
 
 pub returns-then-as_usize-gt-FAIL : goal.returns-then-as_usize-gt-FAIL
@@ -12,8 +10,8 @@ returns-then-as_usize-gt-FAIL c =
     let low = c.as_u32.ensures.value in
     let top = c.as_u32-then-as_usize-gt-FAIL.ensures.value in
     let past = c.if-as_usize-gt-FAIL.true in (
-      λ e. let le = leb-true c.as_u32.result c.as_u32-then-as_usize-gt-FAIL.result e in reached-many (dictionary a) a.tables (is_anchored c.requires.0) c.requires.1 c.args.sid c.requires.2.reached (omega (arith, at, past)) (omega (arith, le, low, top)),
-      λ some. let m = (reached-matches (dictionary a) a.tables (is_anchored c.requires.0) c.requires.1 c.args.sid c.requires.2.reached some).1 in le-leb c.as_u32.result c.as_u32-then-as_usize-gt-FAIL.result (omega (arith, m, low, top)),
+      λ e. let le = leb-true c.as_u32.result c.as_u32-then-as_usize-gt-FAIL.result e in state-many a c.args.sid c.requires (omega (arith, at, past)) (omega (arith, le, low, top)),
+      λ some. let m = (state-matches a c.args.sid c.requires some).1 in le-leb c.as_u32.result c.as_u32-then-as_usize-gt-FAIL.result (omega (arith, m, low, top)),
     )
 
 pub returns-else-as_usize-gt-FAIL : goal.returns-else-as_usize-gt-FAIL
@@ -22,5 +20,5 @@ returns-else-as_usize-gt-FAIL c =
     let at = c.as_usize.ensures.value in
     let past = c.if-as_usize-gt-FAIL.false in (
       λ e. let lt = leb-true 2 c.as_usize.result e in absurd (omega (arith, lt, past)),
-      λ some. let m = (reached-matches (dictionary a) a.tables (is_anchored c.requires.0) c.requires.1 c.args.sid c.requires.2.reached some).0 in absurd (omega (arith, m, at, past)),
+      λ some. let m = (state-matches a c.args.sid c.requires some).0 in absurd (omega (arith, m, at, past)),
     )

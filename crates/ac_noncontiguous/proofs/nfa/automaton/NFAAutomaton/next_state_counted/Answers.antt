@@ -1,11 +1,11 @@
 use Rattle.std.proofs.Common.{[], ◌∷◌, ◌++◌}
 use Rattle.ac_input.specs.Input.{is_anchored}
 use Rattle.ac_noncontiguous.specs.Reads.{dictionary}
-use Rattle.ac_noncontiguous.proofs.ReadLemmas.{reached-visited, reached-next, reached-cost, read-from}
+use Rattle.ac_noncontiguous.proofs.ReadLemmas.{state-visited, reached-next, reached-cost, read-from}
 use Rattle.ac_noncontiguous.proofs.nfa.automaton.NFAAutomaton.next_state_counted.Goals as goal
 
 pub next-requires : goal.next-requires
-next-requires c = let a = c.args.self.now in reached-visited (dictionary a) a.tables (is_anchored c.args.anchored) c.requires.0 c.args.sid c.requires.1.reached
+next-requires c = state-visited c.args.self.now c.args.anchored c.args.sid c.requires
 
 pub returns-clause-next : goal.returns-clause-next
 returns-clause-next c = λ text reads.

@@ -6,12 +6,14 @@ use Rattle.ac_noncontiguous.proofs.ReadLemmas.{start_of, reached-start, read-fro
 use Rattle.ac_noncontiguous.proofs.nfa.automaton.NFAAutomaton.start_state.Goals as goal
 use Rattle.ac_noncontiguous.proofs.nfa.automaton.NFAAutomaton.start_state.Goals.{in-No, in-Yes}
 
-pub returns-clause-start : goal.returns-clause-start
-returns-clause-start c =
-    let a = c.args.self.now in
-    read-from a c.args.anchored [] c.match-anchored.result
-    (reached-start (dictionary a) a.tables (is_anchored c.args.anchored) c.match-anchored.result a.stands
-    (elim c.match-anchored.branch [
-      | in-No w ↦ w.result-is ∙ sym (ap (λ (x : Anchored). start_of a.tables.start (is_anchored x)) w.in-No.is)
-      | in-Yes w ↦ w.result-is ∙ (w.must.ensures ∙ (w.one_more.ensures.value ∙ sym (ap (λ (x : Anchored). start_of a.tables.start (is_anchored x)) w.in-Yes.is)))
-    ]))
+pub returns : goal.returns
+returns c =
+    let a = c.args.self.now in (
+      tt,
+      read-from a c.args.anchored [] c.match-anchored.result
+          (reached-start (dictionary a) a.tables (is_anchored c.args.anchored) c.match-anchored.result a.stands
+          (elim c.match-anchored.branch [
+            | in-No w ↦ w.result-is ∙ sym (ap (λ (x : Anchored). start_of a.tables.start (is_anchored x)) w.in-No.is)
+            | in-Yes w ↦ w.result-is ∙ (w.must.ensures ∙ (w.one_more.ensures.value ∙ sym (ap (λ (x : Anchored). start_of a.tables.start (is_anchored x)) w.in-Yes.is)))
+          ])),
+    )

@@ -2,7 +2,7 @@
 use Rattle.std.proofs.Common.{◌≡◌, ◌≢◌, ℕ, false, ⊎_elim, sym, subst, arith}
 use Rattle.std.proofs.lemmas.Bool.{cases_eq}
 use Rattle.ac_noncontiguous.specs.declared.nfa.starters.Starters.{Starters}
-use Rattle.ac_noncontiguous.specs.Lookups.{Leads}
+use Rattle.ac_noncontiguous.specs.Lookups.{StepsTo}
 use Rattle.ac_noncontiguous.specs.Starters.{is_starter, IsIdle}
 use Rattle.ac_noncontiguous.proofs.nfa.starters.Starters.of.Goals as goal
 use Rattle.ac_noncontiguous.proofs.nfa.starters.Starters.of.Goals.{then-as_u32-start, else-as_u32-start}
@@ -24,7 +24,7 @@ loop-byte-preserved c = λ byte lt none.
           let first = c.as_u32-start.ensures.value in
           let idle : IsIdle tables byte = record {
             plain = omega (arith, plain, top, first);
-            leads = subst (λ (b : ℕ). Leads tables tables.start b tables.start) (sym here) (subst (Leads tables tables.start c.loop-byte.byte) to c.step.ensures);
+            leads = subst (λ (b : ℕ). StepsTo tables tables.start b tables.start) (sym here) (subst (StepsTo tables tables.start c.loop-byte.byte) to c.step.ensures);
           } in
           idle)
           (λ (other : byte ≢ c.loop-byte.byte). c.loop-byte.invariant byte (omega arith) (subst (λ (s : Starters). is_starter s byte ≡ false) w.starters-is none))

@@ -1,6 +1,6 @@
 use Rattle.std.proofs.Common.{◌∙◌, sym, subst, ap, arith}
 use Rattle.ac_noncontiguous.specs.Nfa.{depth_of}
-use Rattle.ac_noncontiguous.specs.Lookups.{IsKept, Leads}
+use Rattle.ac_noncontiguous.specs.Lookups.{IsKept, StepsTo}
 use Rattle.ac_noncontiguous.proofs.NextLemmas.{kept-fail, kept-shallower, followed-none, followed-more, followed-end}
 use Rattle.ac_noncontiguous.proofs.nfa.tables.Tables.follow.Goals as goal
 
@@ -24,4 +24,4 @@ loop-from-smaller c =
 pub loop-from-preserved : goal.loop-from-preserved
 loop-from-preserved c =
     followed-more c.args.self.now c.args.sid c.args.byte c.loop-from.from c.fail-from.result c.args.steps.now c.loop-from.steps c.look.new.self c.loop-from.invariant c.fail-from.ensures c.look.ensures
-    (subst (Leads c.args.self.now c.fail-from.result c.args.byte) (sym c.as_usize.ensures.value ∙ c.if-as_usize-ne-FAIL.false) c.step-next.ensures)
+    (subst (StepsTo c.args.self.now c.fail-from.result c.args.byte) (sym c.as_usize.ensures.value ∙ c.if-as_usize-ne-FAIL.false) c.step-next.ensures)

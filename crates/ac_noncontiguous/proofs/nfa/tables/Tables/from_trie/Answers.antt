@@ -18,7 +18,7 @@ returns-clause-stands c m t l =
     let offsets = c.in_ok-layout.layout.offsets.items in
     let row_offsets = c.in_ok-rows.rows.offsets.items in
     let states = c.in_ok-states.states.items in
-    let s = setting m trie links numbering back t l made c.start_back-back.ensures in
+    let s = setting m trie links numbering back t l made c.in_ok-numbering.ensures.runs c.start_back-back.ensures in
     let kept : AreKept trie numbering links offsets row_offsets states =
     subst (λ (xs : List ℕ). AreKept trie numbering links offsets xs states) c.deref-2.ensures.value (subst (λ (xs : List ℕ). AreKept trie numbering links xs c.deref-2.result.now states) c.deref.ensures.value c.in_ok-states.ensures) in (
       text_of trie numbering,

@@ -1,0 +1,366 @@
+-- What a search of a stream keeps stays right from call to call.
+use Rattle.std.proofs.Common.{◌≡◌, ℕ, ◌+◌, ◌-◌, ◌*◌, ◌≤◌, nat_lt, Bool, true, false, IsTrue, List, [], ◌∷◌, ◌++◌, length, take, drop, Option, None, Some, slice_range, sym, ap, subst, refl, ◌∙◌, arith, append-nil, append_assoc, length-append, length-drop}
+use Rattle.std.specs.List.{concat}
+use Rattle.std.proofs.Math.Seq.{drop-append_seam, take-append_seam}
+use Rattle.std.proofs.lemmas.Bool.{false≢true, ltb-false, ltb-true}
+use Rattle.std.proofs.lemmas.List.{drop-append-le}
+use Rattle.std.proofs.lemmas.List.Elements.{All-push}
+use Rattle.std.proofs.lemmas.List.Folds.{concat-append}
+use Rattle.ac_input.specs.Number.{StateID}
+use Rattle.ac_input.specs.declared.steps.Steps.{Steps}
+use Rattle.ac_input.specs.declared.search.MatchKind.TheVariants.{Standard}
+use Rattle.ac_input.specs.Dictionary.{IsLive, live_len, whole}
+use Rattle.ac_input.specs.Best.{IsBest}
+use Rattle.ac_input.specs.Walk.{IsWalk}
+use Rattle.ac_input.proofs.BeginningLemmas.{slice_range-append}
+use Rattle.ac_input.specs.Occurrence.{Occurrence}
+use Rattle.ac_input.specs.Work.{longest, shortest}
+use Rattle.ac_input.specs.Steps.{Added, AreNone, Done, looked_of, scanned_of}
+use Rattle.ac_automaton.specs.Automaton.{Built}
+use Rattle.ac_automaton.specs.Buffer.{Filled, Held, IsRollPaid, room_for, kept_for, nothing_held}
+use Rattle.ac_automaton.specs.Replace.{matches_in}
+use Rattle.ac_automaton.specs.StreamSearch.{HoldsRead, IsStreamSearch, StandsInState, since_last, SearchesOn, after_search, progress_at, some_of}
+use Rattle.ac_automaton.specs.Stream.{CanBeCounted, HasRead, IsOnCourse, StreamProgress, fresh_progress, room_of, IsDecided, ScanCounts, read_by}
+use Rattle.ac_automaton.specs.Moved.{HasGiven}
+use Rattle.ac_automaton.specs.declared.watched.Watched.{Watched}
+use Rattle.ac_automaton.specs.declared.stream.search.Progress.{Progress}
+use Rattle.ac_automaton.specs.declared.stream.search.Searched.{Searched}
+use Rattle.ac_automaton.proofs.IterLemmas.{occurs-not_empty}
+use Rattle.ac_automaton.proofs.SearchLemmas.{live-empty, stands-from}
+use Rattle.ac_automaton.proofs.StreamLemmas.{walk-any}
+
+-- ---- counting
+
+-- nothing was done
+pub counts-none : (s : StreamProgress) (x : Steps) → ScanCounts s s x x
+counts-none s x = (0, 0, 0, record { looked = omega arith; scanned = omega arith; moved = omega arith }, omega arith, omega arith, omega arith)
+
+-- what was done is what was counted elsewhere
+pub added-done : (looks : ℕ) (fresh taken before after : Steps) → AreNone fresh → Done looks 0 0 fresh taken → Added taken before after → Done looks 0 0 before after
+added-done looks fresh taken before after none done added =
+    let a = none.looked in
+    let b = none.scanned in
+    let d = none.moved in
+    let e = done.looked in
+    let f = done.scanned in
+    let h = done.moved in
+    let i = added.looked in
+    let j = added.scanned in
+    let k = added.moved in
+    record { looked = omega arith; scanned = omega arith; moved = omega arith }
+
+-- ---- what was given
+
+-- the matches that were given are as many of all as they are
+pub given-front : (s : StreamProgress) → IsDecided s → take (length s.given) (matches_in s.built (read_by s)) ≡ s.given
+given-front s decided =
+    let rest = decided [] in
+    let all : matches_in s.built (read_by s) ≡ s.given ++ rest.0 = ap (matches_in s.built) (sym (append-nil (read_by s))) ∙ rest.1 in
+    ap (take (length s.given)) all ∙ take-append_seam s.given rest.0
+
+-- ---- the next match
+
+-- how far a search has come after the next match, from what it keeps then
+pub next-view : (b : Built) (pieces : List (List ℕ)) (count : ℕ) (p : Progress) (buffer : Held) (sums : Steps) (r : Searched) (looks : ℕ) (more : Steps) (number : ℕ)
+    → length (take count (matches_in b (concat pieces))) ≡ count
+    → IsDecided (after_search (progress_at b pieces count p buffer sums) r looks)
+    → r.progress.from ≡ p.from
+    → number ≡ count + length (some_of r.found)
+    → Done looks 0 0 sums more
+    → progress_at b pieces number r.progress buffer more ≡ after_search (progress_at b pieces count p buffer sums) r looks
+next-view b pieces count p buffer sums r looks more number is decided from numbered done =
+    let given : List Occurrence = take count (matches_in b (concat pieces)) in
+    let long : number ≡ length (given ++ some_of r.found) = let both = length-append given (some_of r.found) in omega arith in
+    let front : take number (matches_in b (concat pieces)) ≡ given ++ some_of r.found = ap (λ (n : ℕ). take n (matches_in b (concat pieces))) long ∙ given-front (after_search (progress_at b pieces count p buffer sums) r looks) decided in
+    let scanned : scanned_of more ≡ scanned_of sums = let e = done.scanned in omega arith in
+    λ i. record {
+      built = b;
+      pieces = pieces;
+      given = front i;
+      from = from i;
+      at = r.progress.at;
+      last = r.progress.last;
+      looked = done.looked i;
+      scanned = scanned i;
+      moved = buffer.moved;
+    }
+
+-- what it keeps then is right
+pub next-stream : (Reaches : List ℕ → StateID → Type 0) (s : StreamProgress) (start sid : StateID) (count : ℕ) (buffer : Held) (over : Bool) (r : Searched) (x y : Steps) (number : ℕ)
+    → IsStreamSearch Reaches s start sid count buffer over → (on : SearchesOn Reaches s start r x y) → number ≡ count + length (some_of r.found) → IsStreamSearch Reaches (after_search s r on.looks) start r.progress.sid number buffer over
+next-stream Reaches s start sid count buffer over r x y number is on numbered = record {
+  stands = on.stands;
+  number = let both = length-append s.given (some_of r.found) in let n = is.number in omega arith;
+  holds = record { bytes = is.holds.bytes; keep = is.holds.keep; read = is.holds.read; moved = is.holds.moved; paid = is.holds.paid };
+  countable = is.countable;
+  uncountable = is.uncountable;
+}
+
+-- and counts what was done
+pub next-counts : (s : StreamProgress) (r : Searched) (looks : ℕ) (fresh taken before after : Steps) → AreNone fresh → Done looks 0 0 fresh taken → Added taken before after → ScanCounts s (after_search s r looks) before after
+next-counts s r looks fresh taken before after none done added = (looks, 0, 0, added-done looks fresh taken before after none done added, refl, omega arith, omega arith)
+
+-- ---- at first
+
+-- a search that has read nothing stands in the start state
+fresh-stands : (b : Built) (Reaches : List ℕ → StateID → Type 0) (start : StateID) → b.dictionary.kind ≡ Standard → 1 ≤ shortest b.dictionary.patterns → Reaches [] start → ((live : Option ℕ) × IsLive b.dictionary false [] live) → StandsInState Reaches (fresh_progress b) start start
+fresh-stands b Reaches start standard filled begins live =
+    stands-from Reaches (fresh_progress b) start start standard filled (omega arith) (omega arith) (omega arith) (omega arith) (omega arith) (omega arith) (λ k d lt. absurd (omega arith)) refl (omega arith) begins begins
+    (λ o h. let w = h.within in let lt = occurs-not_empty (whole b.dictionary [] false) o (omega arith) filled h in absurd (omega arith))
+    (λ more rest walk. walk-any Standard (whole b.dictionary more false) 0 (Some 0) None rest (omega arith) filled walk)
+    (λ one is. let none = live-empty [] 0 one in (omega arith, omega arith, λ d. refl))
+    live.0 live.1
+
+-- how far it has come, from what it keeps
+pub fresh-view : (b : Built) (pieces : List (List ℕ)) (count : ℕ) (start : StateID) (n : ℕ) (buffer : Held) (sums : Steps) → pieces ≡ [] → count ≡ 0 → buffer ≡ nothing_held (kept_for n) → AreNone sums
+    → progress_at b pieces count (record { sid = start; from = 0; at = 0; last = 0 }) buffer sums ≡ fresh_progress b
+fresh-view b pieces count start n buffer sums none zero_given empty no_sums = λ i. record {
+  built = b;
+  pieces = none i;
+  given = take (zero_given i) (matches_in b (concat (none i)));
+  from = 0;
+  at = 0;
+  last = 0;
+  looked = no_sums.looked i;
+  scanned = no_sums.scanned i;
+  moved = (empty i).moved;
+}
+
+-- and what it keeps is right
+pub fresh-right : (b : Built) (Reaches : List ℕ → StateID → Type 0) (start : StateID) (n count : ℕ) (buffer : Held) → (b.dictionary.kind ≡ Standard) → 1 ≤ shortest b.dictionary.patterns → Reaches [] start → ((live : Option ℕ) × IsLive b.dictionary false [] live)
+    → n ≡ longest b.dictionary.patterns → count ≡ 0 → buffer ≡ nothing_held (kept_for n) → IsRollPaid buffer → IsStreamSearch Reaches (fresh_progress b) start start count buffer false
+fresh-right b Reaches start n count buffer standard filled begins live long none empty paid = record {
+  stands = fresh-stands b Reaches start standard filled begins live;
+  number = sym none;
+  holds = record {
+    bytes = ap (λ (h : Held). h.bytes) empty;
+    keep = ap (λ (h : Held). h.keep) empty ∙ ap kept_for long;
+    read = ap (λ (h : Held). h.read) empty;
+    moved = ap (λ (h : Held). h.moved) empty;
+    paid = paid;
+  };
+  countable = λ e. omega arith;
+  uncountable = λ e. absurd (false≢true e);
+}
+
+-- ---- a read
+
+-- what is held is so much more, behind what it was
+pub record IsGrown (old new : Held) (piece : List ℕ) : Type 0 where
+  pub bytes : new.bytes ≡ old.bytes ++ piece
+  pub read : new.read ≡ old.read + length piece
+  pub keep : new.keep ≡ old.keep
+  pub moved : new.moved ≡ old.moved
+  pub paid : IsRollPaid new
+
+-- how far a search has come after a read
+abbrev pub after_read : StreamProgress → List ℕ → StreamProgress
+after_read s piece = record s { pieces = s.pieces ++ piece ∷ [] }
+
+-- it read so many bytes more
+pub read-more : (s : StreamProgress) (piece : List ℕ) → read_by (after_read s piece) ≡ read_by s ++ piece
+read-more s piece = concat-append s.pieces (piece ∷ []) ∙ ap (λ (l : List ℕ). read_by s ++ l) (append-nil piece)
+
+-- and whatever is still read, there was that piece before
+read-on : (s : StreamProgress) (piece more : List ℕ) → read_by (after_read s piece) ++ more ≡ read_by s ++ (piece ++ more)
+read-on s piece more = ap (λ (l : List ℕ). l ++ more) (read-more s piece) ∙ append_assoc (read_by s) piece more
+
+-- it stands where it stood
+read-stands : (Reaches : List ℕ → StateID → Type 0) (s : StreamProgress) (start sid : StateID) (piece : List ℕ) → StandsInState Reaches s start sid → ((live : Option ℕ) × IsLive s.built.dictionary false (since_last s) live) → length (read_by s ++ piece) ≤ s.from + room_of s.built → length piece ≤ room_of s.built → StandsInState Reaches (after_read s piece) start sid
+read-stands Reaches s start sid piece is live fits short =
+    let m = s.built.dictionary in
+    let t = after_read s piece in
+    let more = read-more s piece in
+    let longer = ap length more in
+    let both = length-append (read_by s) piece in
+    let course = is.course in
+    let ordered = course.ordered in
+    let moved = course.paid.moved in
+    let kept = course.kept in
+    let same : since_last t ≡ since_last s = ap (λ (l : List ℕ). slice_range l s.last s.at) more ∙ slice_range-append (read_by s) piece s.last s.at ordered.0 ordered.1 in
+    stands-from Reaches t start sid course.standard course.filled ordered.0 (omega (arith, ordered.1)) course.ended kept.0 kept.1 (omega arith) (All-push (λ l. length l ≤ room_of s.built) s.pieces piece course.short short) course.paid.scanned (omega arith) is.begins
+    (subst (λ (l : List ℕ). Reaches l sid) (sym same) is.reads)
+    (subst (λ (l : List ℕ). IsBest Standard (whole m l false) None) (sym same) is.quiet)
+    (λ after rest walk.
+    let e = read-on s piece after in
+    subst (λ (l : List ℕ). IsWalk Standard (whole m l false) 0 None (s.given ++ rest)) (sym e)
+    (is.goes (piece ++ after) rest (subst (λ (l : List ℕ). IsWalk Standard (whole m l false) s.last (Some s.last) rest) e walk)))
+    (λ one alive.
+    subst (λ (l : List ℕ). (s.looked + live_len l one ≤ 2 * s.at) × (s.at ≤ s.looked) × (IsTrue s.built.deterministic → s.looked ≡ s.at)) (sym same)
+    (is.lookups one (subst (λ (l : List ℕ). IsLive m false l one) same alive)))
+    live.0 (subst (λ (l : List ℕ). IsLive m false l live.0) (sym same) live.1)
+
+-- how many bytes are held then
+grown-long : (s : StreamProgress) (old new : Held) (piece : List ℕ) → IsOnCourse s → HoldsRead s old → IsGrown old new piece → length new.bytes + s.from ≡ length (read_by s ++ piece)
+grown-long s old new piece course holds grown =
+    let bytes = ap length grown.bytes in
+    let joined = length-append old.bytes piece in
+    let held = ap length holds.bytes in
+    let dropped = length-drop s.from (read_by s) in
+    let both = length-append (read_by s) piece in
+    let behind = course.kept.1 in
+    let inside = course.ordered.1 in
+    omega arith
+
+-- they fit
+grown-fits : (s : StreamProgress) (old new : Held) (piece : List ℕ) → IsOnCourse s → HoldsRead s old → IsGrown old new piece → length (read_by s ++ piece) ≤ s.from + room_of s.built
+grown-fits s old new piece course holds grown =
+    let long = grown-long s old new piece course holds grown in
+    let within = grown.paid.within in
+    let room : new.room ≡ room_of s.built = grown.paid.room ∙ ap room_for (grown.keep ∙ holds.keep) in
+    omega arith
+
+-- no piece is longer than the buffer
+pub piece-short : (s : StreamProgress) (old new : Held) (piece : List ℕ) → IsOnCourse s → HoldsRead s old → IsGrown old new piece → length piece ≤ room_of s.built
+piece-short s old new piece course holds grown =
+    let within = grown.paid.within in
+    let room : new.room ≡ room_of s.built = grown.paid.room ∙ ap room_for (grown.keep ∙ holds.keep) in
+    let bytes = ap length grown.bytes in
+    let joined = length-append old.bytes piece in
+    omega arith
+
+-- What a search keeps after a read is right; over says whether there are more bytes than places.
+pub read-right : (Reaches : List ℕ → StateID → Type 0) (s : StreamProgress) (start sid : StateID) (count : ℕ) (old new : Held) (was over : Bool) (piece : List ℕ)
+    → IsStreamSearch Reaches s start sid count old was → IsGrown old new piece
+    → ((live : Option ℕ) × IsLive s.built.dictionary false (since_last s) live)
+    → (over ≡ false → CanBeCounted (read_by s ++ piece)) → (over ≡ true → ¬ CanBeCounted (read_by s ++ piece))
+    → IsStreamSearch Reaches (after_read s piece) start sid count new over
+read-right Reaches s start sid count old new was over piece is grown live few many =
+    let more = read-more s piece in
+    let course = is.stands.course in
+    let behind = course.kept.1 in
+    let inside = course.ordered.1 in
+    let le : s.from ≤ length (read_by s) = omega arith in
+    record {
+      stands = read-stands Reaches s start sid piece is.stands live (grown-fits s old new piece course is.holds grown) (piece-short s old new piece course is.holds grown);
+      number = is.number;
+      holds = record {
+        bytes = grown.bytes ∙ ap (λ (l : List ℕ). l ++ piece) is.holds.bytes ∙ sym (drop-append-le s.from (read_by s) piece le) ∙ ap (drop s.from) (sym more);
+        keep = grown.keep ∙ is.holds.keep;
+        read = grown.read ∙ ap (λ (n : ℕ). n + length piece) is.holds.read ∙ sym (length-append (read_by s) piece) ∙ ap length (sym more);
+        moved = grown.moved ∙ is.holds.moved;
+        paid = grown.paid;
+      };
+      countable = λ e. subst CanBeCounted (sym more) (few e);
+      uncountable = λ e. subst (λ (l : List ℕ). ¬ CanBeCounted l) (sym more) (many e);
+    }
+
+-- how far it has come, from what it keeps then
+pub read-view : (b : Built) (pieces after : List (List ℕ)) (count : ℕ) (p : Progress) (old new : Held) (sums : Steps) (piece : List ℕ)
+    → length (take count (matches_in b (concat pieces))) ≡ count
+    → IsDecided (progress_at b pieces count p old sums)
+    → IsGrown old new piece
+    → after ≡ pieces ++ piece ∷ []
+    → progress_at b after count p new sums ≡ after_read (progress_at b pieces count p old sums) piece
+read-view b pieces after count p old new sums piece number decided grown is =
+    let s : StreamProgress = progress_at b pieces count p old sums in
+    let rest = decided piece in
+    let all : matches_in b (concat after) ≡ s.given ++ rest.0 = ap (λ (l : List (List ℕ)). matches_in b (concat l)) is ∙ ap (matches_in b) (read-more s piece) ∙ rest.1 in
+    let front : take count (matches_in b (concat after)) ≡ s.given = ap (take count) all ∙ ap (λ (n : ℕ). take n (s.given ++ rest.0)) (sym number) ∙ take-append_seam s.given rest.0 in
+    λ i. record {
+      built = b;
+      pieces = is i;
+      given = front i;
+      from = p.from;
+      at = p.at;
+      last = p.last;
+      looked = looked_of sums;
+      scanned = scanned_of sums;
+      moved = grown.moved i;
+    }
+
+-- the test of the places
+pub over-test : (from held all : ℕ) → from ≤ 18446744073709551615 → held + from ≡ all → (nat_lt (18446744073709551615 - from) held ≡ false → all ≤ 18446744073709551615) × (nat_lt (18446744073709551615 - from) held ≡ true → ¬ (all ≤ 18446744073709551615))
+over-test from held all fits is =
+    (λ e. let le = ltb-false (18446744073709551615 - from) held e in omega arith, λ e few. let lt = ltb-true (18446744073709551615 - from) held e in omega arith)
+
+-- the end of what is held is the piece
+piece-behind : (held front piece : List ℕ) (n : ℕ) → held ≡ front ++ piece → length piece ≡ n → drop (length held - n) held ≡ piece
+piece-behind held front piece n is long =
+    let both = length-append front piece in
+    let all = ap length is in
+    let k : length held - n ≡ length front = omega arith in
+    ap (λ (i : ℕ). drop i held) k ∙ ap (drop (length front)) is ∙ drop-append_seam front piece
+
+-- After a read that failed: what is kept is right, the read gave an empty piece, and the search is on its course.
+pub read-failed : {R : Type 0} (remaining : R → Option (List ℕ)) (before after : Watched R) (b : Built) (Reaches : List ℕ → StateID → Type 0) (start : StateID) (pieces all : List (List ℕ)) (count : ℕ) (p : Progress) (old new : Held) (sums : Steps) (over : Bool)
+    → IsStreamSearch Reaches (progress_at b pieces count p old sums) start p.sid count old over
+    → ((live : Option ℕ) × IsLive b.dictionary false (since_last (progress_at b pieces count p old sums)) live)
+    → new ≡ old → IsRollPaid new → all ≡ pieces ++ [] ∷ []
+    → HasGiven remaining before after ([] ∷ []) 1
+    → IsStreamSearch Reaches (progress_at b all count p new sums) start p.sid count new over
+    × HasRead remaining (progress_at b pieces count p old sums) (progress_at b all count p new sums) before after [] 1
+read-failed {R} remaining before after b Reaches start pieces all count p old new sums over is live same paid more failed =
+    let s : StreamProgress = progress_at b pieces count p old sums in
+    let grown : IsGrown old new [] = record {
+      bytes = ap (λ (h : Held). h.bytes) same ∙ sym (append-nil old.bytes);
+      read = let e = ap (λ (h : Held). h.read) same in omega arith;
+      keep = ap (λ (h : Held). h.keep) same;
+      moved = ap (λ (h : Held). h.moved) same;
+      paid = paid;
+    } in
+    let view = read-view b pieces all count p old new sums [] is.number is.stands.course.decided grown more in
+    let none = append-nil (read_by s) in (
+      subst (λ (t : StreamProgress). IsStreamSearch Reaches t start p.sid count new over) (sym view)
+          (read-right Reaches s start p.sid count old new over over [] is grown live
+          (λ e. subst CanBeCounted (sym none) (is.countable e)) (λ e. subst (λ (l : List ℕ). ¬ CanBeCounted l) (sym none) (is.uncountable e))),
+      subst (λ (t : StreamProgress). HasRead remaining s t before after [] 1) (sym view)
+          (record {
+            built = refl;
+            pieces = refl;
+            given = refl;
+            at = refl;
+            last = refl;
+            from = is.stands.course.kept.0;
+            short = omega arith;
+            read = failed;
+          }),
+    )
+
+-- After a read that gave some: what is kept is right, and it gave so many bytes.
+pub read-gave : {R : Type 0} (remaining : R → Option (List ℕ)) (before after : Watched R) (b : Built) (Reaches : List ℕ → StateID → Type 0) (start : StateID) (pieces all : List (List ℕ)) (count : ℕ) (p : Progress) (old new : Held) (sums : Steps) (was : Bool) (n : ℕ) (held : List ℕ)
+    → IsStreamSearch Reaches (progress_at b pieces count p old sums) start p.sid count old was
+    → ((live : Option ℕ) × IsLive b.dictionary false (since_last (progress_at b pieces count p old sums)) live)
+    → Filled remaining old new before after n → IsRollPaid new
+    → held ≡ new.bytes → all ≡ pieces ++ drop (length held - n) held ∷ []
+    → p.from ≤ 18446744073709551615
+    → IsStreamSearch Reaches (progress_at b all count p new sums) start p.sid count new (nat_lt (18446744073709551615 - p.from) (length held))
+    × ((piece : List ℕ) × HasRead remaining (progress_at b pieces count p old sums) (progress_at b all count p new sums) before after piece 0 × (length piece ≡ n))
+    × (nat_lt (18446744073709551615 - p.from) (length held) ≡ false → CanBeCounted (read_by (progress_at b all count p new sums)))
+    × (nat_lt (18446744073709551615 - p.from) (length held) ≡ true → ¬ CanBeCounted (read_by (progress_at b all count p new sums)))
+read-gave {R} remaining before after b Reaches start pieces all count p old new sums was n held is live filled paid holds more fits =
+    let s : StreamProgress = progress_at b pieces count p old sums in
+    let piece : List ℕ = filled.piece in
+    let grown : IsGrown old new piece = record {
+      bytes = ap (λ (h : Held). h.bytes) filled.held;
+      read = ap (λ (h : Held). h.read) filled.held ∙ ap (λ (k : ℕ). old.read + k) (sym filled.count);
+      keep = ap (λ (h : Held). h.keep) filled.held;
+      moved = ap (λ (h : Held). h.moved) filled.held;
+      paid = paid;
+    } in
+    let course = is.stands.course in
+    let last = piece-behind held old.bytes piece n (holds ∙ grown.bytes) filled.count in
+    let joined : all ≡ pieces ++ piece ∷ [] = more ∙ ap (λ (l : List ℕ). pieces ++ l ∷ []) last in
+    let view = read-view b pieces all count p old new sums piece is.number course.decided grown joined in
+    let long : length held + p.from ≡ length (read_by s ++ piece) = ap (λ (l : List ℕ). length l + p.from) holds ∙ grown-long s old new piece course is.holds grown in
+    let test = over-test p.from (length held) (length (read_by s ++ piece)) fits long in
+    let right = read-right Reaches s start p.sid count old new was (nat_lt (18446744073709551615 - p.from) (length held)) piece is grown live test.0 test.1 in (
+      subst (λ (t : StreamProgress). IsStreamSearch Reaches t start p.sid count new (nat_lt (18446744073709551615 - p.from) (length held))) (sym view) right,
+      (
+        piece,
+        subst (λ (t : StreamProgress). HasRead remaining s t before after piece 0) (sym view)
+            (record {
+              built = refl;
+              pieces = refl;
+              given = refl;
+              at = refl;
+              last = refl;
+              from = course.kept.0;
+              short = piece-short s old new piece course is.holds grown;
+              read = filled.read;
+            }),
+        filled.count,
+      ),
+      λ e. subst (λ (t : StreamProgress). CanBeCounted (read_by t)) (sym view) (right.countable e),
+      λ e. subst (λ (t : StreamProgress). ¬ CanBeCounted (read_by t)) (sym view) (right.uncountable e),
+    )

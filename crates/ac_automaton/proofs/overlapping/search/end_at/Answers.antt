@@ -1,0 +1,28 @@
+-- Where the walk is back at the start, what is left begins here or later.
+use Rattle.std.proofs.Common.{◌≡◌, [], length, Some, refl, ap, subst}
+use Rattle.ac_input.specs.declared.search.Anchored.{Anchored}
+use Rattle.ac_input.specs.declared.search.Anchored.TheVariants.{No}
+use Rattle.ac_input.specs.Dictionary.{IsLive}
+use Rattle.ac_input.specs.Input.{is_anchored}
+use Rattle.ac_automaton.specs.Automaton.{searched}
+use Rattle.ac_automaton.specs.Cursor.{read_to, walked}
+use Rattle.ac_automaton.proofs.OverlappingLemmas.{IsPlace, place_of-cursor}
+use Rattle.ac_automaton.proofs.CandidateLemmas.{ending_from-back, told_from-nil}
+use Rattle.ac_automaton.proofs.overlapping.search.end_at.Goals as goal
+
+pub returns-then-is_back : goal.returns-then-is_back
+returns-then-is_back g c =
+    let a = c.args.automaton.now in
+    let b = g.A.Automaton.built a in
+    let asked = c.args.input.now in
+    let cursor = c.args.cursor.now in
+    let t = walked (searched b asked) cursor in
+    let text = read_to t cursor.at in
+    let reads = c.requires.cursor.reads in
+    let ns = g.A.Automaton.matches a cursor.sid in
+    let free : asked.anchored ≡ No = c.is_back.ensures.free c.if-is_back.true in
+    let empty : ns ≡ [] = told_from-nil b.dictionary t cursor.at ns (ap is_anchored free) c.in_default.ensures in
+    let live : IsLive b.dictionary (is_anchored asked.anchored) text (Some (length text)) = c.is_back.ensures.empty asked.anchored text reads c.if-is_back.true empty in
+    let pairs = g.met.A.Automaton.pairs a asked.anchored text cursor.sid reads in
+    let place = subst (λ (x : Anchored). IsPlace b.dictionary x t cursor.at) free (place_of-cursor (g.A.Automaton.Reaches a asked.anchored) b.dictionary asked cursor c.requires.standard c.requires.cursor) in
+    (refl, ending_from-back b.dictionary t cursor.at place pairs (subst (λ (x : Anchored). IsLive b.dictionary (is_anchored x) text (Some (length text))) free live))

@@ -1,0 +1,63 @@
+-- What is shown after several candidates is the first of what was left.
+use Rattle.std.proofs.Common.{ℕ, sym, arith}
+use Rattle.ac_input.specs.Computed.{listing_of}
+use Rattle.ac_input.specs.Input.{search_in}
+use Rattle.ac_input.specs.Occurrence.{starting_at}
+use Rattle.ac_automaton.specs.declared.cursor.End.TheVariants.{Found}
+use Rattle.ac_automaton.proofs.CandidateLemmas.{searched_on-first, searched_on-further, searched_on-shows, reads_on-earlier}
+use Rattle.ac_automaton.proofs.overlapping.search.search_by_candidates.Goals as goal
+
+pub loop-shown-init : goal.loop-shown-init
+loop-shown-init g c =
+    searched_on-first _ (search_in (g.A.Automaton.built c.args.automaton.now).dictionary c.args.input.now) c.args.at c.args.steps.now c.requires.to
+
+pub search_from_candidate-requires : goal.search_from_candidate-requires
+search_from_candidate-requires g c = record {
+  standard = c.requires.standard;
+  made = c.requires.made;
+  free = c.requires.free;
+  starts = c.requires.starts;
+  empty = c.requires.empty;
+  from = omega (arith, c.requires.from, c.loop-shown.invariant.behind);
+  to = c.loop-shown.invariant.within;
+}
+
+pub returns-in-Found-clause-reads : goal.returns-in-Found-clause-reads
+returns-in-Found-clause-reads g c =
+    let m = (g.A.Automaton.built c.args.automaton.now).dictionary in
+    let asked = c.args.input.now in
+    let s = search_in m asked in
+    let R = g.A.Automaton.Reaches c.args.automaton.now asked.anchored in
+    let E = g.A.Automaton.matches c.args.automaton.now in
+    let d = (g.A.Automaton.built c.args.automaton.now).deterministic in
+    let searched_on = c.loop-shown.invariant in
+    let place : ℕ = c.loop-shown.place in
+    reads_on-earlier R E m s c.args.at place (listing_of (starting_at s c.args.at)) (listing_of (starting_at s place)) (Found c.in-Found.shown) searched_on.behind (sym searched_on.same) c.in-Found.ensures.reads
+
+pub returns-in-Found-clause-cost : goal.returns-in-Found-clause-cost
+returns-in-Found-clause-cost g c =
+    let m = (g.A.Automaton.built c.args.automaton.now).dictionary in
+    let asked = c.args.input.now in
+    let s = search_in m asked in
+    let R = g.A.Automaton.Reaches c.args.automaton.now asked.anchored in
+    let E = g.A.Automaton.matches c.args.automaton.now in
+    let d = (g.A.Automaton.built c.args.automaton.now).deterministic in
+    let searched_on = c.loop-shown.invariant in
+    let place : ℕ = c.loop-shown.place in
+    searched_on-shows R E m d s c.args.at place c.in-Found.shown c.args.steps.now c.loop-shown.steps c.search_from_candidate.new.steps searched_on c.in-Found.ensures.reads c.in-Found.ensures.cost
+
+pub loop-shown-smaller : goal.loop-shown-smaller
+loop-shown-smaller g c =
+    omega (arith, c.in-Idle.ensures.reads)
+
+pub loop-shown-preserved : goal.loop-shown-preserved
+loop-shown-preserved g c =
+    let m = (g.A.Automaton.built c.args.automaton.now).dictionary in
+    let asked = c.args.input.now in
+    let s = search_in m asked in
+    let R = g.A.Automaton.Reaches c.args.automaton.now asked.anchored in
+    let E = g.A.Automaton.matches c.args.automaton.now in
+    let d = (g.A.Automaton.built c.args.automaton.now).deterministic in
+    let searched_on = c.loop-shown.invariant in
+    let place : ℕ = c.loop-shown.place in
+    searched_on-further R E m d s c.args.at place c.in-Idle.to c.args.steps.now c.loop-shown.steps c.search_from_candidate.new.steps searched_on c.in-Idle.ensures.reads c.in-Idle.ensures.cost

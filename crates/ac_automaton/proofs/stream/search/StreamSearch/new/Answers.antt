@@ -1,0 +1,29 @@
+-- A search that has read nothing stands in the start state, and its buffer holds nothing.
+use Rattle.std.proofs.Common.{subst, sym, [], false}
+use Rattle.ac_input.specs.declared.search.Anchored.TheVariants.{No}
+use Rattle.ac_automaton.specs.StreamSearch.{IsStreamSearch}
+use Rattle.ac_automaton.specs.Stream.{IsOnCourse, StreamProgress}
+use Rattle.ac_automaton.proofs.StreamSearchLemmas.{fresh-right, fresh-view}
+use Rattle.ac_automaton.proofs.stream.search.StreamSearch.new.Goals as goal
+
+pub invariant_of-result : goal.invariant_of-result
+invariant_of-result g c =
+    let a = c.args.automaton.now in
+    let b = g.A.Automaton.built a in
+    let start = c.in-Ok.start in
+    let can = c.in-Ok.ensures.can in
+    let begins = c.in-Ok.ensures.start in
+    let view = fresh-view b c.empty.result.items c.zero.result.value start c.max_pattern_len.result c.in_ok-buffer.buffer c.new-2.result c.empty.ensures c.zero.ensures c.in_ok-buffer.ensures.fresh c.new-2.ensures in
+    subst (λ (t : StreamProgress). IsStreamSearch (g.A.Automaton.Reaches a No) t start start c.zero.result.value c.in_ok-buffer.buffer false) (sym view)
+    (fresh-right b (g.A.Automaton.Reaches a No) start c.max_pattern_len.result c.zero.result.value c.in_ok-buffer.buffer can.1 can.2 begins (g.met.A.Automaton.lives a No [] start begins) c.max_pattern_len.ensures c.zero.ensures c.in_ok-buffer.ensures.fresh c.in_ok-buffer.ensures.paid)
+
+pub returns : goal.returns
+returns g c =
+    let a = c.args.automaton.now in
+    let b = g.A.Automaton.built a in
+    let start = c.in-Ok.start in
+    let can = c.in-Ok.ensures.can in
+    let begins = c.in-Ok.ensures.start in
+    let view = fresh-view b c.empty.result.items c.zero.result.value start c.max_pattern_len.result c.in_ok-buffer.buffer c.new-2.result c.empty.ensures c.zero.ensures c.in_ok-buffer.ensures.fresh c.new-2.ensures in
+    let right = fresh-right b (g.A.Automaton.Reaches a No) start c.max_pattern_len.result c.zero.result.value c.in_ok-buffer.buffer can.1 can.2 begins (g.met.A.Automaton.lives a No [] start begins) c.max_pattern_len.ensures c.zero.ensures c.in_ok-buffer.ensures.fresh c.in_ok-buffer.ensures.paid in
+    (can, view, subst IsOnCourse (sym view) right.stands.course)

@@ -1,0 +1,61 @@
+-- The next match of what was read is that of the search over what is held.
+use Rattle.std.proofs.Common.{sym, subst, refl, ◌∙◌}
+use Rattle.ac_input.specs.declared.search.Anchored.TheVariants.{No}
+use Rattle.ac_automaton.specs.StreamSearch.{IsStreamSearch, SearchesOn, progress_at}
+use Rattle.ac_automaton.specs.Stream.{FindsHeld, IsOnCourse, ScanCounts, StreamProgress}
+use Rattle.ac_automaton.proofs.StreamSearchLemmas.{added-done, counts-none, next-counts, next-stream, next-view}
+use Rattle.ac_automaton.proofs.stream.search.StreamSearch.next_held.Goals as goal
+
+pub returns-then-self-clause-counts : goal.returns-then-self-clause-counts
+returns-then-self-clause-counts g c = counts-none c.args.self.now c.args.steps.now
+
+pub invariant_of-self : goal.invariant_of-self
+invariant_of-self g c =
+    let i = c.self.inside in
+    let b = g.A.Automaton.built i.automaton.now in
+    let Reaches = g.A.Automaton.Reaches i.automaton.now No in
+    let s : StreamProgress = progress_at b i.pieces.items i.given.value i.progress i.buffer i.sums in
+    let inv = c.self.invariant in
+    let on : SearchesOn Reaches s i.start c.search-searched.result _ _ = c.search-searched.ensures s (record { built = refl; stands = inv.stands; from = refl; at = refl; last = refl; bytes = c.held.ensures ∙ inv.holds.bytes; countable = inv.countable c.if-self.false }) in
+    let done = added-done on.looks _ _ _ _ c.new-taken.ensures on.done c.add-2.ensures in
+    let view = next-view b i.pieces.items i.given.value i.progress i.buffer i.sums c.search-searched.result on.looks _ _ inv.number on.stands.course.decided on.from c.given_then-self-inside.ensures done in
+    subst (λ (t : StreamProgress). IsStreamSearch Reaches t i.start c.search-searched.result.progress.sid c.given_then-self-inside.result.value i.buffer i.over) (sym view)
+    (next-stream Reaches s i.start i.progress.sid i.given.value i.buffer i.over c.search-searched.result _ _ c.given_then-self-inside.result.value inv on c.given_then-self-inside.ensures)
+
+pub returns-clause-finds : goal.returns-clause-finds
+returns-clause-finds g c =
+    let i = c.self.inside in
+    let b = g.A.Automaton.built i.automaton.now in
+    let Reaches = g.A.Automaton.Reaches i.automaton.now No in
+    let s : StreamProgress = progress_at b i.pieces.items i.given.value i.progress i.buffer i.sums in
+    let inv = c.self.invariant in
+    let on : SearchesOn Reaches s i.start c.search-searched.result _ _ = c.search-searched.ensures s (record { built = refl; stands = inv.stands; from = refl; at = refl; last = refl; bytes = c.held.ensures ∙ inv.holds.bytes; countable = inv.countable c.if-self.false }) in
+    let done = added-done on.looks _ _ _ _ c.new-taken.ensures on.done c.add-2.ensures in
+    let view = next-view b i.pieces.items i.given.value i.progress i.buffer i.sums c.search-searched.result on.looks _ _ inv.number on.stands.course.decided on.from c.given_then-self-inside.ensures done in
+    subst (λ (t : StreamProgress). FindsHeld t c.search-searched.result.found (progress_at b i.pieces.items c.given_then-self-inside.result.value c.search-searched.result.progress i.buffer c.add-2.new.self)) c.self.view_is
+    (subst (λ (t : StreamProgress). FindsHeld s c.search-searched.result.found t) (sym view) on.finds)
+
+pub returns-clause-counts : goal.returns-clause-counts
+returns-clause-counts g c =
+    let i = c.self.inside in
+    let b = g.A.Automaton.built i.automaton.now in
+    let Reaches = g.A.Automaton.Reaches i.automaton.now No in
+    let s : StreamProgress = progress_at b i.pieces.items i.given.value i.progress i.buffer i.sums in
+    let inv = c.self.invariant in
+    let on : SearchesOn Reaches s i.start c.search-searched.result _ _ = c.search-searched.ensures s (record { built = refl; stands = inv.stands; from = refl; at = refl; last = refl; bytes = c.held.ensures ∙ inv.holds.bytes; countable = inv.countable c.if-self.false }) in
+    let done = added-done on.looks _ _ _ _ c.new-taken.ensures on.done c.add-2.ensures in
+    let view = next-view b i.pieces.items i.given.value i.progress i.buffer i.sums c.search-searched.result on.looks _ _ inv.number on.stands.course.decided on.from c.given_then-self-inside.ensures done in
+    subst (λ (t : StreamProgress). ScanCounts t (progress_at b i.pieces.items c.given_then-self-inside.result.value c.search-searched.result.progress i.buffer c.add-2.new.self) c.args.steps.now c.add.new.self) c.self.view_is
+    (subst (λ (t : StreamProgress). ScanCounts s t c.args.steps.now c.add.new.self) (sym view) (next-counts s c.search-searched.result on.looks _ _ _ _ c.new-taken.ensures on.done c.add.ensures))
+
+pub returns-clause-kept : goal.returns-clause-kept
+returns-clause-kept g c =
+    let i = c.self.inside in
+    let b = g.A.Automaton.built i.automaton.now in
+    let Reaches = g.A.Automaton.Reaches i.automaton.now No in
+    let s : StreamProgress = progress_at b i.pieces.items i.given.value i.progress i.buffer i.sums in
+    let inv = c.self.invariant in
+    let on : SearchesOn Reaches s i.start c.search-searched.result _ _ = c.search-searched.ensures s (record { built = refl; stands = inv.stands; from = refl; at = refl; last = refl; bytes = c.held.ensures ∙ inv.holds.bytes; countable = inv.countable c.if-self.false }) in
+    let done = added-done on.looks _ _ _ _ c.new-taken.ensures on.done c.add-2.ensures in
+    let view = next-view b i.pieces.items i.given.value i.progress i.buffer i.sums c.search-searched.result on.looks _ _ inv.number on.stands.course.decided on.from c.given_then-self-inside.ensures done in
+    subst IsOnCourse (sym view) on.stands.course

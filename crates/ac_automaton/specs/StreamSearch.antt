@@ -1,0 +1,103 @@
+-- What a search of a stream keeps between its calls, and how it goes on over what is held.
+use Rattle.std.specs.Prelude.{◌≡◌, ℕ, ◌+◌, ◌*◌, ◌≤◌, Bool, true, false, IsTrue, List, [], ◌∷◌, ◌++◌, length, take, slice_range, Option, None, Some}
+use Rattle.std.specs.List.{concat}
+use Rattle.ac_input.specs.Number.{StateID}
+use Rattle.ac_input.specs.declared.search.MatchKind.TheVariants.{Standard}
+use Rattle.ac_input.specs.declared.steps.Steps.{Steps}
+use Rattle.ac_input.specs.Best.{IsBest}
+use Rattle.ac_input.specs.Dictionary.{IsLive, live_len, whole}
+use Rattle.ac_input.specs.Occurrence.{Occurrence}
+use Rattle.ac_input.specs.Steps.{looked_of, scanned_of, Done}
+use Rattle.ac_input.specs.Walk.{IsWalk}
+use Rattle.ac_automaton.specs.Automaton.{Built}
+use Rattle.ac_automaton.specs.Buffer.{Held, IsRollPaid}
+use Rattle.ac_automaton.specs.Replace.{matches_in}
+use Rattle.ac_automaton.specs.Stream.{StreamProgress, CanBeCounted, FindsHeld, IsOnCourse, held_by, keep_of, read_by}
+use Rattle.ac_automaton.specs.declared.stream.search.Progress.{Progress}
+use Rattle.ac_automaton.specs.declared.stream.search.Searched.{Searched}
+
+-- ---- what is kept
+
+-- the bytes that the automaton has read since the last match
+abbrev pub since_last : StreamProgress → List ℕ
+since_last s = slice_range (read_by s) s.last s.at
+
+-- Whatever is still read, the matches that were given are the first of its walk, which goes on from the end of the last one.
+abbrev pub ContinuesWalk : StreamProgress → Type 0
+ContinuesWalk s =
+    (more : List ℕ) (rest : List Occurrence)
+    → IsWalk Standard (whole s.built.dictionary (read_by s ++ more) false) s.last (Some s.last) rest
+    → IsWalk Standard (whole s.built.dictionary (read_by s ++ more) false) 0 None (s.given ++ rest)
+
+-- What was looked at is paid for by the bytes that the automaton has read, and what is live is paid for too.
+abbrev pub IsSearchPaid : StreamProgress → Type 0
+IsSearchPaid s =
+    (live : Option ℕ) → IsLive s.built.dictionary false (since_last s) live
+    → (s.looked + live_len (since_last s) live ≤ 2 * s.at) × (s.at ≤ s.looked) × (IsTrue s.built.deterministic → s.looked ≡ s.at)
+
+-- A search stands in a state: it was reached from the start by the bytes since the last match, and there is no match in these.
+pub record StandsInState (Reaches : List ℕ → StateID → Type 0) (s : StreamProgress) (start sid : StateID) : Type 0 where
+  pub course : IsOnCourse s
+  pub begins : Reaches [] start
+  pub reads : Reaches (since_last s) sid
+  pub quiet : IsBest Standard (whole s.built.dictionary (since_last s) false) None
+  pub goes : ContinuesWalk s
+  pub lookups : IsSearchPaid s
+
+-- what a search over the bytes that are held is told of how far it has come
+pub record IsHeldAt (b : Built) (Reaches : List ℕ → StateID → Type 0) (s : StreamProgress) (start : StateID) (p : Progress) (held : List ℕ) : Type 0 where
+  pub built : s.built ≡ b
+  pub stands : StandsInState Reaches s start p.sid
+  pub from : p.from ≡ s.from
+  pub at : p.at ≡ s.at
+  pub last : p.last ≡ s.last
+  pub bytes : held ≡ held_by s
+  pub countable : CanBeCounted (read_by s)
+
+-- a match, or none, as a list
+abbrev pub some_of : Option Occurrence → List Occurrence
+some_of None = []
+some_of (Some o) = o ∷ []
+
+-- how far it has come then
+abbrev pub after_search : StreamProgress → Searched → ℕ → StreamProgress
+after_search s r looks = record s { given = s.given ++ some_of r.found; at = r.progress.at; last = r.progress.last; looked = s.looked + looks }
+
+-- A search over the bytes that are held went on to the next match, or to the end of these bytes.
+pub record SearchesOn (Reaches : List ℕ → StateID → Type 0) (s : StreamProgress) (start : StateID) (r : Searched) (before after : Steps) : Type 0 where
+  pub looks : ℕ
+  pub done : Done looks 0 0 before after
+  pub from : r.progress.from ≡ s.from
+  pub finds : FindsHeld s r.found (after_search s r looks)
+  pub stands : StandsInState Reaches (after_search s r looks) start r.progress.sid
+
+-- the buffer holds what the search says
+pub record HoldsRead (s : StreamProgress) (buffer : Held) : Type 0 where
+  pub bytes : buffer.bytes ≡ held_by s
+  pub keep : buffer.keep ≡ keep_of s.built
+  pub read : buffer.read ≡ length (read_by s)
+  pub moved : buffer.moved ≡ s.moved
+  pub paid : IsRollPaid buffer
+
+-- how far a search has come, from what it keeps
+abbrev pub progress_at : Built → List (List ℕ) → ℕ → Progress → Held → Steps → StreamProgress
+progress_at b pieces count progress buffer sums =
+    record {
+      built = b;
+      pieces = pieces;
+      given = take count (matches_in b (concat pieces));
+      from = progress.from;
+      at = progress.at;
+      last = progress.last;
+      looked = looked_of sums;
+      scanned = scanned_of sums;
+      moved = buffer.moved;
+    }
+
+-- What a search keeps between its calls is right.
+pub record IsStreamSearch (Reaches : List ℕ → StateID → Type 0) (s : StreamProgress) (start sid : StateID) (count : ℕ) (buffer : Held) (over : Bool) : Type 0 where
+  pub stands : StandsInState Reaches s start sid
+  pub number : length s.given ≡ count
+  pub holds : HoldsRead s buffer
+  pub countable : over ≡ false → CanBeCounted (read_by s)
+  pub uncountable : over ≡ true → ¬ CanBeCounted (read_by s)

@@ -1,0 +1,305 @@
+//! What every search of a stream stands on: one buffer, and the automaton that reads on over it.
+//!
+//! A stream is read piece by piece, and each piece is searched before the next one is read. Nothing depends on where one piece
+//! ends and the next begins: the automaton goes on in the state that it was in, and a state stands for all that a match may still
+//! need of what was read. Under the standard kind a match that was found is never taken back, whatever is read after it; so it
+//! is given at once.
+//!
+//! A [`StreamSearch`] gives the next match of what was read, without a read ([`StreamSearch::next_held`]), makes one read
+//! ([`StreamSearch::read_more`]), and lends what is held ([`StreamSearch::held`]). Up to its [`StreamSearch::cut`] all is decided: what is still to be
+//! found begins there or later. So the bytes before the cut are all that a caller may write, and the bytes after it all that has to
+//! be held: as many as the longest pattern has, at most. Where all that was read leaves the automaton in its start nothing is live:
+//! the search begins anew there, and nothing has to be held.
+//!
+//! The hot path is [`Automaton::advance_to_match`] over the bytes of a read. Between two matches nothing else is done for a byte,
+//! also where the automaton holds a prefilter, which a stream doesn't ask.
+ghost use Rattle.std.specs.Prelude.{◌≡◌, ◌≢◌, ◌↔◌, ◌+◌, ◌-◌, ◌≤◌, ◌<◌, ℕ, List, [], false, true, length, IfErr, IfOk, OnOk, IsTrue};
+ghost use Rattle.ac_input.specs.declared.search.Anchored.TheVariants.{No};
+ghost use Rattle.ac_automaton.specs.StreamSearch.{IsHeldAt, SearchesOn, some_of};
+ghost use Rattle.ac_automaton.specs.Stream.{AnswersNew, CanBeCounted, CanStream, CountsNothing, FindsHeld, HasRoom, IsConfigRefusal, IsOnCourse, IsRolled, IsSearched, ReadsMore, ScanCounts, StreamProgress, cut_of, held_by, read_by};
+ghost use Rattle.ac_automaton.specs.Watched.{has_ended};
+
+use crate::automaton::Automaton;
+use crate::buffer::Buffer;
+use crate::error::{MatchError, StreamError};
+use crate::find::first_match;
+use crate::watched::Watched;
+use ac_input::history::{Count, Pieces};
+use ac_input::primitives::StateID;
+use ac_input::search::{Anchored, Match, MatchKind};
+use ac_input::steps::Steps;
+use std::alloc::Global;
+use std::io::Read;
+use std::marker::Model;
+
+/// Where a search stands: in which state; and, counted from the first byte of the stream, the place of the first byte that is
+/// held, the place up to which the automaton has read, and the place where the search last began anew.
+#[derive(Clone, Copy)]
+struct Progress {
+    sid: StateID,
+    from: usize,
+    at: usize,
+    last: usize,
+}
+
+/// Where a search over what is held stands then, and the match that it found.
+#[derive(Clone, Copy)]
+struct Searched {
+    progress: Progress,
+    found: Option<Match>,
+}
+
+/// How far a search of a stream has come.
+#[derive(Drop)]
+pub(crate) struct StreamSearch<'a, A: Automaton> {
+    automaton: &'a A,
+    start: StateID,
+    buffer: Buffer,
+    progress: Progress,
+    over: bool,
+    given: Count,
+    pieces: Pieces,
+    sums: Steps,
+}
+
+impl<'a, A: Automaton> Model for StreamSearch<'a, A> {
+    ghost use Rattle.ac_input.specs.declared.search.Anchored.TheVariants.{No};
+    ghost use Rattle.ac_automaton.specs.Stream.{StreamProgress};
+
+    ghost Value = { StreamProgress };
+
+    ghost use Rattle.ac_automaton.specs.StreamSearch.{IsStreamSearch, progress_at};
+
+    ghost view = { λ i. progress_at (A.built i.automaton.now) i.pieces.items i.given.value
+        i.progress i.buffer i.sums };
+
+    ghost invariant = { λ i. IsStreamSearch (A.Reaches i.automaton.now No)
+        (progress_at (A.built i.automaton.now) i.pieces.items i.given.value
+        i.progress i.buffer i.sums)
+        i.start i.progress.sid i.given.value i.buffer i.over };
+}
+
+/// The start state of a search of a stream, where the automaton can make one.
+fn configured<A: Automaton>(automaton: &A) -> Result<StateID, MatchError>
+    ensures start { IfOk result (λ sid. A.Reaches automaton.now Anchored.No [] sid) }
+    ensures can { OnOk result (CanStream (A.built automaton.now) (A.supports automaton.now)) }
+    ensures refused { IfErr result (IsConfigRefusal (A.built automaton.now)
+        (A.supports automaton.now)) }
+{
+    let start = automaton.start_state(Anchored::No)?;
+    let kind = automaton.match_kind();
+    if kind != MatchKind::Standard {
+        return Err(MatchError::unsupported_stream(kind));
+    }
+    if automaton.min_pattern_len() == 0 {
+        return Err(MatchError::unsupported_empty());
+    }
+    Ok(start)
+}
+
+/// Searches the bytes that are held from where a search stands, up to the next match or to the last byte. After a match the search
+/// begins anew, and also where it comes to the last byte in a start: nothing of what was read is live there.
+fn search<A: Automaton>(
+    automaton: &A,
+    start: StateID,
+    progress: &Progress,
+    held: &[u8],
+    steps: &mut Steps,
+) -> Searched
+    requires { (s : StreamProgress) × IsHeldAt (A.built automaton.now) (A.Reaches automaton.now Anchored.No)
+        s start progress.now held.now }
+    ensures { (s : StreamProgress) → IsHeldAt (A.built automaton.now) (A.Reaches automaton.now Anchored.No)
+        s start progress.now held.now
+        → SearchesOn (A.Reaches automaton.now Anchored.No) s start result steps.old steps.new }
+{
+    let rest = &held[progress.at - progress.from..];
+    let stop = automaton.advance_to_match(Anchored::No, progress.sid, rest, steps);
+    let at = progress.at + stop.taken;
+    let anew = Progress {
+        sid: start,
+        from: progress.from,
+        at,
+        last: at,
+    };
+    if automaton.is_match(stop.sid) {
+        return Searched {
+            progress: anew,
+            found: Some(first_match(automaton, stop.sid, at)),
+        };
+    }
+    if automaton.is_start(stop.sid) {
+        return Searched {
+            progress: anew,
+            found: None,
+        };
+    }
+    Searched {
+        progress: Progress {
+            sid: stop.sid,
+            from: progress.from,
+            at,
+            last: progress.last,
+        },
+        found: None,
+    }
+}
+
+/// How many matches were given after this one, or none.
+fn given_then(given: &Count, found: &Option<Match>) -> Count
+    ensures { result.value ≡ given.now.value + length (some_of found.now) }
+{
+    match found {
+        Some(_) => given.next(),
+        None => given.more(&0),
+    }
+}
+
+impl<'a, A: Automaton> StreamSearch<'a, A> {
+    /// A search of a stream, which has read nothing yet. It is refused where the automaton can't make one, and else where there
+    /// is no memory for the buffer; it takes no memory after that.
+    pub fn new(automaton: &'a A, alloc: Global) -> Result<StreamSearch<'a, A>, StreamError>
+        ensures { AnswersNew (A.built automaton.now) (A.supports automaton.now) result }
+    {
+        let start = match configured(automaton) {
+            Ok(start) => start,
+            Err(error) => return Err(StreamError::Config(error)),
+        };
+        let buffer = Buffer::new(alloc, automaton.max_pattern_len())?;
+        Ok(StreamSearch {
+            automaton,
+            start,
+            buffer,
+            progress: Progress {
+                sid: start,
+                from: 0,
+                at: 0,
+                last: 0,
+            },
+            over: false,
+            given: Count::zero(),
+            pieces: Pieces::empty(),
+            sums: Steps::new(),
+        })
+    }
+
+    /// The bytes that are held: the last ones of those that were read.
+    pub fn held(&self) -> &[u8]
+        ensures held { result.now ≡ held_by self.now }
+        ensures kept { IsOnCourse self.now }
+    {
+        self.buffer.held()
+    }
+
+    /// The place of the first byte that is held.
+    pub fn from(&self) -> usize
+        ensures from { result ≡ self.now.from }
+        ensures kept { IsOnCourse self.now }
+    {
+        self.progress.from
+    }
+
+    /// The place up to which all is decided: every match that is still to come begins there or later.
+    pub fn cut(&self) -> usize
+        ensures cut { result ≡ cut_of self.now }
+        ensures kept { IsOnCourse self.now }
+    {
+        self.progress
+            .last
+            .max(self.progress.at.saturating_sub(self.buffer.keep()))
+    }
+
+    /// Whether there are more bytes than places, so that nothing is left to come.
+    pub fn is_over(&self) -> bool
+        ensures over { result ≡ true → ¬ CanBeCounted (read_by self.now) }
+        ensures open { result ≡ false → CanBeCounted (read_by self.now) }
+    {
+        self.over
+    }
+
+    /// The next match among the bytes that were read, without a read. None says that all of them were given.
+    ///
+    /// After a read with which there are more bytes than places it is always none.
+    pub fn next_held(&mut self, steps: &mut Steps) -> Option<Match>
+        ensures finds { FindsHeld self.old result self.new }
+        ensures counts { ScanCounts self.old self.new steps.old steps.new }
+        ensures kept { IsOnCourse self.new }
+    {
+        if self.over {
+            return None;
+        }
+        let mut taken = Steps::new();
+        let searched = search(
+            self.automaton,
+            self.start,
+            &self.progress,
+            self.buffer.held(),
+            &mut taken,
+        );
+        steps.add(&taken);
+        self.sums.add(&taken);
+        self.given = given_then(&self.given, &searched.found);
+        self.progress = searched.progress;
+        searched.found
+    }
+
+    /// Moves what is after the cut to the front of the buffer, if no room is left.
+    fn make_room(&mut self, steps: &mut Steps)
+        requires { IsSearched self.old }
+        ensures room { HasRoom self.new }
+        ensures same { IsRolled self.old self.new }
+        ensures counts { ScanCounts self.old self.new steps.old steps.new }
+        ensures kept { IsOnCourse self.new }
+    {
+        if self.buffer.is_full() {
+            let cut = self.cut();
+            self.buffer.roll(cut - self.progress.from, steps);
+            self.progress.from = cut;
+        }
+    }
+
+    /// One read, into all the room that is left; where none is left, what is after the cut is moved to the front first. All that
+    /// was read before must have been searched.
+    ///
+    /// It answers how many bytes it read: none at the end of the input. An error is `Read`, or `Position` where there are now
+    /// more bytes than places; nothing may be read after either.
+    pub fn read_more<R: Read>(
+        &mut self,
+        reader: &mut Watched<R>,
+        steps: &mut Steps,
+    ) -> Result<usize, StreamError>
+        requires open { has_ended reader.old ≡ false }
+        requires searched { IsSearched self.old }
+        ensures read { ReadsMore R.remaining self.old self.new reader.old reader.new result }
+        ensures counts { ScanCounts self.old self.new steps.old steps.new }
+        ensures kept { IsOnCourse self.new }
+    {
+        self.make_room(steps);
+        self.fill(reader)
+    }
+
+    /// One read, where there is room.
+    fn fill<R: Read>(&mut self, reader: &mut Watched<R>) -> Result<usize, StreamError>
+        requires open { has_ended reader.old ≡ false }
+        requires searched { IsSearched self.old }
+        requires room { HasRoom self.old }
+        ensures read { ReadsMore R.remaining self.old self.new reader.old reader.new result }
+        ensures steps { CountsNothing self.old self.new }
+        ensures from { self.new.from ≡ self.old.from }
+        ensures kept { IsOnCourse self.new }
+    {
+        let n = match self.buffer.fill(reader) {
+            Ok(n) => n,
+            Err(error) => {
+                self.pieces = self.pieces.and(&[]);
+                return Err(StreamError::Read(error));
+            }
+        };
+        let held = self.buffer.held();
+        self.pieces = self.pieces.and(&held[held.len() - n..]);
+        self.over = held.len() > usize::MAX - self.progress.from;
+        if self.over {
+            return Err(StreamError::Position);
+        }
+        Ok(n)
+    }
+}

@@ -1,0 +1,5 @@
+use Rattle.ac_noncontiguous.proofs.ReadCallLemmas.{are-read}
+use Rattle.ac_noncontiguous.proofs.nfa.NFA.states_are_read.Goals as goal
+
+pub returns : goal.returns
+returns c = are-read c.args.self.now

@@ -1,0 +1,191 @@
+-- What finding the matches of an input counts, and what a run costs.
+use Rattle.std.proofs.Common.{◌≡◌, ◌++◌, ℕ, ◌-◌, ◌*◌, ◌≤◌, Bool, List, [], length, Option, None, Some, Result, Err, refl, sym, ap, ◌∙◌, subst, add-zero, arith}
+use Rattle.std.specs.List.{concat}
+use Rattle.std.proofs.Math.Nat.{mul-le-mul_left}
+use Rattle.std.proofs.lemmas.List.{append-nil}
+use Rattle.ac_input.specs.Dictionary.{Dictionary}
+use Rattle.ac_input.specs.Input.{whole_of}
+use Rattle.ac_input.specs.Occurrence.{Occurrence}
+use Rattle.ac_input.specs.Rules.{Rule, IsRuleFile}
+use Rattle.ac_input.specs.Work.{lookups_per_byte}
+use Rattle.ac_input.specs.declared.search.Anchored.{Anchored}
+use Rattle.ac_input.specs.declared.steps.Steps.{Steps}
+use Rattle.ac_input.proofs.RuleLemmas.{IsRuleFile-one}
+use Rattle.ac_automaton.specs.Automaton.{Built}
+use Rattle.ac_automaton.specs.Iter.{IsWalkAfter, IsWithinBudget, Walk, WalkCounts, fresh_walk, passed}
+use Rattle.ac_automaton.specs.OverlappingIter.{IsRunAfter, IsWithinOneWalk, Run, RunCounts, fresh_run}
+use Rattle.ac_automaton.specs.Watched.{pieces_of}
+use Rattle.ac_automaton.specs.declared.watched.Watched.{Watched}
+use Rattle.acsub.specs.Finder.{IsServing}
+use Rattle.acsub.specs.Input.{ReadsWhole}
+use Rattle.acsub.specs.Matches.{IsCounted, IsHeldCost, IsListingCounted, IsWalkCounted}
+use Rattle.acsub.specs.Plan.{Plan}
+use Rattle.acsub.specs.Run.{CostsRun}
+use Rattle.acsub.specs.Served.{is_deterministic, served}
+use Rattle.ac_automaton.specs.StreamReplace.{CostsStream}
+use Rattle.acsub.specs.Transformed.{IsStreamed}
+use Rattle.acsub.specs.declared.error.RunError.{RunError}
+use Rattle.acsub.specs.declared.error.RunError.TheVariants as errors
+use Rattle.acsub.specs.declared.matches.Matches.{Matches}
+use Rattle.acsub.specs.declared.matches.Matches.TheVariants as sources
+use Rattle.acsub.specs.declared.settings.Settings.{Settings}
+
+-- ---- one more match
+
+-- a walk goes on by the same automaton
+walk-built : (w v : Walk) (r : Option Occurrence) → IsWalkAfter w r v → v.built ≡ w.built
+walk-built w v None after = ap (λ (u : Walk). u.built) after
+walk-built w v (Some o) after = ap (λ (u : Walk). u.built) after
+
+-- over the same input
+walk-asked : (w v : Walk) (r : Option Occurrence) → IsWalkAfter w r v → v.asked ≡ w.asked
+walk-asked w v None after = ap (λ (u : Walk). u.asked) after
+walk-asked w v (Some o) after = ap (λ (u : Walk). u.asked) after
+
+-- the next match of a walk was counted
+pub walk-counted : (w v : Walk) (r : Option Occurrence) (before after : Steps) → IsWalkAfter w r v → WalkCounts w v before after → IsWithinBudget v
+    → (plan : Plan) (n : ℕ) (begun : Steps) → IsWalkCounted plan n begun before w → IsWalkCounted plan n begun after v
+walk-counted w v r before after goes (states, places, bytes, done, looked, scanned, moved) paid plan n begun h =
+    let built = walk-built w v r goes in
+    let asked = walk-asked w v r goes in
+    let counted = h.counted in
+    record {
+      counted = record {
+        looked = omega (arith, done.looked, looked, counted.looked);
+        scanned = omega (arith, done.scanned, scanned, counted.scanned);
+        moved = omega (arith, done.moved, moved, counted.moved);
+      };
+      kind = rw (built, asked) h.kind;
+      looks = ap (λ (b : Built). b.deterministic) built ∙ h.looks;
+      within = rw asked h.within;
+      paid = paid;
+    }
+
+-- so was the next of all occurrences
+pub listing-counted : (run later : Run) (r : Option Occurrence) (before after : Steps) → IsRunAfter run r later → RunCounts run later before after → IsWithinOneWalk later
+    → (plan : Plan) (n : ℕ) (begun : Steps) → IsListingCounted plan n begun before run → IsListingCounted plan n begun after later
+listing-counted run later r before after goes counts paid plan n begun h =
+    let built = ap (λ (u : Run). u.built) goes in
+    let asked = ap (λ (u : Run). u.asked) goes in
+    let counted = h.counted in
+    record {
+      counted = record {
+        looked = omega (arith, counts.looked, counted.looked);
+        scanned = omega (arith, counts.scanned, counted.scanned);
+        moved = omega (arith, counts.moved, counted.moved);
+      };
+      looks = ap (λ (b : Built). b.deterministic) built ∙ h.looks;
+      within = rw asked h.within;
+      paid = paid;
+    }
+
+-- ---- at first nothing was counted
+
+module _ (plan : Plan) (b : Built) (supports : Anchored → Type 0) (input : List ℕ) (serves : IsServing plan b supports) (now : Steps) where
+  pub walk-uncounted : IsWalkCounted plan (length input) now now (fresh_walk b (whole_of input))
+  walk-uncounted =
+      record {
+        counted = record { looked = sym (add-zero _); scanned = sym (add-zero _); moved = sym (add-zero _) };
+        kind = ap (λ (m : Dictionary). m.kind) serves.dictionary;
+        looks = serves.looks;
+        within = omega arith;
+        paid = record { looked = λ _. omega arith; scanned = omega arith; moved = refl };
+      }
+
+  pub listing-uncounted : IsListingCounted plan (length input) now now (fresh_run b (whole_of input))
+  listing-uncounted =
+      record {
+        counted = record { looked = sym (add-zero _); scanned = sym (add-zero _); moved = sym (add-zero _) };
+        looks = serves.looks;
+        within = omega arith;
+        paid = record { looked = omega arith; scanned = omega arith; moved = refl };
+      }
+
+-- ---- what was counted is what it may cost
+
+-- more bytes may cost more looks
+more-looks : (deterministic asked : Bool) (sums less n : ℕ) → deterministic ≡ asked → less ≤ n → sums ≤ lookups_per_byte deterministic * less → sums ≤ lookups_per_byte asked * n
+more-looks deterministic asked sums less n same le paid =
+    let more = mul-le-mul_left (lookups_per_byte asked) le in
+    let is : sums ≤ lookups_per_byte asked * less = subst (λ (d : Bool). sums ≤ lookups_per_byte d * less) same paid in
+    omega (arith, more, is)
+
+-- nothing was counted
+pub nothing-counted : (plan : Plan) (n : ℕ) (steps : Steps) → IsHeldCost plan n steps steps
+nothing-counted plan n steps = record { looked = λ _. omega arith; scanned = omega arith; moved = refl }
+
+-- what was counted of matches is what it may cost to find them
+pub counted-cost : {A : Type 0} (plan : Plan) (n : ℕ) (before after : Steps) (matches : Matches A) → IsCounted plan n before after matches → IsHeldCost plan n before after
+counted-cost plan n before after (sources.Walk walk) h =
+    let counted = h.counted in
+    let paid = h.paid in
+    let le : passed walk ≤ n = let within = h.within in omega arith in
+    record {
+      looked = λ standard. let looks = more-looks walk.built.deterministic (is_deterministic (served plan.settings plan.rules)) walk.looked (passed walk) n h.looks le (paid.looked (h.kind ∙ standard)) in omega (arith, counted.looked, looks);
+      scanned = omega (arith, counted.scanned, paid.scanned, le);
+      moved = omega (arith, counted.moved, paid.moved);
+    }
+counted-cost plan n before after (sources.Overlapping run) h =
+    let counted = h.counted in
+    let paid = h.paid in
+    let le = h.within in
+    record {
+      looked = λ standard. let looks = more-looks run.built.deterministic (is_deterministic (served plan.settings plan.rules)) run.looked (run.asked.span.end - run.asked.span.start) n h.looks le paid.looked in omega (arith, counted.looked, looks);
+      scanned = omega (arith, counted.scanned, paid.scanned, le);
+      moved = omega (arith, counted.moved, paid.moved);
+    }
+counted-cost plan n before after (sources.Packed picks) h = subst (IsHeldCost plan n before) (sym h) (nothing-counted plan n before)
+
+-- ---- a run
+
+-- nothing was read, and nothing counted
+pub nothing_cost : {R : Type 0} (plan : Plan) (r : Watched R) (steps : Steps) (error : RunError) → CostsRun plan r r steps steps (Err error)
+nothing_cost plan r steps error =
+    record {
+      gained = [];
+      read = sym (append-nil (pieces_of r));
+      streamed = λ _. record { looked = omega arith; scanned = refl; moved = omega arith };
+      whole = λ _. tt;
+      whole_input = λ _. nothing-counted plan 0 steps;
+    }
+
+-- a run that holds its input costs what finding costs
+pub held-cost : {R : Type 0} (plan : Plan) (r r' : Watched R) (before after : Steps) (result : Result (Unit {0}) RunError) (pieces : List (List ℕ)) (input : List ℕ) → ¬ IsStreamed plan.settings plan.rules → pieces_of r' ≡ pieces_of r ++ pieces → input ≡ concat pieces
+    → IsHeldCost plan (length input) before after → CostsRun plan r r' before after result
+held-cost plan r r' before after result pieces input held read is cost =
+    record {
+      gained = pieces;
+      read = read;
+      streamed = λ streamed. absurd (held streamed);
+      whole = λ streamed. absurd (held streamed);
+      whole_input = λ _. subst (λ (bytes : List ℕ). IsHeldCost plan (length bytes) before after) is cost;
+    }
+
+-- it counts nothing where the input could not be read to its end
+pub unread-cost : {R : Type 0} (remaining : R → Option (List ℕ)) (plan : Plan) (r r' : Watched R) (steps : Steps) (e : RunError) → ¬ IsStreamed plan.settings plan.rules → ReadsWhole remaining r r' (Err e) → CostsRun plan r r' steps steps (Err e)
+unread-cost remaining plan r r' steps (errors.Rule e) held h = absurd h
+unread-cost remaining plan r r' steps (errors.Setting e) held h = absurd h
+unread-cost remaining plan r r' steps (errors.Build kind) held h = absurd h
+unread-cost remaining plan r r' steps (errors.Read e) held h = held-cost plan r r' steps steps (Err (errors.Read e)) h.0 (concat h.0) held h.1.pieces refl (nothing-counted plan _ steps)
+unread-cost remaining plan r r' steps (errors.Write e) held h = absurd h
+unread-cost remaining plan r r' steps errors.WriteZero held h = absurd h
+unread-cost remaining plan r r' steps errors.Memory held h = held-cost plan r r' steps steps (Err errors.Memory) h.0 (concat h.0) held h.1.pieces refl (nothing-counted plan _ steps)
+unread-cost remaining plan r r' steps errors.Position held h = absurd h
+
+-- a run that writes while it reads costs what the search of the stream costs
+pub streamed-cost : {R : Type 0} (plan : Plan) (b : Built) (supports : Anchored → Type 0) (r r' : Watched R) (before after : Steps) (result : Result (Unit {0}) RunError) → IsServing plan b supports → IsStreamed plan.settings plan.rules → CostsStream b r r' before after result → CostsRun plan r r' before after result
+streamed-cost plan b supports r r' before after result serves streamed (pieces, read, cost, whole) =
+    record {
+      gained = pieces;
+      read = read;
+      streamed = λ _. record { looked = rw serves.looks at cost.looked; scanned = cost.scanned; moved = cost.moved };
+      whole = λ _. whole;
+      whole_input = λ held. absurd (held streamed);
+    }
+
+-- the cost of what was prepared is the cost of a run by the rules of the file
+pub cost_prepared : {R : Type 0} (settings : Settings) (file : List ℕ) (plan : Plan) (r r' : Watched R) (before after : Steps) (result : Result (Unit {0}) RunError) → plan.settings ≡ settings → IsRuleFile file plan.rules → CostsRun plan r r' before after result
+    → (rules : List Rule) → IsRuleFile file rules → CostsRun (record { settings = settings; rules = rules }) r r' before after result
+cost_prepared settings file plan r r' before after result same prepared cost rules grammar =
+    subst (λ (s : Settings). CostsRun (record { settings = s; rules = rules }) r r' before after result) same
+    (subst (λ (rs : List Rule). CostsRun (record { settings = plan.settings; rules = rs }) r r' before after result) (IsRuleFile-one file plan.rules rules prepared grammar) cost)

@@ -1,0 +1,60 @@
+-- The matches of an input that are left to come, and what finding them has counted.
+use Rattle.std.specs.Prelude.{◌≡◌, ℕ, ◌+◌, ◌-◌, ◌*◌, ◌≤◌, List}
+use Rattle.ac_input.specs.Occurrence.{Occurrence}
+use Rattle.ac_input.specs.Steps.{Done, looked_of, moved_of, scanned_of}
+use Rattle.ac_input.specs.Work.{lookups_per_byte}
+use Rattle.ac_input.specs.declared.search.MatchKind.TheVariants.{Standard}
+use Rattle.ac_input.specs.declared.steps.Steps.{Steps}
+use Rattle.ac_automaton.specs.Iter.{IsWithinBudget, Walk, kind_of, left_of}
+use Rattle.ac_automaton.specs.OverlappingIter.{IsWithinOneWalk, Run, rest_of}
+use Rattle.acsub.specs.Plan.{Plan}
+use Rattle.acsub.specs.Served.{is_deterministic, served}
+use Rattle.acsub.specs.declared.matches.Matches.{Matches}
+use Rattle.acsub.specs.declared.matches.Matches.TheVariants as sources
+
+-- ---- what it may cost
+
+-- What a run of a plan that holds its input may count, by the bytes of the input. Under the standard kind the looks are within
+-- those of one walk; packed search counts nothing.
+pub record IsHeldCost (plan : Plan) (n : ℕ) (before after : Steps) : Type 0 where
+  pub looked : plan.settings.kind ≡ Standard → looked_of after ≤ looked_of before + lookups_per_byte (is_deterministic (served plan.settings plan.rules)) * n
+  pub scanned : scanned_of after ≤ scanned_of before + 256 * n
+  pub moved : moved_of after ≡ moved_of before
+
+-- ---- what was counted
+
+-- All that was counted since a point are the sums of a walk over so many bytes, by an automaton that serves the plan.
+pub record IsWalkCounted (plan : Plan) (n : ℕ) (begun now : Steps) (walk : Walk) : Type 0 where
+  pub counted : Done walk.looked walk.scanned walk.moved begun now
+  pub kind : kind_of walk ≡ plan.settings.kind
+  pub looks : walk.built.deterministic ≡ is_deterministic (served plan.settings plan.rules)
+  pub within : walk.asked.span.end ≤ n
+  pub paid : IsWithinBudget walk
+
+-- the same of a run through all occurrences
+pub record IsListingCounted (plan : Plan) (n : ℕ) (begun now : Steps) (run : Run) : Type 0 where
+  pub counted : Done run.looked run.scanned run.moved begun now
+  pub looks : run.built.deterministic ≡ is_deterministic (served plan.settings plan.rules)
+  pub within : run.asked.span.end - run.asked.span.start ≤ n
+  pub paid : IsWithinOneWalk run
+
+module _ {A : Type 0} where
+  -- the matches that are left to come
+  abbrev pub left_in : Matches A → List Occurrence
+  left_in (sources.Walk walk) = left_of walk
+  left_in (sources.Overlapping run) = rest_of run
+  left_in (sources.Packed picks) = picks
+
+  -- all that was counted since a point is what finding these matches of so many bytes took; packed search counts nothing
+  abbrev pub IsCounted : Plan → ℕ → Steps → Steps → Matches A → Type 0
+  IsCounted plan n begun now (sources.Walk walk) = IsWalkCounted plan n begun now walk
+  IsCounted plan n begun now (sources.Overlapping run) = IsListingCounted plan n begun now run
+  IsCounted plan n begun now (sources.Packed picks) = now ≡ begun
+
+  -- nothing was counted yet
+  abbrev pub IsUncounted : Plan → ℕ → Matches A → Type 0
+  IsUncounted plan n matches = (now : Steps) → IsCounted plan n now now matches
+
+  -- What finding took in between was counted: where all was counted before, all is counted after.
+  abbrev pub KeepsCount : Matches A → Matches A → Steps → Steps → Type 0
+  KeepsCount old new before after = (plan : Plan) (n : ℕ) (begun : Steps) → IsCounted plan n begun before old → IsCounted plan n begun after new

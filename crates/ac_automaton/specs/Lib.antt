@@ -17,6 +17,7 @@ pub use Rattle.ac_input.specs.Work
 pub mod Watched
 pub mod Errors
 pub mod Automaton
+pub mod Named
 pub mod Cursor
 pub mod Find
 pub mod Iter

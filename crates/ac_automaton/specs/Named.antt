@@ -1,0 +1,116 @@
+-- One automaton over named states: what its numbers stand for, and what follows for its calls.
+--
+-- A number of an automaton stands for a state of the definitions: a text of canonical bytes, or the dead state. How the number is
+-- made differs from automaton to automaton; what follows from it doesn't. So an automaton proves three things of its own: for which
+-- states its numbers stand, that the list and the tests of a number are those of its state, and that one look-up is one step. The
+-- lemmas are in NamedLemmas, and those of automata that follow failures in LinkedLemmas.
+use Rattle.std.specs.Prelude.{◌≡◌, ◌≢◌, ◌↔◌, ◌⊎◌, ℕ, ◌+◌, ◌<◌, ◌≤◌, Bool, true, false, IsTrue, List, [], ◌∷◌, ◌++◌, length, Option, Some, None}
+use Rattle.ac_input.specs.declared.search.Anchored.{Anchored}
+use Rattle.ac_input.specs.declared.steps.Steps.{Steps}
+use Rattle.ac_input.specs.Dictionary.{Dictionary, BeginsEntered, IsLive}
+use Rattle.ac_input.specs.Failure.{IsList}
+use Rattle.ac_input.specs.Input.{is_anchored}
+use Rattle.ac_input.specs.LiveLaws.{IsOwnInverse, canonical}
+use Rattle.ac_input.specs.States.{LeadsTo, FailsTo}
+use Rattle.ac_input.specs.Steps.{Done}
+use Rattle.ac_input.specs.Tells.{Tells}
+use Rattle.ac_automaton.specs.Automaton.{Built, IsSpecial}
+
+-- For which state each number stands, none for the dead one; and to which numbers a search of either anchoring may come.
+pub record Naming : Type 0 where
+  pub text : ℕ → Option (List ℕ)
+  pub met : Bool → ℕ → Bool
+
+-- a text leads from a start to the state for which the number stands
+pub record IsNamed (m : Dictionary) (names : Naming) (anchored : Bool) (text : List ℕ) (sid : ℕ) : Type 0 where
+  pub met : IsTrue (names.met anchored sid)
+  pub leads : LeadsTo m anchored text (names.text sid)
+
+-- A state at which a search has more to do than to read on: the dead one, one at which patterns match, or a start where there is a
+-- prefilter to ask.
+abbrev pub IsSpecialState : Built → List ℕ → Bool → Option (List ℕ) → Type 0
+IsSpecialState b matches start state = (state ≡ None) ⊎ (matches ≢ []) ⊎ (IsTrue start × (b.prefilter ≢ None))
+
+-- The list of each number, and the tests whether it is a start and whether it is special, are those of its state.
+pub record AreNames (b : Built) (matches : ℕ → List ℕ) (starts special : ℕ → Bool) (names : Naming) : Type 0 where
+  pub inverse : IsOwnInverse b.dictionary.pairing
+  pub lists : (anchored : Bool) (sid : ℕ) (text : List ℕ) → IsTrue (names.met anchored sid) → names.text sid ≡ Some text → IsList b.dictionary text (matches sid)
+  pub none : (anchored : Bool) (sid : ℕ) → IsTrue (names.met anchored sid) → names.text sid ≡ None → (matches sid ≡ []) × (starts sid ≡ false)
+  pub starting : (anchored : Bool) (sid : ℕ) (text : List ℕ) → IsTrue (names.met anchored sid) → names.text sid ≡ Some text → IsTrue (starts sid) ↔ (text ≡ [])
+  pub stopping : (anchored : Bool) (sid : ℕ) → IsTrue (names.met anchored sid) → IsTrue (special sid) ↔ IsSpecialState b (matches sid) (starts sid) (names.text sid)
+
+-- ---- one look-up
+
+-- A byte leads from the state of one number to that of another; from the dead state to itself.
+pub record IsStep (m : Dictionary) (names : Naming) (anchored : Bool) (sid byte next : ℕ) : Type 0 where
+  pub met : IsTrue (names.met anchored next)
+  pub dead : names.text sid ≡ None → names.text next ≡ None
+  pub leads : (text : List ℕ) → names.text sid ≡ Some text → LeadsTo m anchored (text ++ byte ∷ []) (names.text next)
+
+-- how many bytes a state has; the dead one has none
+abbrev pub text_len : Option (List ℕ) → ℕ
+text_len None = 0
+text_len (Some text) = length text
+
+-- Some states were looked at, after so many for the same byte: all in all at most two more than the bytes that were given up.
+abbrev pub IsLooked : ℕ → ℕ → ℕ → Steps → Steps → Type 0
+IsLooked done bytes next before after = (looks : ℕ) × Done looks 0 0 before after × (1 ≤ looks) × (done + looks + next ≤ bytes + 2)
+
+-- so it is of one look-up
+abbrev pub IsStepPaid : Naming → ℕ → ℕ → Steps → Steps → Type 0
+IsStepPaid names sid next before after = IsLooked 0 (text_len (names.text sid)) (text_len (names.text next)) before after
+
+-- ---- the start of a search
+
+-- the number stands for the empty text, and a search of this anchoring may come to it
+pub record IsFirst (names : Naming) (anchored : Bool) (sid : ℕ) : Type 0 where
+  pub met : IsTrue (names.met anchored sid)
+  pub empty : names.text sid ≡ Some []
+
+-- ---- what a search reads
+
+-- A number is read by a search: the text leads to the state for which it stands, where the automaton is laid out by some naming,
+-- and its list and tests say what the definitions ask of them.
+pub record IsReadBy (b : Built) (Fits : Naming → Type 0) (matches : ℕ → List ℕ) (starts special : ℕ → Bool) (anchored : Anchored) (text : List ℕ) (sid : ℕ) : Type 0 where
+  pub reached : ∥ ((names : Naming) × Fits names × IsNamed b.dictionary names (is_anchored anchored) text sid) ∥₁
+  pub tells : Tells b.dictionary anchored text (matches sid)
+  pub lives : (from : Option ℕ) × IsLive b.dictionary (is_anchored anchored) text from
+  pub inverse : IsOwnInverse b.dictionary.pairing
+  pub stops : IsTrue (special sid) ↔ IsSpecial b (matches sid) (starts sid) anchored text
+
+-- ---- automata that follow failures
+
+-- the number that stands for no state: a byte leads to it that leads nowhere
+abbrev pub nowhere : ℕ
+nowhere = 1
+
+-- Where a byte leads from a number without a look at its failure: to the state that is one byte longer, or else nowhere; but from
+-- the unanchored start to where the byte alone leads, and from the dead state to itself.
+pub record IsEdgeBy (m : Dictionary) (names : Naming) (start sid byte next : ℕ) : Type 0 where
+  pub dead : names.text sid ≡ None → IsTrue (names.met true next) × IsTrue (names.met false next) × (next ≢ nowhere) × (names.text next ≡ None)
+  pub child : (text : List ℕ) → names.text sid ≡ Some text → BeginsEntered m (text ++ byte ∷ []) → IsTrue (names.met true next) × IsTrue (names.met false next) × (next ≢ nowhere) × (names.text next ≡ Some (text ++ canonical m.pairing byte ∷ []))
+  pub none : (text : List ℕ) → names.text sid ≡ Some text → sid ≢ start → ¬ BeginsEntered m (text ++ byte ∷ []) → next ≡ nowhere
+  pub back : (text : List ℕ) → names.text sid ≡ Some text → sid ≡ start → ¬ BeginsEntered m (text ++ byte ∷ []) → IsTrue (names.met false next) × (next ≢ nowhere) × (text_len (names.text next) ≡ 0) × LeadsTo m false (text ++ byte ∷ []) (names.text next)
+
+-- The number to which one fails stands for the failure of its text; unanchored searches may come to it.
+pub record IsFailureBy (m : Dictionary) (names : Naming) (sid fail : ℕ) : Type 0 where
+  pub met : IsTrue (names.met false fail)
+  pub fails : (text : List ℕ) → names.text sid ≡ Some text → FailsTo m text (names.text fail)
+
+-- The edges and failures of an automaton are right: which number each byte leads to, and which number each one fails to. Only the
+-- unanchored start stands for the empty text among those that unanchored searches come to; no number that is met stands for nowhere.
+pub record AreLinked (m : Dictionary) (names : Naming) (start : ℕ) (edge : ℕ → ℕ → ℕ) (fail : ℕ → ℕ) : Type 0 where
+  pub inverse : IsOwnInverse m.pairing
+  pub apart : (anchored : Bool) (sid : ℕ) → IsTrue (names.met anchored sid) → sid ≢ nowhere
+  pub unanchored : names.met true start ≡ false
+  pub only : (sid : ℕ) → IsTrue (names.met false sid) → names.text sid ≡ Some [] → sid ≡ start
+  pub canonical : (anchored : Bool) (sid : ℕ) (text : List ℕ) → IsTrue (names.met anchored sid) → names.text sid ≡ Some text → BeginsEntered m text
+  pub edges : (anchored : Bool) (sid byte : ℕ) → IsTrue (names.met anchored sid) → byte < 256 → IsEdgeBy m names start sid byte (edge sid byte)
+  pub failures : (sid : ℕ) → IsTrue (names.met false sid) → IsFailureBy m names sid (fail sid)
+
+-- ---- bytes over which a search passes in the start
+
+-- Over this byte a search that stands in the start stays there, and the start matches nothing.
+pub record IsIdleBy (m : Dictionary) (names : Naming) (start byte : ℕ) (matches : ℕ → List ℕ) : Type 0 where
+  pub plain : matches start ≡ []
+  pub stays : IsStep m names false start byte start

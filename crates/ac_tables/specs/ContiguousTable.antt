@@ -1,0 +1,81 @@
+-- What the words of a contiguous automaton hold.
+use Rattle.std.specs.Prelude.{◌≡◌, ◌≢◌, ◌↔◌, ◌⊎◌, ℕ, zero, suc, ◌+◌, ◌<◌, ◌≤◌, nat_lt, ◌==◌, Bool, true, false, IsTrue, if◌then◌else◌, map, List, [], ◌∷◌, ◌++◌, length, slice_get, Option, Some, None}
+use Rattle.std.specs.List.{range_with_len}
+use Rattle.ac_input.specs.declared.primitives.number.TheConstants.{GREATEST}
+use Rattle.ac_input.specs.Alphabet.{class, alphabet_len}
+use Rattle.ac_input.specs.Dictionary.{Dictionary}
+use Rattle.ac_input.specs.Failure.{IsList}
+use Rattle.ac_automaton.specs.Named.{Naming, AreLinked, IsFirst}
+use Rattle.ac_noncontiguous.specs.declared.nfa.NFA.{NFA}
+use Rattle.ac_noncontiguous.specs.ReadCalls.{state_len, fail_in, depth_in, edges_in}
+use Rattle.ac_noncontiguous.specs.Reads.{matches_at}
+use Rattle.ac_tables.specs.Words.{StateParts, next_by, words_of, StandsAt}
+use Rattle.ac_tables.specs.declared.contiguous.table.Table.{Table}
+
+-- ---- the words as they are made of an automaton
+
+-- a transition, with its byte's class and the place of the next state
+abbrev pub placed : List ℕ → (ℕ → ℕ) → ℕ × ℕ → ℕ × ℕ
+placed classes place edge = (class classes edge.0, place edge.1)
+
+-- what is known of a state, where the states have these places
+abbrev pub parts_of : NFA → ℕ → List ℕ → (ℕ → ℕ) → ℕ → StateParts
+parts_of nfa dense_depth classes place sid = record {
+  shallow = nat_lt (depth_in nfa sid) dense_depth;
+  fail = place (fail_in nfa sid);
+  edges = map (placed classes place) (edges_in nfa sid);
+  matches = matches_at nfa sid;
+}
+
+-- how many words a state has; the fail state has none
+abbrev pub len_at : NFA → ℕ → List ℕ → ℕ → ℕ
+len_at nfa dense_depth classes sid = if sid == 1 then 0 else length (words_of (alphabet_len classes) (parts_of nfa dense_depth classes (λ i. i) sid))
+
+-- how many words the first so many states have
+abbrev pub len_before : NFA → ℕ → List ℕ → ℕ → ℕ
+len_before nfa dense_depth classes zero = 0
+len_before nfa dense_depth classes (suc i) = len_before nfa dense_depth classes i + len_at nfa dense_depth classes i
+
+-- The place of a state is that of its first word. The fail state's is 1, where nothing begins.
+abbrev pub place_in : NFA → ℕ → List ℕ → ℕ → ℕ
+place_in nfa dense_depth classes sid = if sid == 1 then 1 else len_before nfa dense_depth classes sid
+
+-- the words of a state of the automaton; the fail state has none
+abbrev pub words_at : NFA → ℕ → List ℕ → ℕ → List ℕ
+words_at nfa dense_depth classes sid = if sid == 1 then [] else words_of (alphabet_len classes) (parts_of nfa dense_depth classes (place_in nfa dense_depth classes) sid)
+
+-- the words of the first so many states, one state after another
+abbrev pub words_before : NFA → ℕ → List ℕ → ℕ → List ℕ
+words_before nfa dense_depth classes zero = []
+words_before nfa dense_depth classes (suc i) = words_before nfa dense_depth classes i ++ words_at nfa dense_depth classes i
+
+-- the words are those of an automaton
+abbrev pub AreWordsOf : NFA → ℕ → List ℕ → List ℕ → Type 0
+AreWordsOf nfa dense_depth classes words = words ≡ words_before nfa dense_depth classes (state_len nfa)
+
+-- the first word of some state would stand past the greatest number
+abbrev pub ArePlacesTooGreat : NFA → ℕ → List ℕ → Type 0
+ArePlacesTooGreat nfa dense_depth classes = (sid : ℕ) × (sid < state_len nfa) × (GREATEST < place_in nfa dense_depth classes sid)
+
+-- ---- the words as a search reads them
+
+-- The words are those of a dictionary, where the places have these names and hold these states.
+pub record AreStates (m : Dictionary) (table : Table) (names : Naming) (parts : ℕ → StateParts) : Type 0 where
+  pub alphabet : table.alphabet_len ≡ alphabet_len table.classes
+  pub stand : (anchored : Bool) (sid : ℕ) → IsTrue (names.met anchored sid) → StandsAt table.words.items sid (words_of table.alphabet_len (parts sid))
+  pub fits : (anchored : Bool) (sid k : ℕ) (edge : ℕ × ℕ) → IsTrue (names.met anchored sid) → slice_get (parts sid).edges k ≡ Some edge → edge.0 < table.alphabet_len
+  pub linked : AreLinked m names table.start (λ sid byte. next_by (parts sid).edges (class table.classes byte)) (λ sid. (parts sid).fail)
+  pub dead : (anchored : Bool) (sid : ℕ) → IsTrue (names.met anchored sid) → (names.text sid ≡ None) ↔ (sid ≡ 0)
+  pub first : (anchored : Bool) → IsFirst names anchored (if anchored then table.start_anchored else table.start)
+  pub starting : (anchored : Bool) (sid : ℕ) → IsTrue (names.met anchored sid) → (names.text sid ≡ Some []) ↔ ((sid ≡ table.start) ⊎ (sid ≡ table.start_anchored))
+  pub lists : (anchored : Bool) (sid : ℕ) (text : List ℕ) → IsTrue (names.met anchored sid) → names.text sid ≡ Some text → IsList m text (parts sid).matches
+  pub none : (anchored : Bool) (sid : ℕ) → IsTrue (names.met anchored sid) → sid ≡ 0 → (parts sid).matches ≡ []
+  pub few : (anchored : Bool) (sid : ℕ) → IsTrue (names.met anchored sid) → length (parts sid).matches ≤ GREATEST + 1
+  pub matching : (anchored : Bool) (sid : ℕ) → IsTrue (names.met anchored sid) → sid ≢ 0 → ((parts sid).matches ≢ []) ↔ (sid ≤ table.max_match)
+  pub greatest : (table.max_match < table.start) ⊎ (table.max_match ≡ table.start_anchored)
+  pub between : (anchored : Bool) (sid : ℕ) → IsTrue (names.met anchored sid) → sid < table.start_anchored → sid ≤ table.start
+  pub past : (1 < table.start) × (table.start < table.start_anchored)
+
+-- some names and states are such
+abbrev pub AreSomeStates : Dictionary → Table → Type 0
+AreSomeStates m table = ∥ ((names : Naming) × (parts : ℕ → StateParts) × AreStates m table names parts) ∥₁

@@ -1,0 +1,101 @@
+-- What the table of a DFA holds.
+use Rattle.std.specs.Prelude.{◌≡◌, ◌≢◌, ◌↔◌, ◌⊎◌, ℕ, zero, suc, ◌+◌, ◌-◌, ◌*◌, ◌/◌, ◌^◌, ◌<◌, ◌≤◌, nat_le, ◌==◌, ◌&&◌, not, Bool, true, false, IsTrue, if◌then◌else◌, List, [], length, take, drop, slice_index, Option, Some, None}
+use Rattle.ac_input.specs.declared.search.Anchored.{Anchored}
+use Rattle.ac_input.specs.declared.search.StartKind.{StartKind}
+use Rattle.ac_input.specs.declared.search.StartKind.TheVariants as starts
+use Rattle.ac_input.specs.Alphabet.{class, alphabet_len, IsLeastPowerOfTwo}
+use Rattle.ac_input.specs.Dfa.{Serves, dfa_states}
+use Rattle.ac_input.specs.Dictionary.{Dictionary}
+use Rattle.ac_input.specs.Failure.{IsList}
+use Rattle.ac_input.specs.Input.{is_anchored}
+use Rattle.ac_automaton.specs.Named.{Naming, IsStep, IsFirst}
+use Rattle.ac_noncontiguous.specs.declared.nfa.NFA.{NFA}
+use Rattle.ac_noncontiguous.specs.ReadCalls.{state_len, special_in, MayBeMet, LeadsIn}
+use Rattle.ac_tables.specs.declared.dfa.lists.Lists.{Lists}
+use Rattle.ac_tables.specs.declared.dfa.table.Table.{Table}
+
+-- ---- the rows
+
+-- The row of a state. With one start kind it is the state's number. With both each state has two rows, one for either anchoring,
+-- but for the dead state, the fail state and the two starts; the unanchored start's row comes right before the anchored one's.
+abbrev pub row_of : StartKind → ℕ → Bool → ℕ → ℕ
+row_of starts.Unanchored start anchored i = i
+row_of starts.Anchored start anchored i = i
+row_of starts.Both start false i = if nat_le i 1 then i else if nat_le i start then 2 * i - 2 else 2 * i - 4
+row_of starts.Both start true i = if nat_le i 1 then i else if nat_le start i then 2 * i - 3 else 2 * i - 1
+
+-- the number of a state is where its row begins
+abbrev pub number_of : StartKind → ℕ → ℕ → Bool → ℕ → ℕ
+number_of kind start stride anchored i = row_of kind start anchored i * stride
+
+-- ---- the table as it is made of an automaton
+
+-- the next state that stands where a state's row has the byte's class
+abbrev pub IsCell : NFA → StartKind → ℕ → ℕ → Anchored → ℕ → ℕ → ℕ → Type 0
+IsCell nfa kind stride cell anchored sid byte next = LeadsIn nfa anchored sid byte next × (cell ≡ number_of kind (special_in nfa).start_unanchored_id stride (is_anchored anchored) next)
+
+-- The transitions are those of an automaton: a row for each of its states, as long as the least power of two that is enough for
+-- the classes; in it the next state for each class, all failures followed.
+pub record AreTransitionsOf (nfa : NFA) (kind : StartKind) (classes : List ℕ) (stride : ℕ) (transitions : List ℕ) : Type 0 where
+  pub stride : IsLeastPowerOfTwo (alphabet_len classes) stride
+  pub len : length transitions ≡ dfa_states kind (state_len nfa) * stride
+  pub cells : (anchored : Anchored) (sid byte : ℕ) → Serves kind anchored → MayBeMet nfa anchored sid → byte < 256 → ∥ ((next : ℕ) × IsCell nfa kind stride (slice_index transitions (number_of kind (special_in nfa).start_unanchored_id stride (is_anchored anchored) sid + class classes byte)) anchored sid byte next) ∥₁
+
+-- ---- the table as a search reads it
+
+-- where the list of a matching state ends; before it stand those of the states before
+abbrev pub list_end : Lists → ℕ → ℕ
+list_end lists k = slice_index lists.ends.items k
+
+abbrev pub list_start : Lists → ℕ → ℕ
+list_start lists zero = 0
+list_start lists (suc k) = list_end lists k
+
+-- one of the lists
+abbrev pub list_of : Lists → ℕ → List ℕ
+list_of lists k = take (list_end lists k - list_start lists k) (drop (list_start lists k) lists.patterns.items)
+
+-- the lists stand one after another
+pub record AreRanges (lists : Lists) : Type 0 where
+  pub rising : (k : ℕ) → k < length lists.ends.items → list_start lists k ≤ list_end lists k
+  pub within : (k : ℕ) → k < length lists.ends.items → list_end lists k ≤ length lists.patterns.items
+
+-- how long a row is
+abbrev pub stride_of : Table → ℕ
+stride_of table = 2 ^ table.stride2
+
+-- which of the lists is that of a row: the two rows of a state share one where there are both
+abbrev pub list_index : StartKind → ℕ → ℕ
+list_index starts.Both row = (row - 2) / 2
+list_index starts.Unanchored row = row - 2
+list_index starts.Anchored row = row - 2
+
+-- the patterns that match at a number; none at the dead state, and none past the last state that matches
+abbrev pub matches_by : Table → ℕ → List ℕ
+matches_by table sid = if not (sid == 0) && nat_le sid table.max_match then list_of table.lists (list_index table.kind (sid / stride_of table)) else []
+
+-- the start of searches of this anchoring: the anchored one is the next row
+abbrev pub start_by : Table → Bool → ℕ
+start_by table false = table.start
+start_by table true = table.start + stride_of table
+
+-- The table is that of a dictionary, where its numbers have these names. Row 1 is that of the fail state, which no search meets.
+pub record AreRows (m : Dictionary) (table : Table) (names : Naming) : Type 0 where
+  pub classes : (byte : ℕ) → byte < 256 → class table.classes byte < stride_of table
+  pub within : (anchored : Bool) (sid : ℕ) → IsTrue (names.met anchored sid) → (sid + stride_of table ≤ length table.trans.items) × ((sid ≡ 0) ⊎ (2 * stride_of table ≤ sid))
+  pub rows : (anchored : Bool) (sid : ℕ) → IsTrue (names.met anchored sid) → (row : ℕ) × (sid ≡ row * stride_of table)
+  pub dead : (anchored : Bool) (sid : ℕ) → IsTrue (names.met anchored sid) → (names.text sid ≡ None) ↔ (sid ≡ 0)
+  pub steps : (anchored : Anchored) (sid byte : ℕ) → Serves table.kind anchored → IsTrue (names.met (is_anchored anchored) sid) → byte < 256 → IsStep m names (is_anchored anchored) sid byte (slice_index table.trans.items (sid + class table.classes byte))
+  pub first : (anchored : Anchored) → Serves table.kind anchored → IsFirst names (is_anchored anchored) (start_by table (is_anchored anchored))
+  pub starting : (anchored : Bool) (sid : ℕ) → IsTrue (names.met anchored sid) → (names.text sid ≡ Some []) ↔ ((sid ≡ table.start) ⊎ (sid ≡ table.start + stride_of table))
+  pub lists : (anchored : Bool) (sid : ℕ) (text : List ℕ) → IsTrue (names.met anchored sid) → names.text sid ≡ Some text → IsList m text (matches_by table sid)
+  pub matching : (anchored : Bool) (sid : ℕ) → IsTrue (names.met anchored sid) → sid ≢ 0 → (matches_by table sid ≢ []) ↔ (sid ≤ table.max_match)
+  pub listed : (anchored : Bool) (sid : ℕ) → IsTrue (names.met anchored sid) → sid ≢ 0 → sid ≤ table.max_match → list_index table.kind (sid / stride_of table) < length table.lists.ends.items
+  pub ranges : AreRanges table.lists
+  pub greatest : (table.max_match + stride_of table ≡ table.start) ⊎ (table.max_match ≡ table.start + stride_of table)
+  pub past : 2 * stride_of table ≤ table.start
+  pub known : (k : ℕ) → k < length table.lists.patterns.items → slice_index table.lists.patterns.items k < length m.patterns
+
+-- some names are such
+abbrev pub AreSomeRows : Dictionary → Table → Type 0
+AreSomeRows m table = ∥ ((names : Naming) × AreRows m table names) ∥₁

@@ -1,0 +1,88 @@
+-- The words in which the contiguous automaton keeps a state.
+--
+-- A state is a few 32-bit words: its kind, its failure, the classes of its transitions where these are sparse, the transitions, and
+-- its patterns where it has some.
+use Rattle.std.specs.Prelude.{◌≡◌, ℕ, ◌+◌, ◌*◌, ◌<◌, ◌≤◌, nat_lt, ◌==◌, ◌&&◌, ◌||◌, Bool, true, false, if◌then◌else◌, map, List, [], ◌∷◌, ◌++◌, length, take, drop}
+use Rattle.std.specs.List.{range_with_len}
+
+-- What is known of a state: whether it is so shallow that it keeps an entry for each class, the place of the state to which it fails,
+-- for each byte that leads on the class and the place of the next state, and the patterns that match.
+pub record StateParts : Type 0 where
+  pub shallow : Bool
+  pub fail : ℕ
+  pub edges : List (ℕ × ℕ)
+  pub matches : List ℕ
+
+-- how its transitions are kept: one for each class, a single one, or those alone that it has
+pub data Form : Type 0 where
+  Dense : Form
+  One : Form
+  Sparse : Form
+
+-- a state with more transitions than this is dense
+abbrev pub most_sparse : ℕ
+most_sparse = 127
+
+abbrev pub is_single : StateParts → Bool
+is_single s = (length s.edges == 1) && (length s.matches == 0)
+
+abbrev pub form_of : StateParts → Form
+form_of s = if s.shallow || nat_lt most_sparse (length s.edges) then Dense else if is_single s then One else Sparse
+
+-- where a class leads by the transitions: the first that has it; 1 where none has
+abbrev pub next_by : List (ℕ × ℕ) → ℕ → ℕ
+next_by [] wanted = 1
+next_by (edge ∷ edges) wanted = if edge.0 == wanted then edge.1 else next_by edges wanted
+
+-- four classes in one word, the first in its lowest bits
+abbrev pub word_of : ℕ → ℕ → ℕ → ℕ → ℕ
+word_of a b c d = a + 256 * b + 65536 * c + 16777216 * d
+
+-- classes, four in a word; the last one fills the last word
+abbrev pub packed : List ℕ → List ℕ
+packed [] = []
+packed (a ∷ []) = word_of a a a a ∷ []
+packed (a ∷ b ∷ []) = word_of a b b b ∷ []
+packed (a ∷ b ∷ c ∷ []) = word_of a b c c ∷ []
+packed (a ∷ b ∷ c ∷ d ∷ rest) = word_of a b c d ∷ packed rest
+
+abbrev pub classes_of : List (ℕ × ℕ) → List ℕ
+classes_of edges = map (λ edge. edge.0) edges
+
+abbrev pub nexts_of : List (ℕ × ℕ) → List ℕ
+nexts_of edges = map (λ edge. edge.1) edges
+
+-- the class of a single transition
+abbrev pub first_class : List (ℕ × ℕ) → ℕ
+first_class [] = 0
+first_class (edge ∷ edges) = edge.0
+
+-- the kind of a state, in the low eight bits; with a single transition its class stands above it
+abbrev pub kind_word : Form → List (ℕ × ℕ) → ℕ
+kind_word Dense edges = 255
+kind_word One edges = 254 + 256 * first_class edges
+kind_word Sparse edges = length edges
+
+-- the words of the transitions, with their classes where they are sparse
+abbrev pub transition_words : Form → ℕ → List (ℕ × ℕ) → List ℕ
+transition_words Dense alphabet edges = map (next_by edges) (range_with_len 0 alphabet)
+transition_words One alphabet edges = nexts_of edges
+transition_words Sparse alphabet edges = packed (classes_of edges) ++ nexts_of edges
+
+-- bit 31 of a word: it is a list of one pattern
+abbrev pub one_pattern : ℕ
+one_pattern = 2147483648
+
+-- the words of the patterns: one has a word with the bit set; several have their count and then their numbers
+abbrev pub match_words : List ℕ → List ℕ
+match_words [] = []
+match_words (n ∷ []) = (one_pattern + n) ∷ []
+match_words (n ∷ o ∷ ns) = length (n ∷ o ∷ ns) ∷ n ∷ o ∷ ns
+
+-- the words of a state
+abbrev pub words_of : ℕ → StateParts → List ℕ
+words_of alphabet s = kind_word (form_of s) s.edges ∷ s.fail ∷ (transition_words (form_of s) alphabet s.edges ++ match_words s.matches)
+
+-- such words stand at a place
+abbrev pub StandsAt : List ℕ → ℕ → List ℕ → Type 0
+StandsAt words at part = (at + length part ≤ length words) × (take (length part) (drop at words) ≡ part)

@@ -3,10 +3,14 @@ use Rattle.std.specs.Prelude.{◌≡◌, ◌≢◌, ◌↔◌, ◌⊎◌, ℕ, z
 use Rattle.std.specs.List.{range_with_len}
 use Rattle.ac_input.specs.declared.primitives.number.TheConstants.{GREATEST}
 use Rattle.ac_input.specs.Alphabet.{class, alphabet_len}
+use Rattle.ac_input.specs.Candidate.{Filter}
 use Rattle.ac_input.specs.Dictionary.{Dictionary}
 use Rattle.ac_input.specs.Failure.{IsList}
+use Rattle.ac_input.specs.Limits.{IsWithinLimits}
+use Rattle.ac_input.specs.Pairing.{IsPairing}
 use Rattle.ac_automaton.specs.Named.{Naming, AreLinked, IsFirst}
 use Rattle.ac_noncontiguous.specs.declared.nfa.NFA.{NFA}
+use Rattle.ac_noncontiguous.specs.Nfa.{IsHeldFor}
 use Rattle.ac_noncontiguous.specs.ReadCalls.{state_len, fail_in, depth_in, edges_in}
 use Rattle.ac_noncontiguous.specs.Reads.{matches_at}
 use Rattle.ac_tables.specs.Words.{StateParts, next_by, words_of, StandsAt}
@@ -62,10 +66,13 @@ ArePlacesTooGreat nfa dense_depth classes = (sid : ℕ) × (sid < state_len nfa)
 -- The words are those of a dictionary, where the places have these names and hold these states.
 pub record AreStates (m : Dictionary) (table : Table) (names : Naming) (parts : ℕ → StateParts) : Type 0 where
   pub alphabet : table.alphabet_len ≡ alphabet_len table.classes
+  pub few_classes : table.alphabet_len ≤ 256
+  pub small : (anchored : Bool) (sid : ℕ) → IsTrue (names.met anchored sid) → sid ≤ GREATEST
   pub stand : (anchored : Bool) (sid : ℕ) → IsTrue (names.met anchored sid) → StandsAt table.words.items sid (words_of table.alphabet_len (parts sid))
   pub fits : (anchored : Bool) (sid k : ℕ) (edge : ℕ × ℕ) → IsTrue (names.met anchored sid) → slice_get (parts sid).edges k ≡ Some edge → edge.0 < table.alphabet_len
   pub linked : AreLinked m names table.start (λ sid byte. next_by (parts sid).edges (class table.classes byte)) (λ sid. (parts sid).fail)
   pub dead : (anchored : Bool) (sid : ℕ) → IsTrue (names.met anchored sid) → (names.text sid ≡ None) ↔ (sid ≡ 0)
+  pub dead_met : IsTrue (names.met true 0)
   pub first : (anchored : Bool) → IsFirst names anchored (if anchored then table.start_anchored else table.start)
   pub starting : (anchored : Bool) (sid : ℕ) → IsTrue (names.met anchored sid) → (names.text sid ≡ Some []) ↔ ((sid ≡ table.start) ⊎ (sid ≡ table.start_anchored))
   pub lists : (anchored : Bool) (sid : ℕ) (text : List ℕ) → IsTrue (names.met anchored sid) → names.text sid ≡ Some text → IsList m text (parts sid).matches
@@ -79,3 +86,18 @@ pub record AreStates (m : Dictionary) (table : Table) (names : Naming) (parts : 
 -- some names and states are such
 abbrev pub AreSomeStates : Dictionary → Table → Type 0
 AreSomeStates m table = ∥ ((names : Naming) × (parts : ℕ → StateParts) × AreStates m table names parts) ∥₁
+
+-- ---- what the automaton keeps beside them
+
+-- The last state at which a search has more to do than to read on: the anchored start, where a prefilter is held, else the last one
+-- that matches.
+abbrev pub last_special_in : Table → Option Filter → ℕ
+last_special_in table None = table.max_match
+last_special_in table (Some f) = table.start_anchored
+
+-- the words of an automaton, its prefilter, if it holds one, its limits and its pairing
+pub record AreContiguousParts (m : Dictionary) (table : Table) (prefilter : Option Filter) : Type 0 where
+  pub within : ∥ IsWithinLimits m ∥₁
+  pub stands : AreSomeStates m table
+  pub held : IsHeldFor m prefilter
+  pub paired : IsPairing m.pairing

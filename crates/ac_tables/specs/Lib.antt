@@ -21,3 +21,4 @@ pub mod Places
 pub mod DfaTable
 pub mod Words
 pub mod ContiguousTable
+pub mod Contiguous

@@ -1,7 +1,13 @@
 //! The contiguous automaton.
 mod table;
 
+ghost use Rattle.std.specs.Prelude.{◌≡◌, if◌then◌else◌};
+ghost use Rattle.std.proofs.Props.{props};
+ghost use Rattle.ac_input.specs.Dictionary.{dictionary_of};
+ghost use Rattle.ac_input.specs.Limits.{IsWithinLimits};
 ghost use Rattle.ac_input.specs.Pairing.{IsPairing};
+ghost use Rattle.ac_noncontiguous.specs.Nfa.{IsHeldFor};
+ghost use Rattle.ac_tables.specs.ContiguousTable.{AreSomeStates, AreContiguousParts, last_special_in};
 
 use crate::contiguous::table::Table;
 use ac_input::pairing::Pairing;
@@ -21,4 +27,45 @@ pub struct NFA {
     pairing: Pairing,
     kind: MatchKind,
     ghost paired: { IsPairing pairing },
+    ghost within: { ∥ IsWithinLimits (dictionary_of lens pairing kind) ∥₁ },
+    ghost stands: { AreSomeStates (dictionary_of lens pairing kind) table },
+    ghost special: { max_special ≡ last_special_in table prefilter },
+    ghost held: { IsHeldFor (dictionary_of lens pairing kind) prefilter } by { Prim.hlevel props },
+}
+
+/// The last state at which a search has more to do than to read on.
+fn last_special_of(table: &Table, held: bool) -> StateID
+    ensures { result ≡ (if held then table.now.start_anchored else table.now.max_match) }
+{
+    if held {
+        table.start_anchored
+    } else {
+        table.max_match
+    }
+}
+
+impl NFA {
+    ghost use Rattle.ac_tables.specs.Contiguous.{IsContiguousOf};
+
+    /// The automaton of these words, patterns and settings.
+    pub(crate) fn from_parts(
+        table: Table,
+        lens: PatternLens,
+        prefilter: Option<Prefilter>,
+        pairing: Pairing,
+        kind: MatchKind,
+    ) -> NFA
+        requires { AreContiguousParts (dictionary_of lens pairing kind) table prefilter }
+        ensures { IsContiguousOf (dictionary_of lens pairing kind) table prefilter result }
+    {
+        let max_special = last_special_of(&table, prefilter.is_some());
+        NFA {
+            table,
+            lens,
+            max_special,
+            prefilter,
+            pairing,
+            kind,
+        }
+    }
 }

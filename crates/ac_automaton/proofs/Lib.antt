@@ -30,3 +30,4 @@ pub mod StreamAnswerLemmas
 pub mod WriterChainLemmas
 pub mod StreamWithLemmas
 pub mod StreamWithReadLemmas
+pub mod NamedLemmas

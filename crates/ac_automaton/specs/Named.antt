@@ -39,6 +39,14 @@ pub record AreNames (b : Built) (matches : ℕ → List ℕ) (starts special : �
   pub starting : (anchored : Bool) (sid : ℕ) (text : List ℕ) → IsTrue (names.met anchored sid) → names.text sid ≡ Some text → IsTrue (starts sid) ↔ (text ≡ [])
   pub stopping : (anchored : Bool) (sid : ℕ) → IsTrue (names.met anchored sid) → IsTrue (special sid) ↔ IsSpecialState b (matches sid) (starts sid) (names.text sid)
 
+-- every naming by which the automaton is laid out is such
+abbrev pub AllNames : Built → (Naming → Type 0) → (ℕ → List ℕ) → (ℕ → Bool) → (ℕ → Bool) → Type 0
+AllNames b Fits matches starts special = (names : Naming) → Fits names → AreNames b matches starts special names
+
+-- by whichever naming the automaton is laid out, where a search of this anchoring may come to the number, this holds
+abbrev pub OfNames : (Naming → Type 0) → Bool → ℕ → (Naming → Type 0) → Type 0
+OfNames Fits anchored sid P = (names : Naming) → Fits names → IsTrue (names.met anchored sid) → P names
+
 -- ---- one look-up
 
 -- A byte leads from the state of one number to that of another; from the dead state to itself.
@@ -69,10 +77,14 @@ pub record IsFirst (names : Naming) (anchored : Bool) (sid : ℕ) : Type 0 where
 
 -- ---- what a search reads
 
+-- a text leads to the state for which the number stands, by some naming by which the automaton is laid out
+abbrev pub IsReachedBy : Dictionary → (Naming → Type 0) → Bool → List ℕ → ℕ → Type 0
+IsReachedBy m Fits anchored text sid = ∥ ((names : Naming) × Fits names × IsNamed m names anchored text sid) ∥₁
+
 -- A number is read by a search: the text leads to the state for which it stands, where the automaton is laid out by some naming,
 -- and its list and tests say what the definitions ask of them.
 pub record IsReadBy (b : Built) (Fits : Naming → Type 0) (matches : ℕ → List ℕ) (starts special : ℕ → Bool) (anchored : Anchored) (text : List ℕ) (sid : ℕ) : Type 0 where
-  pub reached : ∥ ((names : Naming) × Fits names × IsNamed b.dictionary names (is_anchored anchored) text sid) ∥₁
+  pub reached : IsReachedBy b.dictionary Fits (is_anchored anchored) text sid
   pub tells : Tells b.dictionary anchored text (matches sid)
   pub lives : (from : Option ℕ) × IsLive b.dictionary (is_anchored anchored) text from
   pub inverse : IsOwnInverse b.dictionary.pairing

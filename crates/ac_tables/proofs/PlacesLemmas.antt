@@ -1,9 +1,8 @@
 -- By its place in a table a number names the state that stands there.
-use Rattle.std.proofs.Common.{◌≡◌, ◌≢◌, ◌⊎◌, ℕ, zero, suc, ◌+◌, ◌<◌, ◌≤◌, Bool, true, false, IsTrue, List, Option, None, Some, inl, inr, ⊎_elim, refl, sym, ap, subst, ◌∙◌, arith}
+use Rattle.std.proofs.Common.{◌≡◌, ◌≢◌, ℕ, zero, suc, ◌+◌, ◌<◌, Bool, true, false, IsTrue, List, Option, None, Some, ⊎_elim, refl, sym, ap, subst, ◌∙◌, arith}
 use Rattle.std.specs.Prelude.{◌==◌, ◌&&◌, is_some}
-use Rattle.std.proofs.lemmas.Bool.{cases_eq, cases_lt, cases_Bool, and_parts, and_from, cond-true, cond-false, eqb-true, false≢true, true≢false}
+use Rattle.std.proofs.lemmas.Bool.{cases_eq, cases_Bool, and_parts, and_from, cond-true, cond-false, eqb-true, false≢true, true≢false}
 use Rattle.std.proofs.lemmas.Bool.Decides.{nat_tests}
-use Rattle.ac_automaton.specs.Named.{Naming}
 use Rattle.ac_tables.specs.Places.{is_met, state_at, either_of, placed_at, text_at, named_by, AreApart}
 
 -- ---- the state at a place
@@ -63,7 +62,7 @@ named-state state len start places anchored at met_at = by (state_at (is_met sta
   where
     by : (r : Option ℕ) → state_at (is_met start anchored) (places anchored) len at ≡ r → (i : ℕ) × (i < len) × IsTrue (is_met start anchored i) × (places anchored i ≡ at)
     by None e = absurd (false≢true (sym (ap (λ (r : Option ℕ). is_some r) e) ∙ met_at))
-    by (Some i) e = (i, at-some (is_met start anchored) (places anchored) len at i e)
+    by (Some i) e = let s = at-some (is_met start anchored) (places anchored) len at i e in (i, s.0, s.1, s.2)
 
 -- the state at the place of a state that is met is that state
 placed-is : (len start : ℕ) (places : Bool → ℕ → ℕ) (anchored : Bool) (i : ℕ) → AreApart len start places → i < len → IsTrue (is_met start anchored i) → placed_at len start places (places anchored i) ≡ Some i
@@ -90,12 +89,26 @@ named-text state len start places anchored i apart less met_i = ap (text_at stat
 
 -- ---- which states are met
 
--- the other start
-pub other_start : ℕ → Bool → ℕ
-other_start start true = start
-other_start start false = start + 1
+-- a state that is met is not the fail state,
+pub met-stands : (start : ℕ) (anchored : Bool) (i : ℕ) → IsTrue (is_met start anchored i) → i ≢ 1
+met-stands start true i met e = grind (arith, nat_tests)
+met-stands start false i met e = grind (arith, nat_tests)
 
--- a state that is met is neither the fail state nor the other start
-pub met-is : (start : ℕ) (anchored : Bool) (i : ℕ) → IsTrue (is_met start anchored i) → i ≢ 1
-met-is start true i met e = grind (arith, nat_tests)
-met-is start false i met e = grind (arith, nat_tests)
+-- nor the other start,
+pub met-unanchored : (start i : ℕ) → IsTrue (is_met start false i) → i ≢ start + 1
+met-unanchored start i met e = grind (arith, nat_tests)
+
+pub met-anchored : (start i : ℕ) → IsTrue (is_met start true i) → i ≢ start
+met-anchored start i met e = grind (arith, nat_tests)
+
+-- and every other one is met
+pub met-other : (start : ℕ) (anchored : Bool) (i : ℕ) → i ≢ 1 → i ≢ start → i ≢ start + 1 → IsTrue (is_met start anchored i)
+met-other start true i stands a b = grind (arith, nat_tests)
+met-other start false i stands a b = grind (arith, nat_tests)
+
+-- so are the starts of their own searches
+pub met-start : (start : ℕ) → 1 < start → IsTrue (is_met start false start)
+met-start start past = let e : start ≢ 1 = omega arith in let f : start ≢ start + 1 = omega arith in grind (arith, nat_tests)
+
+pub met-start_anchored : (start : ℕ) → 1 < start → IsTrue (is_met start true (start + 1))
+met-start_anchored start past = let e : start + 1 ≢ 1 = omega arith in let f : start + 1 ≢ start = omega arith in grind (arith, nat_tests)

@@ -4,12 +4,15 @@ use Rattle.ac_input.specs.declared.search.Anchored.{Anchored}
 use Rattle.ac_input.specs.declared.search.StartKind.{StartKind}
 use Rattle.ac_input.specs.declared.search.StartKind.TheVariants as starts
 use Rattle.ac_input.specs.Alphabet.{class, alphabet_len, IsLeastPowerOfTwo}
+use Rattle.ac_input.specs.Candidate.{Filter}
 use Rattle.ac_input.specs.Dfa.{Serves, dfa_states}
 use Rattle.ac_input.specs.Dictionary.{Dictionary}
 use Rattle.ac_input.specs.Failure.{IsList}
 use Rattle.ac_input.specs.Input.{is_anchored}
+use Rattle.ac_input.specs.Pairing.{IsPairing}
 use Rattle.ac_automaton.specs.Named.{Naming, IsStep, IsFirst}
 use Rattle.ac_noncontiguous.specs.declared.nfa.NFA.{NFA}
+use Rattle.ac_noncontiguous.specs.Nfa.{IsHeldFor}
 use Rattle.ac_noncontiguous.specs.ReadCalls.{state_len, special_in, MayBeMet, LeadsIn}
 use Rattle.ac_tables.specs.declared.dfa.lists.Lists.{Lists}
 use Rattle.ac_tables.specs.declared.dfa.table.Table.{Table}
@@ -74,12 +77,13 @@ list_index starts.Anchored row = row - 2
 abbrev pub matches_by : Table → ℕ → List ℕ
 matches_by table sid = if not (sid == 0) && nat_le sid table.max_match then list_of table.lists (list_index table.kind (sid / stride_of table)) else []
 
--- the start of searches of this anchoring: the anchored one is the next row
+-- the start of searches of this anchoring
 abbrev pub start_by : Table → Bool → ℕ
 start_by table false = table.start
-start_by table true = table.start + stride_of table
+start_by table true = table.start_anchored
 
 -- The table is that of a dictionary, where its numbers have these names. Row 1 is that of the fail state, which no search meets.
+-- The anchored start is the row after the unanchored one.
 pub record AreRows (m : Dictionary) (table : Table) (names : Naming) : Type 0 where
   pub classes : (byte : ℕ) → byte < 256 → class table.classes byte < stride_of table
   pub within : (anchored : Bool) (sid : ℕ) → IsTrue (names.met anchored sid) → (sid + stride_of table ≤ length table.trans.items) × ((sid ≡ 0) ⊎ (2 * stride_of table ≤ sid))
@@ -87,15 +91,30 @@ pub record AreRows (m : Dictionary) (table : Table) (names : Naming) : Type 0 wh
   pub dead : (anchored : Bool) (sid : ℕ) → IsTrue (names.met anchored sid) → (names.text sid ≡ None) ↔ (sid ≡ 0)
   pub steps : (anchored : Anchored) (sid byte : ℕ) → Serves table.kind anchored → IsTrue (names.met (is_anchored anchored) sid) → byte < 256 → IsStep m names (is_anchored anchored) sid byte (slice_index table.trans.items (sid + class table.classes byte))
   pub first : (anchored : Anchored) → Serves table.kind anchored → IsFirst names (is_anchored anchored) (start_by table (is_anchored anchored))
-  pub starting : (anchored : Bool) (sid : ℕ) → IsTrue (names.met anchored sid) → (names.text sid ≡ Some []) ↔ ((sid ≡ table.start) ⊎ (sid ≡ table.start + stride_of table))
+  pub starting : (anchored : Bool) (sid : ℕ) → IsTrue (names.met anchored sid) → (names.text sid ≡ Some []) ↔ ((sid ≡ table.start) ⊎ (sid ≡ table.start_anchored))
   pub lists : (anchored : Bool) (sid : ℕ) (text : List ℕ) → IsTrue (names.met anchored sid) → names.text sid ≡ Some text → IsList m text (matches_by table sid)
   pub matching : (anchored : Bool) (sid : ℕ) → IsTrue (names.met anchored sid) → sid ≢ 0 → (matches_by table sid ≢ []) ↔ (sid ≤ table.max_match)
   pub listed : (anchored : Bool) (sid : ℕ) → IsTrue (names.met anchored sid) → sid ≢ 0 → sid ≤ table.max_match → list_index table.kind (sid / stride_of table) < length table.lists.ends.items
   pub ranges : AreRanges table.lists
-  pub greatest : (table.max_match + stride_of table ≡ table.start) ⊎ (table.max_match ≡ table.start + stride_of table)
-  pub past : 2 * stride_of table ≤ table.start
+  pub greatest : (table.max_match + stride_of table ≡ table.start) ⊎ (table.max_match ≡ table.start_anchored)
+  pub wide : table.stride2 ≤ 8
+  pub starts : (row : ℕ) × (2 ≤ row) × (table.start ≡ row * stride_of table) × (table.start_anchored ≡ (row + 1) * stride_of table)
   pub known : (k : ℕ) → k < length table.lists.patterns.items → slice_index table.lists.patterns.items k < length m.patterns
 
 -- some names are such
 abbrev pub AreSomeRows : Dictionary → Table → Type 0
 AreSomeRows m table = ∥ ((names : Naming) × AreRows m table names) ∥₁
+
+-- ---- what the automaton keeps beside it
+
+-- The last number at which a search has more to do than to read on: that of the anchored start, where a prefilter is held, else the
+-- last one that matches.
+abbrev pub last_special_by : Table → Option Filter → ℕ
+last_special_by table None = table.max_match
+last_special_by table (Some f) = table.start_anchored
+
+-- the table of an automaton, its prefilter, if it holds one, and its pairing
+pub record AreParts (m : Dictionary) (table : Table) (prefilter : Option Filter) : Type 0 where
+  pub stands : AreSomeRows m table
+  pub held : IsHeldFor m prefilter
+  pub paired : IsPairing m.pairing

@@ -2,8 +2,9 @@
 --
 -- A state is a few 32-bit words: its kind, its failure, the classes of its transitions where these are sparse, the transitions, and
 -- its patterns where it has some.
-use Rattle.std.specs.Prelude.{◌≡◌, ℕ, ◌+◌, ◌*◌, ◌<◌, ◌≤◌, nat_lt, ◌==◌, ◌&&◌, ◌||◌, Bool, true, false, if◌then◌else◌, map, List, [], ◌∷◌, ◌++◌, length, take, drop}
-use Rattle.std.specs.List.{range_with_len}
+use Rattle.std.specs.Prelude.{◌≡◌, ℕ, zero, suc, ◌+◌, ◌*◌, ◌<◌, ◌≤◌, nat_lt, ◌==◌, ◌&&◌, ◌||◌, Bool, true, false, if◌then◌else◌, map, List, [], ◌∷◌, ◌++◌, length, take, drop}
+use Rattle.std.specs.List.{All, range_with_len}
+use Rattle.ac_input.specs.declared.primitives.number.TheConstants.{GREATEST}
 
 -- What is known of a state: whether it is so shallow that it keeps an entry for each class, the place of the state to which it fails,
 -- for each byte that leads on the class and the place of the next state, and the patterns that match.
@@ -46,6 +47,13 @@ packed (a ∷ b ∷ []) = word_of a b b b ∷ []
 packed (a ∷ b ∷ c ∷ []) = word_of a b c c ∷ []
 packed (a ∷ b ∷ c ∷ d ∷ rest) = word_of a b c d ∷ packed rest
 
+-- the number at a place; the last one where there are fewer
+abbrev pub near : List ℕ → ℕ → ℕ
+near [] k = 0
+near (c ∷ []) k = c
+near (c ∷ d ∷ cs) zero = c
+near (c ∷ d ∷ cs) (suc k) = near (d ∷ cs) k
+
 abbrev pub classes_of : List (ℕ × ℕ) → List ℕ
 classes_of edges = map (λ edge. edge.0) edges
 
@@ -82,6 +90,15 @@ match_words (n ∷ o ∷ ns) = length (n ∷ o ∷ ns) ∷ n ∷ o ∷ ns
 -- the words of a state
 abbrev pub words_of : ℕ → StateParts → List ℕ
 words_of alphabet s = kind_word (form_of s) s.edges ∷ s.fail ∷ (transition_words (form_of s) alphabet s.edges ++ match_words s.matches)
+
+-- the words of a state but for its patterns
+abbrev pub leading_words : ℕ → StateParts → List ℕ
+leading_words alphabet s = kind_word (form_of s) s.edges ∷ s.fail ∷ transition_words (form_of s) alphabet s.edges
+
+-- Its words can be written: each transition's class is one of the alphabet, and the patterns can be counted.
+pub record CanBeWritten (alphabet : ℕ) (s : StateParts) : Type 0 where
+  pub fits : All (λ edge. edge.0 < alphabet) s.edges
+  pub few : length s.matches ≤ GREATEST + 1
 
 -- such words stand at a place
 abbrev pub StandsAt : List ℕ → ℕ → List ℕ → Type 0

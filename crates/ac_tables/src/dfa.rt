@@ -1,9 +1,14 @@
 //! The DFA.
+mod automaton;
 mod lists;
 mod table;
 
+ghost use Rattle.std.specs.Prelude.{◌≡◌};
+ghost use Rattle.std.proofs.Props.{props};
 ghost use Rattle.ac_input.specs.Dictionary.{dictionary_of};
 ghost use Rattle.ac_input.specs.Pairing.{IsPairing};
+ghost use Rattle.ac_noncontiguous.specs.Nfa.{IsHeldFor};
+ghost use Rattle.ac_tables.specs.DfaTable.{AreSomeRows, AreParts, last_special_by};
 
 use crate::dfa::table::Table;
 use ac_input::pairing::Pairing;
@@ -23,4 +28,37 @@ pub struct DFA {
     pairing: Pairing,
     kind: MatchKind,
     ghost paired: { IsPairing pairing },
+    ghost stands: { AreSomeRows (dictionary_of lens pairing kind) table },
+    ghost special: { max_special ≡ last_special_by table prefilter },
+    ghost held: { IsHeldFor (dictionary_of lens pairing kind) prefilter } by { Prim.hlevel props },
+}
+
+impl DFA {
+    ghost use Rattle.ac_tables.specs.DfaReads.{IsMadeOf};
+
+    /// The automaton of this table, these patterns and settings.
+    pub(crate) fn from_parts(
+        table: Table,
+        lens: PatternLens,
+        prefilter: Option<Prefilter>,
+        pairing: Pairing,
+        kind: MatchKind,
+    ) -> DFA
+        requires { AreParts (dictionary_of lens pairing kind) table prefilter }
+        ensures { IsMadeOf (dictionary_of lens pairing kind) table prefilter result }
+    {
+        let max_special = if prefilter.is_some() {
+            table.start_anchored
+        } else {
+            table.max_match
+        };
+        DFA {
+            table,
+            lens,
+            max_special,
+            prefilter,
+            pairing,
+            kind,
+        }
+    }
 }

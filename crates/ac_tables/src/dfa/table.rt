@@ -1,12 +1,20 @@
 //! The table of a DFA, and how a search looks things up in it.
+//!
+//! It is one vector: a row for each state, one after another, and in each row the next state for each class of bytes. A state's
+//! number is where its row begins, so that a look-up is the byte's class, one addition and one load. Rows are as long as the least
+//! power of two that is enough for the classes.
+ghost use Rattle.std.specs.Prelude.{◌≡◌, ◌+◌, slice_index};
+ghost use Rattle.ac_input.specs.Alphabet.{class};
+ghost use Rattle.ac_tables.specs.DfaTable.{list_of};
+ghost use Rattle.ac_tables.specs.DfaReads.{HasRow, HasList, list_at};
 
 use crate::dfa::lists::Lists;
 use ac_input::alphabet::ByteClasses;
-use ac_input::primitives::StateID;
+use ac_input::primitives::{PatternID, StateID};
 use ac_input::search::StartKind;
 
 /// The table. Rows are numbered so: the dead state (0), the fail state (1), the states that match, the unanchored start, the
-/// anchored start, the others. The number of a state is where its row begins.
+/// anchored start, the others.
 #[derive(Drop)]
 pub(crate) struct Table {
     /// The next state for each row and each class of bytes.
@@ -17,7 +25,53 @@ pub(crate) struct Table {
     pub stride2: usize,
     /// The unanchored start; the anchored one is the next row.
     pub start: StateID,
+    pub start_anchored: StateID,
     /// The last state at which a pattern matches; that of row 1 where there is none.
     pub max_match: StateID,
     pub kind: StartKind,
+}
+
+impl Table {
+    /// The state after one more byte.
+    #[inline]
+    pub(crate) fn next(&self, sid: StateID, byte: u8) -> StateID
+        requires { HasRow self.now sid }
+        ensures { result ≡ slice_index self.now.trans.items (sid + class self.now.classes byte) }
+    {
+        self.trans[sid.as_usize() + self.classes.get(byte) as usize]
+    }
+
+    /// Which of the lists is that of a state.
+    #[inline]
+    fn list_index(&self, sid: StateID) -> usize
+        requires { HasList self.now sid }
+        ensures { result ≡ list_at self.now sid }
+    {
+        let row = (sid.as_usize() >> self.stride2) - 2;
+        match self.kind {
+            StartKind::Both => row / 2,
+            StartKind::Unanchored | StartKind::Anchored => row,
+        }
+    }
+
+    /// The patterns that match at a state.
+    pub(crate) fn match_list(&self, sid: StateID) -> &[PatternID]
+        requires { HasList self.now sid }
+        ensures { result.now ≡ list_of self.now.lists (list_at self.now sid) }
+    {
+        let at = self.list_index(sid);
+        let start = if at == 0 {
+            0
+        } else {
+            self.lists.ends[at - 1]
+        };
+        &self.lists.patterns[start..self.lists.ends[at]]
+    }
+
+    /// How many bytes of memory it takes, beside itself.
+    pub(crate) fn memory_usage(&self) -> usize {
+        (self.trans.len().saturating_mul(4))
+            .saturating_add(self.lists.patterns.len().saturating_mul(4))
+            .saturating_add(self.lists.ends.len().saturating_mul(8))
+    }
 }

@@ -1,0 +1,65 @@
+-- What a DFA is built as, and what is known of a number that a search has come to.
+use Rattle.std.specs.Prelude.{◌≡◌, ℕ, ◌+◌, ◌*◌, ◌/◌, ◌<◌, ◌≤◌, ◌==◌, ◌||◌, nat_le, Bool, true, List, length, Option}
+use Rattle.ac_input.specs.declared.search.Anchored.{Anchored}
+use Rattle.ac_input.specs.Alphabet.{class}
+use Rattle.ac_input.specs.Candidate.{Filter}
+use Rattle.ac_input.specs.Dfa.{Serves}
+use Rattle.ac_input.specs.Dictionary.{Dictionary, dictionary_of}
+use Rattle.ac_automaton.specs.Automaton.{Built}
+use Rattle.ac_automaton.specs.Named.{IsReadBy}
+use Rattle.ac_tables.specs.declared.dfa.DFA.{DFA}
+use Rattle.ac_tables.specs.declared.dfa.table.Table.{Table}
+use Rattle.ac_tables.specs.DfaTable.{AreRows, stride_of, list_index, list_start, list_end, matches_by}
+
+-- what the automaton is made from
+abbrev pub dictionary : DFA → Dictionary
+dictionary dfa = dictionary_of dfa.lens dfa.pairing dfa.kind
+
+-- what it is built as: exactly one state is looked at for a byte
+abbrev pub built_as : DFA → Built
+built_as dfa = record { dictionary = dictionary dfa; deterministic = true; prefilter = dfa.prefilter }
+
+-- for which searches it has a start
+abbrev pub supported_by : DFA → Anchored → Type 0
+supported_by dfa anchored = Serves dfa.table.kind anchored
+
+-- the patterns that match at a number
+abbrev pub matches_at : DFA → ℕ → List ℕ
+matches_at dfa sid = matches_by dfa.table sid
+
+-- the two starts
+abbrev pub is_start_at : DFA → ℕ → Bool
+is_start_at dfa sid = (sid == dfa.table.start) || (sid == dfa.table.start_anchored)
+
+-- the numbers up to the last special one
+abbrev pub is_special_at : DFA → ℕ → Bool
+is_special_at dfa sid = nat_le sid dfa.max_special
+
+-- A number is read by a search that the automaton serves.
+abbrev pub IsRead : DFA → Anchored → List ℕ → ℕ → Type 0
+IsRead dfa anchored text sid = IsReadBy (built_as dfa) (λ names. Serves dfa.table.kind anchored × AreRows (dictionary dfa) dfa.table names) (matches_at dfa) (is_start_at dfa) (is_special_at dfa) anchored text sid
+
+-- the automaton is made of this table and this prefilter
+pub record IsMadeOf (m : Dictionary) (from : Table) (held : Option Filter) (dfa : DFA) : Type 0 where
+  pub dictionary : dictionary dfa ≡ m
+  pub table : dfa.table ≡ from
+  pub prefilter : dfa.prefilter ≡ held
+
+-- ---- look-ups
+
+-- which of the lists is that of a number
+abbrev pub list_at : Table → ℕ → ℕ
+list_at table sid = list_index table.kind (sid / stride_of table)
+
+-- a whole row begins at the number, with an entry for each class
+pub record HasRow (table : Table) (sid : ℕ) : Type 0 where
+  pub within : sid + stride_of table ≤ length table.trans.items
+  pub classes : (byte : ℕ) → byte < 256 → class table.classes byte < stride_of table
+
+-- the list of a number stands among the others
+pub record HasList (table : Table) (sid : ℕ) : Type 0 where
+  pub wide : table.stride2 ≤ 8
+  pub past : 2 * stride_of table ≤ sid
+  pub listed : list_at table sid < length table.lists.ends.items
+  pub rising : list_start table.lists (list_at table sid) ≤ list_end table.lists (list_at table sid)
+  pub within : list_end table.lists (list_at table sid) ≤ length table.lists.patterns.items

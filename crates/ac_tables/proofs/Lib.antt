@@ -1,1 +1,3 @@
 pub mod PlacesLemmas
+pub mod PackedLemmas
+pub mod DecodeLemmas

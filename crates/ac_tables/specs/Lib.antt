@@ -22,4 +22,5 @@ pub mod DfaTable
 pub mod DfaReads
 pub mod Words
 pub mod ContiguousTable
-pub mod Contiguous
+pub mod WordReads
+pub mod ContiguousReads

@@ -1,4 +1,6 @@
 //! The contiguous automaton.
+mod layout;
+mod reads;
 mod table;
 
 ghost use Rattle.std.specs.Prelude.{◌≡◌, if◌then◌else◌};
@@ -45,7 +47,7 @@ fn last_special_of(table: &Table, held: bool) -> StateID
 }
 
 impl NFA {
-    ghost use Rattle.ac_tables.specs.Contiguous.{IsContiguousOf};
+    ghost use Rattle.ac_tables.specs.ContiguousReads.{IsMadeOf};
 
     /// The automaton of these words, patterns and settings.
     pub(crate) fn from_parts(
@@ -56,7 +58,7 @@ impl NFA {
         kind: MatchKind,
     ) -> NFA
         requires { AreContiguousParts (dictionary_of lens pairing kind) table prefilter }
-        ensures { IsContiguousOf (dictionary_of lens pairing kind) table prefilter result }
+        ensures { IsMadeOf (dictionary_of lens pairing kind) table prefilter result }
     {
         let max_special = last_special_of(&table, prefilter.is_some());
         NFA {

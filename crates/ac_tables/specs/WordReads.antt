@@ -1,0 +1,69 @@
+-- What look-ups in the words of a contiguous automaton answer.
+use Rattle.std.specs.Prelude.{◌≡◌, ◌≢◌, ℕ, ◌+◌, ◌-◌, ◌/◌, ◌%◌, ◌<◌, ◌≤◌, ◌==◌, ◌&&◌, nat_le, not, Bool, IsTrue, if◌then◌else◌, List, [], ◌∷◌, length, take, drop, slice_get, slice_index, Option, Some, None}
+use Rattle.std.specs.Int.{w32, to_le_bytes}
+use Rattle.std.specs.List.{flat_map}
+use Rattle.ac_input.specs.declared.primitives.number.TheConstants.{GREATEST}
+use Rattle.ac_input.specs.declared.steps.Steps.{Steps}
+use Rattle.ac_input.specs.Alphabet.{class, alphabet_len}
+use Rattle.ac_input.specs.Dictionary.{Dictionary}
+use Rattle.ac_input.specs.Limits.{IsWithinLimits}
+use Rattle.ac_automaton.specs.Named.{Naming, IsStep, IsLooked, text_len}
+use Rattle.ac_tables.specs.declared.contiguous.table.Table.{Table}
+use Rattle.ac_tables.specs.ContiguousTable.{AreStates}
+use Rattle.ac_tables.specs.Words.{StateParts, next_by, one_pattern, words_of, StandsAt}
+
+-- ---- classes packed in words
+
+-- the bytes of words, those of each from its lowest bits on
+abbrev pub unpacked : List ℕ → List ℕ
+unpacked words = flat_map (to_le_bytes w32) words
+
+-- the first place at which some bytes have this one
+abbrev pub IsFirstPlace : List ℕ → ℕ → Option ℕ → Type 0
+IsFirstPlace bytes wanted None = (k : ℕ) → k < length bytes → slice_index bytes k ≢ wanted
+IsFirstPlace bytes wanted (Some at) = (at < length bytes) × (slice_index bytes at ≡ wanted) × ((k : ℕ) → k < at → slice_index bytes k ≢ wanted)
+
+-- ---- one state
+
+-- A state stands at a place: its words do, the class of each transition is one of the alphabet, and each byte leads to a number.
+pub record IsStateAt (table : Table) (sid : ℕ) (s : StateParts) : Type 0 where
+  pub stands : StandsAt table.words.items sid (words_of table.alphabet_len s)
+  pub alphabet : table.alphabet_len ≡ alphabet_len table.classes
+  pub few_classes : table.alphabet_len ≤ 256
+  pub fits : (k : ℕ) (edge : ℕ × ℕ) → slice_get s.edges k ≡ Some edge → edge.0 < table.alphabet_len
+  pub nexts : (byte : ℕ) → byte < 256 → next_by s.edges (class table.classes byte) ≤ GREATEST
+
+-- some state stands there
+abbrev pub IsPlace : Table → ℕ → Type 0
+IsPlace table sid = ∥ ((s : StateParts) × IsStateAt table sid s) ∥₁
+
+-- where a byte leads from a state by its transitions
+abbrev pub StepsTo : Table → ℕ → ℕ → ℕ → Type 0
+StepsTo table sid byte next = (s : StateParts) → IsStateAt table sid s → next ≡ next_by s.edges (class table.classes byte)
+
+-- how many words the transitions of a state have, by its kind
+abbrev pub transitions_len : ℕ → ℕ → ℕ
+transitions_len alphabet kind = if kind == 255 then alphabet else if kind == 254 then 1 else kind + (kind + 3) / 4
+
+-- where the patterns of a state begin
+abbrev pub list_place : Table → ℕ → ℕ
+list_place table sid = sid + 2 + transitions_len table.alphabet_len (slice_index table.words.items sid % 256)
+
+-- the patterns whose words begin at a place
+abbrev pub list_from : List ℕ → ℕ → List ℕ
+list_from words at = if nat_le one_pattern (slice_index words at) then (slice_index words at - one_pattern) ∷ [] else take (slice_index words at) (drop (at + 1) words)
+
+-- the patterns that match at a state; none at the dead state, and none past the last state that matches
+abbrev pub matches_by : Table → ℕ → List ℕ
+matches_by table sid = if not (sid == 0) && nat_le sid table.max_match then list_from table.words.items (list_place table sid) else []
+
+-- ---- one look-up
+
+-- a search of this anchoring may come to the place
+pub record IsMetBy (table : Table) (anchored : Bool) (sid : ℕ) : Type 0 where
+  pub met : ∥ ((m : Dictionary) × (names : Naming) × (parts : ℕ → StateParts) × AreStates m table names parts × ∥ IsWithinLimits m ∥₁ × IsTrue (names.met anchored sid)) ∥₁
+
+-- Whatever the places stand for: the state to which a byte leads in a search, and how many states were looked at to find it, after
+-- so many for the same byte.
+abbrev pub LeadsNext : Table → Bool → ℕ → ℕ → ℕ → ℕ → Steps → Steps → Type 0
+LeadsNext table anchored done sid byte next before after = (m : Dictionary) (names : Naming) (parts : ℕ → StateParts) → AreStates m table names parts → IsTrue (names.met anchored sid) → IsStep m names anchored sid byte next × IsLooked done (text_len (names.text sid)) (text_len (names.text next)) before after

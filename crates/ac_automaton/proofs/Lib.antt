@@ -31,3 +31,4 @@ pub mod WriterChainLemmas
 pub mod StreamWithLemmas
 pub mod StreamWithReadLemmas
 pub mod NamedLemmas
+pub mod LinkedLemmas

@@ -25,7 +25,7 @@ use Rattle.ac_input.proofs.ShadowLemmas.{list-one}
 use Rattle.ac_input.proofs.SomeLemmas.{live-some, list-some}
 use Rattle.ac_input.proofs.StateLemmas.{live-one, live-forward}
 use Rattle.ac_automaton.specs.Automaton.{Built, IsReached, IsState, AtEach, Leads, IsReadCost, IsSpecial, TellsDead, TellsStart}
-use Rattle.ac_automaton.specs.Named.{Naming, IsNamed, AllNames, OfNames, IsStep, text_len, IsStepPaid, IsFirst, IsReachedBy, IsReadBy}
+use Rattle.ac_automaton.specs.Named.{Naming, IsNamed, AllNames, OfNames, IsStep, text_len, IsPaidStep, IsFirst, IsReachedBy, IsReadBy}
 
 -- ---- what a number stands for
 
@@ -226,7 +226,7 @@ named-live m names anchored text sid live named is = by (names.text sid) named.l
     by (Some state) leads = leads-long m anchored text state live leads is
 
 -- the looks of an automaton that follows failures
-pub read-cost : (b : Built) (Fits : Naming → Type 0) (matches : ℕ → List ℕ) (starts special : ℕ → Bool) (anchored : Anchored) (sid byte next : ℕ) (old new : Steps) → b.deterministic ≡ false → OfNames Fits (is_anchored anchored) sid (λ names. IsStep b.dictionary names (is_anchored anchored) sid byte next × IsStepPaid names sid next old new) → IsReadCost b (IsReadBy b Fits matches starts special) anchored sid (byte ∷ []) old new
+pub read-cost : (b : Built) (Fits : Naming → Type 0) (matches : ℕ → List ℕ) (starts special : ℕ → Bool) (anchored : Anchored) (sid byte next : ℕ) (old new : Steps) → b.deterministic ≡ false → OfNames Fits (is_anchored anchored) sid (λ names. IsPaidStep b.dictionary names (is_anchored anchored) 0 sid byte next old new) → IsReadCost b (IsReadBy b Fits matches starts special) anchored sid (byte ∷ []) old new
 read-cost b Fits matches starts special anchored sid byte next old new many steps = λ text before after reads g h.
     let m = b.dictionary in
     let a = is_anchored anchored in

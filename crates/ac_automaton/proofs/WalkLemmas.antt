@@ -61,7 +61,7 @@ longest-bound (q ∷ ps) zero p is = let e : length q ≡ length p = ap length (
 longest-bound (q ∷ ps) (suc n) p is = let le = longest-bound ps n p is in omega arith
 
 -- what begins an entered pattern is no longer than the longest
-begins-bound : (m : Dictionary) (text : List ℕ) → BeginsEntered m text → length text ≤ longest m.patterns
+pub begins-bound : (m : Dictionary) (text : List ℕ) → BeginsEntered m text → length text ≤ longest m.patterns
 begins-bound m [] h = omega arith
 begins-bound m (b ∷ bs) h = let le = longest-bound m.patterns h.0 h.1 h.2.0 in let within = h.3.0 in omega arith
 

@@ -4,7 +4,7 @@
 -- made differs from automaton to automaton; what follows from it doesn't. So an automaton proves three things of its own: for which
 -- states its numbers stand, that the list and the tests of a number are those of its state, and that one look-up is one step. The
 -- lemmas are in NamedLemmas, and those of automata that follow failures in LinkedLemmas.
-use Rattle.std.specs.Prelude.{◌≡◌, ◌≢◌, ◌↔◌, ◌⊎◌, ℕ, ◌+◌, ◌<◌, ◌≤◌, Bool, true, false, IsTrue, List, [], ◌∷◌, ◌++◌, length, Option, Some, None}
+use Rattle.std.specs.Prelude.{◌≡◌, ◌≢◌, ◌↔◌, ◌⊎◌, ℕ, ◌+◌, ◌<◌, ◌≤◌, Bool, true, false, IsTrue, map, List, [], ◌∷◌, ◌++◌, length, Option, Some, None}
 use Rattle.ac_input.specs.declared.search.Anchored.{Anchored}
 use Rattle.ac_input.specs.declared.steps.Steps.{Steps}
 use Rattle.ac_input.specs.Dictionary.{Dictionary, BeginsEntered, IsLive}
@@ -64,9 +64,9 @@ text_len (Some text) = length text
 abbrev pub IsLooked : ℕ → ℕ → ℕ → Steps → Steps → Type 0
 IsLooked done bytes next before after = (looks : ℕ) × Done looks 0 0 before after × (1 ≤ looks) × (done + looks + next ≤ bytes + 2)
 
--- so it is of one look-up
-abbrev pub IsStepPaid : Naming → ℕ → ℕ → Steps → Steps → Type 0
-IsStepPaid names sid next before after = IsLooked 0 (text_len (names.text sid)) (text_len (names.text next)) before after
+-- A byte leads from one number to another, and that is what it costs to find out, after so many looks for the same byte.
+abbrev pub IsPaidStep : Dictionary → Naming → Bool → ℕ → ℕ → ℕ → ℕ → Steps → Steps → Type 0
+IsPaidStep m names anchored done sid byte next before after = IsStep m names anchored sid byte next × IsLooked done (text_len (names.text sid)) (text_len (names.text next)) before after
 
 -- ---- the start of a search
 
@@ -109,14 +109,18 @@ pub record IsFailureBy (m : Dictionary) (names : Naming) (sid fail : ℕ) : Type
   pub met : IsTrue (names.met false fail)
   pub fails : (text : List ℕ) → names.text sid ≡ Some text → FailsTo m text (names.text fail)
 
--- The edges and failures of an automaton are right: which number each byte leads to, and which number each one fails to. Only the
--- unanchored start stands for the empty text among those that unanchored searches come to; no number that is met stands for nowhere.
-pub record AreLinked (m : Dictionary) (names : Naming) (start : ℕ) (edge : ℕ → ℕ → ℕ) (fail : ℕ → ℕ) : Type 0 where
+-- The numbers of an automaton stand for texts of canonical bytes that begin entered patterns. The unanchored start alone stands for
+-- the empty text among those to which unanchored searches come; anchored ones don't come to it. None that is met is that of nowhere.
+pub record AreNumbers (m : Dictionary) (names : Naming) (start : ℕ) : Type 0 where
   pub inverse : IsOwnInverse m.pairing
   pub apart : (anchored : Bool) (sid : ℕ) → IsTrue (names.met anchored sid) → sid ≢ nowhere
   pub unanchored : names.met true start ≡ false
   pub only : (sid : ℕ) → IsTrue (names.met false sid) → names.text sid ≡ Some [] → sid ≡ start
-  pub canonical : (anchored : Bool) (sid : ℕ) (text : List ℕ) → IsTrue (names.met anchored sid) → names.text sid ≡ Some text → BeginsEntered m text
+  pub begin : (anchored : Bool) (sid : ℕ) (text : List ℕ) → IsTrue (names.met anchored sid) → names.text sid ≡ Some text → BeginsEntered m text × (map (canonical m.pairing) text ≡ text)
+
+-- The edges and failures of an automaton are right: which number each byte leads to, and which number each one fails to.
+pub record AreLinked (m : Dictionary) (names : Naming) (start : ℕ) (edge : ℕ → ℕ → ℕ) (fail : ℕ → ℕ) : Type 0 where
+  pub numbers : AreNumbers m names start
   pub edges : (anchored : Bool) (sid byte : ℕ) → IsTrue (names.met anchored sid) → byte < 256 → IsEdgeBy m names start sid byte (edge sid byte)
   pub failures : (sid : ℕ) → IsTrue (names.met false sid) → IsFailureBy m names sid (fail sid)
 

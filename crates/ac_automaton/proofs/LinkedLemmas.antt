@@ -1,0 +1,288 @@
+-- Where a byte leads in an automaton that follows failures: straight on, or over the numbers to which one fails.
+use Rattle.std.proofs.Common.{◌≡◌, ◌≢◌, ℕ, ◌+◌, ◌≤◌, Bool, true, false, IsTrue, List, [], ◌∷◌, ◌++◌, length, Option, None, Some, ⊎_elim, refl, sym, ap, subst, ◌∙◌, arith, length-append}
+use Rattle.std.specs.Coded.{le_prop}
+use Rattle.std.proofs.Math.Logic.{∥∥₁_elim}
+use Rattle.std.proofs.lemmas.Bool.{cases_eq, false≢true}
+use Rattle.std.proofs.lemmas.List.{nil_from_length}
+use Rattle.std.proofs.lemmas.Option.{same_Some}
+use Rattle.ac_input.specs.declared.steps.Steps.{Steps}
+use Rattle.ac_input.specs.Dictionary.{Dictionary, BeginsEntered}
+use Rattle.ac_input.specs.LiveLaws.{canonical}
+use Rattle.ac_input.specs.States.{LeadsTo, FailsTo}
+use Rattle.ac_input.specs.Steps.{Done}
+use Rattle.ac_input.specs.Work.{longest}
+use Rattle.ac_input.proofs.LeadsLemmas.{leads-child, leads-dead, leads-failure, leads-failure_none, fails-state}
+use Rattle.ac_automaton.specs.Named.{Naming, OfNames, IsStep, text_len, IsPaidStep, nowhere, IsEdgeBy, IsFailureBy, AreNumbers}
+use Rattle.ac_automaton.proofs.NamedLemmas.{stands-for, begins-or-not}
+use Rattle.ac_automaton.proofs.WalkLemmas.{begins-bound}
+
+-- ---- straight on
+
+-- how many bytes a number has that stands for a text
+long-some : (names : Naming) (sid : ℕ) (text : List ℕ) → names.text sid ≡ Some text → text_len (names.text sid) ≡ length text
+long-some names sid text is = ap text_len is
+
+-- and how many one has that stands for the dead state
+long-none : (names : Naming) (sid : ℕ) → names.text sid ≡ None → text_len (names.text sid) ≡ 0
+long-none names sid is = ap text_len is
+
+-- no number stands both for the dead state and for a text
+not-both : (names : Naming) (sid : ℕ) (text : List ℕ) → names.text sid ≡ None → ¬ (names.text sid ≡ Some text)
+not-both names sid text none some = cc
+
+-- numbers to which an anchored search comes are met by it, where all such are met by both
+met-by : (names : Naming) (anchored : Bool) (sid : ℕ) → IsTrue (names.met true sid) → IsTrue (names.met false sid) → IsTrue (names.met anchored sid)
+met-by names true sid one other = one
+met-by names false sid one other = other
+
+-- A byte leads from a number to another one without a look at its failure: that is a step, and one byte more at most.
+pub record IsStraight (m : Dictionary) (names : Naming) (anchored : Bool) (sid byte next : ℕ) : Type 0 where
+  pub step : IsStep m names anchored sid byte next
+  pub longer : text_len (names.text next) ≤ text_len (names.text sid) + 1
+
+-- from the dead state
+straight-dead : (m : Dictionary) (names : Naming) (start : ℕ) (anchored : Bool) (sid byte next : ℕ) → IsEdgeBy m names start sid byte next → names.text sid ≡ None → IsStraight m names anchored sid byte next
+straight-dead m names start anchored sid byte next edge none =
+    let to = edge.dead none in
+    record {
+      step = record {
+        met = met-by names anchored next to.0 to.1;
+        dead = λ _. to.3;
+        leads = λ text some. absurd (not-both names sid text none some);
+      };
+      longer = let e = long-none names next to.3 in omega (arith, e);
+    }
+
+-- to a text that is one byte longer
+straight-child : (m : Dictionary) (names : Naming) (start : ℕ) (anchored : Bool) (sid byte next : ℕ) (text : List ℕ) → AreNumbers m names start → IsEdgeBy m names start sid byte next → IsTrue (names.met anchored sid) → names.text sid ≡ Some text → BeginsEntered m (text ++ byte ∷ []) → IsStraight m names anchored sid byte next
+straight-child m names start anchored sid byte next text numbers edge met is begins =
+    let child = edge.child text is begins in
+    let own = (numbers.begin anchored sid text met is).1 in
+    record {
+      step = record {
+        met = met-by names anchored next child.0 child.1;
+        dead = λ none. absurd (not-both names sid text none is);
+        leads = λ other is_other.
+            let same : text ≡ other = same_Some text other (sym is ∙ is_other) in
+            subst (λ (v : List ℕ). LeadsTo m anchored (v ++ byte ∷ []) (names.text next)) same
+            (subst (LeadsTo m anchored (text ++ byte ∷ [])) (sym child.3) (leads-child m anchored text byte own begins));
+      };
+      longer =
+          let e = long-some names next (text ++ canonical m.pairing byte ∷ []) child.3 in
+          let f = long-some names sid text is in
+          let g = length-append text (canonical m.pairing byte ∷ []) in
+          omega (arith, e, f, g);
+    }
+
+-- from the unanchored start, where the byte begins no pattern
+straight-back : (m : Dictionary) (names : Naming) (start : ℕ) (sid byte next : ℕ) (text : List ℕ) → IsEdgeBy m names start sid byte next → names.text sid ≡ Some text → sid ≡ start → (¬ BeginsEntered m (text ++ byte ∷ [])) → IsStraight m names false sid byte next
+straight-back m names start sid byte next text edge is at none =
+    let back = edge.back text is at none in
+    record {
+      step = record {
+        met = back.0;
+        dead = λ dead. absurd (not-both names sid text dead is);
+        leads = λ other is_other. subst (λ (v : List ℕ). LeadsTo m false (v ++ byte ∷ []) (names.text next)) (same_Some text other (sym is ∙ is_other)) back.3;
+      };
+      longer = let e = back.2 in omega (arith, e);
+    }
+
+-- from the start, which is the unanchored one
+straight-start : (m : Dictionary) (names : Naming) (start : ℕ) (anchored : Bool) (sid byte next : ℕ) (text : List ℕ) → AreNumbers m names start → IsEdgeBy m names start sid byte next → IsTrue (names.met anchored sid) → names.text sid ≡ Some text → sid ≡ start → (¬ BeginsEntered m (text ++ byte ∷ [])) → IsStraight m names anchored sid byte next
+straight-start m names start true sid byte next text numbers edge met is at none =
+    absurd (false≢true (sym numbers.unanchored ∙ subst (λ (i : ℕ). IsTrue (names.met true i)) at met))
+straight-start m names start false sid byte next text numbers edge met is at none = straight-back m names start sid byte next text edge is at none
+
+-- a byte that doesn't lead nowhere leads straight on
+pub straight : (m : Dictionary) (names : Naming) (start : ℕ) (anchored : Bool) (sid byte next : ℕ) → AreNumbers m names start → IsEdgeBy m names start sid byte next → IsTrue (names.met anchored sid) → next ≢ nowhere → IsStraight m names anchored sid byte next
+straight m names start anchored sid byte next numbers edge met some =
+    ⊎_elim
+    (λ (none : names.text sid ≡ None). straight-dead m names start anchored sid byte next edge none)
+    (λ (is : (text : List ℕ) × (names.text sid ≡ Some text)).
+    ⊎_elim
+    (λ (begins : BeginsEntered m (is.0 ++ byte ∷ [])). straight-child m names start anchored sid byte next is.0 numbers edge met is.1 begins)
+    (λ (none : ¬ BeginsEntered m (is.0 ++ byte ∷ [])).
+    ⊎_elim
+    (λ (at : sid ≡ start). straight-start m names start anchored sid byte next is.0 numbers edge met is.1 at none)
+    (λ (apart : sid ≢ start). absurd (some (edge.none is.0 is.1 apart none)))
+    (cases_eq sid start))
+    (begins-or-not m (is.0 ++ byte ∷ []) numbers.inverse))
+    (stands-for names sid)
+
+-- with one look
+pub paid-straight : (m : Dictionary) (names : Naming) (start : ℕ) (anchored : Bool) (sid byte next : ℕ) (before after : Steps) → AreNumbers m names start → IsEdgeBy m names start sid byte next → IsTrue (names.met anchored sid) → next ≢ nowhere → Done 1 0 0 before after → IsPaidStep m names anchored 0 sid byte next before after
+paid-straight m names start anchored sid byte next before after numbers edge met some one =
+    let s = straight m names start anchored sid byte next numbers edge met some in
+    let longer = s.longer in
+    (s.step, (1, one, omega arith, omega (arith, longer)))
+
+-- ---- nowhere
+
+-- What is known of a number from which a byte leads nowhere.
+pub record IsStuck (m : Dictionary) (names : Naming) (start sid byte : ℕ) : Type 0 where
+  pub text : List ℕ
+  pub is : names.text sid ≡ Some text
+  pub none : ¬ BeginsEntered m (text ++ byte ∷ [])
+  pub apart : sid ≢ start
+
+-- which are such
+pub stuck : (m : Dictionary) (names : Naming) (start sid byte next : ℕ) → AreNumbers m names start → IsEdgeBy m names start sid byte next → next ≡ nowhere → IsStuck m names start sid byte
+stuck m names start sid byte next numbers edge nothing =
+    ⊎_elim
+    (λ (dead : names.text sid ≡ None). absurd ((edge.dead dead).2 nothing))
+    (λ (is : (text : List ℕ) × (names.text sid ≡ Some text)).
+    let none : ¬ BeginsEntered m (is.0 ++ byte ∷ []) = λ begins. (edge.child is.0 is.1 begins).2 nothing in
+    record {
+      text = is.0;
+      is = is.1;
+      none = none;
+      apart = λ at. (edge.back is.0 is.1 at none).1 nothing;
+    })
+    (stands-for names sid)
+
+-- in an anchored search such a byte leads to the dead state
+pub stuck-dead : (m : Dictionary) (names : Naming) (start sid byte dead : ℕ) → IsStuck m names start sid byte → IsTrue (names.met true dead) → names.text dead ≡ None → IsStep m names true sid byte dead
+stuck-dead m names start sid byte dead s met none = record {
+  met = met;
+  dead = λ _. none;
+  leads = λ text is.
+      subst (λ (v : List ℕ). LeadsTo m true (v ++ byte ∷ []) (names.text dead)) (same_Some s.text text (sym s.is ∙ is))
+      (subst (LeadsTo m true (s.text ++ byte ∷ [])) (sym none) (leads-dead m (s.text ++ byte ∷ []) s.none));
+}
+
+-- with one look
+pub paid-dead : (m : Dictionary) (names : Naming) (start sid byte next dead : ℕ) (before after : Steps) → AreNumbers m names start → IsEdgeBy m names start sid byte next → next ≡ nowhere → IsTrue (names.met true dead) → names.text dead ≡ None → Done 1 0 0 before after → IsPaidStep m names true 0 sid byte dead before after
+paid-dead m names start sid byte next dead before after numbers edge nothing met none one =
+    let s = stuck m names start sid byte next numbers edge nothing in
+    let e = long-none names dead none in
+    (stuck-dead m names start sid byte dead s met none, (1, one, omega arith, omega (arith, e)))
+
+-- ---- over the numbers to which one fails
+
+-- A look-up that began at a number has come to this one, over so many others: it leads on to where the number does, and each one on
+-- the way has cost a byte.
+pub record IsFollowing (m : Dictionary) (names : Naming) (sid byte from looks : ℕ) : Type 0 where
+  pub met : IsTrue (names.met false from)
+  pub leads : (text state : List ℕ) (r : Option (List ℕ)) → names.text sid ≡ Some text → names.text from ≡ Some state → LeadsTo m false (state ++ byte ∷ []) r → LeadsTo m false (text ++ byte ∷ []) r
+  pub dead : (text : List ℕ) → names.text sid ≡ Some text → names.text from ≡ None → LeadsTo m false (text ++ byte ∷ []) None
+  pub paid : looks + text_len (names.text from) ≤ text_len (names.text sid)
+
+-- at first
+pub following-none : (m : Dictionary) (names : Naming) (sid byte : ℕ) → IsTrue (names.met false sid) → IsFollowing m names sid byte sid 0
+following-none m names sid byte met = record {
+  met = met;
+  leads = λ text state r is here leads. subst (λ (v : List ℕ). LeadsTo m false (v ++ byte ∷ []) r) (same_Some state text (sym here ∙ is)) leads;
+  dead = λ text is none. absurd (not-both names sid text none is);
+  paid = omega arith;
+}
+
+-- one number more
+pub following-more : (m : Dictionary) (names : Naming) (start sid byte from looks fail : ℕ) → AreNumbers m names start → IsFollowing m names sid byte from looks → IsStuck m names start from byte → IsFailureBy m names from fail → IsFollowing m names sid byte fail (looks + 1)
+following-more m names start sid byte from looks fail numbers h s failure =
+    let some : s.text ≢ [] = λ e. s.apart (numbers.only from h.met (s.is ∙ ap Some e)) in
+    let long = long-some names from s.text s.is in
+    let fails = failure.fails s.text s.is in
+    let paid = h.paid in
+    record {
+      met = failure.met;
+      leads = λ text state r is here leads. h.leads text s.text r is s.is ((leads-failure m s.text state byte r numbers.inverse (subst (FailsTo m s.text) here fails) s.none).0 leads);
+      dead = λ text is none. h.leads text s.text None is s.is (leads-failure_none m s.text byte some (subst (FailsTo m s.text) none fails) s.none);
+      paid =
+          ⊎_elim
+          (λ (none : names.text fail ≡ None). let e = long-none names fail none in let n = not-empty s.text some in omega (arith, e, long, n, paid))
+          (λ (is : (text : List ℕ) × (names.text fail ≡ Some text)).
+          let e = long-some names fail is.0 is.1 in
+          let n = (fails-state m s.text is.0 numbers.inverse (subst (FailsTo m s.text) is.1 fails)).2 in
+          omega (arith, e, long, n, paid))
+          (stands-for names fail);
+    }
+  where
+    not-empty : (xs : List ℕ) → xs ≢ [] → length xs ≢ 0
+    not-empty [] apart e = apart refl
+    not-empty (x ∷ xs) apart e = omega (arith, e)
+
+-- where the byte leads from the last one
+pub following-end : (m : Dictionary) (names : Naming) (start sid byte from looks next : ℕ) (before after : Steps) → AreNumbers m names start → ¬ (names.text sid ≡ None) → IsFollowing m names sid byte from looks → IsEdgeBy m names start from byte next → next ≢ nowhere → 1 ≤ looks → Done looks 0 0 before after → IsPaidStep m names false 1 sid byte next before after
+following-end m names start sid byte from looks next before after numbers alive h edge some least count =
+    let s = straight m names start false from byte next numbers edge h.met some in
+    let paid = h.paid in
+    let longer = s.longer in (
+      record {
+        met = s.step.met;
+        dead = λ none. absurd (alive none);
+        leads = λ text is.
+            ⊎_elim
+            (λ (none : names.text from ≡ None). subst (LeadsTo m false (text ++ byte ∷ [])) (sym (s.step.dead none)) (h.dead text is none))
+            (λ (state : (v : List ℕ) × (names.text from ≡ Some v)). h.leads text state.0 (names.text next) is state.1 (s.step.leads state.0 state.1))
+            (stands-for names from);
+      },
+      (looks, count, least, omega (arith, paid, longer)),
+    )
+
+-- after one look at the number itself
+pub paid-followed : (m : Dictionary) (names : Naming) (sid byte next : ℕ) (before between after : Steps) → Done 1 0 0 before between → IsPaidStep m names false 1 sid byte next between after → IsPaidStep m names false 0 sid byte next before after
+paid-followed m names sid byte next before between after one h =
+    let c = h.1 in
+    let le = c.3 in
+    (h.0, (c.0 + 1, done-more c.0 before between after one c.1, omega arith, omega (arith, le)))
+  where
+    done-more : (looks : ℕ) (before between after : Steps) → Done 1 0 0 before between → Done looks 0 0 between after → Done (looks + 1) 0 0 before after
+    done-more looks before between after one more = record { looked = omega (arith, one.looked, more.looked); scanned = omega (arith, one.scanned, more.scanned); moved = omega (arith, one.moved, more.moved) }
+
+-- ---- the same by whichever naming the automaton is laid out
+
+-- A look-up has come over so many numbers to one from which the byte leads nowhere.
+pub record HasFollowed (m : Dictionary) (Fits : Naming → Type 0) (start sid byte from : ℕ) (before after : Steps) : Type 0 where
+  pub looks : ℕ
+  pub counted : Done looks 0 0 before after
+  pub follows : OfNames Fits false sid (λ names. IsFollowing m names sid byte from looks × IsStuck m names start from byte × (¬ (names.text sid ≡ None)))
+
+-- at first
+pub followed-none : (m : Dictionary) (Fits : Naming → Type 0) (start sid byte next : ℕ) (steps : Steps) → OfNames Fits false sid (λ names. AreNumbers m names start × IsEdgeBy m names start sid byte next) → next ≡ nowhere → HasFollowed m Fits start sid byte sid steps steps
+followed-none m Fits start sid byte next steps edges nothing = record {
+  looks = 0;
+  counted = record { looked = omega arith; scanned = omega arith; moved = omega arith };
+  follows = λ names fits met.
+      let e = edges names fits met in
+      let s = stuck m names start sid byte next e.0 e.1 nothing in
+      (following-none m names sid byte met, s, λ none. not-both names sid s.text none s.is);
+}
+
+-- the number to which it fails, with one look more
+followed-fail : (m : Dictionary) (Fits : Naming → Type 0) (start sid byte from fail : ℕ) (before after : Steps) → (h : HasFollowed m Fits start sid byte from before after) → ((names : Naming) → Fits names → AreNumbers m names start) → OfNames Fits false from (λ names. IsFailureBy m names from fail) → OfNames Fits false sid (λ names. IsFollowing m names sid byte fail (h.looks + 1))
+followed-fail m Fits start sid byte from fail before after h numbers failures = λ names fits met.
+    let f = h.follows names fits met in
+    following-more m names start sid byte from h.looks fail (numbers names fits) f.0 f.1 (failures names fits f.0.met)
+
+-- one number more
+pub followed-more : (m : Dictionary) (Fits : Naming → Type 0) (start sid byte from fail next : ℕ) (before between after : Steps) → HasFollowed m Fits start sid byte from before between → ((names : Naming) → Fits names → AreNumbers m names start) → OfNames Fits false from (λ names. IsFailureBy m names from fail) → Done 1 0 0 between after → OfNames Fits false fail (λ names. IsEdgeBy m names start fail byte next) → next ≡ nowhere → HasFollowed m Fits start sid byte fail before after
+followed-more m Fits start sid byte from fail next before between after h numbers failures one edges nothing = record {
+  looks = h.looks + 1;
+  counted = record { looked = omega (arith, one.looked, h.counted.looked); scanned = omega (arith, one.scanned, h.counted.scanned); moved = omega (arith, one.moved, h.counted.moved) };
+  follows = λ names fits met.
+      let there = followed-fail m Fits start sid byte from fail before between h numbers failures names fits met in
+      (there, stuck m names start fail byte next (numbers names fits) (edges names fits there.met) nothing, (h.follows names fits met).2);
+}
+
+-- where the byte leads from it
+pub followed-end : (m : Dictionary) (Fits : Naming → Type 0) (start sid byte from fail next : ℕ) (before between after : Steps) → HasFollowed m Fits start sid byte from before between → ((names : Naming) → Fits names → AreNumbers m names start) → OfNames Fits false from (λ names. IsFailureBy m names from fail) → Done 1 0 0 between after → OfNames Fits false fail (λ names. IsEdgeBy m names start fail byte next) → next ≢ nowhere → OfNames Fits false sid (λ names. IsPaidStep m names false 1 sid byte next before after)
+followed-end m Fits start sid byte from fail next before between after h numbers failures one edges some = λ names fits met.
+    let there = followed-fail m Fits start sid byte from fail before between h numbers failures names fits met in
+    let count : Done (h.looks + 1) 0 0 before after = record { looked = omega (arith, one.looked, h.counted.looked); scanned = omega (arith, one.scanned, h.counted.scanned); moved = omega (arith, one.moved, h.counted.moved) } in
+    following-end m names start sid byte fail (h.looks + 1) next before after (numbers names fits) (h.follows names fits met).2 there (edges names fits there.met) some (omega arith) count
+
+-- no more numbers were looked at than the longest pattern has bytes
+pub followed-few : (m : Dictionary) (Fits : Naming → Type 0) (start sid byte from : ℕ) (before after : Steps) → (h : HasFollowed m Fits start sid byte from before after) → ((names : Naming) → Fits names → AreNumbers m names start) → ∥ ((names : Naming) × Fits names × IsTrue (names.met false sid)) ∥₁ → h.looks + 1 ≤ longest m.patterns
+followed-few m Fits start sid byte from before after h numbers some =
+    ∥∥₁_elim some le_prop (λ w.
+    let f = h.follows w.0 w.1 w.2 in
+    let paid = f.0.paid in
+    ⊎_elim
+    (λ (dead : w.0.text sid ≡ None). absurd (f.2 dead))
+    (λ (is : (text : List ℕ) × (w.0.text sid ≡ Some text)).
+    let bound = begins-bound m is.0 ((numbers w.0 w.1).begin false sid is.0 w.2 is.1).0 in
+    let long = long-some w.0 sid is.0 is.1 in
+    let here = long-some w.0 from f.1.text f.1.is in
+    let apart : length f.1.text ≢ 0 = λ e. f.1.apart ((numbers w.0 w.1).only from f.0.met (f.1.is ∙ ap Some (nil_from_length f.1.text e))) in
+    omega (arith, bound, long, here, apart, paid))
+    (stands-for w.0 sid))

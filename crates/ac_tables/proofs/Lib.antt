@@ -1,3 +1,6 @@
 pub mod PlacesLemmas
 pub mod PackedLemmas
 pub mod DecodeLemmas
+pub mod WordsLemmas
+pub mod LenLemmas
+pub mod StandLemmas

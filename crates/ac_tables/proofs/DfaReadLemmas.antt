@@ -142,9 +142,9 @@ are-names dfa names rows =
           (ap (matches_by dfa.table) zero, start-none sid dfa.table.start dfa.table.start_anchored zero (omega (arith, placed)) (omega (arith, placed)));
       starting = λ anchored sid text met is. (
         λ yes.
-        let empty = (rows.starting anchored sid met).1 (start-is sid dfa.table.start dfa.table.start_anchored yes) in
-        let same : Some text ≡ Some [] = sym is ∙ empty in
-        cc,
+            let empty = (rows.starting anchored sid met).1 (start-is sid dfa.table.start dfa.table.start_anchored yes) in
+            let same : Some text ≡ Some [] = sym is ∙ empty in
+            cc,
         λ none. start-has sid dfa.table.start dfa.table.start_anchored ((rows.starting anchored sid met).0 (is ∙ ap Some none)),
       );
       stopping = λ anchored sid met. (

@@ -59,7 +59,10 @@ impl Automaton for DFA {
     fn start_state(&self, anchored: Anchored) -> Result<StateID, MatchError> {
         let (start, refusal) = match anchored {
             Anchored::No => (self.table.start, MatchError::invalid_input_unanchored()),
-            Anchored::Yes => (self.table.start_anchored, MatchError::invalid_input_anchored()),
+            Anchored::Yes => (
+                self.table.start_anchored,
+                MatchError::invalid_input_anchored(),
+            ),
         };
         if self.table.serves(anchored) {
             Ok(start)

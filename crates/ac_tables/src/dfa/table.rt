@@ -47,11 +47,7 @@ impl Table {
         requires { IsTrue plain → ArePlain self.now.classes }
         ensures { result ≡ class self.now.classes byte }
     {
-        if plain {
-            byte
-        } else {
-            self.classes.get(byte)
-        }
+        if plain { byte } else { self.classes.get(byte) }
     }
 
     /// The state after one more byte.
@@ -102,11 +98,7 @@ impl Table {
         ensures { result.now ≡ list_of self.now.lists (list_at self.now sid) }
     {
         let at = self.list_index(sid);
-        let start = if at == 0 {
-            0
-        } else {
-            self.lists.ends[at - 1]
-        };
+        let start = if at == 0 { 0 } else { self.lists.ends[at - 1] };
         &self.lists.patterns[start..self.lists.ends[at]]
     }
 

@@ -1,3 +1,4 @@
 pub mod PlacesLemmas
 pub mod PackedLemmas
 pub mod DecodeLemmas
+pub mod DfaReadLemmas

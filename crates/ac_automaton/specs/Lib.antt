@@ -18,6 +18,7 @@ pub mod Watched
 pub mod Errors
 pub mod Automaton
 pub mod Named
+pub mod Starters
 pub mod Cursor
 pub mod Find
 pub mod Iter

@@ -4,3 +4,4 @@ pub mod DecodeLemmas
 pub mod WordsLemmas
 pub mod LenLemmas
 pub mod StandLemmas
+pub mod DfaReadLemmas

@@ -32,3 +32,4 @@ pub mod StreamWithLemmas
 pub mod StreamWithReadLemmas
 pub mod NamedLemmas
 pub mod LinkedLemmas
+pub mod IdleLemmas

@@ -195,27 +195,31 @@ read-next b Fits matches starts special anchored sid byte next all steps = λ te
 
 -- ---- what it costs
 
--- at most one byte more is live after one more byte
-pub live-grows : (m : Dictionary) (anchored : Bool) (text : List ℕ) (byte : ℕ) (p q : Option ℕ) → IsLive m anchored text p → IsLive m anchored (text ++ byte ∷ []) q → live_len (text ++ byte ∷ []) q ≤ live_len text p + 1
-live-grows m anchored text byte p None g h = omega arith
-live-grows m anchored text byte None (Some after) g h = absurd (let e = live-one m anchored (text ++ byte ∷ []) None (Some after) (dead-append m anchored text (byte ∷ []) g) h in cc)
-live-grows m anchored text byte (Some before) (Some after) g h =
-    let forward = live-forward m anchored text (byte ∷ []) before after g h in
-    let long = length-append text (byte ∷ []) in
+-- no more bytes are live than were, and those that were read since
+pub live-grows : (m : Dictionary) (anchored : Bool) (text more : List ℕ) (p q : Option ℕ) → IsLive m anchored text p → IsLive m anchored (text ++ more) q → live_len (text ++ more) q ≤ live_len text p + length more
+live-grows m anchored text more p None g h = omega arith
+live-grows m anchored text more None (Some after) g h = absurd (let e = live-one m anchored (text ++ more) None (Some after) (dead-append m anchored text more g) h in cc)
+live-grows m anchored text more (Some before) (Some after) g h =
+    let forward = live-forward m anchored text more before after g h in
+    let long = length-append text more in
     omega (arith, forward, long)
 
--- one look a byte, of a deterministic automaton or of any other
-pub read-cost-one : (b : Built) (Fits : Naming → Type 0) (matches : ℕ → List ℕ) (starts special : ℕ → Bool) (anchored : Anchored) (sid byte : ℕ) (old new : Steps) → Done 1 0 0 old new → IsReadCost b (IsReadBy b Fits matches starts special) anchored sid (byte ∷ []) old new
-read-cost-one b Fits matches starts special anchored sid byte old new done = λ text before after reads g h.
-    let grows = live-grows b.dictionary (is_anchored anchored) text byte before after g h in
+-- one look for each byte, of a deterministic automaton or of any other
+pub cost-looks : (b : Built) (Reaches : Anchored → List ℕ → ℕ → Type 0) (anchored : Anchored) (sid : ℕ) (bytes : List ℕ) (looks : ℕ) (old new : Steps) → length bytes ≡ looks → Done looks 0 0 old new → IsReadCost b Reaches anchored sid bytes old new
+cost-looks b Reaches anchored sid bytes looks old new all done = λ text before after reads g h.
+    let grows = live-grows b.dictionary (is_anchored anchored) text bytes before after g h in
     let d = done.looked in
     record {
-      some = omega (arith, d);
-      bound = omega (arith, d, grows);
-      one = λ is. omega (arith, d);
+      some = omega (arith, d, all);
+      bound = omega (arith, d, grows, all);
+      one = λ is. omega (arith, d, all);
       scanned = omega (arith, done.scanned);
       moved = omega (arith, done.moved);
     }
+
+-- so it is with one byte
+pub read-cost-one : (b : Built) (Fits : Naming → Type 0) (matches : ℕ → List ℕ) (starts special : ℕ → Bool) (anchored : Anchored) (sid byte : ℕ) (old new : Steps) → Done 1 0 0 old new → IsReadCost b (IsReadBy b Fits matches starts special) anchored sid (byte ∷ []) old new
+read-cost-one b Fits matches starts special anchored sid byte old new done = cost-looks b (IsReadBy b Fits matches starts special) anchored sid (byte ∷ []) 1 old new refl done
 
 -- as many bytes are live as the state has
 pub named-live : (m : Dictionary) (names : Naming) (anchored : Bool) (text : List ℕ) (sid : ℕ) (live : Option ℕ) → IsNamed m names anchored text sid → IsLive m anchored text live → live_len text live ≡ text_len (names.text sid)

@@ -126,7 +126,8 @@ pub record AreLinked (m : Dictionary) (names : Naming) (start : ℕ) (edge : ℕ
 
 -- ---- bytes over which a search passes in the start
 
--- Over this byte a search that stands in the start stays there, and the start matches nothing.
-pub record IsIdleBy (m : Dictionary) (names : Naming) (start byte : ℕ) (matches : ℕ → List ℕ) : Type 0 where
+-- Over this byte a search that stands in the start stays there, by whichever naming the automaton is laid out, and the start matches
+-- nothing.
+pub record IsIdleBy (m : Dictionary) (Fits : Naming → Type 0) (matches : ℕ → List ℕ) (start byte : ℕ) : Type 0 where
   pub plain : matches start ≡ []
-  pub stays : IsStep m names false start byte start
+  pub stays : (anchored : Bool) → OfNames Fits anchored start (λ names. IsStep m names anchored start byte start)

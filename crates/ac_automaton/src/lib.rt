@@ -10,6 +10,7 @@ pub mod iter;
 pub mod output;
 pub mod overlapping;
 mod replace;
+pub mod starters;
 pub mod stream;
 pub mod watched;
 

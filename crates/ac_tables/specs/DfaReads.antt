@@ -6,7 +6,7 @@ use Rattle.ac_input.specs.Candidate.{Filter}
 use Rattle.ac_input.specs.Dfa.{Serves}
 use Rattle.ac_input.specs.Dictionary.{Dictionary, dictionary_of}
 use Rattle.ac_automaton.specs.Automaton.{Built}
-use Rattle.ac_automaton.specs.Named.{IsReadBy}
+use Rattle.ac_automaton.specs.Named.{Naming, IsReadBy}
 use Rattle.ac_tables.specs.declared.dfa.DFA.{DFA}
 use Rattle.ac_tables.specs.declared.dfa.table.Table.{Table}
 use Rattle.ac_tables.specs.DfaTable.{AreRows, stride_of, list_index, list_start, list_end, matches_by}
@@ -35,9 +35,13 @@ is_start_at dfa sid = (sid == dfa.table.start) || (sid == dfa.table.start_anchor
 abbrev pub is_special_at : DFA → ℕ → Bool
 is_special_at dfa sid = nat_le sid dfa.max_special
 
--- A number is read by a search that the automaton serves.
+-- The numbers have these names, and the automaton has a start for searches of this anchoring.
+abbrev pub IsNamingFor : DFA → Anchored → Naming → Type 0
+IsNamingFor dfa anchored names = Serves dfa.table.kind anchored × AreRows (dictionary dfa) dfa.table names
+
+-- a number is read by a search
 abbrev pub IsRead : DFA → Anchored → List ℕ → ℕ → Type 0
-IsRead dfa anchored text sid = IsReadBy (built_as dfa) (λ names. Serves dfa.table.kind anchored × AreRows (dictionary dfa) dfa.table names) (matches_at dfa) (is_start_at dfa) (is_special_at dfa) anchored text sid
+IsRead dfa anchored text sid = IsReadBy (built_as dfa) (IsNamingFor dfa anchored) (matches_at dfa) (is_start_at dfa) (is_special_at dfa) anchored text sid
 
 -- the automaton is made of this table and this prefilter
 pub record IsMadeOf (m : Dictionary) (from : Table) (held : Option Filter) (dfa : DFA) : Type 0 where
@@ -50,6 +54,10 @@ pub record IsMadeOf (m : Dictionary) (from : Table) (held : Option Filter) (dfa 
 -- which of the lists is that of a number
 abbrev pub list_at : Table → ℕ → ℕ
 list_at table sid = list_index table.kind (sid / stride_of table)
+
+-- each byte is a class of its own
+abbrev pub ArePlain : List ℕ → Type 0
+ArePlain classes = (byte : ℕ) → byte < 256 → class classes byte ≡ byte
 
 -- a whole row begins at the number, with an entry for each class
 pub record HasRow (table : Table) (sid : ℕ) : Type 0 where

@@ -40,7 +40,7 @@ IsCell nfa kind stride cell anchored sid byte next = LeadsIn nfa anchored sid by
 -- The transitions are those of an automaton: a row for each of its states, as long as the least power of two that is enough for
 -- the classes; in it the next state for each class, all failures followed.
 pub record AreTransitionsOf (nfa : NFA) (kind : StartKind) (classes : List ℕ) (stride : ℕ) (transitions : List ℕ) : Type 0 where
-  pub stride : IsLeastPowerOfTwo (alphabet_len classes) stride
+  pub least : IsLeastPowerOfTwo (alphabet_len classes) stride
   pub len : length transitions ≡ dfa_states kind (state_len nfa) * stride
   pub cells : (anchored : Anchored) (sid byte : ℕ) → Serves kind anchored → MayBeMet nfa anchored sid → byte < 256 → ∥ ((next : ℕ) × IsCell nfa kind stride (slice_index transitions (number_of kind (special_in nfa).start_unanchored_id stride (is_anchored anchored) sid + class classes byte)) anchored sid byte next) ∥₁
 

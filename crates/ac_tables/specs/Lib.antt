@@ -22,5 +22,6 @@ pub mod DfaTable
 pub mod DfaReads
 pub mod Words
 pub mod ContiguousTable
+pub mod ContiguousBuild
 pub mod WordReads
 pub mod ContiguousReads

@@ -3,7 +3,7 @@ mod automaton;
 mod lists;
 mod table;
 
-ghost use Rattle.std.specs.Prelude.{◌≡◌};
+ghost use Rattle.std.specs.Prelude.{◌≡◌, if◌then◌else◌};
 ghost use Rattle.std.proofs.Props.{props};
 ghost use Rattle.ac_input.specs.Dictionary.{dictionary_of};
 ghost use Rattle.ac_input.specs.Pairing.{IsPairing};
@@ -33,6 +33,17 @@ pub struct DFA {
     ghost held: { IsHeldFor (dictionary_of lens pairing kind) prefilter } by { Prim.hlevel props },
 }
 
+/// The last state at which a search has more to do than to read on.
+fn last_special_of(table: &Table, held: bool) -> StateID
+    ensures { result ≡ (if held then table.now.start_anchored else table.now.max_match) }
+{
+    if held {
+        table.start_anchored
+    } else {
+        table.max_match
+    }
+}
+
 impl DFA {
     ghost use Rattle.ac_tables.specs.DfaReads.{IsMadeOf};
 
@@ -47,11 +58,7 @@ impl DFA {
         requires { AreParts (dictionary_of lens pairing kind) table prefilter }
         ensures { IsMadeOf (dictionary_of lens pairing kind) table prefilter result }
     {
-        let max_special = if prefilter.is_some() {
-            table.start_anchored
-        } else {
-            table.max_match
-        };
+        let max_special = last_special_of(&table, prefilter.is_some());
         DFA {
             table,
             lens,

@@ -1,11 +1,37 @@
 //! Searching with the DFA.
+ghost use Rattle.std.specs.Prelude.{[], ◌∷◌, IsTrue};
+ghost use Rattle.ac_automaton.specs.Automaton.{IsReached, Leads, IsReadCost};
+ghost use Rattle.ac_tables.specs.DfaReads.{built_as, IsRead, ArePlain};
+
 use crate::dfa::DFA;
 use ac_automaton::automaton::{Advance, Automaton};
 use ac_automaton::error::MatchError;
 use ac_input::primitives::{PatternID, StateID};
-use ac_input::search::{Anchored, MatchKind, StartKind};
+use ac_input::search::{Anchored, MatchKind};
 use ac_input::steps::Steps;
 use ac_literal::prefilter::Prefilter;
+
+impl DFA {
+    /// The state after one more byte; it counts one look. Where each byte is a class of its own, a caller may say so.
+    #[inline]
+    fn step(
+        &self,
+        plain: bool,
+        anchored: Anchored,
+        sid: StateID,
+        byte: u8,
+        steps: &mut Steps,
+    ) -> StateID
+        requires reached { IsReached (IsRead self.now anchored) sid }
+        requires plain { IsTrue plain → ArePlain self.now.table.classes }
+        ensures next { Leads (IsRead self.now anchored) sid (byte ∷ []) result }
+        ensures cost { IsReadCost (built_as self.now) (IsRead self.now) anchored sid
+            (byte ∷ []) steps.old steps.new }
+    {
+        steps.look();
+        self.table.next(plain, sid, byte)
+    }
+}
 
 impl Automaton for DFA {
     ghost use Rattle.ac_tables.specs.DfaReads.{built_as, supported_by, IsRead, matches_at, is_start_at, is_special_at};
@@ -31,11 +57,17 @@ impl Automaton for DFA {
     ghost stops = { λ dfa anchored text sid reads. reads.stops };
 
     fn start_state(&self, anchored: Anchored) -> Result<StateID, MatchError> {
-        match (anchored, self.table.kind) {
-            (Anchored::No, StartKind::Anchored) => Err(MatchError::invalid_input_unanchored()),
-            (Anchored::Yes, StartKind::Unanchored) => Err(MatchError::invalid_input_anchored()),
-            (Anchored::No, _) => Ok(self.table.start),
-            (Anchored::Yes, _) => Ok(self.table.start_anchored),
+        let (start, refusal) = match anchored {
+            Anchored::No => (self.table.start, MatchError::invalid_input_unanchored()),
+            Anchored::Yes => (
+                self.table.start_anchored,
+                MatchError::invalid_input_anchored(),
+            ),
+        };
+        if self.table.serves(anchored) {
+            Ok(start)
+        } else {
+            Err(refusal)
         }
     }
 
@@ -47,8 +79,7 @@ impl Automaton for DFA {
         byte: u8,
         steps: &mut Steps,
     ) -> StateID {
-        steps.look();
-        self.table.next(sid, byte)
+        self.step(false, anchored, sid, byte, steps)
     }
 
     fn advance(
@@ -58,10 +89,11 @@ impl Automaton for DFA {
         bytes: &[u8],
         steps: &mut Steps,
     ) -> Advance {
+        let plain = self.table.is_plain();
         let last_special = self.max_special.as_u32();
         let mut current = sid;
         for (read, byte) in bytes.iter().enumerate() {
-            current = self.next_state_counted(anchored, current, *byte, steps);
+            current = self.step(plain, anchored, current, *byte, steps);
             if current.as_u32() <= last_special {
                 return Advance {
                     sid: current,
@@ -82,10 +114,11 @@ impl Automaton for DFA {
         bytes: &[u8],
         steps: &mut Steps,
     ) -> Advance {
+        let plain = self.table.is_plain();
         let last_match = self.table.max_match.as_u32();
         let mut current = sid;
         for (read, byte) in bytes.iter().enumerate() {
-            current = self.next_state_counted(anchored, current, *byte, steps);
+            current = self.step(plain, anchored, current, *byte, steps);
             if current.as_u32() <= last_match && self.is_match(current) {
                 return Advance {
                     sid: current,
@@ -116,8 +149,7 @@ impl Automaton for DFA {
 
     #[inline]
     fn is_start(&self, sid: StateID) -> bool {
-        let at = sid.as_u32();
-        at == self.table.start.as_u32() || at == self.table.start_anchored.as_u32()
+        self.table.is_start(sid)
     }
 
     fn match_kind(&self) -> MatchKind {

@@ -3,15 +3,16 @@
 //! It is one vector: a row for each state, one after another, and in each row the next state for each class of bytes. A state's
 //! number is where its row begins, so that a look-up is the byte's class, one addition and one load. Rows are as long as the least
 //! power of two that is enough for the classes.
-ghost use Rattle.std.specs.Prelude.{◌≡◌, ◌+◌, slice_index};
+ghost use Rattle.std.specs.Prelude.{◌≡◌, ◌↔◌, ◌+◌, ◌==◌, ◌||◌, IsTrue, slice_index};
 ghost use Rattle.ac_input.specs.Alphabet.{class};
+ghost use Rattle.ac_input.specs.Dfa.{Serves};
 ghost use Rattle.ac_tables.specs.DfaTable.{list_of};
-ghost use Rattle.ac_tables.specs.DfaReads.{HasRow, HasList, list_at};
+ghost use Rattle.ac_tables.specs.DfaReads.{ArePlain, HasRow, HasList, list_at};
 
 use crate::dfa::lists::Lists;
 use ac_input::alphabet::ByteClasses;
 use ac_input::primitives::{PatternID, StateID};
-use ac_input::search::StartKind;
+use ac_input::search::{Anchored, StartKind};
 
 /// The table. Rows are numbered so: the dead state (0), the fail state (1), the states that match, the unanchored start, the
 /// anchored start, the others.
@@ -32,13 +33,50 @@ pub(crate) struct Table {
 }
 
 impl Table {
+    /// Whether each byte is a class of its own, so that a look-up need not load one.
+    #[inline]
+    pub(crate) fn is_plain(&self) -> bool
+        ensures { IsTrue result → ArePlain self.now.classes }
+    {
+        self.classes.alphabet_len() == 256
+    }
+
+    /// The class of a byte. It isn't loaded where the caller knows that each byte is a class of its own.
+    #[inline]
+    fn class(&self, plain: bool, byte: u8) -> u8
+        requires { IsTrue plain → ArePlain self.now.classes }
+        ensures { result ≡ class self.now.classes byte }
+    {
+        if plain { byte } else { self.classes.get(byte) }
+    }
+
     /// The state after one more byte.
     #[inline]
-    pub(crate) fn next(&self, sid: StateID, byte: u8) -> StateID
-        requires { HasRow self.now sid }
+    pub(crate) fn next(&self, plain: bool, sid: StateID, byte: u8) -> StateID
+        requires row { HasRow self.now sid }
+        requires plain { IsTrue plain → ArePlain self.now.classes }
         ensures { result ≡ slice_index self.now.trans.items (sid + class self.now.classes byte) }
     {
-        self.trans[sid.as_usize() + self.classes.get(byte) as usize]
+        self.trans[sid.as_usize() + self.class(plain, byte) as usize]
+    }
+
+    /// Whether there is a start for searches of this anchoring.
+    pub(crate) fn serves(&self, anchored: Anchored) -> bool
+        ensures { IsTrue result ↔ Serves self.now.kind anchored }
+    {
+        match self.kind {
+            StartKind::Both => true,
+            StartKind::Unanchored => anchored == Anchored::No,
+            StartKind::Anchored => anchored == Anchored::Yes,
+        }
+    }
+
+    /// Whether it is one of the two starts.
+    #[inline]
+    pub(crate) fn is_start(&self, sid: StateID) -> bool
+        ensures { result ≡ ((sid == self.now.start) || (sid == self.now.start_anchored)) }
+    {
+        sid == self.start || sid == self.start_anchored
     }
 
     /// Which of the lists is that of a state.
@@ -60,11 +98,7 @@ impl Table {
         ensures { result.now ≡ list_of self.now.lists (list_at self.now sid) }
     {
         let at = self.list_index(sid);
-        let start = if at == 0 {
-            0
-        } else {
-            self.lists.ends[at - 1]
-        };
+        let start = if at == 0 { 0 } else { self.lists.ends[at - 1] };
         &self.lists.patterns[start..self.lists.ends[at]]
     }
 

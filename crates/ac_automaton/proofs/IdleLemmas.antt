@@ -1,0 +1,156 @@
+-- What a search passes over that stands in the start: bytes that leave it there.
+use Rattle.std.proofs.Common.{◌≡◌, ◌≢◌, ⊎_elim, ℕ, zero, suc, ◌+◌, ◌-◌, ◌<◌, ◌≤◌, Bool, false, IsTrue, List, [], ◌∷◌, ◌++◌, length, take, drop, Option, sym, ap, ap₂, subst, ◌∙◌, arith, length-drop, take-append-drop}
+use Rattle.std.specs.Prelude.{slice_index}
+use Rattle.std.proofs.Math.Logic.{∥∥₁_elim, ∥∥₁_map, ∥∥₁_prop}
+use Rattle.std.proofs.lemmas.Bool.{cases_lt, cases_eq, false≢true}
+use Rattle.std.proofs.lemmas.List.{append-nil, append_assoc, drop-take, length-take-le, take-take}
+use Rattle.std.proofs.lemmas.Option.{slice_get-get_or}
+use Rattle.ac_input.specs.Number.{StateID}
+use Rattle.ac_input.specs.declared.search.Anchored.{Anchored}
+use Rattle.ac_input.specs.declared.steps.Steps.{Steps}
+use Rattle.ac_input.specs.Dictionary.{Dictionary, IsLive, live_len}
+use Rattle.ac_input.specs.Input.{is_anchored}
+use Rattle.ac_input.specs.LiveLaws.{IsOwnInverse}
+use Rattle.ac_input.specs.Steps.{Done}
+use Rattle.ac_input.specs.Work.{IsLookups}
+use Rattle.ac_automaton.specs.declared.starters.Starters.{Starters}
+use Rattle.ac_automaton.specs.declared.starters.Starters.TheVariants.{Many}
+use Rattle.ac_automaton.specs.Automaton.{Built, Leads}
+use Rattle.ac_automaton.specs.Named.{Naming, AllNames, IsReachedBy, IsReadBy, IsIdleBy}
+use Rattle.ac_automaton.specs.Starters.{is_starter, AddsStarter, SkipsBelow, SkipsIdle, PassesIdle}
+use Rattle.ac_automaton.proofs.CursorLemmas.{HasAdvanced, lookups-join, take-more}
+use Rattle.ac_automaton.proofs.NamedLemmas.{named-next, read-from, cost-looks}
+
+-- ---- the bytes that are gathered, one after another
+
+-- a byte that is added
+pub skips-add : (Idle : ℕ → Type 0) (limit : ℕ) (before after : Starters) → SkipsBelow Idle limit before → AddsStarter before limit after → SkipsBelow Idle (limit + 1) after
+skips-add Idle limit before after skips adds = λ byte lt none. let added = adds byte none in let apart = added.1 in skips byte (omega (arith, lt, apart)) added.0
+
+-- a byte that is idle
+pub skips-idle : (Idle : ℕ → Type 0) (limit : ℕ) (starters : Starters) → SkipsBelow Idle limit starters → Idle limit → SkipsBelow Idle (limit + 1) starters
+skips-idle Idle limit starters skips idle = λ byte lt none.
+    ⊎_elim
+    (λ (here : byte ≡ limit). subst Idle (sym here) idle)
+    (λ (other : byte ≢ limit). skips byte (omega (arith, lt, other)) none)
+    (cases_eq byte limit)
+
+-- where there may be many, none is passed over
+pub skips-many : (Idle : ℕ → Type 0) (limit : ℕ) → SkipsBelow Idle limit Many
+skips-many Idle limit = λ byte lt none. absurd (false≢true (sym none))
+
+-- ---- a run of idle bytes
+
+-- it leads from the start to itself, of whatever text was read before
+run-reached : (m : Dictionary) (Fits : Naming → Type 0) (matches : ℕ → List ℕ) (start : ℕ) (anchored : Bool) (text bytes : List ℕ) (k : ℕ) → IsOwnInverse m.pairing → k ≤ length bytes → ((j : ℕ) → j < k → IsIdleBy m Fits matches start (slice_index bytes j)) → IsReachedBy m Fits anchored text start → IsReachedBy m Fits anchored (text ++ take k bytes) start
+run-reached m Fits matches start anchored text bytes zero inverse fits idle h = subst (λ (l : List ℕ). IsReachedBy m Fits anchored l start) (sym (append-nil text)) h
+run-reached m Fits matches start anchored text bytes (suc k) inverse fits idle h =
+    let before = run-reached m Fits matches start anchored text bytes k inverse (omega (arith, fits)) (λ j lt. idle j (omega (arith, lt))) h in
+    let byte = slice_index bytes k in
+    let here = idle k (omega arith) in
+    let more : take (suc k) bytes ≡ take k bytes ++ byte ∷ [] = take-more bytes k byte (slice_get-get_or bytes k 0 (omega (arith, fits))) in
+    let whole : (text ++ take k bytes) ++ byte ∷ [] ≡ text ++ take (suc k) bytes = append_assoc text (take k bytes) (byte ∷ []) ∙ ap (λ (l : List ℕ). text ++ l) (sym more) in
+    subst (λ (l : List ℕ). IsReachedBy m Fits anchored l start) whole
+    (∥∥₁_map before (λ w. (w.0, w.1, named-next m w.0 anchored (text ++ take k bytes) start byte start inverse (here.stays anchored w.0 w.1 w.2.met) w.2)))
+
+-- so it is read
+pub run-reads : (b : Built) (Fits : Naming → Type 0) (matches : ℕ → List ℕ) (starts special : ℕ → Bool) (start : ℕ) (starters : Starters) (anchored : Anchored) (bytes : List ℕ) (k : ℕ) → AllNames b Fits matches starts special → ∥ SkipsIdle (IsIdleBy b.dictionary Fits matches start) starters ∥₁ → ((j : ℕ) → slice_index bytes j < 256) → k ≤ length bytes → ((j : ℕ) → j < k → is_starter starters (slice_index bytes j) ≡ false) → Leads (IsReadBy b Fits matches starts special anchored) start (take k bytes) start
+run-reads b Fits matches starts special start starters anchored bytes k all skips small fits idle = λ text reads.
+    read-from b Fits matches starts special anchored (text ++ take k bytes) start all
+    (∥∥₁_elim skips ∥∥₁_prop (λ s. run-reached b.dictionary Fits matches start (is_anchored anchored) text bytes k reads.inverse fits (λ j lt. s (slice_index bytes j) (small j) (idle j lt)) reads.reached))
+
+-- ---- reading on over it
+
+-- the front of a list, and the front of what follows
+take-both : (n k : ℕ) (xs : List ℕ) → take (n + k) xs ≡ take n xs ++ take k (drop n xs)
+take-both n k xs =
+    sym (take-append-drop n (take (n + k) xs)) ∙ ap₂ (λ (a b : List ℕ). a ++ b) (take-take n (n + k) xs (omega arith)) (drop-take n k xs)
+
+-- Some bytes more that leave a search where it is, each with one look. The state isn't one at which it stops.
+pub advanced-run : (b : Built) (Reaches : Anchored → List ℕ → StateID → Type 0) (anchored : Anchored) (stops : StateID → Bool) (sid : StateID) (bytes : List ℕ) (n k : ℕ) (current : StateID) (s t u : Steps)
+    → n + k ≤ length bytes → ¬ IsTrue (stops current)
+    → ((text : List ℕ) → Reaches anchored text current → (live : Option ℕ) × IsLive b.dictionary (is_anchored anchored) text live)
+    → ((j : ℕ) → j ≤ k → Leads (Reaches anchored) current (take j (drop n bytes)) current) → Done k 0 0 t u
+    → HasAdvanced b Reaches anchored stops sid bytes n current s t
+    → HasAdvanced b Reaches anchored stops sid bytes (n + k) current s u
+advanced-run b Reaches anchored stops sid bytes n k current s t u fits apart lives leads done has =
+    record {
+      reads = further k (omega arith);
+      plain = λ at lt le. ⊎_elim
+          (λ (sooner : at < n + 1). has.plain at lt sooner)
+          (λ (here : n + 1 ≤ at).
+          let j : ℕ = at - n in
+          let e : n + j ≡ at = omega arith in (
+            current,
+            subst (λ (i : ℕ). Leads (Reaches anchored) sid (take i bytes) current) e (further j (omega (arith, le, here))),
+            apart,
+          ))
+          (cases_lt at (n + 1));
+      cost = λ text p q reads g h.
+          let m = b.dictionary in
+          let a = is_anchored anchored in
+          let rest = take k (drop n bytes) in
+          let whole = joined text k in
+          let there = has.reads text reads in
+          let live = lives (text ++ take n bytes) there in
+          let first = has.cost text p live.0 reads g live.1 in
+          let left = length-drop n bytes in
+          let long : length rest ≡ k = length-take-le k (drop n bytes) (omega (arith, left, fits)) in
+          let after : IsLive m a ((text ++ take n bytes) ++ rest) q = subst (λ (l : List ℕ). IsLive m a l q) (sym whole) h in
+          let second = cost-looks b Reaches anchored current rest k t u long done (text ++ take n bytes) live.0 q there live.1 after in
+          let both = lookups-join b.deterministic (length (take n bytes)) (length rest) (live_len text p) (live_len (text ++ take n bytes) live.0) (live_len ((text ++ take n bytes) ++ rest) q) s t u first second in
+          let one = length-take-le n bytes (omega (arith, fits)) in
+          let all = length-take-le (n + k) bytes fits in
+          let count : length (take n bytes) + length rest ≡ length (take (n + k) bytes) = omega (arith, one, all, long) in
+          subst (λ (i : ℕ). IsLookups b.deterministic i (live_len text p) (live_len (text ++ take (n + k) bytes) q) s u) count
+          (subst (λ (l : List ℕ). IsLookups b.deterministic (length (take n bytes) + length rest) (live_len text p) (live_len l q) s u) whole both);
+    }
+  where
+    joined : (text : List ℕ) (j : ℕ) → (text ++ take n bytes) ++ take j (drop n bytes) ≡ text ++ take (n + j) bytes
+    joined text j = append_assoc text (take n bytes) (take j (drop n bytes)) ∙ ap (λ (l : List ℕ). text ++ l) (sym (take-both n j bytes))
+
+    further : (j : ℕ) → j ≤ k → Leads (Reaches anchored) sid (take (n + j) bytes) current
+    further j le = λ text reads. subst (λ (l : List ℕ). Reaches anchored l current) (joined text j) (leads j le (text ++ take n bytes) (has.reads text reads))
+
+-- the same, where nothing was done since
+advanced-same : (b : Built) (Reaches : Anchored → List ℕ → StateID → Type 0) (anchored : Anchored) (stops : StateID → Bool) (sid current : StateID) (bytes : List ℕ) (n : ℕ) (s t u : Steps) → Done 0 0 0 t u
+    → HasAdvanced b Reaches anchored stops sid bytes n current s t → HasAdvanced b Reaches anchored stops sid bytes n current s u
+advanced-same b Reaches anchored stops sid current bytes n s t u none has =
+    record {
+      reads = has.reads;
+      plain = has.plain;
+      cost = λ text p q reads g h.
+          let first = has.cost text p q reads g h in
+          let d = none.looked in
+          record {
+            some = omega (arith, first.some, d);
+            bound = omega (arith, first.bound, d);
+            one = λ is. let e = first.one is in omega (arith, e, d);
+            scanned = omega (arith, none.scanned, first.scanned);
+            moved = omega (arith, none.moved, first.moved);
+          };
+    }
+
+-- Reading on over what is passed over. A search doesn't stop at a start that matches nothing. By which namings the automaton is laid
+-- out may differ from one anchoring to the other.
+pub pass-advanced : (b : Built) (Fits : Anchored → Naming → Type 0) (matches : ℕ → List ℕ) (starts special stops : ℕ → Bool) (start : ℕ) (starters : Starters) (anchored : Anchored) (sid current : ℕ) (bytes rest : List ℕ) (n passed : ℕ) (s t u : Steps)
+    → AllNames b (Fits anchored) matches starts special → ∥ SkipsIdle (IsIdleBy b.dictionary (Fits anchored) matches start) starters ∥₁ → (matches start ≡ [] → ¬ IsTrue (stops start))
+    → ((k : ℕ) → slice_index rest k < 256) → rest ≡ drop n bytes → n ≤ length bytes → PassesIdle starters start current rest passed t u
+    → HasAdvanced b (λ (a : Anchored). IsReadBy b (Fits a) matches starts special a) anchored stops sid bytes n current s t
+    → (n + passed ≤ length bytes) × HasAdvanced b (λ (a : Anchored). IsReadBy b (Fits a) matches starts special a) anchored stops sid bytes (n + passed) current s u
+pass-advanced b Fits matches starts special stops start starters anchored sid current bytes rest n zero s t u all skips apart small is within passes has =
+    let e : n ≡ n + zero = omega arith in
+    let R = λ (a : Anchored). IsReadBy b (Fits a) matches starts special a in
+    (omega (arith, within), subst (λ (i : ℕ). HasAdvanced b R anchored stops sid bytes i current s u) e (advanced-same b R anchored stops sid current bytes n s t u passes.counted has))
+pass-advanced b Fits matches starts special stops start starters anchored sid current bytes rest n (suc k) s t u all skips apart small is within passes has =
+    let R = λ (a : Anchored). IsReadBy b (Fits a) matches starts special a in
+    let at : current ≡ start = passes.at (omega arith) in
+    let inside = passes.within in
+    let fits : n + suc k ≤ length bytes = let left = ap length is in let all_left = length-drop n bytes in omega (arith, inside, left, all_left, within) in
+    let quiet : ¬ IsTrue (stops start) = λ e. ∥∥₁_elim skips (λ x y. absurd x) (λ idle. apart (idle (slice_index rest 0) (small 0) (passes.idle 0 (omega arith))).plain e) in
+    let there = subst (λ (c : ℕ). HasAdvanced b R anchored stops sid bytes n c s t) at has in
+    let run = advanced-run b R anchored stops sid bytes n (suc k) start s t u fits quiet (λ text reads. reads.lives)
+    (λ j le. subst (λ (l : List ℕ). Leads (R anchored) start (take j l) start) is
+    (run-reads b (Fits anchored) matches starts special start starters anchored rest j all skips small (omega (arith, le, inside)) (λ i lt. passes.idle i (omega (arith, lt, le)))))
+    passes.counted there in
+    (fits, subst (λ (c : ℕ). HasAdvanced b R anchored stops sid bytes (n + suc k) c s u) (sym at) run)

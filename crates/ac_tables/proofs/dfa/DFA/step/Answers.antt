@@ -1,0 +1,15 @@
+use Rattle.ac_tables.specs.DfaReads.{built_as, matches_at, is_start_at, is_special_at, IsNamingFor}
+use Rattle.ac_automaton.proofs.NamedLemmas.{read-cost-one}
+use Rattle.ac_tables.proofs.DfaReadLemmas.{read-row, row-leads}
+use Rattle.ac_tables.proofs.dfa.DFA.step.Goals as goal
+
+pub next-requires-clause-row : goal.next-requires-clause-row
+next-requires-clause-row c = read-row c.args.self.now c.args.anchored c.args.sid c.requires.reached
+
+pub returns-clause-next : goal.returns-clause-next
+returns-clause-next c = row-leads c.args.self.now c.args.anchored c.args.sid c.args.byte c.next.result c.ranges.byte.fits c.next.ensures
+
+pub returns-clause-cost : goal.returns-clause-cost
+returns-clause-cost c = λ text before after reads g h.
+    let a = c.args.self.now in
+    read-cost-one (built_as a) (IsNamingFor a c.args.anchored) (matches_at a) (is_start_at a) (is_special_at a) c.args.anchored c.args.sid c.args.byte _ _ c.look.ensures text before after reads g h

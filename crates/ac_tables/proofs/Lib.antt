@@ -2,6 +2,10 @@ pub mod PlacesLemmas
 pub mod PackedLemmas
 pub mod DecodeLemmas
 pub mod StateLemmas
+pub mod MatchLemmas
+pub mod TestLemmas
+pub mod FollowLemmas
+pub mod NameLemmas
 pub mod WordsLemmas
 pub mod LenLemmas
 pub mod StandLemmas

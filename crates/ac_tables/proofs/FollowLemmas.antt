@@ -1,5 +1,5 @@
 -- What the words say where the states have names: edges, failures, and where a search may come.
-use Rattle.std.proofs.Common.{◌≡◌, ◌≢◌, ◌⊎◌, ℕ, ◌+◌, ◌<◌, ◌≤◌, Bool, true, false, IsTrue, List, [], ◌∷◌, ◌++◌, length, Option, Some, None, refl, sym, ap, subst, ◌∙◌, ⊎_elim, arith}
+use Rattle.std.proofs.Common.{◌≡◌, ◌≢◌, ℕ, ◌<◌, ◌≤◌, Bool, true, false, IsTrue, List, [], ◌∷◌, ◌++◌, Some, None, sym, subst, ⊎_elim, arith}
 use Rattle.std.specs.Coded.{le_prop}
 use Rattle.std.proofs.Math.Logic.{∥∥₁_elim, ∥∥₁_map}
 use Rattle.std.proofs.lemmas.Bool.{cases_eq}
@@ -9,7 +9,7 @@ use Rattle.ac_input.specs.Alphabet.{class}
 use Rattle.ac_input.specs.Dictionary.{Dictionary, BeginsEntered}
 use Rattle.ac_input.specs.Steps.{Done}
 use Rattle.ac_automaton.specs.Named.{Naming, OfNames, IsEdgeBy, IsFailureBy, AreNumbers}
-use Rattle.ac_automaton.proofs.LinkedLemmas.{HasFollowed, paid-straight, paid-dead, paid-followed}
+use Rattle.ac_automaton.proofs.LinkedLemmas.{paid-straight, paid-dead, paid-followed}
 use Rattle.ac_automaton.proofs.NamedLemmas.{stands-for, begins-or-not}
 use Rattle.ac_tables.specs.declared.contiguous.NFA.{NFA}
 use Rattle.ac_tables.specs.declared.contiguous.table.Table.{Table}

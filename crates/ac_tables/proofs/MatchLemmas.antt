@@ -1,15 +1,14 @@
 -- The patterns of a state, read where its words stand.
-use Rattle.std.proofs.Common.{◌≡◌, ◌≢◌, ◌⊎◌, ℕ, zero, suc, ◌+◌, ◌*◌, ◌/◌, ◌%◌, ◌-◌, ◌<◌, ◌≤◌, Bool, true, false, map, List, [], ◌∷◌, ◌++◌, length, take, drop, get_or, Option, Some, None, inl, inr, refl, sym, ap, subst, ◌∙◌, ⊎_elim, arith, length-append}
-use Rattle.std.specs.Prelude.{◌==◌, nat_le, slice_index, slice_get, if◌then◌else◌}
-use Rattle.std.specs.List.{range_with_len}
-use Rattle.std.proofs.lemmas.Bool.{eqb-true, eq-eqb, ne_eqb, le-leb, lt-leb, cond-true, cond-false}
+use Rattle.std.proofs.Common.{◌≡◌, ◌≢◌, ℕ, ◌+◌, ◌/◌, ◌%◌, ◌-◌, ◌<◌, ◌≤◌, List, [], ◌∷◌, ◌++◌, length, take, drop, get_or, Some, refl, sym, ap, subst, ◌∙◌, arith, length-append}
+use Rattle.std.specs.Prelude.{◌==◌, nat_le, slice_index, slice_get}
+use Rattle.std.proofs.lemmas.Bool.{ne_eqb, le-leb, lt-leb, cond-true, cond-false}
 use Rattle.std.proofs.lemmas.List.{length-map, get_or-take, get_or-drop, length-drop, length-take-le}
 use Rattle.std.proofs.lemmas.Option.{slice_get_read}
 use Rattle.std.proofs.lemmas.List.FromFn.{length-map-range_with_len}
 use Rattle.ac_input.specs.declared.primitives.number.TheConstants.{GREATEST}
-use Rattle.ac_tables.specs.Words.{StateParts, Form, Dense, One, Sparse, most_sparse, form_of, next_by, packed, classes_of, nexts_of, kind_word, transition_words, one_pattern, match_words, words_of, StandsAt}
+use Rattle.ac_tables.specs.Words.{StateParts, Form, Dense, One, Sparse, form_of, next_by, packed, classes_of, nexts_of, kind_word, transition_words, one_pattern, match_words, words_of, StandsAt}
 use Rattle.ac_tables.specs.WordReads.{transitions_len, list_from}
-use Rattle.ac_tables.proofs.DecodeLemmas.{IsForm, IsDense, IsOne, IsSparse, form-is, kind-one, kind-sparse, stands-item, stands-right, state-kind, state-matches}
+use Rattle.ac_tables.proofs.DecodeLemmas.{IsForm, IsOne, IsSparse, form-is, kind-one, kind-sparse, stands-item, stands-right, state-kind, state-matches}
 use Rattle.ac_tables.proofs.LenLemmas.{packed-long}
 
 -- ---- where they begin

@@ -1,18 +1,17 @@
 -- The names of the states of a contiguous automaton: lists and tests are those of the states.
-use Rattle.std.proofs.Common.{◌≡◌, ◌≢◌, ◌⊎◌, ◌↔◌, ℕ, ◌+◌, ◌<◌, ◌≤◌, Bool, true, false, IsTrue, List, [], ◌∷◌, length, slice_get, Option, Some, None, inl, inr, refl, sym, ap, subst, ◌∙◌, ⊎_elim, arith}
-use Rattle.std.specs.Prelude.{◌==◌, ◌&&◌, ◌||◌, nat_le, not, slice_index, if◌then◌else◌}
+use Rattle.std.proofs.Common.{◌≡◌, ◌≢◌, ◌⊎◌, ◌↔◌, ℕ, ◌+◌, ◌<◌, ◌≤◌, Bool, IsTrue, List, [], ◌∷◌, length, slice_get, Option, Some, None, inl, inr, refl, sym, ap, subst, ◌∙◌, ⊎_elim, arith}
+use Rattle.std.specs.Prelude.{◌==◌, ◌&&◌, nat_le, not, slice_index, if◌then◌else◌}
 use Rattle.std.specs.Coded.{le_prop}
 use Rattle.std.proofs.Math.Logic.{∥∥₁_elim, ∥∥₁_map, ∥∥₁_prop}
 use Rattle.std.proofs.lemmas.Bool.{cases_lt, cases_eq, cond-true, cond-false, and_from, and_left, and_right, eq-eqb, ne_eqb, le-leb, lt-leb}
 use Rattle.ac_input.specs.declared.primitives.number.TheConstants.{GREATEST}
 use Rattle.ac_input.specs.declared.search.Anchored.{Anchored}
-use Rattle.ac_input.specs.declared.search.Anchored.TheVariants.{No, Yes}
 use Rattle.ac_input.specs.Candidate.{Filter}
 use Rattle.ac_input.specs.Dictionary.{Dictionary}
 use Rattle.ac_input.specs.Failure.{IsList}
 use Rattle.ac_input.specs.Input.{is_anchored}
 use Rattle.ac_automaton.specs.Automaton.{IsReached, IsState}
-use Rattle.ac_automaton.specs.Named.{Naming, IsFirst, AreNames, AllNames, OfNames, IsSpecialState}
+use Rattle.ac_automaton.specs.Named.{Naming, IsFirst, AllNames, OfNames, IsSpecialState}
 use Rattle.ac_automaton.proofs.NamedLemmas.{reached-met, state-met, read-start, read-known}
 use Rattle.ac_tables.specs.declared.contiguous.NFA.{NFA}
 use Rattle.ac_tables.specs.declared.contiguous.table.Table.{Table}
@@ -162,8 +161,8 @@ names-are nfa names fits =
           let zero = (a.dead anchored sid met).0 none in
           (list-zero nfa.table sid zero, start-none sid nfa.table.start nfa.table.start_anchored zero (omega (arith, past)) (omega (arith, past)));
       starting = λ anchored sid text met is. (
-          λ start. let empty = (a.starting anchored sid met).1 (start-is sid nfa.table.start nfa.table.start_anchored start) in let e : Some text ≡ Some [] = sym is ∙ empty in cc,
-          λ empty. start-has sid nfa.table.start nfa.table.start_anchored ((a.starting anchored sid met).0 (is ∙ ap Some empty)),
+        λ start. let empty = (a.starting anchored sid met).1 (start-is sid nfa.table.start nfa.table.start_anchored start) in let e : Some text ≡ Some [] = sym is ∙ empty in cc,
+        λ empty. start-has sid nfa.table.start nfa.table.start_anchored ((a.starting anchored sid met).0 (is ∙ ap Some empty)),
       );
       stopping = λ anchored sid met. names-stop nfa names fits anchored sid met;
     }

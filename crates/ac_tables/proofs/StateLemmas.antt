@@ -1,6 +1,6 @@
 -- A state of the table, read at its place: where a byte leads from it.
-use Rattle.std.proofs.Common.{◌≡◌, ◌≢◌, ◌⊎◌, ℕ, zero, suc, ◌+◌, ◌*◌, ◌/◌, ◌%◌, ◌-◌, ◌<◌, ◌≤◌, Bool, true, false, map, List, [], ◌∷◌, ◌++◌, length, take, drop, get_or, Option, Some, None, inl, inr, refl, sym, ap, subst, ◌∙◌, ⊎_elim, arith}
-use Rattle.std.specs.Prelude.{slice_index, slice_get, bit_and}
+use Rattle.std.proofs.Common.{◌≡◌, ◌≢◌, ℕ, ◌+◌, ◌/◌, ◌%◌, ◌-◌, ◌<◌, ◌≤◌, List, length, take, drop, get_or, Option, Some, None, refl, sym, ap, subst, ◌∙◌, ⊎_elim, arith}
+use Rattle.std.specs.Prelude.{slice_index, bit_and}
 use Rattle.std.specs.Coded.{le_prop, Coded-set, coded_ℕ}
 use Rattle.std.proofs.Math.Logic.{∥∥₁_elim}
 use Rattle.std.proofs.lemmas.Bool.{cases_lt}
@@ -8,12 +8,12 @@ use Rattle.std.proofs.lemmas.List.{get_or-map, length-map, get_or_append_left, g
 use Rattle.std.proofs.lemmas.Nat.{and_mask}
 use Rattle.std.proofs.lemmas.Option.{slice_get-get_or}
 use Rattle.ac_input.specs.declared.primitives.number.TheConstants.{GREATEST}
-use Rattle.ac_input.specs.Alphabet.{class, alphabet_len}
+use Rattle.ac_input.specs.Alphabet.{alphabet_len}
 use Rattle.ac_tables.specs.declared.contiguous.table.Table.{Table}
-use Rattle.ac_tables.specs.Words.{StateParts, form_of, Sparse, next_by, packed, classes_of, nexts_of, kind_word, first_class, words_of}
-use Rattle.ac_tables.specs.WordReads.{unpacked, IsFirstPlace, IsStateAt, IsPlace, IsSparseAt, ClassLeadsTo, StepsTo, FailsTo}
+use Rattle.ac_tables.specs.Words.{StateParts, form_of, next_by, packed, classes_of, nexts_of, kind_word, first_class}
+use Rattle.ac_tables.specs.WordReads.{unpacked, IsFirstPlace, IsStateAt, IsPlace, IsSparseAt, StepsTo, FailsTo}
 use Rattle.ac_tables.proofs.DecodeLemmas.{state-kind, state-fail, form-dense, form-one, form-sparse, kind-one, dense-next, one-next, sparse-classes, sparse-nexts, stands-item}
-use Rattle.ac_tables.proofs.PackedLemmas.{AreBytes, last_of, unpack-packed, unpack-long, first-hit, no-hit}
+use Rattle.ac_tables.proofs.PackedLemmas.{AreBytes, unpack-packed, unpack-long, first-hit, no-hit}
 
 -- ---- a place
 

@@ -1,6 +1,4 @@
-use Rattle.std.proofs.Common.{◌≡◌, ℕ, ◌+◌, ◌<◌, List, length, get_or, ap, sym, ◌∙◌, arith}
-use Rattle.std.proofs.lemmas.List.{get_or_read}
-use Rattle.ac_tables.specs.WordReads.{FailsTo}
+use Rattle.std.proofs.Common.{◌+◌, ◌∙◌, arith}
 use Rattle.ac_tables.proofs.FollowLemmas.{met-place, fail-small}
 use Rattle.ac_tables.proofs.StateLemmas.{fail-within, fail-read}
 use Rattle.ac_tables.proofs.contiguous.NFA.fail.Goals as goal

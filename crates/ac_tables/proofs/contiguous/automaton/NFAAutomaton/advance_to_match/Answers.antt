@@ -1,4 +1,4 @@
-use Rattle.std.proofs.Common.{ℕ, List, ◌++◌, take, IsTrue, sym, ◌∙◌, arith}
+use Rattle.std.proofs.Common.{ℕ, List, IsTrue, sym, ◌∙◌, arith}
 use Rattle.std.proofs.lemmas.Bool.{false≢true}
 use Rattle.std.proofs.lemmas.Option.{slice_get-get_or}
 use Rattle.ac_automaton.specs.Automaton.{is_matching}

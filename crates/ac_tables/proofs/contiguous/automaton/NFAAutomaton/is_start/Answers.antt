@@ -1,5 +1,5 @@
 -- The test is that of the two starts, so it tells what they do.
-use Rattle.std.proofs.Common.{◌≡◌, Bool, false, inl, ap, ap₂, sym, subst, ◌∙◌, ℕ}
+use Rattle.std.proofs.Common.{◌≡◌, Bool, inl, ap, ap₂, sym, subst, ◌∙◌, ℕ}
 use Rattle.std.specs.Prelude.{◌==◌, ◌||◌}
 use Rattle.std.proofs.lemmas.Bool.{eq-eqb, ne_eqb}
 use Rattle.ac_automaton.specs.Automaton.{TellsStart}

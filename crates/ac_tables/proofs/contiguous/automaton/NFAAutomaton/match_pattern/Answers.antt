@@ -1,4 +1,4 @@
-use Rattle.std.proofs.Common.{◌≡◌, ◌≢◌, ◌<◌, ℕ, List, [], length, slice_get, Some, ap, sym, ◌∙◌, arith}
+use Rattle.std.proofs.Common.{◌≢◌, ◌<◌, ℕ, List, [], length, slice_get, ap, ◌∙◌, arith}
 use Rattle.ac_automaton.proofs.NamedLemmas.{read-known}
 use Rattle.ac_tables.specs.ContiguousReads.{built_as, matches_at, is_start_at, is_special_at, IsLaidOut}
 use Rattle.ac_tables.proofs.NameLemmas.{names-are, state-list, state-listed, state-small}

@@ -1,5 +1,4 @@
-use Rattle.std.proofs.Common.{◌≡◌, ℕ, ◌+◌, ap, sym, ◌∙◌, arith}
-use Rattle.ac_tables.proofs.MatchLemmas.{one-long, many-long}
+use Rattle.std.proofs.Common.{arith}
 use Rattle.ac_tables.proofs.contiguous.table.Table.match_len.Goals as goal
 
 pub index-word-requires : goal.index-word-requires

@@ -1,7 +1,6 @@
-use Rattle.std.proofs.Common.{◌≡◌, ◌≤◌, ◌<◌, ℕ, ◌+◌, ◌-◌, get_or, ap, sym, subst, ◌∙◌, arith}
+use Rattle.std.proofs.Common.{◌≡◌, ◌<◌, ℕ, ◌+◌, ◌-◌, get_or, sym, subst, arith}
 use Rattle.std.specs.Prelude.{slice_index}
-use Rattle.std.proofs.lemmas.List.{get_or_read}
-use Rattle.ac_tables.specs.WordReads.{list_place, listed_at}
+use Rattle.ac_tables.specs.WordReads.{list_place}
 use Rattle.ac_tables.proofs.StateLemmas.{first-of}
 use Rattle.ac_tables.proofs.MatchLemmas.{one-at_index, many-at_index}
 use Rattle.ac_tables.proofs.contiguous.table.Table.match_pattern.Goals as goal

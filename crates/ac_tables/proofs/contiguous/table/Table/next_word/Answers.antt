@@ -1,6 +1,5 @@
 -- A byte leads where the words of the state have its class.
-use Rattle.std.proofs.Common.{◌≡◌, ◌≢◌, ◌≤◌, ◌<◌, ℕ, ◌+◌, ◌/◌, ◌%◌, List, length, get_or, ap, sym, refl, subst, ◌∙◌, arith}
-use Rattle.std.specs.Prelude.{slice_index}
+use Rattle.std.proofs.Common.{ℕ, ◌+◌, ◌/◌, get_or, ap, sym, ◌∙◌, arith}
 use Rattle.std.proofs.lemmas.List.{get_or_read}
 use Rattle.ac_tables.specs.Words.{next_by}
 use Rattle.ac_tables.proofs.StateLemmas.{first-of, kind-of, place-within, place-alphabet, dense-place, one-place, dense-at, one-at}

@@ -5,3 +5,5 @@ pub mod WordsLemmas
 pub mod LenLemmas
 pub mod StandLemmas
 pub mod DfaReadLemmas
+pub mod EntryLemmas
+pub mod LayLemmas

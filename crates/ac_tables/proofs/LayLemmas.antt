@@ -37,35 +37,35 @@ pub record Laid (nfa : NFA) (text : ℕ → List ℕ) (dense_depth : ℕ) (class
   pub fits : (sid : ℕ) → sid < state_len nfa → place_in nfa dense_depth classes sid ≤ GREATEST
 
 -- the unanchored start
-abbrev start_in : NFA → ℕ
+abbrev pub start_in : NFA → ℕ
 start_in nfa = (special_in nfa).start_unanchored_id
 
 -- what each number names
-abbrev names_in : NFA → ℕ → List ℕ → (ℕ → List ℕ) → Naming
+abbrev pub names_in : NFA → ℕ → List ℕ → (ℕ → List ℕ) → Naming
 names_in nfa dense_depth classes text = named_by (state_of text) (state_len nfa) (start_in nfa) (λ _ i. place_in nfa dense_depth classes i)
 
 -- what is known of the state that stands at a number
-abbrev known_at : NFA → ℕ → List ℕ → Option ℕ → StateParts
+abbrev pub known_at : NFA → ℕ → List ℕ → Option ℕ → StateParts
 known_at nfa dense_depth classes None = parts_of nfa dense_depth classes (place_in nfa dense_depth classes) 0
 known_at nfa dense_depth classes (Some i) = parts_of nfa dense_depth classes (place_in nfa dense_depth classes) i
 
-abbrev parts_in : NFA → ℕ → List ℕ → ℕ → StateParts
+abbrev pub parts_in : NFA → ℕ → List ℕ → ℕ → StateParts
 parts_in nfa dense_depth classes sid = known_at nfa dense_depth classes (state_at (λ _. true) (place_in nfa dense_depth classes) (state_len nfa) sid)
 
 -- ---- the state at a place
 
 -- a state past 1 stands for its text, and state 0 for none
-text-past : (text : ℕ → List ℕ) (i : ℕ) → 1 < i → state_of text i ≡ Some (text i)
+pub text-past : (text : ℕ → List ℕ) (i : ℕ) → 1 < i → state_of text i ≡ Some (text i)
 text-past text zero past = absurd (omega (arith, past))
 text-past text (suc zero) past = absurd (omega (arith, past))
 text-past text (suc (suc i)) past = refl
 
-text-some : (text : ℕ → List ℕ) (i : ℕ) (t : List ℕ) → state_of text i ≡ Some t → (1 < i) × (text i ≡ t)
+pub text-some : (text : ℕ → List ℕ) (i : ℕ) (t : List ℕ) → state_of text i ≡ Some t → (1 < i) × (text i ≡ t)
 text-some text zero t is = absurd (let e : None ≡ Some t = is in cc)
 text-some text (suc zero) t is = absurd (let e : None ≡ Some t = is in cc)
 text-some text (suc (suc i)) t is = (omega arith, same_Some (text (suc (suc i))) t is)
 
-text-none : (text : ℕ → List ℕ) (i : ℕ) → i ≢ 1 → state_of text i ≡ None → i ≡ 0
+pub text-none : (text : ℕ → List ℕ) (i : ℕ) → i ≢ 1 → state_of text i ≡ None → i ≡ 0
 text-none text zero stands is = refl
 text-none text (suc zero) stands is = refl'
   where
@@ -74,7 +74,7 @@ text-none text (suc zero) stands is = refl'
 text-none text (suc (suc i)) stands is = absurd (let e : Some (text (suc (suc i))) ≡ None = is in cc)
 
 -- a state that is met is the dead one, or past 1
-zero-or-past : (i : ℕ) → i ≢ 1 → (i ≡ 0) ⊎ (1 < i)
+pub zero-or-past : (i : ℕ) → i ≢ 1 → (i ≡ 0) ⊎ (1 < i)
 zero-or-past i stands = ⊎_elim (λ (z : i ≡ 0). inl z) (λ (nz : i ≢ 0). inr (omega (arith, nz, stands))) (cases_eq i 0)
 
 -- no two states stand at one place
@@ -82,7 +82,7 @@ apart : (nfa : NFA) (dense_depth : ℕ) (classes : List ℕ) → AreApart (state
 apart nfa dense_depth classes a b i j i_in j_in i_met j_met same = place-one nfa dense_depth classes i j same
 
 -- at a state's place is what is known of the state
-parts-at : (nfa : NFA) (dense_depth : ℕ) (classes : List ℕ) (i : ℕ) → i < state_len nfa → parts_in nfa dense_depth classes (place_in nfa dense_depth classes i) ≡ parts_of nfa dense_depth classes (place_in nfa dense_depth classes) i
+pub parts-at : (nfa : NFA) (dense_depth : ℕ) (classes : List ℕ) (i : ℕ) → i < state_len nfa → parts_in nfa dense_depth classes (place_in nfa dense_depth classes i) ≡ parts_of nfa dense_depth classes (place_in nfa dense_depth classes) i
 parts-at nfa dense_depth classes i within =
     let place = place_in nfa dense_depth classes in
     let found = at-found (λ _. true) place (state_len nfa) i within refl in
@@ -90,16 +90,16 @@ parts-at nfa dense_depth classes i within =
     ap (known_at nfa dense_depth classes) found.1 ∙ ap (parts_of nfa dense_depth classes place) (place-one nfa dense_depth classes found.0 i some.2)
 
 -- what holds at the places of the states that are met holds at the numbers that are
-at-met : (nfa : NFA) (dense_depth : ℕ) (classes : List ℕ) (text : ℕ → List ℕ) (anchored : Bool) (Holds : ℕ → Type 0) → ((i : ℕ) → i < state_len nfa → IsTrue (is_met (start_in nfa) anchored i) → Holds (place_in nfa dense_depth classes i)) → (sid : ℕ) → IsTrue ((names_in nfa dense_depth classes text).met anchored sid) → Holds sid
+pub at-met : (nfa : NFA) (dense_depth : ℕ) (classes : List ℕ) (text : ℕ → List ℕ) (anchored : Bool) (Holds : ℕ → Type 0) → ((i : ℕ) → i < state_len nfa → IsTrue (is_met (start_in nfa) anchored i) → Holds (place_in nfa dense_depth classes i)) → (sid : ℕ) → IsTrue ((names_in nfa dense_depth classes text).met anchored sid) → Holds sid
 at-met nfa dense_depth classes text anchored Holds each sid met =
     let s = named-state (state_of text) (state_len nfa) (start_in nfa) (λ _ i. place_in nfa dense_depth classes i) anchored sid met in
     subst Holds s.3 (each s.0 s.1 s.2)
 
 -- a state that is met is met at its place, and names what it stands for
-met-at : (nfa : NFA) (dense_depth : ℕ) (classes : List ℕ) (text : ℕ → List ℕ) (anchored : Bool) (i : ℕ) → i < state_len nfa → IsTrue (is_met (start_in nfa) anchored i) → IsTrue ((names_in nfa dense_depth classes text).met anchored (place_in nfa dense_depth classes i))
+pub met-at : (nfa : NFA) (dense_depth : ℕ) (classes : List ℕ) (text : ℕ → List ℕ) (anchored : Bool) (i : ℕ) → i < state_len nfa → IsTrue (is_met (start_in nfa) anchored i) → IsTrue ((names_in nfa dense_depth classes text).met anchored (place_in nfa dense_depth classes i))
 met-at nfa dense_depth classes text anchored i within met = named-met (state_of text) (state_len nfa) (start_in nfa) (λ _ j. place_in nfa dense_depth classes j) anchored i within met
 
-text-at : (nfa : NFA) (dense_depth : ℕ) (classes : List ℕ) (text : ℕ → List ℕ) (anchored : Bool) (i : ℕ) → i < state_len nfa → IsTrue (is_met (start_in nfa) anchored i) → (names_in nfa dense_depth classes text).text (place_in nfa dense_depth classes i) ≡ state_of text i
+pub text-at : (nfa : NFA) (dense_depth : ℕ) (classes : List ℕ) (text : ℕ → List ℕ) (anchored : Bool) (i : ℕ) → i < state_len nfa → IsTrue (is_met (start_in nfa) anchored i) → (names_in nfa dense_depth classes text).text (place_in nfa dense_depth classes i) ≡ state_of text i
 text-at nfa dense_depth classes text anchored i within met = named-text (state_of text) (state_len nfa) (start_in nfa) (λ _ j. place_in nfa dense_depth classes j) anchored i (apart nfa dense_depth classes) within met
 
 -- the unanchored searches come to each state but the fail state and the anchored start
@@ -190,7 +190,7 @@ failure-named nfa dense_depth classes text i fail h i_in i_met is =
 -- ---- the whole
 
 -- edges and failures are right
-linked : (nfa : NFA) (dense_depth : ℕ) (classes : List ℕ) (text : ℕ → List ℕ) → Laid nfa text dense_depth classes → AreLinked (dictionary nfa) (names_in nfa dense_depth classes text) (place_in nfa dense_depth classes (start_in nfa)) (λ sid byte. next_by (parts_in nfa dense_depth classes sid).edges (class classes byte)) (λ sid. (parts_in nfa dense_depth classes sid).fail)
+pub linked : (nfa : NFA) (dense_depth : ℕ) (classes : List ℕ) (text : ℕ → List ℕ) → Laid nfa text dense_depth classes → AreLinked (dictionary nfa) (names_in nfa dense_depth classes text) (place_in nfa dense_depth classes (start_in nfa)) (λ sid byte. next_by (parts_in nfa dense_depth classes sid).edges (class classes byte)) (λ sid. (parts_in nfa dense_depth classes sid).fail)
 linked nfa dense_depth classes text h =
     let place = place_in nfa dense_depth classes in
     let names = names_in nfa dense_depth classes text in

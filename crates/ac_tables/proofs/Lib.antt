@@ -8,3 +8,4 @@ pub mod StandLemmas
 pub mod DfaReadLemmas
 pub mod EntryLemmas
 pub mod LayLemmas
+pub mod StatesLemmas

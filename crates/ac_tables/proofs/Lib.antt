@@ -2,3 +2,4 @@ pub mod PlacesLemmas
 pub mod PackedLemmas
 pub mod DecodeLemmas
 pub mod DfaReadLemmas
+pub mod DfaIdleLemmas

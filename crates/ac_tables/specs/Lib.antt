@@ -19,7 +19,9 @@ pub use Rattle.ac_automaton.specs.Automaton
 pub use Rattle.ac_automaton.specs.Named
 pub mod Places
 pub mod DfaTable
+pub mod DfaLookups
 pub mod DfaReads
+
 pub mod Words
 pub mod ContiguousTable
 pub mod WordReads

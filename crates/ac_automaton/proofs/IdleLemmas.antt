@@ -131,29 +131,26 @@ advanced-same b Reaches anchored stops sid current bytes n s t u none has =
           };
     }
 
--- where something is passed over, the start matches nothing
-passed-plain : (b : Built) (Fits : Naming → Type 0) (matches : ℕ → List ℕ) (start : ℕ) (starters : Starters) (bytes : List ℕ) → ∥ SkipsIdle (IsIdleBy b.dictionary Fits matches start) starters ∥₁ → slice_index bytes 0 < 256 → is_starter starters (slice_index bytes 0) ≡ false → ∥ (matches start ≡ []) ∥₁
-passed-plain b Fits matches start starters bytes skips small idle = ∥∥₁_map skips (λ s. (s (slice_index bytes 0) small idle).plain)
-
--- Reading on over what is passed over. A search doesn't stop at a start that matches nothing.
-pub pass-advanced : (b : Built) (Fits : Naming → Type 0) (matches : ℕ → List ℕ) (starts special stops : ℕ → Bool) (start : ℕ) (starters : Starters) (anchored : Anchored) (sid current : ℕ) (bytes rest : List ℕ) (n passed : ℕ) (s t u : Steps)
-    → AllNames b Fits matches starts special → ∥ SkipsIdle (IsIdleBy b.dictionary Fits matches start) starters ∥₁ → (matches start ≡ [] → ¬ IsTrue (stops start))
+-- Reading on over what is passed over. A search doesn't stop at a start that matches nothing. By which namings the automaton is laid
+-- out may differ from one anchoring to the other.
+pub pass-advanced : (b : Built) (Fits : Anchored → Naming → Type 0) (matches : ℕ → List ℕ) (starts special stops : ℕ → Bool) (start : ℕ) (starters : Starters) (anchored : Anchored) (sid current : ℕ) (bytes rest : List ℕ) (n passed : ℕ) (s t u : Steps)
+    → AllNames b (Fits anchored) matches starts special → ∥ SkipsIdle (IsIdleBy b.dictionary (Fits anchored) matches start) starters ∥₁ → (matches start ≡ [] → ¬ IsTrue (stops start))
     → ((k : ℕ) → slice_index rest k < 256) → rest ≡ drop n bytes → n ≤ length bytes → PassesIdle starters start current rest passed t u
-    → HasAdvanced b (IsReadBy b Fits matches starts special) anchored stops sid bytes n current s t
-    → (n + passed ≤ length bytes) × HasAdvanced b (IsReadBy b Fits matches starts special) anchored stops sid bytes (n + passed) current s u
+    → HasAdvanced b (λ (a : Anchored). IsReadBy b (Fits a) matches starts special a) anchored stops sid bytes n current s t
+    → (n + passed ≤ length bytes) × HasAdvanced b (λ (a : Anchored). IsReadBy b (Fits a) matches starts special a) anchored stops sid bytes (n + passed) current s u
 pass-advanced b Fits matches starts special stops start starters anchored sid current bytes rest n zero s t u all skips apart small is within passes has =
     let e : n ≡ n + zero = omega arith in
-    let R = IsReadBy b Fits matches starts special in
+    let R = λ (a : Anchored). IsReadBy b (Fits a) matches starts special a in
     (omega (arith, within), subst (λ (i : ℕ). HasAdvanced b R anchored stops sid bytes i current s u) e (advanced-same b R anchored stops sid current bytes n s t u passes.counted has))
 pass-advanced b Fits matches starts special stops start starters anchored sid current bytes rest n (suc k) s t u all skips apart small is within passes has =
-    let R = IsReadBy b Fits matches starts special in
+    let R = λ (a : Anchored). IsReadBy b (Fits a) matches starts special a in
     let at : current ≡ start = passes.at (omega arith) in
     let inside = passes.within in
-    let fits : n + suc k ≤ length bytes = let b = ap length is in let c = length-drop n bytes in omega (arith, inside, b, c, within) in
-    let quiet : ¬ IsTrue (stops start) = λ e. ∥∥₁_elim (passed-plain b Fits matches start starters rest skips (small 0) (passes.idle 0 (omega arith))) (λ x y. absurd x) (λ plain. apart plain e) in
+    let fits : n + suc k ≤ length bytes = let left = ap length is in let all_left = length-drop n bytes in omega (arith, inside, left, all_left, within) in
+    let quiet : ¬ IsTrue (stops start) = λ e. ∥∥₁_elim skips (λ x y. absurd x) (λ idle. apart (idle (slice_index rest 0) (small 0) (passes.idle 0 (omega arith))).plain e) in
     let there = subst (λ (c : ℕ). HasAdvanced b R anchored stops sid bytes n c s t) at has in
     let run = advanced-run b R anchored stops sid bytes n (suc k) start s t u fits quiet (λ text reads. reads.lives)
     (λ j le. subst (λ (l : List ℕ). Leads (R anchored) start (take j l) start) is
-    (run-reads b Fits matches starts special start starters anchored rest j all skips small (omega (arith, le, inside)) (λ i lt. passes.idle i (omega (arith, lt, le)))))
+    (run-reads b (Fits anchored) matches starts special start starters anchored rest j all skips small (omega (arith, le, inside)) (λ i lt. passes.idle i (omega (arith, lt, le)))))
     passes.counted there in
     (fits, subst (λ (c : ℕ). HasAdvanced b R anchored stops sid bytes (n + suc k) c s u) (sym at) run)

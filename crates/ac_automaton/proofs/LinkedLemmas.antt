@@ -126,8 +126,8 @@ pub record IsStuck (m : Dictionary) (names : Naming) (start sid byte : ℕ) : Ty
   pub apart : sid ≢ start
 
 -- which are such
-pub stuck : (m : Dictionary) (names : Naming) (start sid byte next : ℕ) → AreNumbers m names start → IsEdgeBy m names start sid byte next → next ≡ nowhere → IsStuck m names start sid byte
-stuck m names start sid byte next numbers edge nothing =
+pub stuck : (m : Dictionary) (names : Naming) (start sid byte next : ℕ) → IsEdgeBy m names start sid byte next → next ≡ nowhere → IsStuck m names start sid byte
+stuck m names start sid byte next edge nothing =
     ⊎_elim
     (λ (dead : names.text sid ≡ None). absurd ((edge.dead dead).2 nothing))
     (λ (is : (text : List ℕ) × (names.text sid ≡ Some text)).
@@ -151,9 +151,9 @@ stuck-dead m names start sid byte dead s met none = record {
 }
 
 -- with one look
-pub paid-dead : (m : Dictionary) (names : Naming) (start sid byte next dead : ℕ) (before after : Steps) → AreNumbers m names start → IsEdgeBy m names start sid byte next → next ≡ nowhere → IsTrue (names.met true dead) → names.text dead ≡ None → Done 1 0 0 before after → IsPaidStep m names true 0 sid byte dead before after
-paid-dead m names start sid byte next dead before after numbers edge nothing met none one =
-    let s = stuck m names start sid byte next numbers edge nothing in
+pub paid-dead : (m : Dictionary) (names : Naming) (start sid byte next dead : ℕ) (before after : Steps) → IsEdgeBy m names start sid byte next → next ≡ nowhere → IsTrue (names.met true dead) → names.text dead ≡ None → Done 1 0 0 before after → IsPaidStep m names true 0 sid byte dead before after
+paid-dead m names start sid byte next dead before after edge nothing met none one =
+    let s = stuck m names start sid byte next edge nothing in
     let e = long-none names dead none in
     (stuck-dead m names start sid byte dead s met none, (1, one, omega arith, omega (arith, e)))
 
@@ -238,13 +238,12 @@ pub record HasFollowed (m : Dictionary) (Fits : Naming → Type 0) (start sid by
   pub follows : OfNames Fits false sid (λ names. IsFollowing m names sid byte from looks × IsStuck m names start from byte × (¬ (names.text sid ≡ None)))
 
 -- at first
-pub followed-none : (m : Dictionary) (Fits : Naming → Type 0) (start sid byte next : ℕ) (steps : Steps) → OfNames Fits false sid (λ names. AreNumbers m names start × IsEdgeBy m names start sid byte next) → next ≡ nowhere → HasFollowed m Fits start sid byte sid steps steps
+pub followed-none : (m : Dictionary) (Fits : Naming → Type 0) (start sid byte next : ℕ) (steps : Steps) → OfNames Fits false sid (λ names. IsEdgeBy m names start sid byte next) → next ≡ nowhere → HasFollowed m Fits start sid byte sid steps steps
 followed-none m Fits start sid byte next steps edges nothing = record {
   looks = 0;
   counted = record { looked = omega arith; scanned = omega arith; moved = omega arith };
   follows = λ names fits met.
-      let e = edges names fits met in
-      let s = stuck m names start sid byte next e.0 e.1 nothing in
+      let s = stuck m names start sid byte next (edges names fits met) nothing in
       (following-none m names sid byte met, s, λ none. not-both names sid s.text none s.is);
 }
 
@@ -261,7 +260,7 @@ followed-more m Fits start sid byte from fail next before between after h number
   counted = record { looked = omega (arith, one.looked, h.counted.looked); scanned = omega (arith, one.scanned, h.counted.scanned); moved = omega (arith, one.moved, h.counted.moved) };
   follows = λ names fits met.
       let there = followed-fail m Fits start sid byte from fail before between h numbers failures names fits met in
-      (there, stuck m names start fail byte next (numbers names fits) (edges names fits there.met) nothing, (h.follows names fits met).2);
+      (there, stuck m names start fail byte next (edges names fits there.met) nothing, (h.follows names fits met).2);
 }
 
 -- where the byte leads from it

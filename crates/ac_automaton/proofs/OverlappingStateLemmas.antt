@@ -8,7 +8,7 @@ use Rattle.ac_input.specs.declared.steps.Steps.{Steps}
 use Rattle.ac_input.specs.Occurrence.{Search, Occurrence, starting_at}
 use Rattle.ac_input.specs.Computed.{listing_of}
 use Rattle.ac_input.specs.Input.{Asked, is_anchored}
-use Rattle.ac_input.specs.Dictionary.{Dictionary, whole, IsLive}
+use Rattle.ac_input.specs.Dictionary.{Dictionary, IsLive}
 use Rattle.ac_input.specs.Steps.{AreNone, Added, looked_of, scanned_of, moved_of}
 use Rattle.ac_input.specs.Work.{lookups_per_byte}
 use Rattle.ac_automaton.specs.declared.overlapping.OverlappingState.{OverlappingState}
@@ -16,7 +16,7 @@ use Rattle.ac_automaton.specs.declared.overlapping.Position.{Position}
 use Rattle.ac_automaton.specs.declared.overlapping.Position.TheVariants.{At, Over}
 use Rattle.ac_automaton.specs.declared.overlapping.Shown.{Shown}
 use Rattle.ac_automaton.specs.Overlapping.{come_to, IsLeft, ShowsFirst, IsPlacePaid, IsScanPaidTo, KeepsBudget, StandsAt, CameFrom, IsFreshState, IsOverlappingWork, IsOverlappingCost, shown_of, sums_of}
-use Rattle.ac_automaton.specs.Cursor.{read_to, counts}
+use Rattle.ac_automaton.specs.Cursor.{read_to}
 use Rattle.ac_automaton.specs.Automaton.{Built, searched}
 use Rattle.ac_automaton.proofs.OverlappingReadLemmas.{paid-to}
 

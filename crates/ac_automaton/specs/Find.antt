@@ -12,7 +12,8 @@ use Rattle.ac_input.specs.Input.{Asked}
 use Rattle.ac_input.specs.Occurrence.{Search, Occurrence, Occurs, starting_at}
 use Rattle.ac_input.specs.Steps.{looked_of, scanned_of, moved_of}
 use Rattle.ac_input.specs.Work.{lookups_per_byte, IsFindWork}
-use Rattle.ac_automaton.specs.Automaton.{Built, kind_asked, searched}
+use Rattle.ac_automaton.specs.Automaton.{AtEach, Built, StartIsEmpty, kind_asked, searched}
+use Rattle.ac_automaton.specs.declared.automaton.Automaton.{Ghosts}
 use Rattle.ac_automaton.specs.declared.cursor.End.{End}
 use Rattle.ac_automaton.specs.declared.cursor.End.TheVariants.{Found, Idle}
 
@@ -85,3 +86,7 @@ IsCandidateCost b asked at told before after = IsCandidateWork (search_from b as
 abbrev pub IsUsable : Built → (StateID → List ℕ) → Anchored → StateID → Option (Bor Filter) → Type 0
 IsUsable b matches anchored start (Some p) = (p.now.dictionary ≡ b.dictionary) × (anchored ≡ No) × (matches start ≡ [])
 IsUsable b matches anchored start None = (anchored ≡ Yes) ⊎ (matches start ≢ []) ⊎ (b.prefilter ≡ None)
+
+-- Where a search is back at a start at which nothing matches, no byte that was read is live any more.
+abbrev pub BackIsEmpty : {S : Type 0} → Ghosts S → S → StateID → Bool → Type 0
+BackIsEmpty A automaton sid back = AtEach (A.Reaches automaton) sid (StartIsEmpty (A.built automaton) (A.matches automaton sid) back)

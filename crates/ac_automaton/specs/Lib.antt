@@ -23,11 +23,13 @@ pub mod Cursor
 pub mod Find
 pub mod Iter
 pub mod Overlapping
+pub mod OverlappingSearch
 pub mod OverlappingIter
 pub mod Replace
 pub mod Buffer
 pub mod Stream
 pub mod StreamSearch
+pub mod StreamWalk
 pub mod Moved
 pub mod Output
 pub mod StreamAnswer

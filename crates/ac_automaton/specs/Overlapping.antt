@@ -1,11 +1,9 @@
 -- What an overlapping search still has to show where it stands, and what its calls may cost on the whole.
-use Rattle.std.specs.Prelude.{◌≡◌, ◌≢◌, ◌⊎◌, ℕ, ◌+◌, ◌-◌, ◌*◌, ◌<◌, ◌≤◌, nat_le, Bool, List, [], ◌∷◌, ◌++◌, length, map, drop, slice_get, IsTrue, Option, None, Some, Result, Ok, Err, is_some, filter, if◌then◌else◌}
+use Rattle.std.specs.Prelude.{◌≡◌, ◌≢◌, ◌⊎◌, ℕ, ◌+◌, ◌-◌, ◌*◌, ◌<◌, ◌≤◌, nat_le, Bool, List, [], ◌∷◌, ◌++◌, map, drop, slice_get, IsTrue, Option, None, Some, Result, Ok, Err, is_some, filter, if◌then◌else◌}
 use Rattle.ac_input.specs.Number.{StateID}
 use Rattle.ac_input.specs.declared.search.Anchored.{Anchored}
-use Rattle.ac_input.specs.declared.search.Anchored.TheVariants.{No}
 use Rattle.ac_input.specs.declared.search.MatchKind.TheVariants.{Standard}
 use Rattle.ac_input.specs.declared.steps.Steps.{Steps}
-use Rattle.ac_input.specs.Candidate.{Filter}
 use Rattle.ac_input.specs.Computed.{listing_of}
 use Rattle.ac_input.specs.Input.{Asked}
 use Rattle.ac_input.specs.LiveLaws.{shifted}
@@ -15,11 +13,9 @@ use Rattle.ac_input.specs.Steps.{AreNone, looked_of, scanned_of, moved_of}
 use Rattle.ac_input.specs.Tells.{ending}
 use Rattle.ac_input.specs.Work.{lookups_per_byte}
 use Rattle.ac_automaton.specs.Automaton.{Built, IsStartRefusal, searched, listing_in}
-use Rattle.ac_automaton.specs.Cursor.{read_to, walked, counted, IsCursor, StandsIn}
+use Rattle.ac_automaton.specs.Cursor.{read_to, walked, counted, IsCursor}
 use Rattle.ac_automaton.specs.declared.error.MatchErrorKind.{MatchErrorKind}
 use Rattle.ac_automaton.specs.declared.error.MatchErrorKind.TheVariants.{UnsupportedOverlapping}
-use Rattle.ac_automaton.specs.declared.overlapping.Beginning.{Beginning}
-use Rattle.ac_automaton.specs.declared.overlapping.Entry.{Entry}
 use Rattle.ac_automaton.specs.declared.overlapping.OverlappingState.{OverlappingState}
 use Rattle.ac_automaton.specs.declared.overlapping.Position.{Position}
 use Rattle.ac_automaton.specs.declared.overlapping.Position.TheVariants.{At, Over}
@@ -31,11 +27,6 @@ use Rattle.ac_automaton.specs.declared.overlapping.Shown.{Shown}
 -- The part of the listing that ends at a place or later.
 abbrev pub ending_from : Search → ℕ → List Occurrence
 ending_from s at = filter (λ o. nat_le at o.end) (listing_of s)
-
--- the first entry that counts from an index on, and the index behind it
-abbrev pub IsNextEntry : Dictionary → Bool → ℕ → List ℕ → ℕ → Option Entry → Type 0
-IsNextEntry m anchored read ns index None = counted m anchored read (drop index ns) ≡ []
-IsNextEntry m anchored read ns index (Some entry) = (counted m anchored read (drop index ns) ≡ entry.pattern ∷ counted m anchored read (drop entry.next ns)) × (entry.pattern < length m.patterns)
 
 -- the occurrences that a state tells at a place by its matches from an index on
 abbrev pub told_from : Dictionary → Search → ℕ → List ℕ → ℕ → List Occurrence
@@ -196,98 +187,3 @@ AnswersOverlapping b supports asked before after (Err error) = IsOverlappingRefu
 abbrev pub CostsOverlapping : Built → Asked → OverlappingState → OverlappingState → Steps → Steps → Result (Unit {0}) MatchErrorKind → Type 0
 CostsOverlapping b asked from to before after (Ok done) = IsOverlappingCost b asked (sums_of to) × DoneAlike (sums_of from) (sums_of to) before after
 CostsOverlapping b asked from to before after (Err error) = IsOverlappingCost b asked (sums_of to) × (after ≡ before)
-
--- ---- the same, told of an automaton and an input
-
--- an overlapping search of the standard kind stands where it may show what a state tells
-pub record MayShow (b : Built) (Reaches : Anchored → List ℕ → StateID → Type 0) (asked : Asked) (here : Cursor) : Type 0 where
-  pub standard : b.dictionary.kind ≡ Standard
-  pub cursor : StandsIn b Reaches asked here
-
--- it may ask the prefilter from a place on, and go on from the start
-pub record MaySkip (b : Built) (Reaches : Anchored → List ℕ → StateID → Type 0) (matches : StateID → List ℕ) (asked : Asked) (prefilter : Filter) (start : StateID) (at : ℕ) : Type 0 where
-  pub standard : b.dictionary.kind ≡ Standard
-  pub made : prefilter.dictionary ≡ b.dictionary
-  pub free : asked.anchored ≡ No
-  pub starts : Reaches No [] start
-  pub empty : matches start ≡ []
-  pub from : asked.span.start ≤ at
-  pub to : at ≤ asked.span.end
-
--- what a state has to show from an index of its list on
-abbrev pub ShowsAt : Built → (StateID → List ℕ) → Asked → Cursor → ℕ → Option Shown → Type 0
-ShowsAt b matches asked cursor index shown = TellsFirst matches b.dictionary (searched b asked) cursor index shown
-
--- What is shown where a walk stands: the first of what is left there, which is nothing where the state is dead; none where the
--- state tells nothing.
-abbrev pub ShowsHere : Built → (Anchored → List ℕ → StateID → Type 0) → (StateID → List ℕ) → Asked → Cursor → Option Shown → Type 0
-ShowsHere b Reaches matches asked cursor None = told_from b.dictionary (walked (searched b asked) cursor) cursor.at (matches cursor.sid) 0 ≡ []
-ShowsHere b Reaches matches asked cursor (Some shown) =
-    ShowsFirst (Reaches asked.anchored) matches b.dictionary (searched b asked) (ending_from (walked (searched b asked) cursor) cursor.at) shown
-    × ((shown.place ≡ Over) ⊎ ((index : ℕ) × (shown.place ≡ At cursor.sid cursor.from cursor.at index)))
-
--- How a search ends where a walk stands: with what is shown there; or nothing is told, and what is left begins here or later.
--- None where it goes on: nothing is told.
-abbrev pub EndsHere : Built → (Anchored → List ℕ → StateID → Type 0) → (StateID → List ℕ) → Asked → Cursor → Option (End Shown) → Type 0
-EndsHere b Reaches matches asked cursor None = told_from b.dictionary (walked (searched b asked) cursor) cursor.at (matches cursor.sid) 0 ≡ []
-EndsHere b Reaches matches asked cursor (Some (Found shown)) = ShowsHere b Reaches matches asked cursor (Some shown)
-EndsHere b Reaches matches asked cursor (Some (Idle at)) =
-    (at ≡ cursor.at) × (ending_from (walked (searched b asked) cursor) cursor.at ≡ listing_of (starting_at (searched b asked) cursor.at))
-
--- the first of what ends after the place where a walk stands is shown; or the walk is back at the start
-abbrev pub ShowsLater : Built → (Anchored → List ℕ → StateID → Type 0) → (StateID → List ℕ) → Asked → Cursor → End Shown → Type 0
-ShowsLater b Reaches matches asked cursor end =
-    ReadsOn (Reaches asked.anchored) matches b.dictionary (searched b asked) cursor.at (ending_from (walked (searched b asked) cursor) (cursor.at + 1)) end
-
--- the first of what begins at a place or later is shown; or the walk is back at the start
-abbrev pub ShowsFrom : Built → (Anchored → List ℕ → StateID → Type 0) → (StateID → List ℕ) → Asked → ℕ → End Shown → Type 0
-ShowsFrom b Reaches matches asked at end =
-    ReadsOn (Reaches asked.anchored) matches b.dictionary (searched b asked) at (listing_of (starting_at (searched b asked) at)) end
-
--- what is paid for where a walk stands pays for what it costs to read on
-abbrev pub PaysLater : Built → Asked → Cursor → End Shown → Steps → Steps → Type 0
-PaysLater b asked cursor end before after =
-    (looks more : ℕ) → IsPaidAt b.dictionary b.deterministic (searched b asked) cursor.from cursor.at looks
-    → looks + looked_of after ≡ more + looked_of before
-    → IsPaidBy b.dictionary b.deterministic (searched b asked) end more
-
--- what is paid for where a search stands pays for what a call costs
-abbrev pub KeepsPaying : Built → Asked → Position → Position → Steps → Steps → Type 0
-KeepsPaying b asked from to before after = KeepsBudget b.dictionary b.deterministic (searched b asked) from to before after
-
--- the same of a search that stands at a state, and has shown its list up to an index
-abbrev pub PaysFrom : Built → Asked → Cursor → ℕ → Shown → Steps → Steps → Type 0
-PaysFrom b asked cursor index shown before after = KeepsPaying b asked (At cursor.sid cursor.from cursor.at index) shown.place before after
-
--- what it costs to read on by candidates from a place
-abbrev pub SkipsAtCost : Built → Asked → ℕ → End Shown → Steps → Steps → Type 0
-SkipsAtCost b asked at end before after = IsSkipCost b.dictionary b.deterministic (searched b asked) at end before after
-
--- the first of what ends after the place where a walk stands is shown
-abbrev pub ShowsAfter : Built → (Anchored → List ℕ → StateID → Type 0) → (StateID → List ℕ) → Asked → Cursor → Shown → Type 0
-ShowsAfter b Reaches matches asked cursor shown =
-    ShowsFirst (Reaches asked.anchored) matches b.dictionary (searched b asked) (ending_from (walked (searched b asked) cursor) (cursor.at + 1)) shown
-
--- the first is shown of what the state tells from an index of its list on, and of what ends later
-abbrev pub ShowsRest : Built → (Anchored → List ℕ → StateID → Type 0) → (StateID → List ℕ) → Asked → Cursor → ℕ → Shown → Type 0
-ShowsRest b Reaches matches asked cursor index shown =
-    ShowsFirst (Reaches asked.anchored) matches b.dictionary (searched b asked)
-    (told_from b.dictionary (walked (searched b asked) cursor) cursor.at (matches cursor.sid) index ++ ending_from (walked (searched b asked) cursor) (cursor.at + 1)) shown
-
--- this is what is left where a search stands
-abbrev pub IsLeftAt : Built → (Anchored → List ℕ → StateID → Type 0) → (StateID → List ℕ) → Asked → Position → List Occurrence → Type 0
-IsLeftAt b Reaches matches asked place left = IsLeft (Reaches asked.anchored) matches b.dictionary (searched b asked) place left
-
--- the first of what is left there is shown, whatever that is
-abbrev pub ShowsNextAt : Built → (Anchored → List ℕ → StateID → Type 0) → (StateID → List ℕ) → Asked → Position → Shown → Type 0
-ShowsNextAt b Reaches matches asked place shown =
-    (left : List Occurrence) → IsLeftAt b Reaches matches asked place left → ShowsFirst (Reaches asked.anchored) matches b.dictionary (searched b asked) left shown
-
--- A search begins at the start, where all of the listing is left and nothing has to be paid for; or it is refused.
-abbrev pub AnswersBegin : Built → (Anchored → List ℕ → StateID → Type 0) → (StateID → List ℕ) → (Anchored → Type 0) → Asked → Result Beginning MatchErrorKind → Type 0
-AnswersBegin b Reaches matches supports asked (Ok beginning) =
-    CanOverlap b supports asked
-    × Reaches asked.anchored [] beginning.start
-    × IsLeftAt b Reaches matches asked beginning.place (listing_in b asked)
-    × IsPlacePaid b.dictionary b.deterministic (searched b asked) beginning.place 0
-AnswersBegin b Reaches matches supports asked (Err error) = IsOverlappingRefusal b supports asked error

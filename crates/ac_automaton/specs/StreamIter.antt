@@ -113,10 +113,10 @@ module _ {A R : Type 0} where
       × StaysStopped (progress_of i) (progress_of j) (reader_of i) (reader_of j) r
       × (reader_name j ≡ reader_name i)
 
-  -- The search was accepted: it has read nothing yet, and holds this reader, by this reference; or it was refused.
-  abbrev pub AnswersStreamIter : Built → (Anchored → Type 0) → Watched R → GName → Result (StreamFindIter A R) StreamError → Type 0
-  AnswersStreamIter b supports reader name (Ok i) = CanStream b supports × (progress_of i ≡ fresh_progress b) × (reader_of i ≡ reader) × (reader_name i ≡ name)
-  AnswersStreamIter b supports reader name (Err error) = IsStreamRefusal b supports error
+  -- The search was accepted: it has read nothing yet, and holds the reader that was lent, by the same reference; or it was refused.
+  abbrev pub AnswersStreamIter : Built → (Anchored → Type 0) → MutBor (Watched R) → Result (StreamFindIter A R) StreamError → Type 0
+  AnswersStreamIter b supports lent (Ok i) = CanStream b supports × (progress_of i ≡ fresh_progress b) × (reader_of i ≡ lent.now) × (reader_name i ≡ lent.ghost_name)
+  AnswersStreamIter b supports lent (Err error) = IsStreamRefusal b supports error
 
 -- Where the search is refused, the reader ends as it was. Else the search holds the reference to it, and the reader ends as the last
 -- value under that name.

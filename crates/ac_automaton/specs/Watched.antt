@@ -1,6 +1,6 @@
 -- What a contract sees of a watched device, and what a read, a write and a flush do to it.
 use Rattle.std.specs.Prelude.{◌≡◌, ℕ, ◌+◌, ◌<◌, ◌≤◌, ◌↔◌, Bool, false, true, IsTrue, Option, List, [], ◌∷◌, ◌++◌, length, take, Result, Ok, Err}
-use Rattle.std.specs.Io.KnownBytes.{Appends}
+use Rattle.std.specs.Io.KnownBytes.{Appends, ReadConsumes, WriteAppends}
 use Rattle.ac_automaton.specs.declared.watched.Watched.{Watched}
 use Rattle.ac_automaton.specs.declared.error.StreamError.{StreamError}
 use Rattle.ac_automaton.specs.declared.error.StreamError.TheVariants.{Config, Read, Write, WriteZero, Memory, Position}
@@ -130,10 +130,18 @@ abbrev pub AnswersRead : {T E : Type 0} → Watched T → Watched T → List ℕ
 AnswersRead old new buffer (Ok n) = ReadGave old new buffer n
 AnswersRead old new buffer (Err error) = ReadFailed old new
 
+-- the device tells that it has left what the read did not give
+abbrev pub DeviceGives : {T E : Type 0} → (T → Option (List ℕ)) → Watched T → Watched T → Result ℕ E → List ℕ → Type 0
+DeviceGives remaining old new result buffer = ReadConsumes (remaining (inner_of old)) (remaining (inner_of new)) result buffer
+
 -- a write took the first of the bytes, or failed
 abbrev pub AnswersWrite : {T E : Type 0} → Watched T → Watched T → List ℕ → Result ℕ E → Type 0
 AnswersWrite old new bytes (Ok n) = WriteTook old new bytes n
 AnswersWrite old new bytes (Err error) = TookNone old new
+
+-- the device tells that it holds what the write took
+abbrev pub DeviceTakes : {T E : Type 0} → (T → Option (List ℕ)) → Watched T → Watched T → Result ℕ E → List ℕ → Type 0
+DeviceTakes contents old new result bytes = WriteAppends (contents (inner_of old)) (contents (inner_of new)) result bytes
 
 -- all that was taken was flushed, or the call failed
 abbrev pub AnswersFlush : {T E : Type 0} → Watched T → Watched T → Result (Unit {0}) E → Type 0

@@ -340,8 +340,7 @@ pub trait Automaton {
     where
         Self: Sized,
         requires { has_ended reader.old ≡ false }
-        ensures { AnswersStreamIter (built self.now) (supports self.now)
-            reader.old reader.entry.ghost_name result }
+        ensures { AnswersStreamIter (built self.now) (supports self.now) reader.entry result }
     {
         stream::stream_find_iter(reader, self, alloc)
     }

@@ -11,9 +11,9 @@
 //! A prefilter may know the match itself. It is the best of the automaton's kind, so an earliest search, which stops at the first
 //! end, takes its place alone and walks from there.
 ghost use Rattle.std.specs.Prelude.{◌≡◌, ◌≢◌, ◌↔◌, ℕ, ◌≤◌, List, [], IfSome, IsTrue};
-ghost use Rattle.ac_automaton.specs.Automaton.{AtEach, AnswersFind, CostsFind, IsFindCost, IsFound, IsState, StartIsEmpty, kind_asked};
+ghost use Rattle.ac_automaton.specs.Automaton.{AnswersFind, CostsFind, IsFindCost, IsFound, IsState, kind_asked};
 ghost use Rattle.ac_automaton.specs.Cursor.{IsFirstAt, IsReachedWithin, IsTaken, IsWholeTaken, StandsIn};
-ghost use Rattle.ac_automaton.specs.Find.{CandidateEnds, IsCandidateCost, IsSearchCost, IsUsable, IsWalkCost, WalkSays};
+ghost use Rattle.ac_automaton.specs.Find.{BackIsEmpty, CandidateEnds, IsCandidateCost, IsSearchCost, IsUsable, IsWalkCost, WalkSays};
 
 use crate::automaton::Automaton;
 use crate::cursor::{Cursor, End, read_on};
@@ -84,8 +84,7 @@ fn takes_first<A: Automaton>(automaton: &A, input: &Input<'_>) -> bool
 pub(crate) fn is_back<A: Automaton>(automaton: &A, input: &Input<'_>, sid: StateID) -> bool
     requires { IsState (A.Reaches automaton.now) sid }
     ensures free { IsTrue result → input.now.anchored ≡ Anchored.No }
-    ensures empty { AtEach (A.Reaches automaton.now) sid
-        (StartIsEmpty (A.built automaton.now) (A.matches automaton.now sid) result) }
+    ensures empty { BackIsEmpty A.Automaton automaton.now sid result }
 {
     match input.get_anchored() {
         Anchored::No => automaton.is_start(sid),

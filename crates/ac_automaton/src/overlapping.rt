@@ -13,7 +13,8 @@
 //! input from its first search on. [`FindOverlappingIter`] keeps all three together.
 ghost use Rattle.std.specs.Prelude.{◌≡◌, ⊤, None, Some};
 ghost use Rattle.ac_input.specs.Steps.{Added};
-ghost use Rattle.ac_automaton.specs.Overlapping.{IsFreshState, CameFrom, AnswersOverlapping, CostsOverlapping, and_one, found_of, shown_of, sums_of};
+ghost use Rattle.ac_automaton.specs.Overlapping.{IsFreshState, CostsOverlapping, and_one, found_of, shown_of, sums_of};
+ghost use Rattle.ac_automaton.specs.OverlappingSearch.{AnswersCall, CameFromCalls};
 
 pub mod iter;
 mod search;
@@ -149,13 +150,9 @@ pub fn find_overlapping<A: Automaton>(
     state: &mut OverlappingState,
     steps: &mut Steps,
 ) -> Result<(), MatchError>
-    requires { CameFrom (A.built automaton.now) (A.Reaches automaton.now) (A.matches automaton.now)
-        input.now state.old }
-    ensures came { CameFrom (A.built automaton.now) (A.Reaches automaton.now)
-        (A.matches automaton.now)
-        input.now state.new }
-    ensures answer { AnswersOverlapping (A.built automaton.now) (A.supports automaton.now) input.now
-        state.old state.new result }
+    requires { CameFromCalls A.Automaton automaton.now input.now state.old }
+    ensures came { CameFromCalls A.Automaton automaton.now input.now state.new }
+    ensures answer { AnswersCall A.Automaton automaton.now input.now state.old state.new result }
     ensures cost { CostsOverlapping (A.built automaton.now) input.now state.old state.new
         steps.old steps.new result }
 {

@@ -114,19 +114,14 @@ where
 
 /// Calls the closure at a match of a text.
 // It stands by itself since the check gives such a call, in a loop that slices the text, a goal that is not what the code needs.
-fn call<F>(
-    replace_with: &mut F,
-    found: &Match,
-    matched: &str,
-    dst: &mut String,
-) -> Result<bool, AllocError>
+fn call<F>(f: &mut F, found: &Match, matched: &str, dst: &mut String) -> Result<bool, AllocError>
 where
     F: FnMut(&Match, &str, &mut String) -> Result<bool, AllocError>,
-    requires { TakesMatches F.FnMut (found.now.pattern + 1) replace_with.old }
-    ensures { RepliesAt F.FnMut replace_with.old found.now matched.now dst.old result
-        replace_with.new dst.new }
+    requires { TakesMatches F.FnMut (found.now.pattern + 1) f.old }
+    ensures { RepliesAt F.FnMut f.old found.now matched.now dst.old result
+        f.new dst.new }
 {
-    replace_with(found, matched, dst)
+    f(found, matched, dst)
 }
 
 /// Appends the text to the destination, and in place of each match that cuts no character what the closure appends. A closure

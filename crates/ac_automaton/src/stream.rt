@@ -63,7 +63,7 @@ pub fn stream_find_iter<'a, A: Automaton, R>(
     requires { has_ended reader.old ≡ false }
     ensures* rests { sem 𝓛 (RestsIfRefused R.row reader.entry result) }
     ensures answer { AnswersStreamIter (A.built automaton.now) (A.supports automaton.now)
-        reader.old reader.entry.ghost_name result }
+        reader.entry result }
 {
     let stream = StreamSearch::new(automaton, alloc)?;
     Ok(StreamFindIter { stream, reader })

@@ -13,8 +13,8 @@
 //! Each call of a `Watched` makes one call of the device. That it makes no more, no contract can say, since a device keeps no
 //! count of its own.
 ghost use Rattle.std.specs.Prelude.{◌≡◌, ◌<◌, false, length};
-ghost use Rattle.std.specs.Io.KnownBytes.{Keeps, ReadConsumes, WriteAppends};
-ghost use Rattle.ac_automaton.specs.Watched.{has_ended, inner_of, AnswersFlush, AnswersRead, AnswersWrite, IsFresh, NoneRead, NoneTaken, WritesWhole};
+ghost use Rattle.std.specs.Io.KnownBytes.{Keeps};
+ghost use Rattle.ac_automaton.specs.Watched.{has_ended, inner_of, AnswersFlush, AnswersRead, AnswersWrite, DeviceGives, DeviceTakes, IsFresh, NoneRead, NoneTaken, WritesWhole};
 
 use crate::error::StreamError;
 use ac_input::history::{Count, Pieces, Taken};
@@ -79,8 +79,7 @@ impl<T: Read> Watched<T> {
         requires open { has_ended self.old ≡ false }
         ensures gave { AnswersRead self.old self.new buf.new result }
         ensures writes { NoneTaken self.old self.new }
-        ensures device { ReadConsumes (T.remaining (inner_of self.old))
-            (T.remaining (inner_of self.new)) result buf.new }
+        ensures device { DeviceGives T.remaining self.old self.new result buf.new }
     {
         match self.inner.read(buf) {
             Ok(n) => {
@@ -103,8 +102,7 @@ impl<T: Write> Watched<T> {
     pub fn write(&mut self, buf: &[u8]) -> io::Result<usize>
         ensures took { AnswersWrite self.old self.new buf.now result }
         ensures reads { NoneRead self.old self.new }
-        ensures device { WriteAppends (T.contents (inner_of self.old))
-            (T.contents (inner_of self.new)) result buf.now }
+        ensures device { DeviceTakes T.contents self.old self.new result buf.now }
     {
         match self.inner.write(buf) {
             Ok(n) => {

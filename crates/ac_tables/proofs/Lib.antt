@@ -1,5 +1,11 @@
 pub mod PlacesLemmas
 pub mod PackedLemmas
 pub mod DecodeLemmas
+pub mod StateLemmas
+pub mod WordsLemmas
+pub mod LenLemmas
+pub mod StandLemmas
 pub mod DfaReadLemmas
 pub mod DfaIdleLemmas
+pub mod EntryLemmas
+pub mod LayLemmas

@@ -24,5 +24,6 @@ pub mod DfaReads
 
 pub mod Words
 pub mod ContiguousTable
+pub mod ContiguousBuild
 pub mod WordReads
 pub mod ContiguousReads

@@ -37,9 +37,19 @@ pub record IsStateAt (table : Table) (sid : ℕ) (s : StateParts) : Type 0 where
 abbrev pub IsPlace : Table → ℕ → Type 0
 IsPlace table sid = ∥ ((s : StateParts) × IsStateAt table sid s) ∥₁
 
+-- the state there keeps so many transitions, with their classes packed: its kind says how many
+pub record IsSparseAt (table : Table) (sid len : ℕ) : Type 0 where
+  pub kind : slice_index table.words.items sid % 256 ≡ len
+  pub dense : len ≢ 255
+  pub one : len ≢ 254
+
+-- where a class leads from a state by its transitions
+abbrev pub ClassLeadsTo : Table → ℕ → ℕ → ℕ → Type 0
+ClassLeadsTo table sid wanted next = (s : StateParts) → IsStateAt table sid s → next ≡ next_by s.edges wanted
+
 -- where a byte leads from a state by its transitions
 abbrev pub StepsTo : Table → ℕ → ℕ → ℕ → Type 0
-StepsTo table sid byte next = (s : StateParts) → IsStateAt table sid s → next ≡ next_by s.edges (class table.classes byte)
+StepsTo table sid byte next = ClassLeadsTo table sid (class table.classes byte) next
 
 -- how many words the transitions of a state have, by its kind
 abbrev pub transitions_len : ℕ → ℕ → ℕ

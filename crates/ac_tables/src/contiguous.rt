@@ -1,7 +1,9 @@
 //! The contiguous automaton.
 mod layout;
+mod places;
 mod reads;
 mod table;
+mod words;
 
 ghost use Rattle.std.specs.Prelude.{◌≡◌, if◌then◌else◌};
 ghost use Rattle.std.proofs.Props.{props};

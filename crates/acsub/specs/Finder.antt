@@ -42,10 +42,14 @@ dictionary_for settings patterns = record { patterns = patterns; pairing = setti
 abbrev pub IsPackedFor : kinds.MatchKind → List (List ℕ) → Packed → Type 0
 IsPackedFor kind patterns searcher = (search_kind searcher.kind ≡ kind) × (searcher.patterns ≡ patterns)
 
--- An automaton serves a plan: it is built of just the plan's patterns, pairing and kind. It looks at as many states a byte as
+-- an automaton is built of just the plan's patterns, pairing and kind
+abbrev pub IsBuiltFor : Plan → Built → Type 0
+IsBuiltFor plan b = b.dictionary ≡ dictionary_for plan.settings (patterns_of plan.rules)
+
+-- An automaton serves a plan: it is built for it. It looks at as many states a byte as
 -- what serves the plan, and has a start for searches that may match anywhere.
 pub record IsServing (plan : Plan) (b : Built) (supports : Anchored → Type 0) : Type 0 where
-  pub dictionary : b.dictionary ≡ dictionary_for plan.settings (patterns_of plan.rules)
+  pub dictionary : IsBuiltFor plan b
   pub looks : b.deterministic ≡ is_deterministic (served plan.settings plan.rules)
   pub start : supports No
 

@@ -1,8 +1,9 @@
 -- What a run that writes while it reads says of what it read and wrote.
-use Rattle.std.specs.Prelude.{◌≡◌, ℕ, List, Option, Result, Ok, Err}
+use Rattle.std.specs.Prelude.{◌≡◌, ◌≢◌, ℕ, List, Option, Result, Ok, Err, IfErr}
 use Rattle.ac_input.specs.Rules.{Rule}
 use Rattle.ac_automaton.specs.Moved.{AllFit, HasMoved, Moved}
 use Rattle.ac_automaton.specs.StreamAnswer.{MovedNothing, WroteOutOfPlaces, WroteToFailedRead, WroteToFailedWrite, WroteWhole}
+use Rattle.ac_automaton.specs.declared.error.MatchErrorKind.{MatchErrorKind}
 use Rattle.ac_automaton.specs.declared.error.StreamError.{StreamError}
 use Rattle.ac_automaton.specs.declared.error.StreamError.TheVariants as stream
 use Rattle.ac_automaton.specs.declared.watched.Watched.{Watched}
@@ -36,3 +37,15 @@ IsToldAs (stream.Write error) told = told ≡ errors.Write error
 IsToldAs stream.WriteZero told = told ≡ errors.WriteZero
 IsToldAs stream.Memory told = told ≡ errors.Memory
 IsToldAs stream.Position told = told ≡ errors.Position
+
+-- the error is no refusal of the search
+abbrev pub IsNoRefusal : StreamError → Type 0
+IsNoRefusal error = (refusal : MatchErrorKind) → error ≢ stream.Config refusal
+
+-- this holds where the answer is that a run is out of memory
+abbrev pub IfMemory : Result (Unit {0}) RunError → Type 0 → Type 0
+IfMemory result P = IfErr result (λ error. error ≡ errors.Memory → P)
+
+-- the same of a search of a stream
+abbrev pub IfStreamMemory : Result (Unit {0}) StreamError → Type 0 → Type 0
+IfStreamMemory result P = IfErr result (λ error. error ≡ stream.Memory → P)

@@ -2,14 +2,18 @@
 use Rattle.std.specs.Prelude.{◌≡◌, ℕ, List, ◌∷◌, ◌++◌, [], false, Option, Result}
 use Rattle.ac_input.specs.Occurrence.{Occurrence}
 use Rattle.ac_input.specs.Text.{listed}
+use Rattle.ac_input.specs.declared.steps.Steps.{Steps}
 use Rattle.ac_automaton.specs.Automaton.{Built}
 use Rattle.ac_automaton.specs.Moved.{AllFit, AreFilled, HasGiven, HasMoved, HasTaken, Moved}
 use Rattle.ac_automaton.specs.Output.{Sent, Stopped}
 use Rattle.ac_automaton.specs.Replace.{matches_in}
-use Rattle.ac_automaton.specs.Stream.{AreAllGiven, CanBeCounted, ReadsNothing, StreamProgress, read_by, room_of}
+use Rattle.ac_automaton.specs.Stream.{AreAllGiven, CanBeCounted, ReadsNothing, ScanCounts, StreamProgress, read_by, room_of}
 use Rattle.ac_automaton.specs.StreamAnswer.{AnswersWriting}
+use Rattle.ac_automaton.specs.StreamIter.{progress_of, reader_of}
+use Rattle.ac_automaton.specs.StreamReplace.{CostsStream}
 use Rattle.ac_automaton.specs.Watched.{has_ended}
 use Rattle.ac_automaton.specs.declared.error.StreamError.{StreamError}
+use Rattle.ac_automaton.specs.declared.stream.StreamFindIter.{StreamFindIter}
 use Rattle.ac_automaton.specs.declared.watched.Watched.{Watched}
 
 -- a line for each match of a text
@@ -26,6 +30,21 @@ IsListedFront b x text = text ≡ listed_in b x
 abbrev pub ListsStream : {R W : Type 0} → (R → Option (List ℕ)) → (W → Option (List ℕ)) → Built → Watched R → Watched R → Watched W → Watched W → Result (Unit {0}) StreamError → Type 0
 ListsStream remaining contents b reader_before reader_after writer_before writer_after result =
     (m : Moved) × HasMoved remaining contents reader_before reader_after writer_before writer_after m × AllFit (room_of b) m.pieces × AnswersWriting (listed_in b) (IsListedFront b) m result
+
+-- ---- the same, of the matches of a stream, before and after
+
+module _ {A R : Type 0} where
+  -- what was read and written while they went from the one state to the other
+  abbrev pub ListsOn : {W : Type 0} → (R → Option (List ℕ)) → (W → Option (List ℕ)) → StreamFindIter A R → StreamFindIter A R → Watched W → Watched W → Result (Unit {0}) StreamError → Type 0
+  ListsOn remaining contents from to before after result = ListsStream remaining contents (progress_of from).built (reader_of from) (reader_of to) before after result
+
+  -- what that cost
+  abbrev pub CostsOn : {E : Type 0} → StreamFindIter A R → StreamFindIter A R → Steps → Steps → Result (Unit {0}) E → Type 0
+  CostsOn from to before after result = CostsStream (progress_of from).built (reader_of from) (reader_of to) before after result
+
+  -- what was counted for it
+  abbrev pub CountsOn : StreamFindIter A R → StreamFindIter A R → Steps → Steps → Type 0
+  CountsOn from to before after = ScanCounts (progress_of from) (progress_of to) before after
 
 -- ---- what stands at each point of it
 

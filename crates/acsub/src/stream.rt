@@ -3,18 +3,14 @@
 //! Under the standard kind a match that was found is never changed by what is read later. So all that is decided is written before
 //! the next read, and a run over a pipe answers as soon as it can. No more is held than one buffer of the input and one of the text,
 //! and both are taken before the first read.
-ghost use Rattle.std.specs.Prelude.{◌≡◌, ◌≢◌, Err, false, IfErr};
+ghost use Rattle.std.specs.Prelude.{◌≡◌, Err, false};
 ghost use Rattle.ac_input.specs.declared.search.Anchored.TheVariants.{No};
 ghost use Rattle.ac_automaton.specs.Moved.{NoneTouched};
 ghost use Rattle.ac_automaton.specs.StreamReplace.{CostsStream};
 ghost use Rattle.ac_automaton.specs.Watched.{has_ended};
-ghost use Rattle.ac_automaton.specs.declared.error.MatchErrorKind.{MatchErrorKind};
-ghost use Rattle.ac_automaton.specs.declared.error.StreamError.TheVariants.{Config};
-ghost use Rattle.acsub.specs.Finder.{dictionary_for};
-ghost use Rattle.acsub.specs.Sides.{patterns_of};
-ghost use Rattle.acsub.specs.Stream.{IsToldAs, Streams};
+ghost use Rattle.acsub.specs.Finder.{IsBuiltFor};
+ghost use Rattle.acsub.specs.Stream.{IfMemory, IsNoRefusal, IsToldAs, Streams};
 ghost use Rattle.acsub.specs.Transformed.{IsStreamed};
-ghost use Rattle.acsub.specs.declared.error.RunError.TheVariants.{Memory};
 ghost use Rattle.acsub.specs.declared.settings.Mode.TheVariants.{Replace};
 
 use crate::error::RunError;
@@ -35,26 +31,24 @@ use list::stream_list;
 pub fn stream_text<A: Automaton, R: Read, W: Write>(
     alloc: Global,
     prepared: &Prepared<A>,
-    automaton: &A,
+    engine: &A,
     reader: &mut Watched<R>,
     writer: &mut Watched<W>,
     steps: &mut Steps,
 ) -> Result<(), RunError>
     requires open { has_ended reader.old ≡ false }
-    requires built { (A.built automaton.now).dictionary
-        ≡ dictionary_for prepared.now.settings (patterns_of prepared.now.rules) }
-    requires supports { A.supports automaton.now No }
+    requires built { IsBuiltFor prepared.now (A.built engine.now) }
+    requires supports { A.supports engine.now No }
     requires streamed { IsStreamed prepared.now.settings prepared.now.rules }
     ensures streams { Streams R.remaining W.contents reader.old reader.new writer.old writer.new
         prepared.now.settings prepared.now.rules result }
-    ensures costs { CostsStream (A.built automaton.now) reader.old reader.new
+    ensures costs { CostsStream (A.built engine.now) reader.old reader.new
         steps.old steps.new result }
-    ensures memory { IfErr result (λ error. error ≡ Memory
-        → NoneTouched reader.old reader.new writer.old writer.new) }
+    ensures memory { IfMemory result (NoneTouched reader.old reader.new writer.old writer.new) }
 {
     match prepared.mode() {
-        Mode::Replace => stream_replaced(alloc, prepared, automaton, reader, writer, steps),
-        Mode::List => stream_list(alloc, prepared, automaton, reader, writer, steps),
+        Mode::Replace => stream_replaced(alloc, prepared, engine, reader, writer, steps),
+        Mode::List => stream_list(alloc, prepared, engine, reader, writer, steps),
         Mode::Overlap => unreachable!(),
     }
 }
@@ -63,27 +57,25 @@ pub fn stream_text<A: Automaton, R: Read, W: Write>(
 pub(crate) fn stream_replaced<A: Automaton, R: Read, W: Write>(
     alloc: Global,
     prepared: &Prepared<A>,
-    automaton: &A,
+    engine: &A,
     reader: &mut Watched<R>,
     writer: &mut Watched<W>,
     steps: &mut Steps,
 ) -> Result<(), RunError>
     requires open { has_ended reader.old ≡ false }
-    requires built { (A.built automaton.now).dictionary
-        ≡ dictionary_for prepared.now.settings (patterns_of prepared.now.rules) }
-    requires supports { A.supports automaton.now No }
+    requires built { IsBuiltFor prepared.now (A.built engine.now) }
+    requires supports { A.supports engine.now No }
     requires streamed { IsStreamed prepared.now.settings prepared.now.rules }
     requires mode { prepared.now.settings.mode ≡ Replace }
     ensures streams { Streams R.remaining W.contents reader.old reader.new writer.old writer.new
         prepared.now.settings prepared.now.rules result }
-    ensures costs { CostsStream (A.built automaton.now) reader.old reader.new
+    ensures costs { CostsStream (A.built engine.now) reader.old reader.new
         steps.old steps.new result }
-    ensures memory { IfErr result (λ error. error ≡ Memory
-        → NoneTouched reader.old reader.new writer.old writer.new) }
+    ensures memory { IfMemory result (NoneTouched reader.old reader.new writer.old writer.new) }
 {
     let replacements = prepared.rules().replacements(alloc)?;
     let texts = replacements.as_slice();
-    match automaton.try_stream_replace_all_counted(alloc, reader, writer, texts, steps) {
+    match engine.try_stream_replace_all_counted(alloc, reader, writer, texts, steps) {
         Ok(()) => Ok(()),
         Err(error) => Err(told(error)),
     }
@@ -91,7 +83,7 @@ pub(crate) fn stream_replaced<A: Automaton, R: Read, W: Write>(
 
 /// What a run answers where a search of a stream stopped, which was not refused.
 pub(crate) fn told(error: StreamError) -> RunError
-    requires { (refusal : MatchErrorKind) → error ≢ Config refusal }
+    requires { IsNoRefusal error }
     ensures { IsToldAs error result }
 {
     match error {

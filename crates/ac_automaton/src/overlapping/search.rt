@@ -8,7 +8,8 @@ ghost use Rattle.ac_input.specs.Input.{is_anchored};
 ghost use Rattle.ac_input.specs.Occurrence.{Occurrence};
 ghost use Rattle.ac_automaton.specs.declared.overlapping.Position.TheVariants.{Over};
 ghost use Rattle.ac_automaton.specs.declared.cursor.End.TheVariants.{Found};
-ghost use Rattle.ac_automaton.specs.Overlapping.{IsNextEntry, ShowsAt, ShowsHere, EndsHere, ShowsLater, ShowsFrom, PaysLater, OnlyLooked, MayShow, MaySkip, SkipsAtCost, ShowsAfter, ShowsRest, PaysFrom, KeepsPaying, IsLeftAt, ShowsNextAt, AnswersBegin};
+ghost use Rattle.ac_automaton.specs.Overlapping.{OnlyLooked};
+ghost use Rattle.ac_automaton.specs.OverlappingSearch.{AnswersBegin, EndsHere, HasLeft, IsNextEntry, KeepsPaying, MayShow, MaySkip, PaysAt, PaysOn, ShowsAfter, ShowsAt, ShowsFrom, ShowsHere, ShowsLater, ShowsNextAt, ShowsRest, SkipsAtCost};
 ghost use Rattle.ac_input.specs.Tells.{ending_at};
 ghost use Rattle.ac_automaton.specs.Cursor.{counts};
 
@@ -48,8 +49,7 @@ fn next_entry<A: Automaton>(
     read: usize,
 ) -> Option<Entry>
     requires { (text : List ℕ) × A.Reaches automaton.now anchored text sid }
-    ensures { IsNextEntry (A.built automaton.now).dictionary (is_anchored anchored) read
-        (A.matches automaton.now sid) from result }
+    ensures { IsNextEntry A.Automaton automaton.now anchored sid read from result }
 {
     if !automaton.is_match(sid) {
         return None;
@@ -94,8 +94,8 @@ fn show<A: Automaton>(
     cursor: Cursor,
     index: usize,
 ) -> Option<Shown>
-    requires { MayShow (A.built automaton.now) (A.Reaches automaton.now) input.now cursor }
-    ensures { ShowsAt (A.built automaton.now) (A.matches automaton.now) input.now cursor index
+    requires { MayShow A.Automaton automaton.now input.now cursor }
+    ensures { ShowsAt A.Automaton automaton.now input.now cursor index
         result }
 {
     let read = cursor.at - cursor.from;
@@ -113,9 +113,8 @@ fn show<A: Automaton>(
 
 /// What is shown where a walk stands: the first that the state tells; or nothing more, where it is dead.
 fn show_at<A: Automaton>(automaton: &A, input: &Input<'_>, cursor: &Cursor) -> Option<Shown>
-    requires { MayShow (A.built automaton.now) (A.Reaches automaton.now) input.now cursor.now }
-    ensures { ShowsHere (A.built automaton.now) (A.Reaches automaton.now) (A.matches automaton.now)
-        input.now cursor.now result }
+    requires { MayShow A.Automaton automaton.now input.now cursor.now }
+    ensures { ShowsHere A.Automaton automaton.now input.now cursor.now result }
 {
     if automaton.is_dead(cursor.sid) {
         return Some(over());
@@ -125,9 +124,8 @@ fn show_at<A: Automaton>(automaton: &A, input: &Input<'_>, cursor: &Cursor) -> O
 
 /// How a search ends where a walk stands, if it does: it shows something, or the state is dead, or the walk is back at the start.
 fn end_at<A: Automaton>(automaton: &A, input: &Input<'_>, cursor: &Cursor) -> Option<End<Shown>>
-    requires { MayShow (A.built automaton.now) (A.Reaches automaton.now) input.now cursor.now }
-    ensures { EndsHere (A.built automaton.now) (A.Reaches automaton.now) (A.matches automaton.now)
-        input.now cursor.now result }
+    requires { MayShow A.Automaton automaton.now input.now cursor.now }
+    ensures { EndsHere A.Automaton automaton.now input.now cursor.now result }
 {
     if let Some(shown) = show_at(automaton, input, cursor) {
         return Some(End::Found(shown));
@@ -145,10 +143,9 @@ fn read_to_end<A: Automaton>(
     cursor: Cursor,
     steps: &mut Steps,
 ) -> Shown
-    requires { MayShow (A.built automaton.now) (A.Reaches automaton.now) input.now cursor }
-    ensures reads { ShowsLater (A.built automaton.now) (A.Reaches automaton.now)
-        (A.matches automaton.now) input.now cursor (Found result) }
-    ensures pays { PaysLater (A.built automaton.now) input.now cursor (Found result)
+    requires { MayShow A.Automaton automaton.now input.now cursor }
+    ensures reads { ShowsLater A.Automaton automaton.now input.now cursor (Found result) }
+    ensures pays { PaysOn (A.built automaton.now) input.now cursor (Found result)
         steps.old steps.new }
     ensures only { OnlyLooked steps.old steps.new }
 {
@@ -171,10 +168,9 @@ fn read_to_start<A: Automaton>(
     cursor: Cursor,
     steps: &mut Steps,
 ) -> End<Shown>
-    requires { MayShow (A.built automaton.now) (A.Reaches automaton.now) input.now cursor }
-    ensures reads { ShowsLater (A.built automaton.now) (A.Reaches automaton.now)
-        (A.matches automaton.now) input.now cursor result }
-    ensures pays { PaysLater (A.built automaton.now) input.now cursor result steps.old steps.new }
+    requires { MayShow A.Automaton automaton.now input.now cursor }
+    ensures reads { ShowsLater A.Automaton automaton.now input.now cursor result }
+    ensures pays { PaysOn (A.built automaton.now) input.now cursor result steps.old steps.new }
     ensures only { OnlyLooked steps.old steps.new }
 {
     let mut cursor = cursor;
@@ -198,10 +194,8 @@ fn search_from_candidate<A: Automaton>(
     at: usize,
     steps: &mut Steps,
 ) -> End<Shown>
-    requires { MaySkip (A.built automaton.now) (A.Reaches automaton.now) (A.matches automaton.now)
-        input.now prefilter.now start at }
-    ensures reads { ShowsFrom (A.built automaton.now) (A.Reaches automaton.now)
-        (A.matches automaton.now) input.now at result }
+    requires { MaySkip A.Automaton automaton.now input.now prefilter.now start at }
+    ensures reads { ShowsFrom A.Automaton automaton.now input.now at result }
     ensures cost { SkipsAtCost (A.built automaton.now) input.now at result steps.old steps.new }
 {
     let rest = Span {
@@ -231,10 +225,8 @@ fn search_by_candidates<A: Automaton>(
     at: usize,
     steps: &mut Steps,
 ) -> Shown
-    requires { MaySkip (A.built automaton.now) (A.Reaches automaton.now) (A.matches automaton.now)
-        input.now prefilter.now start at }
-    ensures reads { ShowsFrom (A.built automaton.now) (A.Reaches automaton.now)
-        (A.matches automaton.now) input.now at (Found result) }
+    requires { MaySkip A.Automaton automaton.now input.now prefilter.now start at }
+    ensures reads { ShowsFrom A.Automaton automaton.now input.now at (Found result) }
     ensures cost { SkipsAtCost (A.built automaton.now) input.now at (Found result)
         steps.old steps.new }
 {
@@ -256,10 +248,9 @@ fn show_later<A: Automaton>(
     steps: &mut Steps,
 ) -> Shown
     requires starts { A.Reaches automaton.now input.now.anchored [] start }
-    requires stands { MayShow (A.built automaton.now) (A.Reaches automaton.now) input.now cursor }
-    ensures shows { ShowsAfter (A.built automaton.now) (A.Reaches automaton.now)
-        (A.matches automaton.now) input.now cursor result }
-    ensures pays { PaysFrom (A.built automaton.now) input.now cursor 0 result steps.old steps.new }
+    requires stands { MayShow A.Automaton automaton.now input.now cursor }
+    ensures shows { ShowsAfter A.Automaton automaton.now input.now cursor result }
+    ensures pays { PaysAt (A.built automaton.now) input.now cursor 0 result steps.old steps.new }
 {
     let Some(prefilter) = usable_prefilter(automaton, input.get_anchored(), start) else {
         return read_to_end(automaton, input, cursor, steps);
@@ -279,17 +270,16 @@ fn show_next<A: Automaton>(
     input: &Input<'_>,
     start: StateID,
     cursor: &Cursor,
-    index: usize,
+    from: usize,
     steps: &mut Steps,
 ) -> Shown
     requires starts { A.Reaches automaton.now input.now.anchored [] start }
-    requires stands { MayShow (A.built automaton.now) (A.Reaches automaton.now) input.now cursor.now }
-    ensures shows { ShowsRest (A.built automaton.now) (A.Reaches automaton.now)
-        (A.matches automaton.now) input.now cursor.now index result }
-    ensures pays { PaysFrom (A.built automaton.now) input.now cursor.now index result
+    requires stands { MayShow A.Automaton automaton.now input.now cursor.now }
+    ensures shows { ShowsRest A.Automaton automaton.now input.now cursor.now from result }
+    ensures pays { PaysAt (A.built automaton.now) input.now cursor.now from result
         steps.old steps.new }
 {
-    if let Some(shown) = show(automaton, input, *cursor, index) {
+    if let Some(shown) = show(automaton, input, *cursor, from) {
         return shown;
     }
     show_later(automaton, input, start, *cursor, steps)
@@ -305,12 +295,9 @@ pub(crate) fn advance<A: Automaton>(
 ) -> Shown
     requires standard { (A.built automaton.now).dictionary.kind ≡ Standard }
     requires starts { A.Reaches automaton.now input.now.anchored [] start }
-    requires left { (left : List Occurrence) × IsLeftAt (A.built automaton.now)
-        (A.Reaches automaton.now) (A.matches automaton.now) input.now place left }
-    ensures shows { ShowsNextAt (A.built automaton.now) (A.Reaches automaton.now)
-        (A.matches automaton.now) input.now place result }
-    ensures pays { KeepsPaying (A.built automaton.now) input.now place result.place
-        steps.old steps.new }
+    requires left { HasLeft A.Automaton automaton.now input.now place }
+    ensures shows { ShowsNextAt A.Automaton automaton.now input.now place result }
+    ensures pays { KeepsPaying (A.built automaton.now) input.now place result steps.old steps.new }
 {
     match place {
         Position::Over => over(),
@@ -328,8 +315,7 @@ pub(crate) fn advance<A: Automaton>(
 
 /// Where a search begins.
 pub(crate) fn begin<A: Automaton>(automaton: &A, input: &Input<'_>) -> Result<Beginning, MatchError>
-    ensures { AnswersBegin (A.built automaton.now) (A.Reaches automaton.now)
-        (A.matches automaton.now) (A.supports automaton.now) input.now result }
+    ensures { AnswersBegin A.Automaton automaton.now input.now result }
 {
     let start = automaton.start_state(input.get_anchored())?;
     let kind = automaton.match_kind();

@@ -108,7 +108,7 @@ fn replace_read<A: Automaton, R: Read, W: Write>(
     ensures replaced { ReplacesStream R.remaining W.contents stream.old.built
         (map (λ r. r.now) replacements.now) reader.old reader.new writer.old writer.new result }
     ensures begun { IfErr result IsBegun }
-    ensures searched { HasSearched stream.old stream.new reader.old reader.new steps.old steps.new
+    ensures read { HasSearched stream.old stream.new reader.old reader.new steps.old steps.new
         result }
 {
     let mut at = 0;

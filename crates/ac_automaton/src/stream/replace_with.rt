@@ -25,18 +25,18 @@ use std::io::{Read, Write};
 
 /// Calls the closure at a match of a stream.
 fn call<W, F>(
-    replace_with: &mut F,
+    f: &mut F,
     found: &Match,
     matched: &[u8],
     writer: &mut Watched<W>,
 ) -> Result<(), StreamError>
 where
     F: FnMut(&Match, &[u8], &mut Watched<W>) -> Result<(), StreamError>,
-    requires { TakesMatches F.FnMut (found.now.pattern + 1) replace_with.old }
-    ensures { RepliesAt F.FnMut replace_with.old found.now matched.now writer.old result
-        replace_with.new writer.new }
+    requires { TakesMatches F.FnMut (found.now.pattern + 1) f.old }
+    ensures { RepliesAt F.FnMut f.old found.now matched.now writer.old result
+        f.new writer.new }
 {
-    replace_with(found, matched, writer)
+    f(found, matched, writer)
 }
 
 /// Finds the next match of what was read, writes the text from a place to its start, and calls the closure. It answers where the
@@ -45,18 +45,18 @@ fn replace_match<A: Automaton, W: Write, F>(
     stream: &mut StreamSearch<'_, A>,
     at: usize,
     writer: &mut Watched<W>,
-    replace_with: &mut F,
+    f: &mut F,
     steps: &mut Steps,
 ) -> Result<Option<usize>, StreamError>
 where
     F: FnMut(&Match, &[u8], &mut Watched<W>) -> Result<(), StreamError>,
     requires placed { IsPlaced stream.old at }
     requires ready { IsForMatches F.FnMut (length stream.old.built.dictionary.patterns)
-        replace_with.old }
+        f.old }
     ensures passes { IfOk result (PassesMatch W.contents F.FnMut stream.old stream.new at
-        replace_with.old replace_with.new writer.old writer.new) }
+        f.old f.new writer.old writer.new) }
     ensures stops { IfErr result (StopsChain W.contents F.FnMut stream.old at
-        replace_with.old writer.old writer.new) }
+        f.old writer.old writer.new) }
     ensures kept { IsOnCourse stream.new }
 {
     let Some(found) = stream.next_held(steps) else {
@@ -67,7 +67,7 @@ where
     let before = part(held, from, at, found.start());
     let matched = part(held, from, found.start(), found.end());
     write_whole(writer, before)?;
-    call(replace_with, &found, matched, writer)?;
+    call(f, &found, matched, writer)?;
     Ok(Some(found.end()))
 }
 
@@ -76,23 +76,23 @@ fn replace_decided<A: Automaton, W: Write, F>(
     stream: &mut StreamSearch<'_, A>,
     at: usize,
     writer: &mut Watched<W>,
-    replace_with: &mut F,
+    f: &mut F,
     steps: &mut Steps,
 ) -> Result<usize, StreamError>
 where
     F: FnMut(&Match, &[u8], &mut Watched<W>) -> Result<(), StreamError>,
     requires placed { IsPlaced stream.old at }
     requires ready { IsForMatches F.FnMut (length stream.old.built.dictionary.patterns)
-        replace_with.old }
+        f.old }
     ensures goes_on { IfOk result (λ to. ContinuesChain W.contents F.FnMut stream.old stream.new at to
-        replace_with.old replace_with.new writer.old writer.new) }
+        f.old f.new writer.old writer.new) }
     ensures at_cut { IfOk result (IsAtCut stream.new) }
     ensures stops { IfErr result (StopsChain W.contents F.FnMut stream.old at
-        replace_with.old writer.old writer.new) }
+        f.old writer.old writer.new) }
     ensures kept { IsOnCourse stream.new }
 {
     let mut written = at;
-    while let Some(end) = replace_match(stream, written, writer, replace_with, steps)? {
+    while let Some(end) = replace_match(stream, written, writer, f, steps)? {
         written = end;
     }
     let cut = stream.cut();
@@ -106,7 +106,7 @@ fn replace_read<A: Automaton, R: Read, W: Write, F>(
     stream: &mut StreamSearch<'_, A>,
     reader: &mut Watched<R>,
     writer: &mut Watched<W>,
-    replace_with: &mut F,
+    f: &mut F,
 ) -> Result<(), StreamError>
 where
     F: FnMut(&Match, &[u8], &mut Watched<W>) -> Result<(), StreamError>,
@@ -114,14 +114,14 @@ where
     requires course { IsOnCourse stream.old }
     requires open { has_ended reader.old ≡ false }
     requires ready { IsForMatches F.FnMut (length stream.old.built.dictionary.patterns)
-        replace_with.old }
-    ensures { ReadsAndReplaces W.contents F.FnMut R.remaining stream.old.built replace_with.old
+        f.old }
+    ensures { ReadsAndReplaces W.contents F.FnMut R.remaining stream.old.built f.old
         reader.old reader.new writer.old writer.new result }
 {
     let mut steps = Steps::new();
     let mut at = 0;
     while stream.read_more(reader, &mut steps)? > 0 {
-        at = replace_decided(stream, at, writer, replace_with, &mut steps)?;
+        at = replace_decided(stream, at, writer, f, &mut steps)?;
     }
     let from = stream.from();
     write_whole(writer, rest(stream.held(), from, at))

@@ -15,7 +15,8 @@
 //! also where the automaton holds a prefilter, which a stream doesn't ask.
 ghost use Rattle.std.specs.Prelude.{◌≡◌, ◌≢◌, ◌↔◌, ◌+◌, ◌-◌, ◌≤◌, ◌<◌, ℕ, List, [], false, true, length, IfErr, IfOk, OnOk, IsTrue};
 ghost use Rattle.ac_input.specs.declared.search.Anchored.TheVariants.{No};
-ghost use Rattle.ac_automaton.specs.StreamSearch.{IsHeldAt, SearchesOn, some_of};
+ghost use Rattle.ac_automaton.specs.StreamSearch.{some_of};
+ghost use Rattle.ac_automaton.specs.StreamWalk.{MayWalk, WalksOn};
 ghost use Rattle.ac_automaton.specs.Stream.{AnswersNew, CanBeCounted, CanStream, CountsNothing, FindsHeld, HasRoom, IsConfigRefusal, IsOnCourse, IsRolled, IsSearched, ReadsMore, ScanCounts, StreamProgress, cut_of, held_by, read_by};
 ghost use Rattle.ac_automaton.specs.Watched.{has_ended};
 
@@ -83,7 +84,7 @@ impl<'a, A: Automaton> Model for StreamSearch<'a, A> {
 fn configured<A: Automaton>(automaton: &A) -> Result<StateID, MatchError>
     ensures start { IfOk result (λ sid. A.Reaches automaton.now Anchored.No [] sid) }
     ensures can { OnOk result (CanStream (A.built automaton.now) (A.supports automaton.now)) }
-    ensures refused { IfErr result (IsConfigRefusal (A.built automaton.now)
+    ensures error { IfErr result (IsConfigRefusal (A.built automaton.now)
         (A.supports automaton.now)) }
 {
     let start = automaton.start_state(Anchored::No)?;
@@ -106,11 +107,9 @@ fn search<A: Automaton>(
     held: &[u8],
     steps: &mut Steps,
 ) -> Searched
-    requires { (s : StreamProgress) × IsHeldAt (A.built automaton.now) (A.Reaches automaton.now Anchored.No)
-        s start progress.now held.now }
-    ensures { (s : StreamProgress) → IsHeldAt (A.built automaton.now) (A.Reaches automaton.now Anchored.No)
-        s start progress.now held.now
-        → SearchesOn (A.Reaches automaton.now Anchored.No) s start result steps.old steps.new }
+    requires { MayWalk A.Automaton automaton.now start progress.now held.now }
+    ensures { WalksOn A.Automaton automaton.now start progress.now held.now result
+        steps.old steps.new }
 {
     let rest = &held[progress.at - progress.from..];
     let stop = automaton.advance_to_match(Anchored::No, progress.sid, rest, steps);

@@ -1,11 +1,20 @@
 //! Look-ups in the words of a contiguous automaton.
-ghost use Rattle.std.specs.Prelude.{◌≡◌, ◌≤◌, ◌<◌, length};
-ghost use Rattle.ac_input.specs.declared.primitives.number.TheConstants.{GREATEST};
-ghost use Rattle.ac_tables.specs.WordReads.{unpacked, IsFirstPlace, IsPlace, StepsTo};
+ghost use Rattle.std.specs.Prelude.{◌≡◌, ◌≤◌, ◌+◌, length, take, drop};
+ghost use Rattle.ac_tables.specs.WordReads.{unpacked, IsFirstPlace, IsPlace, IsSparseAt, ClassLeadsTo, StepsTo};
 
 use crate::contiguous::layout::{DENSE, HEAD, KIND, NOWHERE, ONE};
 use crate::contiguous::table::Table;
 use ac_input::primitives::StateID;
+
+/// So many words, from a place on.
+#[inline]
+fn part(words: &[u32], from: usize, len: usize) -> &[u32]
+    requires { from + len ≤ length words.now }
+    ensures { result.now ≡ take len (drop from words.now) }
+{
+    let rest = &words[from..];
+    &rest[..len]
+}
 
 /// The first place of the class among some that are packed, four in a word.
 #[inline]
@@ -28,4 +37,52 @@ fn place_of(packed: &[u32], class: u8) -> Option<usize>
         }
     }
     None
+}
+
+impl Table {
+    /// Where the class leads from a state that keeps so many transitions, with their classes packed.
+    #[inline]
+    fn step_sparse(&self, sid: StateID, len: usize, class: u8) -> u32
+        requires place { IsPlace self.now sid }
+        requires sparse { IsSparseAt self.now sid len }
+        ensures { ClassLeadsTo self.now sid class result }
+    {
+        let first = sid.as_usize() + HEAD;
+        let packed = (len + 3) / 4;
+        match place_of(part(&self.words, first, packed), class) {
+            Some(at) => self.words[first + packed + at],
+            None => NOWHERE,
+        }
+    }
+
+    /// The word that says where the byte leads from the state by its transitions; 1 where none has it.
+    #[inline]
+    fn next_word(&self, sid: StateID, byte: u8) -> u32
+        requires { IsPlace self.now sid }
+        ensures { StepsTo self.now sid byte result }
+    {
+        let at = sid.as_usize();
+        let word = self.words[at];
+        let class = self.classes.get(byte);
+        let kind = word & KIND;
+        if kind == DENSE {
+            return self.words[at + HEAD + class as usize];
+        }
+        if kind != ONE {
+            return self.step_sparse(sid, kind as usize, class);
+        }
+        if word >> 8 != class as u32 {
+            return NOWHERE;
+        }
+        self.words[at + HEAD]
+    }
+
+    /// Where the byte leads from the state by its transitions; 1 where none has it.
+    #[inline]
+    pub(super) fn step(&self, sid: StateID, byte: u8) -> StateID
+        requires { IsPlace self.now sid }
+        ensures { StepsTo self.now sid byte result }
+    {
+        StateID::must(self.next_word(sid, byte) as usize)
+    }
 }

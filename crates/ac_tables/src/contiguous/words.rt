@@ -7,13 +7,14 @@ ghost use Rattle.std.specs.List.{All, range_with_len};
 ghost use Rattle.ac_input.specs.declared.primitives.number.TheConstants.{GREATEST};
 ghost use Rattle.ac_tables.specs.Words.{StateParts, next_by, packed, near, classes_of, nexts_of, match_words, words_of, leading_words, CanBeWritten};
 
+use crate::contiguous::layout::{DENSE, MOST_SPARSE, NOWHERE, ONE, ONE_PATTERN};
 use ac_input::primitives::{PatternID, StateID};
 use std::alloc::AllocError;
 use std::marker::Model;
 
 /// What is written of a state.
 #[derive(Drop)]
-pub struct Parts<'a> {
+pub(super) struct Parts<'a> {
     /// Whether it keeps an entry for each class, however few transitions it has.
     pub shallow: bool,
     /// The place of the state to which it fails.
@@ -37,23 +38,8 @@ impl<'a> Model for Parts<'a> {
     } };
 }
 
-/// The kind of a state that has an entry for each class.
-const DENSE: u32 = 255;
-
-/// The kind of a state with one transition and no pattern. The class of its byte stands above it.
-const ONE: u32 = 254;
-
-/// A state with more transitions than this is dense.
-pub(super) const MOST_SPARSE: usize = 127;
-
-/// Where a class leads that no transition has.
-const NOWHERE: u32 = 1;
-
-/// The bit that is set in the only word of a list of one pattern.
-const ONE_PATTERN: u32 = 2147483648;
-
 /// Puts an entry for each class after the words, which leads nowhere.
-pub fn push_blank(alphabet_len: usize, words: &mut Vec<u32>) -> Result<(), AllocError>
+fn push_blank(alphabet_len: usize, words: &mut Vec<u32>) -> Result<(), AllocError>
     ensures { IfOk result (λ _. words.new.items
         ≡ words.old.items ++ map (next_by []) (range_with_len 0 alphabet_len)) }
 {
@@ -64,7 +50,7 @@ pub fn push_blank(alphabet_len: usize, words: &mut Vec<u32>) -> Result<(), Alloc
 }
 
 /// Puts an entry for each class after the words. Of several transitions with one class the first one counts.
-pub fn push_row(
+fn push_row(
     edges: &[(u8, StateID)],
     alphabet_len: usize,
     words: &mut Vec<u32>,
@@ -83,7 +69,7 @@ pub fn push_row(
 }
 
 /// Four classes in a word, the first one in its lowest bits.
-pub fn word_of(a: u8, b: u8, c: u8, d: u8) -> u32
+fn word_of(a: u8, b: u8, c: u8, d: u8) -> u32
     ensures { result ≡ Rattle.ac_tables.specs.Words.word_of a b c d }
 {
     a as u32 + 256 * (b as u32) + 65536 * (c as u32) + 16777216 * (d as u32)
@@ -99,7 +85,7 @@ fn class_at(edges: &[(u8, StateID)], at: usize) -> u8
 }
 
 /// Puts the classes of the transitions after the words, four in a word.
-pub fn push_classes(edges: &[(u8, StateID)], words: &mut Vec<u32>) -> Result<(), AllocError>
+fn push_classes(edges: &[(u8, StateID)], words: &mut Vec<u32>) -> Result<(), AllocError>
     ensures { IfOk result
         (λ _. words.new.items ≡ words.old.items ++ packed (classes_of edges.now)) }
 {
@@ -117,7 +103,7 @@ pub fn push_classes(edges: &[(u8, StateID)], words: &mut Vec<u32>) -> Result<(),
 }
 
 /// Puts where the transitions lead after the words.
-pub fn push_nexts(edges: &[(u8, StateID)], words: &mut Vec<u32>) -> Result<(), AllocError>
+fn push_nexts(edges: &[(u8, StateID)], words: &mut Vec<u32>) -> Result<(), AllocError>
     ensures { IfOk result (λ _. words.new.items ≡ words.old.items ++ nexts_of edges.now) }
 {
     for edge in edges {
@@ -127,7 +113,7 @@ pub fn push_nexts(edges: &[(u8, StateID)], words: &mut Vec<u32>) -> Result<(), A
 }
 
 /// Puts the numbers of the patterns after the words.
-pub fn push_numbers(matches: &[PatternID], words: &mut Vec<u32>) -> Result<(), AllocError>
+fn push_numbers(matches: &[PatternID], words: &mut Vec<u32>) -> Result<(), AllocError>
     ensures { IfOk result (λ _. words.new.items ≡ words.old.items ++ matches.now) }
 {
     for pattern in matches {
@@ -137,7 +123,7 @@ pub fn push_numbers(matches: &[PatternID], words: &mut Vec<u32>) -> Result<(), A
 }
 
 /// Puts the patterns of a state after the words: of one its number with the highest bit set, of several first how many.
-pub fn push_matches(matches: &[PatternID], words: &mut Vec<u32>) -> Result<(), AllocError>
+fn push_matches(matches: &[PatternID], words: &mut Vec<u32>) -> Result<(), AllocError>
     requires { length matches.now ≤ GREATEST + 1 }
     ensures { IfOk result (λ _. words.new.items ≡ words.old.items ++ match_words matches.now) }
 {
@@ -153,7 +139,7 @@ pub fn push_matches(matches: &[PatternID], words: &mut Vec<u32>) -> Result<(), A
 }
 
 /// Puts the kind of a state and its failure after the words.
-pub fn push_head(kind: u32, fail: StateID, words: &mut Vec<u32>) -> Result<(), AllocError>
+fn push_head(kind: u32, fail: StateID, words: &mut Vec<u32>) -> Result<(), AllocError>
     ensures { IfOk result (λ _. words.new.items ≡ words.old.items ++ kind ∷ fail ∷ []) }
 {
     words.push(kind)?;
@@ -162,7 +148,7 @@ pub fn push_head(kind: u32, fail: StateID, words: &mut Vec<u32>) -> Result<(), A
 }
 
 /// Puts the kind of a state, its failure and its transitions after the words.
-pub fn push_transitions(
+fn push_transitions(
     parts: &Parts<'_>,
     alphabet_len: usize,
     words: &mut Vec<u32>,
@@ -186,7 +172,7 @@ pub fn push_transitions(
 }
 
 /// Puts the words of a state after those of the others.
-pub fn push_state(
+pub(super) fn push_state(
     parts: &Parts<'_>,
     alphabet_len: usize,
     words: &mut Vec<u32>,

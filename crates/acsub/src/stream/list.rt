@@ -5,23 +5,19 @@
 //! one buffer, which is written before each read, so that a stream over a file makes about one write a read.
 //!
 //! Both buffers are taken before the first read, and no memory after that. Nothing is tried again, and nothing is flushed.
-ghost use Rattle.std.specs.Prelude.{◌≡◌, ◌≢◌, ◌≤◌, [], false, IfErr, OnErr, OnOk};
+ghost use Rattle.std.specs.Prelude.{◌≡◌, ◌≤◌, [], false, IfErr, OnErr, OnOk};
 ghost use Rattle.ac_input.specs.declared.search.Anchored.TheVariants.{No};
 ghost use Rattle.ac_input.specs.declared.search.MatchKind.TheVariants.{Standard};
 ghost use Rattle.ac_input.specs.Work.{shortest};
 ghost use Rattle.ac_automaton.specs.Moved.{NoneTouched};
-ghost use Rattle.ac_automaton.specs.Stream.{AreAllGiven, CanBeCounted, CanStream, IsOnCourse, ScanCounts, fresh_progress, read_by};
+ghost use Rattle.ac_automaton.specs.Stream.{AreAllGiven, CanBeCounted, CanStream, IsOnCourse, fresh_progress, read_by};
 ghost use Rattle.ac_automaton.specs.StreamIter.{progress_of, reader_name, reader_of};
 ghost use Rattle.ac_automaton.specs.StreamReplace.{CostsStream, IsBegun};
 ghost use Rattle.ac_automaton.specs.Watched.{IsOfWrite, has_ended};
-ghost use Rattle.ac_automaton.specs.declared.error.MatchErrorKind.{MatchErrorKind};
-ghost use Rattle.ac_automaton.specs.declared.error.StreamError.TheVariants as stream;
-ghost use Rattle.acsub.specs.Finder.{dictionary_for};
-ghost use Rattle.acsub.specs.Sides.{patterns_of};
-ghost use Rattle.acsub.specs.Stream.{Streams};
-ghost use Rattle.acsub.specs.StreamList.{ListsStream, SendsLines, StopsLines, StopsWriting, WritesLines};
+ghost use Rattle.acsub.specs.Finder.{IsBuiltFor};
+ghost use Rattle.acsub.specs.Stream.{IfMemory, IfStreamMemory, IsNoRefusal, Streams};
+ghost use Rattle.acsub.specs.StreamList.{CostsOn, CountsOn, ListsOn, ListsStream, SendsLines, StopsLines, StopsWriting, WritesLines};
 ghost use Rattle.acsub.specs.Transformed.{IsStreamed};
-ghost use Rattle.acsub.specs.declared.error.RunError.TheVariants.{Memory};
 ghost use Rattle.acsub.specs.declared.settings.Mode.TheVariants.{List};
 
 use crate::error::RunError;
@@ -55,8 +51,7 @@ fn send_held_lines<A: Automaton, R: Read, W: Write>(
     ensures kind { IfErr result (IsOfWrite writer.old writer.new) }
     ensures reader { reader_of matches.new ≡ reader_of matches.old }
     ensures same_reference { reader_name matches.new ≡ reader_name matches.old }
-    ensures counts { ScanCounts (progress_of matches.old) (progress_of matches.new)
-        steps.old steps.new }
+    ensures counts { CountsOn matches.old matches.new steps.old steps.new }
     ensures kept { IsOnCourse (progress_of matches.new) }
 {
     while let Some(found) = matches.next_held_counted(steps) {
@@ -84,8 +79,7 @@ fn write_lines<A: Automaton, R: Read, W: Write>(
     ensures kind { IfErr result (IsOfWrite writer.old writer.new) }
     ensures reader { reader_of matches.new ≡ reader_of matches.old }
     ensures same_reference { reader_name matches.new ≡ reader_name matches.old }
-    ensures counts { ScanCounts (progress_of matches.old) (progress_of matches.new)
-        steps.old steps.new }
+    ensures counts { CountsOn matches.old matches.new steps.old steps.new }
     ensures kept { IsOnCourse (progress_of matches.new) }
 {
     output.send(writer, Line::new(found).as_bytes())?;
@@ -104,10 +98,9 @@ fn list_read<A: Automaton, R: Read, W: Write>(
     requires filled { 1 ≤ shortest (progress_of matches.old).built.dictionary.patterns }
     requires empty { output.old ≡ [] }
     requires unended { has_ended (reader_of matches.old) ≡ false }
-    ensures lists { ListsStream R.remaining W.contents (progress_of matches.old).built
-        (reader_of matches.old) (reader_of matches.new) writer.old writer.new result }
-    ensures costs { CostsStream (progress_of matches.old).built (reader_of matches.old)
-        (reader_of matches.new) steps.old steps.new result }
+    ensures list { ListsOn R.remaining W.contents matches.old matches.new
+        writer.old writer.new result }
+    ensures costs { CostsOn matches.old matches.new steps.old steps.new result }
     ensures begun { IfErr result IsBegun }
     ensures same_reference { reader_name matches.new ≡ reader_name matches.old }
 {
@@ -121,26 +114,25 @@ fn list_read<A: Automaton, R: Read, W: Write>(
 /// Takes both buffers, and writes a line for each match of what is read.
 fn list_stream<A: Automaton, R: Read, W: Write>(
     alloc: Global,
-    automaton: &A,
+    engine: &A,
     reader: &mut Watched<R>,
     writer: &mut Watched<W>,
     steps: &mut Steps,
 ) -> Result<(), StreamError>
     requires open { has_ended reader.old ≡ false }
-    requires can { CanStream (A.built automaton.now) (A.supports automaton.now) }
+    requires can { CanStream (A.built engine.now) (A.supports engine.now) }
     // All lines of what was read before a read that failed, and no less than those of all pieces but the last before a write that
     // failed.
-    ensures lists { ListsStream R.remaining W.contents (A.built automaton.now)
+    ensures lists { ListsStream R.remaining W.contents (A.built engine.now)
         reader.old reader.new writer.old writer.new result }
-    ensures costs { CostsStream (A.built automaton.now) reader.old reader.new
+    ensures costs { CostsStream (A.built engine.now) reader.old reader.new
         steps.old steps.new result }
-    ensures memory { IfErr result (λ error. error ≡ stream.Memory
-        → NoneTouched reader.old reader.new writer.old writer.new) }
-    ensures accepted { IfErr result (λ error. (refusal : MatchErrorKind)
-        → error ≢ stream.Config refusal) }
+    ensures memory { IfStreamMemory result
+        (NoneTouched reader.old reader.new writer.old writer.new) }
+    ensures accepted { IfErr result IsNoRefusal }
 {
     let mut output = Output::new(alloc)?;
-    let mut matches = stream_find_iter(reader, automaton, alloc)?;
+    let mut matches = stream_find_iter(reader, engine, alloc)?;
     let outcome = list_read(&mut matches, &mut output, writer, steps);
     let _reader = matches.into_reader();
     outcome
@@ -150,25 +142,23 @@ fn list_stream<A: Automaton, R: Read, W: Write>(
 pub(crate) fn stream_list<A: Automaton, R: Read, W: Write>(
     alloc: Global,
     prepared: &Prepared<A>,
-    automaton: &A,
+    engine: &A,
     reader: &mut Watched<R>,
     writer: &mut Watched<W>,
     steps: &mut Steps,
 ) -> Result<(), RunError>
     requires open { has_ended reader.old ≡ false }
-    requires built { (A.built automaton.now).dictionary
-        ≡ dictionary_for prepared.now.settings (patterns_of prepared.now.rules) }
-    requires supports { A.supports automaton.now No }
+    requires built { IsBuiltFor prepared.now (A.built engine.now) }
+    requires supports { A.supports engine.now No }
     requires streamed { IsStreamed prepared.now.settings prepared.now.rules }
     requires mode { prepared.now.settings.mode ≡ List }
     ensures streams { Streams R.remaining W.contents reader.old reader.new writer.old writer.new
         prepared.now.settings prepared.now.rules result }
-    ensures costs { CostsStream (A.built automaton.now) reader.old reader.new
+    ensures costs { CostsStream (A.built engine.now) reader.old reader.new
         steps.old steps.new result }
-    ensures memory { IfErr result (λ error. error ≡ Memory
-        → NoneTouched reader.old reader.new writer.old writer.new) }
+    ensures memory { IfMemory result (NoneTouched reader.old reader.new writer.old writer.new) }
 {
-    match list_stream(alloc, automaton, reader, writer, steps) {
+    match list_stream(alloc, engine, reader, writer, steps) {
         Ok(()) => Ok(()),
         Err(error) => Err(told(error)),
     }

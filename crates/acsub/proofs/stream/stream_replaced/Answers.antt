@@ -15,10 +15,10 @@ returns-in_err-replacements-clause-streams g c =
 pub told-requires : goal.told-requires
 told-requires g c = λ refusal e.
     let plan = c.args.prepared.now in
-    not-refused (g.A.Automaton.built c.args.automaton.now) (g.A.Automaton.supports c.args.automaton.now) plan.settings plan.rules _ _ _ _ c.in-Err.error refusal c.requires.built c.requires.supports c.requires.streamed c.in-Err.ensures.accepted e
+    not-refused (g.A.Automaton.built c.args.engine.now) (g.A.Automaton.supports c.args.engine.now) plan.settings plan.rules _ _ _ _ c.in-Err.error refusal c.requires.built c.requires.supports c.requires.streamed c.in-Err.ensures.accepted e
 
 pub returns-clause-streams : goal.returns-clause-streams
 returns-clause-streams g c =
     let plan = c.args.prepared.now in
     let same = ap bytes_of c.as_slice-texts.ensures.value ∙ c.in_ok-replacements.ensures ∙ ap replacements_of c.rules.ensures in
-    streams-told g.R.Read.remaining g.W.Write.contents (g.A.Automaton.built c.args.automaton.now) plan.settings plan.rules _ c.args.reader.now c.try_stream_replace_all_counted.new.reader c.args.writer.now c.try_stream_replace_all_counted.new.writer c.in-Err.error c.told.result c.requires.built c.requires.mode same c.told.ensures c.in-Err.ensures.replaced
+    streams-told g.R.Read.remaining g.W.Write.contents (g.A.Automaton.built c.args.engine.now) plan.settings plan.rules _ c.args.reader.now c.try_stream_replace_all_counted.new.reader c.args.writer.now c.try_stream_replace_all_counted.new.writer c.in-Err.error c.told.result c.requires.built c.requires.mode same c.told.ensures c.in-Err.ensures.replaced

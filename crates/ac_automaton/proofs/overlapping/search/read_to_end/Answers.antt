@@ -58,7 +58,7 @@ returns-in-Some-clause-reads g c =
     let behind = c.requires.cursor.behind in
     let had = walked_on-further (R asked.anchored) b asked.anchored s first.from first.at cursor next c.args.steps.now c.loop-cursor.steps c.read_on-cursor.new.steps place behind begun refl there same lives c.read_on-cursor.ensures.on c.loop-cursor.invariant.2 in
     let since : first.at < next.at = (omega (arith, c.read_on-cursor.ensures.on.further, c.loop-cursor.invariant.3)) in
-    reads-shown b R (g.A.Automaton.matches a) asked first.from first.at next c.in-Some.shown c.args.steps.now c.read_on-cursor.new.steps since same had c.in-Some.ensures
+    reads-shown g.A.Automaton a asked first.from first.at next c.in-Some.shown c.args.steps.now c.read_on-cursor.new.steps since same had c.in-Some.ensures
 
 pub returns-in-Some-clause-pays : goal.returns-in-Some-clause-pays
 returns-in-Some-clause-pays g c =

@@ -14,7 +14,7 @@ returns-then-is_dead g c =
     let reads = c.requires.cursor.reads in
     let inverse = g.met.A.Automaton.pairs a asked.anchored text cursor.sid reads in
     let dead = (c.is_dead.ensures asked.anchored text reads).0 c.if-is_dead.true in
-    shows-dead b (g.A.Automaton.Reaches a) (g.A.Automaton.matches a) asked cursor c.over.result c.requires.standard inverse c.requires.cursor dead c.over.ensures.found c.over.ensures.place
+    shows-dead g.A.Automaton a asked cursor c.over.result c.requires.standard inverse c.requires.cursor dead c.over.ensures.found c.over.ensures.place
 
 pub returns : goal.returns
 returns g c =
@@ -24,4 +24,4 @@ returns g c =
     let cursor = c.args.cursor.now in
     let text = read_to (walked (searched b asked) cursor) cursor.at in
     let tells = g.met.A.Automaton.tells a asked.anchored text cursor.sid c.requires.cursor.reads in
-    shows-told b (g.A.Automaton.Reaches a) (g.A.Automaton.matches a) asked cursor c.show.result c.requires.standard c.requires.cursor tells c.show.ensures
+    shows-told g.A.Automaton a asked cursor c.show.result c.requires.standard c.requires.cursor tells c.show.ensures

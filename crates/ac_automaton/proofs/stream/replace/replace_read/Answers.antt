@@ -24,8 +24,8 @@ returns-in_err-read_more-clause-replaced g c =
     let p = err_from_is_err_and c.from_residual.result c.from_residual.ensures.1 in
     rw (p.1, p.2) (read-stopped _ _ _ _ c.loop-stream.stream c.read_more.new.self _ _ _ _ _ _ c.loop-stream.invariant.replaced c.in_err-read_more.field-0.0 c.in_err-read_more.ensures.kept c.in_err-read_more.ensures.read)
 
-pub returns-in_err-read_more-clause-searched : goal.returns-in_err-read_more-clause-searched
-returns-in_err-read_more-clause-searched g c =
+pub returns-in_err-read_more-clause-read : goal.returns-in_err-read_more-clause-read
+returns-in_err-read_more-clause-read g c =
     let p = err_from_is_err_and c.from_residual.result c.from_residual.ensures.1 in
     let told = read-kept _ _ _ _ c.loop-stream.stream c.read_more.new.self _ _ _ _ _ _ c.loop-stream.invariant.replaced c.read_more.result c.read_more.ensures.read in
     rw p.1 (record {
@@ -46,8 +46,8 @@ returns-in_err-at-clause-replaced g c =
     let stopped = rw c.loop-stream.invariant.empty at c.in_err-at.ensures.sent.0 in
     rw (p.1, p.2) (sending-stopped _ _ _ _ _ _ _ _ _ _ _ now given c.send_decided.new.stream c.in_err-at.field-0.0 stopped c.in_err-at.ensures.sent.1)
 
-pub returns-in_err-at-clause-searched : goal.returns-in_err-at-clause-searched
-returns-in_err-at-clause-searched g c =
+pub returns-in_err-at-clause-read : goal.returns-in_err-at-clause-read
+returns-in_err-at-clause-read g c =
     let p = err_from_is_err_and c.from_residual-in_err-at.result c.from_residual-in_err-at.ensures.1 in
     let told = read-kept _ _ _ _ c.loop-stream.stream c.read_more.new.self _ _ _ _ _ _ c.loop-stream.invariant.replaced c.read_more.result c.read_more.ensures.read in
     let same = c.in_err-at.ensures.sent.0.same in
@@ -92,8 +92,8 @@ returns-clause-replaced g c =
     let sent = rw c.loop-stream.invariant.empty at c.send_all.ensures.sent in
     rest-answers _ _ _ _ c.loop-stream.stream t _ _ _ _ _ _ c.loop-stream.invariant.replaced _ _ _ c.send_all.result c.in_ok-read_more.ensures.kept read c.if-branch-gt0.false bytes sent
 
-pub returns-clause-searched : goal.returns-clause-searched
-returns-clause-searched g c =
+pub returns-clause-read : goal.returns-clause-read
+returns-clause-read g c =
     let told = read-kept _ _ _ _ c.loop-stream.stream c.read_more.new.self _ _ _ _ _ _ c.loop-stream.invariant.replaced c.read_more.result c.read_more.ensures.read in
     let all = rest-searched _ _ _ _ c.loop-stream.stream c.read_more.new.self _ _ _ _ _ _ c.loop-stream.invariant.replaced _ c.in_ok-read_more.ensures.read c.if-branch-gt0.false in
     record {

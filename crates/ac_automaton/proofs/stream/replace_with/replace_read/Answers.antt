@@ -11,22 +11,22 @@ pub loop-stream-init : goal.loop-stream-init
 loop-stream-init g c =
     let s = c.args.stream.now in
     record {
-      replaced = subst (λ (t : StreamProgress). HasReplacedWith g.W.Write.contents g.F.FnMut g.R.Read.remaining s.built t 0 c.args.reader.now c.args.reader.now c.args.replace_with.now c.args.replace_with.now c.args.writer.now c.args.writer.now) (sym c.requires.fresh)
-          (replaced-with-fresh g.W.Write.contents g.F.FnMut g.R.Read.remaining s.built c.args.reader.now c.args.writer.now c.args.replace_with.now (subst IsOnCourse c.requires.fresh c.requires.course) c.requires.ready);
+      replaced = subst (λ (t : StreamProgress). HasReplacedWith g.W.Write.contents g.F.FnMut g.R.Read.remaining s.built t 0 c.args.reader.now c.args.reader.now c.args.f.now c.args.f.now c.args.writer.now c.args.writer.now) (sym c.requires.fresh)
+          (replaced-with-fresh g.W.Write.contents g.F.FnMut g.R.Read.remaining s.built c.args.reader.now c.args.writer.now c.args.f.now (subst IsOnCourse c.requires.fresh c.requires.course) c.requires.ready);
       more = c.requires.open;
     }
 
 pub returns-in_err-read_more : goal.returns-in_err-read_more
 returns-in_err-read_more g c =
     let p = err_from_is_err_and c.from_residual.result c.from_residual.ensures.1 in
-    rw (p.1, p.2) (read-stopped-with g.W.Write.contents g.F.FnMut g.R.Read.remaining c.args.stream.now.built c.loop-stream.stream c.read_more.new.self c.loop-stream.at c.args.reader.now c.loop-stream.reader c.read_more.new.reader c.args.replace_with.now c.loop-stream.replace_with c.args.writer.now c.loop-stream.writer _
+    rw (p.1, p.2) (read-stopped-with g.W.Write.contents g.F.FnMut g.R.Read.remaining c.args.stream.now.built c.loop-stream.stream c.read_more.new.self c.loop-stream.at c.args.reader.now c.loop-stream.reader c.read_more.new.reader c.args.f.now c.loop-stream.f c.args.writer.now c.loop-stream.writer _
     c.loop-stream.invariant.replaced c.in_err-read_more.ensures.kept c.in_err-read_more.ensures.read)
 
 pub returns-in_err-at : goal.returns-in_err-at
 returns-in_err-at g c =
     let p = err_from_is_err_and c.from_residual-in_err-at.result c.from_residual-in_err-at.ensures.1 in
     let read = c.in_ok-read_more.ensures.read in
-    rw (p.1, p.2) (stops-with g.W.Write.contents g.F.FnMut g.R.Read.remaining c.args.stream.now.built c.loop-stream.stream c.read_more.new.self c.loop-stream.at c.args.reader.now c.loop-stream.reader c.read_more.new.reader c.args.replace_with.now c.loop-stream.replace_with c.args.writer.now c.loop-stream.writer read.0 0
+    rw (p.1, p.2) (stops-with g.W.Write.contents g.F.FnMut g.R.Read.remaining c.args.stream.now.built c.loop-stream.stream c.read_more.new.self c.loop-stream.at c.args.reader.now c.loop-stream.reader c.read_more.new.reader c.args.f.now c.loop-stream.f c.args.writer.now c.loop-stream.writer read.0 0
     c.loop-stream.invariant.replaced read.1 c.replace_decided.new.writer _ c.in_ok-read_more.ensures.kept refl c.in_err-at.ensures.stops)
 
 pub loop-stream-smaller : goal.loop-stream-smaller
@@ -39,8 +39,8 @@ loop-stream-preserved g c =
     let read = c.in_ok-read_more.ensures.read in
     let some = piece-some read.0 _ read.2 c.if-branch-gt0.true in
     record {
-      replaced = goes-on-with g.W.Write.contents g.F.FnMut g.R.Read.remaining c.args.stream.now.built c.loop-stream.stream c.read_more.new.self c.loop-stream.at c.args.reader.now c.loop-stream.reader c.read_more.new.reader c.args.replace_with.now c.loop-stream.replace_with c.args.writer.now c.loop-stream.writer read.0 0
-          c.loop-stream.invariant.replaced read.1 c.replace_decided.new.stream c.in_ok-at.at c.replace_decided.new.replace_with c.replace_decided.new.writer refl some c.in_ok-at.ensures.goes_on c.in_ok-at.ensures.at_cut;
+      replaced = goes-on-with g.W.Write.contents g.F.FnMut g.R.Read.remaining c.args.stream.now.built c.loop-stream.stream c.read_more.new.self c.loop-stream.at c.args.reader.now c.loop-stream.reader c.read_more.new.reader c.args.f.now c.loop-stream.f c.args.writer.now c.loop-stream.writer read.0 0
+          c.loop-stream.invariant.replaced read.1 c.replace_decided.new.stream c.in_ok-at.at c.replace_decided.new.f c.replace_decided.new.writer refl some c.in_ok-at.ensures.goes_on c.in_ok-at.ensures.at_cut;
       more = still-open _ read.0 read.1.read.turns.1 some;
     }
 
@@ -52,5 +52,5 @@ returns g c =
     let placed = placed-after g.R.Read.remaining c.loop-stream.stream t c.loop-stream.at c.loop-stream.reader c.read_more.new.reader read.0 0 h.place read.1 c.in_ok-read_more.ensures.kept read.3 in
     let le : c.from-from.result ≤ c.loop-stream.at = let is = c.from-from.ensures.from in let held = placed.held in omega arith in
     let bytes = rest-read t _ _ _ _ c.held.ensures.held c.from-from.ensures.from le c.rest.ensures in
-    rest-answered g.W.Write.contents g.F.FnMut g.R.Read.remaining c.args.stream.now.built c.loop-stream.stream t c.loop-stream.at c.args.reader.now c.loop-stream.reader c.read_more.new.reader c.args.replace_with.now c.loop-stream.replace_with c.args.writer.now c.loop-stream.writer read.0 0 h read.1
+    rest-answered g.W.Write.contents g.F.FnMut g.R.Read.remaining c.args.stream.now.built c.loop-stream.stream t c.loop-stream.at c.args.reader.now c.loop-stream.reader c.read_more.new.reader c.args.f.now c.loop-stream.f c.args.writer.now c.loop-stream.writer read.0 0 h read.1
     c.write_whole.new.writer _ c.write_whole.result c.in_ok-read_more.ensures.kept read.3 refl (piece-none read.0 _ read.2 c.if-branch-gt0.false) bytes c.write_whole.ensures.took c.write_whole.ensures.reads

@@ -6,7 +6,7 @@ use Rattle.ac_automaton.proofs.stream.replace_with.replace_read.Given as goal
 
 abbrev pub invariant-loop-stream : goal.invariant-loop-stream
 invariant-loop-stream g l = record {
-  replaced : HasReplacedWith g.W.Write.contents g.F.FnMut g.R.Read.remaining l.fn.stream.built l.stream l.at l.fn.reader l.reader l.fn.replace_with l.replace_with l.fn.writer l.writer;
+  replaced : HasReplacedWith g.W.Write.contents g.F.FnMut g.R.Read.remaining l.fn.stream.built l.stream l.at l.fn.reader l.reader l.fn.f l.f l.fn.writer l.writer;
   more : has_ended l.reader ≡ false;
 }
 

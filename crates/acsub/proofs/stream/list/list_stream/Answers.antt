@@ -7,13 +7,13 @@ use Rattle.acsub.proofs.stream.list.list_stream.Goals as goal
 pub returns-in_err-output-clause-lists : goal.returns-in_err-output-clause-lists
 returns-in_err-output-clause-lists g c =
     let p = err_from_is_err_and c.from_residual.result c.from_residual.ensures.1 in
-    rw (p.1, p.2) (nothing-listed g.R.Read.remaining g.W.Write.contents (g.A.Automaton.built c.args.automaton.now) c.args.reader.now c.args.writer.now)
+    rw (p.1, p.2) (nothing-listed g.R.Read.remaining g.W.Write.contents (g.A.Automaton.built c.args.engine.now) c.args.reader.now c.args.writer.now)
 
 pub returns-in_err-matches-clause-lists : goal.returns-in_err-matches-clause-lists
 returns-in_err-matches-clause-lists g c =
     let p = err_from_is_err_and c.from_residual-in_err-matches.result c.from_residual-in_err-matches.ensures.1 in
-    let b = g.A.Automaton.built c.args.automaton.now in
-    let memory = refused-memory b (g.A.Automaton.supports c.args.automaton.now) c.in_err-matches.field-0.0 c.requires.can c.in_err-matches.ensures.answer in
+    let b = g.A.Automaton.built c.args.engine.now in
+    let memory = refused-memory b (g.A.Automaton.supports c.args.engine.now) c.in_err-matches.field-0.0 c.requires.can c.in_err-matches.ensures.answer in
     let untouched = rw c.in_err-matches.was at c.stream_find_iter.follows.holds-at-none in
     rw (p.1, p.2, memory, untouched) (nothing-listed g.R.Read.remaining g.W.Write.contents b c.args.reader.now c.args.writer.now)
 
@@ -21,7 +21,7 @@ pub returns-in_err-matches-clause-costs : goal.returns-in_err-matches-clause-cos
 returns-in_err-matches-clause-costs g c =
     let p = err_from_is_err_and c.from_residual-in_err-matches.result c.from_residual-in_err-matches.ensures.1 in
     let untouched = rw c.in_err-matches.was at c.stream_find_iter.follows.holds-at-none in
-    rw (p.1, untouched) (cost-none (g.A.Automaton.built c.args.automaton.now) c.args.reader.now c.args.steps.now p.0)
+    rw (p.1, untouched) (cost-none (g.A.Automaton.built c.args.engine.now) c.args.reader.now c.args.steps.now p.0)
 
 pub returns-clause-memory : goal.returns-clause-memory
 returns-clause-memory g c = never-memory _ c.list_read-outcome.result c.list_read-outcome.ensures.begun

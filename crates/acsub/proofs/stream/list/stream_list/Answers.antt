@@ -5,12 +5,12 @@ use Rattle.acsub.proofs.stream.list.stream_list.Goals as goal
 pub list_stream-requires-clause-can : goal.list_stream-requires-clause-can
 list_stream-requires-clause-can g c =
     let plan = c.args.prepared.now in
-    streamed-can (g.A.Automaton.built c.args.automaton.now) (g.A.Automaton.supports c.args.automaton.now) plan.settings plan.rules c.requires.built c.requires.supports c.requires.streamed
+    streamed-can (g.A.Automaton.built c.args.engine.now) (g.A.Automaton.supports c.args.engine.now) plan.settings plan.rules c.requires.built c.requires.supports c.requires.streamed
 
 pub returns-in-Ok-clause-streams : goal.returns-in-Ok-clause-streams
 returns-in-Ok-clause-streams g c =
     let plan = c.args.prepared.now in
-    lists-streams plan.settings plan.rules (g.A.Automaton.built c.args.automaton.now) c.requires.built c.requires.mode g.R.Read.remaining g.W.Write.contents c.args.reader.now c.list_stream.new.reader c.args.writer.now c.list_stream.new.writer (rw c.in-Ok.is at c.list_stream.ensures.lists)
+    lists-streams plan.settings plan.rules (g.A.Automaton.built c.args.engine.now) c.requires.built c.requires.mode g.R.Read.remaining g.W.Write.contents c.args.reader.now c.list_stream.new.reader c.args.writer.now c.list_stream.new.writer (rw c.in-Ok.is at c.list_stream.ensures.lists)
 
 pub told-requires : goal.told-requires
 told-requires g c = rw c.in-Err.is at c.list_stream.ensures.accepted
@@ -18,4 +18,4 @@ told-requires g c = rw c.in-Err.is at c.list_stream.ensures.accepted
 pub returns-in-Err-clause-streams : goal.returns-in-Err-clause-streams
 returns-in-Err-clause-streams g c =
     let plan = c.args.prepared.now in
-    lists-told plan.settings plan.rules (g.A.Automaton.built c.args.automaton.now) c.requires.built c.requires.mode g.R.Read.remaining g.W.Write.contents c.args.reader.now c.list_stream.new.reader c.args.writer.now c.list_stream.new.writer c.in-Err.error c.told.result c.told.ensures (rw c.in-Err.is at c.list_stream.ensures.lists)
+    lists-told plan.settings plan.rules (g.A.Automaton.built c.args.engine.now) c.requires.built c.requires.mode g.R.Read.remaining g.W.Write.contents c.args.reader.now c.list_stream.new.reader c.args.writer.now c.list_stream.new.writer c.in-Err.error c.told.result c.told.ensures (rw c.in-Err.is at c.list_stream.ensures.lists)

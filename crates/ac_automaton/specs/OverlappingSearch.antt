@@ -1,0 +1,156 @@
+-- What the parts of an overlapping search say of an automaton and an input: what is shown where the search stands, and what it costs.
+use Rattle.std.specs.Prelude.{◌≡◌, ◌⊎◌, ℕ, ◌+◌, ◌<◌, ◌≤◌, List, [], ◌∷◌, ◌++◌, drop, length, Option, None, Some, Result, Ok, Err}
+use Rattle.ac_input.specs.Number.{StateID}
+use Rattle.ac_input.specs.declared.search.Anchored.{Anchored}
+use Rattle.ac_input.specs.declared.search.Anchored.TheVariants.{No}
+use Rattle.ac_input.specs.declared.search.MatchKind.TheVariants.{Standard}
+use Rattle.ac_input.specs.declared.steps.Steps.{Steps}
+use Rattle.ac_input.specs.Candidate.{Filter}
+use Rattle.ac_input.specs.Computed.{listing_of}
+use Rattle.ac_input.specs.Input.{Asked, is_anchored}
+use Rattle.ac_input.specs.Occurrence.{Occurrence, starting_at}
+use Rattle.ac_input.specs.Steps.{looked_of}
+use Rattle.ac_automaton.specs.Automaton.{Built, searched, listing_in}
+use Rattle.ac_automaton.specs.Cursor.{counted, walked, StandsIn}
+use Rattle.ac_automaton.specs.Overlapping.{AnswersOverlapping, CameFrom, CanOverlap, IsLeft, IsOverlappingRefusal, IsPaidAt, IsPaidBy, IsPlacePaid, IsSkipCost, KeepsBudget, ReadsOn, ShowsFirst, TellsFirst, ending_from, told_from}
+use Rattle.ac_automaton.specs.declared.automaton.Automaton.{Ghosts}
+use Rattle.ac_automaton.specs.declared.error.MatchErrorKind.{MatchErrorKind}
+use Rattle.ac_automaton.specs.declared.overlapping.Beginning.{Beginning}
+use Rattle.ac_automaton.specs.declared.overlapping.Entry.{Entry}
+use Rattle.ac_automaton.specs.declared.overlapping.OverlappingState.{OverlappingState}
+use Rattle.ac_automaton.specs.declared.overlapping.Position.{Position}
+use Rattle.ac_automaton.specs.declared.overlapping.Position.TheVariants.{At, Over}
+use Rattle.ac_automaton.specs.declared.cursor.Cursor.{Cursor}
+use Rattle.ac_automaton.specs.declared.cursor.End.{End}
+use Rattle.ac_automaton.specs.declared.cursor.End.TheVariants.{Found, Idle}
+use Rattle.ac_automaton.specs.declared.overlapping.Shown.{Shown}
+
+-- ---- what it costs
+
+-- what is paid for where a walk stands pays for what it costs to read on
+abbrev pub PaysOn : Built → Asked → Cursor → End Shown → Steps → Steps → Type 0
+PaysOn b asked cursor end before after =
+    (looks more : ℕ) → IsPaidAt b.dictionary b.deterministic (searched b asked) cursor.from cursor.at looks
+    → looks + looked_of after ≡ more + looked_of before
+    → IsPaidBy b.dictionary b.deterministic (searched b asked) end more
+
+-- what is paid for where a search stands pays for what a call costs that shows this
+abbrev pub KeepsPaying : Built → Asked → Position → Shown → Steps → Steps → Type 0
+KeepsPaying b asked place shown before after = KeepsBudget b.dictionary b.deterministic (searched b asked) place shown.place before after
+
+-- the same of a search that stands at a state, and has shown its list up to an index
+abbrev pub PaysAt : Built → Asked → Cursor → ℕ → Shown → Steps → Steps → Type 0
+PaysAt b asked cursor index shown before after = KeepsPaying b asked (At cursor.sid cursor.from cursor.at index) shown before after
+
+-- what it costs to read on by candidates from a place
+abbrev pub SkipsAtCost : Built → Asked → ℕ → End Shown → Steps → Steps → Type 0
+SkipsAtCost b asked at end before after = IsSkipCost b.dictionary b.deterministic (searched b asked) at end before after
+
+-- ---- what is shown
+
+module _ {S : Type 0} (A : Ghosts S) (automaton : S) where
+  -- The first entry of a state's list that counts from an index on, and the index after it. The search reached the state by so many
+  -- bytes from the start of this anchoring.
+  abbrev pub IsNextEntry : Anchored → StateID → ℕ → ℕ → Option Entry → Type 0
+  IsNextEntry anchored sid read index None =
+      counted (A.built automaton).dictionary (is_anchored anchored) read (drop index (A.matches automaton sid)) ≡ []
+  IsNextEntry anchored sid read index (Some entry) =
+      (counted (A.built automaton).dictionary (is_anchored anchored) read (drop index (A.matches automaton sid))
+      ≡ entry.pattern ∷ counted (A.built automaton).dictionary (is_anchored anchored) read (drop entry.next (A.matches automaton sid)))
+      × (entry.pattern < length (A.built automaton).dictionary.patterns)
+
+  module _ (asked : Asked) where
+    -- an overlapping search of the standard kind stands where it may show what a state tells
+    pub record MayShow (here : Cursor) : Type 0 where
+      pub standard : (A.built automaton).dictionary.kind ≡ Standard
+      pub cursor : StandsIn (A.built automaton) (A.Reaches automaton) asked here
+
+    -- it may ask the prefilter from a place on, and go on from the start
+    pub record MaySkip (prefilter : Filter) (start : StateID) (at : ℕ) : Type 0 where
+      pub standard : (A.built automaton).dictionary.kind ≡ Standard
+      pub made : prefilter.dictionary ≡ (A.built automaton).dictionary
+      pub free : asked.anchored ≡ No
+      pub starts : A.Reaches automaton No [] start
+      pub empty : A.matches automaton start ≡ []
+      pub from : asked.span.start ≤ at
+      pub to : at ≤ asked.span.end
+
+    -- what a state has to show from an index of its list on
+    abbrev pub ShowsAt : Cursor → ℕ → Option Shown → Type 0
+    ShowsAt cursor index shown = TellsFirst (A.matches automaton) (A.built automaton).dictionary (searched (A.built automaton) asked) cursor index shown
+
+    -- what the state of a walk tells from an index of its list on
+    abbrev pub told_at : Cursor → ℕ → List Occurrence
+    told_at cursor index = told_from (A.built automaton).dictionary (walked (searched (A.built automaton) asked) cursor) cursor.at (A.matches automaton cursor.sid) index
+
+    -- what is left of the listing for a walk: what ends at a place or later
+    abbrev pub left_for : Cursor → ℕ → List Occurrence
+    left_for cursor at = ending_from (walked (searched (A.built automaton) asked) cursor) at
+
+    -- this is what is left where a search stands
+    abbrev pub IsLeftAt : Position → List Occurrence → Type 0
+    IsLeftAt place left = IsLeft (A.Reaches automaton asked.anchored) (A.matches automaton) (A.built automaton).dictionary (searched (A.built automaton) asked) place left
+
+    -- the first of what is left is shown, if there is anything
+    abbrev pub ShowsFirstOf : List Occurrence → Shown → Type 0
+    ShowsFirstOf left shown = ShowsFirst (A.Reaches automaton asked.anchored) (A.matches automaton) (A.built automaton).dictionary (searched (A.built automaton) asked) left shown
+
+    -- how reading on from a place ends
+    abbrev pub ReadsOnFrom : ℕ → List Occurrence → End Shown → Type 0
+    ReadsOnFrom at left end = ReadsOn (A.Reaches automaton asked.anchored) (A.matches automaton) (A.built automaton).dictionary (searched (A.built automaton) asked) at left end
+
+    -- What is shown where a walk stands: the first of what is left there, which is nothing where the state is dead; none where the
+    -- state tells nothing.
+    abbrev pub ShowsHere : Cursor → Option Shown → Type 0
+    ShowsHere cursor None = told_at cursor 0 ≡ []
+    ShowsHere cursor (Some shown) =
+        ShowsFirstOf (left_for cursor cursor.at) shown
+        × ((shown.place ≡ Over) ⊎ ((index : ℕ) × (shown.place ≡ At cursor.sid cursor.from cursor.at index)))
+
+    -- How a search ends where a walk stands: with what is shown there; or nothing is told, and what is left begins here or later.
+    -- None where it goes on: nothing is told.
+    abbrev pub EndsHere : Cursor → Option (End Shown) → Type 0
+    EndsHere cursor None = told_at cursor 0 ≡ []
+    EndsHere cursor (Some (Found shown)) = ShowsHere cursor (Some shown)
+    EndsHere cursor (Some (Idle at)) = (at ≡ cursor.at) × (left_for cursor cursor.at ≡ listing_of (starting_at (searched (A.built automaton) asked) cursor.at))
+
+    -- the first of what ends after the place where a walk stands is shown; or the walk is back at the start
+    abbrev pub ShowsLater : Cursor → End Shown → Type 0
+    ShowsLater cursor end = ReadsOnFrom cursor.at (left_for cursor (cursor.at + 1)) end
+
+    -- the first of what begins at a place or later is shown; or the walk is back at the start
+    abbrev pub ShowsFrom : ℕ → End Shown → Type 0
+    ShowsFrom at end = ReadsOnFrom at (listing_of (starting_at (searched (A.built automaton) asked) at)) end
+
+    -- the first of what ends after the place where a walk stands is shown
+    abbrev pub ShowsAfter : Cursor → Shown → Type 0
+    ShowsAfter cursor shown = ShowsFirstOf (left_for cursor (cursor.at + 1)) shown
+
+    -- the first is shown of what the state tells from an index of its list on, and of what ends later
+    abbrev pub ShowsRest : Cursor → ℕ → Shown → Type 0
+    ShowsRest cursor index shown = ShowsFirstOf (told_at cursor index ++ left_for cursor (cursor.at + 1)) shown
+
+    -- something is left where a search stands, or nothing: what that is can be said
+    abbrev pub HasLeft : Position → Type 0
+    HasLeft place = (left : List Occurrence) × IsLeftAt place left
+
+    -- the first of what is left there is shown, whatever that is
+    abbrev pub ShowsNextAt : Position → Shown → Type 0
+    ShowsNextAt place shown = (left : List Occurrence) → IsLeftAt place left → ShowsFirstOf left shown
+
+    -- A search begins at the start, where all of the listing is left and nothing has to be paid for; or it is refused.
+    abbrev pub AnswersBegin : Result Beginning MatchErrorKind → Type 0
+    AnswersBegin (Ok beginning) =
+        CanOverlap (A.built automaton) (A.supports automaton) asked
+        × A.Reaches automaton asked.anchored [] beginning.start
+        × IsLeftAt beginning.place (listing_in (A.built automaton) asked)
+        × IsPlacePaid (A.built automaton).dictionary (A.built automaton).deterministic (searched (A.built automaton) asked) beginning.place 0
+    AnswersBegin (Err error) = IsOverlappingRefusal (A.built automaton) (A.supports automaton) asked error
+
+    -- the state is fresh, or came from earlier calls with this automaton and input alone
+    abbrev pub CameFromCalls : OverlappingState → Type 0
+    CameFromCalls state = CameFrom (A.built automaton) (A.Reaches automaton) (A.matches automaton) asked state
+
+    -- what a call answers, and how it leaves the state
+    abbrev pub AnswersCall : OverlappingState → OverlappingState → Result (Unit {0}) MatchErrorKind → Type 0
+    AnswersCall before after result = AnswersOverlapping (A.built automaton) (A.supports automaton) asked before after result

@@ -1,0 +1,11 @@
+use Rattle.std.proofs.Common.{◌≡◌}
+use Rattle.ac_tables.specs.ContiguousTable.{len_before}
+use Rattle.ac_tables.specs.ContiguousBuild.{ArePlacesOf}
+use Rattle.ac_tables.proofs.contiguous.places.places.Given as goal
+
+-- those so far, and where the next one stands
+abbrev pub invariant-loop-state : goal.invariant-loop-state
+invariant-loop-state l = record {
+  made : ArePlacesOf l.nfa l.dense_depth l.classes l.state l.places.items;
+  before : l.before ≡ len_before l.nfa l.dense_depth l.classes l.state;
+}

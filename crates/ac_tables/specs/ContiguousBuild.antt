@@ -1,0 +1,70 @@
+-- How the words of a contiguous automaton are made, state by state.
+use Rattle.std.specs.Prelude.{◌≡◌, ◌≢◌, ℕ, ◌+◌, ◌<◌, ◌≤◌, Bool, List, length, slice_index}
+use Rattle.ac_input.specs.declared.primitives.number.TheConstants.{GREATEST}
+use Rattle.ac_input.specs.Alphabet.{alphabet_len, IsClasses}
+use Rattle.ac_input.specs.Classes.{IsByteOf, IsAlone, ClassesLeadAlike}
+use Rattle.ac_input.specs.Dictionary.{Dictionary}
+use Rattle.ac_noncontiguous.specs.declared.error.BuildErrorKind.{BuildErrorKind}
+use Rattle.ac_noncontiguous.specs.declared.error.BuildErrorKind.TheVariants.{StateIDOverflow, PatternIDOverflow, PatternTooLong, Memory}
+use Rattle.ac_noncontiguous.specs.declared.nfa.NFA.{NFA}
+use Rattle.ac_noncontiguous.specs.ReadCalls.{state_len, fail_in, special_in, FailsIn, EdgesLeadIn, ListsIn}
+use Rattle.ac_noncontiguous.specs.Reads.{matches_at}
+use Rattle.ac_tables.specs.Words.{StateParts, words_of}
+use Rattle.ac_tables.specs.ContiguousTable.{place_in, AreWordsOf, ArePlacesTooGreat}
+use Rattle.ac_tables.specs.declared.contiguous.table.Table.{Table}
+
+-- ---- how many words
+
+-- so many words has each state of which this is known
+abbrev pub IsLen : ℕ → Bool → ℕ → ℕ → ℕ → Type 0
+IsLen alphabet shallow transitions matches len = (s : StateParts) → s.shallow ≡ shallow → length s.edges ≡ transitions → length s.matches ≡ matches → len ≡ length (words_of alphabet s)
+
+-- ---- places
+
+-- These are the places of the first so many states, and each is a number of a state.
+pub record ArePlacesOf (nfa : NFA) (dense_depth : ℕ) (classes : List ℕ) (n : ℕ) (places : List ℕ) : Type 0 where
+  pub counted : length places ≡ n
+  pub at : (sid : ℕ) → sid < n → slice_index places sid ≡ place_in nfa dense_depth classes sid
+  pub fits : (sid : ℕ) → sid < n → place_in nfa dense_depth classes sid ≤ GREATEST
+
+-- The places of the states are such.
+abbrev pub ArePlaces : NFA → ℕ → List ℕ → List ℕ → Type 0
+ArePlaces nfa dense_depth classes places = ArePlacesOf nfa dense_depth classes (state_len nfa) places
+
+-- Why there are no such words: some place is too great, or memory ends.
+abbrev pub IsRefusedFor : NFA → ℕ → List ℕ → BuildErrorKind → Type 0
+IsRefusedFor nfa dense_depth classes (StateIDOverflow max requested) = (max ≡ GREATEST) × (max < requested) × ArePlacesTooGreat nfa dense_depth classes
+IsRefusedFor nfa dense_depth classes (PatternIDOverflow max requested) = ⊥
+IsRefusedFor nfa dense_depth classes (PatternTooLong pattern len) = ⊥
+IsRefusedFor nfa dense_depth classes Memory = Unit {0}
+
+-- ---- states
+
+-- what the read calls say of a state
+pub record IsKnown (nfa : NFA) (sid : ℕ) : Type 0 where
+  pub fails : FailsIn nfa sid (fail_in nfa sid)
+  pub edges : EdgesLeadIn nfa sid
+  pub lists : ListsIn nfa sid (matches_at nfa sid)
+
+-- and of the first so many, but for the fail state
+abbrev pub AreKnown : NFA → ℕ → Type 0
+AreKnown nfa n = (sid : ℕ) → sid < n → sid ≢ 1 → IsKnown nfa sid
+
+-- ---- classes
+
+-- The classes serve a dictionary: each byte that stands in an entered pattern is a class alone, and bytes of one class lead alike.
+pub record AreServing (m : Dictionary) (classes : List ℕ) : Type 0 where
+  pub alone : (b : ℕ) → b < 256 → IsByteOf m b → IsAlone classes b
+  pub alike : ClassesLeadAlike m classes
+
+-- ---- the table
+
+-- The table is that of an automaton: its words, and the places of its starts and of its last state that matches.
+pub record IsTableOf (nfa : NFA) (dense_depth : ℕ) (table : Table) : Type 0 where
+  pub words : AreWordsOf nfa dense_depth table.classes table.words.items
+  pub alphabet : table.alphabet_len ≡ alphabet_len table.classes
+  pub few_classes : table.alphabet_len ≤ 256
+  pub classes : IsClasses table.classes
+  pub start : table.start ≡ place_in nfa dense_depth table.classes (special_in nfa).start_unanchored_id
+  pub start_anchored : table.start_anchored ≡ place_in nfa dense_depth table.classes (special_in nfa).start_anchored_id
+  pub max_match : table.max_match ≡ place_in nfa dense_depth table.classes (special_in nfa).max_match_id

@@ -1,0 +1,108 @@
+//! Where the states stand.
+//!
+//! All places are known before the first word is written, so each state is written with its final numbers, and a build that would
+//! need too great a number is refused before memory for the words is taken.
+ghost use Rattle.std.specs.Prelude.{◌≡◌, ◌≢◌, ℕ, ◌+◌, ◌<◌, ◌≤◌, ◌==◌, ◌++◌, ◌∷◌, [], if◌then◌else◌, length, IfOk, IfErr};
+ghost use Rattle.ac_input.specs.declared.primitives.number.TheConstants.{GREATEST};
+ghost use Rattle.ac_noncontiguous.specs.declared.error.BuildErrorKind.TheVariants.{StateIDOverflow};
+ghost use Rattle.ac_noncontiguous.specs.ReadCalls.{state_len, edges_in};
+ghost use Rattle.ac_tables.specs.ContiguousTable.{len_at};
+ghost use Rattle.ac_tables.specs.ContiguousBuild.{IsLen, ArePlaces, IsRefusedFor};
+
+use crate::contiguous::layout::MOST_SPARSE;
+use ac_input::alphabet::ByteClasses;
+use ac_input::primitives::{GREATEST, StateID};
+use ac_noncontiguous::error::{BuildError, BuildErrorKind};
+use ac_noncontiguous::nfa::NFA;
+use std::alloc::{AllocError, Global};
+
+/// The fail state, which has no words.
+pub(super) const FAIL: usize = 1;
+
+/// How many words a state takes that has so many transitions and patterns.
+fn words_len(shallow: bool, transitions: usize, matches: usize, alphabet_len: usize) -> usize
+    requires alphabet { alphabet_len ≤ 256 }
+    requires matches { matches ≤ GREATEST + 1 }
+    ensures len { IsLen alphabet_len shallow transitions matches result }
+    ensures fits { result ≤ GREATEST + 300 }
+{
+    let list = if matches > 1 { matches + 1 } else { matches };
+    if shallow || transitions > MOST_SPARSE {
+        return 2 + alphabet_len + list;
+    }
+    if transitions == 1 && matches == 0 {
+        return 3;
+    }
+    2 + (transitions + 3) / 4 + transitions + list
+}
+
+/// How many transitions the state has.
+fn trans_len(nfa: &NFA, sid: StateID) -> usize
+    requires { sid < state_len nfa.now }
+    ensures { result ≡ length (edges_in nfa.now sid) }
+{
+    nfa.iter_trans(sid).count()
+}
+
+/// How many words the state takes.
+fn len_of(nfa: &NFA, sid: StateID, dense_depth: usize, classes: &ByteClasses) -> usize
+    requires { sid < state_len nfa.now }
+    ensures len { result ≡ len_at nfa.now dense_depth classes.now sid }
+    ensures fits { result ≤ GREATEST + 300 }
+{
+    if sid.as_usize() == FAIL {
+        return 0;
+    }
+    words_len(
+        nfa.depth(sid) < dense_depth,
+        trans_len(nfa, sid),
+        nfa.match_list(sid).len(),
+        classes.alphabet_len(),
+    )
+}
+
+/// The place of a state, where the words of the states before it take so many. It fails where that is past the greatest number.
+fn place_of(state: usize, before: usize) -> Result<StateID, BuildError>
+    ensures placed { IfOk result (λ place. (place ≤ GREATEST) × (place ≡ (if state == 1 then 1 else before))) }
+    ensures refused { IfErr result (λ error. (state ≢ 1) × (GREATEST < before)
+        × (error ≡ StateIDOverflow GREATEST before)) }
+{
+    if state == FAIL {
+        return Ok(StateID::must(FAIL));
+    }
+    match StateID::new(before) {
+        Ok(place) => Ok(place),
+        Err(error) => Err(BuildError::from(BuildErrorKind::StateIDOverflow {
+            max: GREATEST as u64,
+            requested_max: error.attempted(),
+        })),
+    }
+}
+
+/// Puts a place after the others.
+fn push(place: StateID, places: &mut Vec<StateID>) -> Result<(), AllocError>
+    ensures { IfOk result (λ _. places.new.items ≡ places.old.items ++ place ∷ []) }
+{
+    Ok(places.push(place)?)
+}
+
+/// The places of the states, one for each.
+pub(super) fn places(
+    alloc: Global,
+    nfa: &NFA,
+    dense_depth: usize,
+    classes: &ByteClasses,
+) -> Result<Vec<StateID>, BuildError>
+    ensures made { IfOk result
+        (λ places. ArePlaces nfa.now dense_depth classes.now places.items) }
+    ensures refused { IfErr result (IsRefusedFor nfa.now dense_depth classes.now) }
+{
+    let states = nfa.state_len();
+    let mut places = Vec::with_capacity(alloc, states)?;
+    let mut before = 0;
+    for state in 0..states {
+        push(place_of(state, before)?, &mut places)?;
+        before += len_of(nfa, StateID::must(state), dense_depth, classes);
+    }
+    Ok(places)
+}

@@ -9,3 +9,7 @@ pub mod DfaReadLemmas
 pub mod DfaIdleLemmas
 pub mod EntryLemmas
 pub mod LayLemmas
+pub mod RowLemmas
+pub mod CellLemmas
+pub mod WriteLemmas
+pub mod FilledLemmas

@@ -27,3 +27,5 @@ pub mod ContiguousTable
 pub mod ContiguousBuild
 pub mod WordReads
 pub mod ContiguousReads
+pub mod Filling
+pub mod Filler

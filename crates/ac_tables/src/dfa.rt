@@ -1,6 +1,8 @@
 //! The DFA.
 mod automaton;
+mod fill;
 mod lists;
+mod numbers;
 mod table;
 
 ghost use Rattle.std.specs.Prelude.{◌≡◌, if◌then◌else◌};

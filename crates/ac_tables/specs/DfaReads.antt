@@ -1,7 +1,6 @@
 -- What a DFA is built as, and what is known of a number that a search has come to.
-use Rattle.std.specs.Prelude.{◌≡◌, ℕ, ◌+◌, ◌*◌, ◌/◌, ◌<◌, ◌≤◌, ◌==◌, ◌||◌, nat_le, Bool, true, List, length, Option}
+use Rattle.std.specs.Prelude.{◌≡◌, ℕ, ◌==◌, ◌||◌, nat_le, Bool, true, List, Option}
 use Rattle.ac_input.specs.declared.search.Anchored.{Anchored}
-use Rattle.ac_input.specs.Alphabet.{class}
 use Rattle.ac_input.specs.Candidate.{Filter}
 use Rattle.ac_input.specs.Dfa.{Serves}
 use Rattle.ac_input.specs.Dictionary.{Dictionary, dictionary_of}
@@ -9,7 +8,7 @@ use Rattle.ac_automaton.specs.Automaton.{Built}
 use Rattle.ac_automaton.specs.Named.{Naming, IsReadBy}
 use Rattle.ac_tables.specs.declared.dfa.DFA.{DFA}
 use Rattle.ac_tables.specs.declared.dfa.table.Table.{Table}
-use Rattle.ac_tables.specs.DfaTable.{AreRows, stride_of, list_index, list_start, list_end, matches_by}
+use Rattle.ac_tables.specs.DfaTable.{AreRows, matches_by}
 
 -- what the automaton is made from
 abbrev pub dictionary : DFA → Dictionary
@@ -48,26 +47,3 @@ pub record IsMadeOf (m : Dictionary) (from : Table) (held : Option Filter) (dfa 
   pub dictionary : dictionary dfa ≡ m
   pub table : dfa.table ≡ from
   pub prefilter : dfa.prefilter ≡ held
-
--- ---- look-ups
-
--- which of the lists is that of a number
-abbrev pub list_at : Table → ℕ → ℕ
-list_at table sid = list_index table.kind (sid / stride_of table)
-
--- each byte is a class of its own
-abbrev pub ArePlain : List ℕ → Type 0
-ArePlain classes = (byte : ℕ) → byte < 256 → class classes byte ≡ byte
-
--- a whole row begins at the number, with an entry for each class
-pub record HasRow (table : Table) (sid : ℕ) : Type 0 where
-  pub within : sid + stride_of table ≤ length table.trans.items
-  pub classes : (byte : ℕ) → byte < 256 → class table.classes byte < stride_of table
-
--- the list of a number stands among the others
-pub record HasList (table : Table) (sid : ℕ) : Type 0 where
-  pub wide : table.stride2 ≤ 8
-  pub past : 2 * stride_of table ≤ sid
-  pub listed : list_at table sid < length table.lists.ends.items
-  pub rising : list_start table.lists (list_at table sid) ≤ list_end table.lists (list_at table sid)
-  pub within : list_end table.lists (list_at table sid) ≤ length table.lists.patterns.items

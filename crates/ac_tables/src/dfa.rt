@@ -1,6 +1,7 @@
 //! The DFA.
 mod automaton;
 mod lists;
+mod reads;
 mod table;
 
 ghost use Rattle.std.specs.Prelude.{◌≡◌, if◌then◌else◌};

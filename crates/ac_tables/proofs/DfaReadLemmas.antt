@@ -286,3 +286,9 @@ classes-plain classes is all byte small =
     let below = class-below classes byte is small in
     let above = class-above classes (255 - byte) byte is (omega (arith, small)) in
     omega (arith, below, above, all)
+
+-- ---- the layout
+
+-- no row is longer than 256 entries
+pub stride-wide : (dfa : DFA) → dfa.table.stride2 ≤ 8
+stride-wide dfa = ∥∥₁_elim dfa.stands le_prop (λ w. w.1.wide)

@@ -50,13 +50,13 @@ impl DFA {
         ensures cost { IsReadCost (built_as self.now) (IsRead self.now) anchored sid
             (take result.taken bytes.now) steps.old steps.new }
     {
-        let last_special = self.max_special.as_u32();
+        let last = self.max_special.as_u32();
         let mut current = sid;
         let mut read = self.starters.pass(self.table.start, current, bytes, steps);
         while read < bytes.len() {
             current = self.step(false, anchored, current, bytes[read], steps);
             read += 1;
-            if current.as_u32() <= last_special {
+            if current.as_u32() <= last {
                 return Advance {
                     sid: current,
                     taken: read,
@@ -87,13 +87,13 @@ impl DFA {
         ensures cost { IsReadCost (built_as self.now) (IsRead self.now) anchored sid
             (take result.taken bytes.now) steps.old steps.new }
     {
-        let last_match = self.table.max_match.as_u32();
+        let last = self.table.max_match.as_u32();
         let mut current = sid;
         let mut read = self.starters.pass(self.table.start, current, bytes, steps);
         while read < bytes.len() {
             current = self.step(false, anchored, current, bytes[read], steps);
             read += 1;
-            if current.as_u32() <= last_match && self.is_match(current) {
+            if current.as_u32() <= last && self.is_match(current) {
                 return Advance {
                     sid: current,
                     taken: read,

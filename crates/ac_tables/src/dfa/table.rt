@@ -52,14 +52,14 @@ impl Table {
         if plain { byte } else { self.classes.get(byte) }
     }
 
-    /// The state after one more byte.
+    /// The state after one more byte. The sum is one of 32 bits, so that it needs no widening in between.
     #[inline]
     pub(crate) fn next(&self, plain: bool, sid: StateID, byte: u8) -> StateID
         requires row { HasRow self.now sid }
         requires plain { IsTrue plain → ArePlain self.now.classes }
         ensures { result ≡ slice_index self.now.trans.items (sid + class self.now.classes byte) }
     {
-        self.trans[sid.as_usize() + self.class(plain, byte) as usize]
+        self.trans[(sid.as_u32() + self.class(plain, byte) as u32) as usize]
     }
 
     /// Whether there is a start for searches of this anchoring.

@@ -10,7 +10,7 @@ use Rattle.ac_tables.specs.DfaReads.{built_as, matches_at, IsRead}
 use Rattle.ac_tables.proofs.DfaIdleLemmas.{passed-on}
 use Rattle.ac_tables.proofs.DfaReadLemmas.{listed-within}
 use Rattle.ac_tables.proofs.dfa.DFA.skip_to_match.Goals as goal
-use Rattle.ac_tables.proofs.dfa.DFA.skip_to_match.Goals.{else-as_u32-last_match-via-then-as_u32-last_match+else-is_match, else-as_u32-last_match-via-else-as_u32-last_match}
+use Rattle.ac_tables.proofs.dfa.DFA.skip_to_match.Goals.{else-as_u32-last-via-then-as_u32-last+else-is_match, else-as_u32-last-via-else-as_u32-last}
 
 pub loop-read-init : goal.loop-read-init
 loop-read-init c =
@@ -48,10 +48,10 @@ loop-read-preserved c =
     let next = c.step-current.result in
     let is = slice_get-get_or c.args.bytes.now c.loop-read.read 0 c.loop-read-test.true in
     let at = c.as_u32.ensures.value in
-    let last = c.as_u32-last_match.ensures.value in
-    let plain : ¬ IsTrue (is_matching (matches_at a) next) = elim c.else-as_u32-last_match.branch [
-      | else-as_u32-last_match-via-then-as_u32-last_match+else-is_match w ↦ λ e. false≢true (sym w.if-is_match.false ∙ w.is_match.ensures.1 (some-matching (matches_at a next) e))
-      | else-as_u32-last_match-via-else-as_u32-last_match w ↦ λ e. let m = (listed-within a.table next (some-matching (matches_at a next) e)).1 in let past = w.if-as_u32-last_match.false in omega (arith, m, at, last, past)
+    let last = c.as_u32-last.ensures.value in
+    let plain : ¬ IsTrue (is_matching (matches_at a) next) = elim c.else-as_u32-last.branch [
+      | else-as_u32-last-via-then-as_u32-last+else-is_match w ↦ λ e. false≢true (sym w.if-is_match.false ∙ w.is_match.ensures.1 (some-matching (matches_at a next) e))
+      | else-as_u32-last-via-else-as_u32-last w ↦ λ e. let m = (listed-within a.table next (some-matching (matches_at a next) e)).1 in let past = w.if-as_u32-last.false in omega (arith, m, at, last, past)
     ] in
     let more = advanced-more (built_as a) (IsRead a) c.args.anchored (is_matching (matches_at a)) c.args.sid c.args.bytes.now c.loop-read.read _ c.loop-read.current _ _ _ _ is c.loop-read.invariant.1 (λ (text : List ℕ) (reads : IsRead a c.args.anchored text c.loop-read.current). reads.lives) c.step-current.ensures.next c.step-current.ensures.cost plain in
     passed-on a c.args.anchored (is_matching (matches_at a)) c.args.sid next c.args.bytes.now _ (c.loop-read.read + 1) c.pass-read-in-loop-read.result _ _ _ (λ none e. some-matching (matches_at a a.table.start) e none) (λ k. (c.type_inv.bytes k).fits) (take_rest c.args.bytes.now (c.loop-read.read + 1)) (let lt = c.loop-read-test.true in omega arith) c.pass-read-in-loop-read.ensures more

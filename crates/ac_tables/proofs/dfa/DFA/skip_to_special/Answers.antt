@@ -19,18 +19,18 @@ loop-read-init c =
 pub step-current-requires-clause-reached : goal.step-current-requires-clause-reached
 step-current-requires-clause-reached c = reached-on (IsRead c.args.self.now c.args.anchored) c.args.sid _ c.loop-read.current c.requires.reached c.loop-read.invariant.1.reads
 
-pub returns-then-as_u32-last_special-clause-goes : goal.returns-then-as_u32-last_special-clause-goes
-returns-then-as_u32-last_special-clause-goes c =
+pub returns-then-as_u32-last-clause-goes : goal.returns-then-as_u32-last-clause-goes
+returns-then-as_u32-last-clause-goes c =
     let a = c.args.self.now in
     let is = slice_get-get_or c.args.bytes.now c.loop-read.read 0 c.loop-read-test.true in
     let at = c.as_u32.ensures.value in
-    let last = c.as_u32-last_special.ensures.value in
-    let le = c.if-as_u32-last_special.true in
+    let last = c.as_u32-last.ensures.value in
+    let le = c.if-as_u32-last.true in
     advances-there (built_as a) (IsRead a) c.args.anchored (is_special_at a) c.args.sid c.args.bytes.now c.loop-read.read _ c.loop-read.current c.step-current.result _ _ is c.loop-read-test.true c.loop-read.invariant.1 c.step-current.ensures.next
     (le-leb c.step-current.result a.max_special (omega (arith, le, at, last)))
 
-pub returns-then-as_u32-last_special-clause-cost : goal.returns-then-as_u32-last_special-clause-cost
-returns-then-as_u32-last_special-clause-cost c =
+pub returns-then-as_u32-last-clause-cost : goal.returns-then-as_u32-last-clause-cost
+returns-then-as_u32-last-clause-cost c =
     let a = c.args.self.now in
     let is = slice_get-get_or c.args.bytes.now c.loop-read.read 0 c.loop-read-test.true in
     advanced-cost (built_as a) (IsRead a) c.args.anchored (is_special_at a) c.args.sid c.args.bytes.now c.loop-read.read _ c.loop-read.current _ _ _ is c.loop-read.invariant.1 (λ (text : List ℕ) (reads : IsRead a c.args.anchored text c.loop-read.current). reads.lives) c.step-current.ensures.cost
@@ -41,8 +41,8 @@ loop-read-preserved c =
     let next = c.step-current.result in
     let is = slice_get-get_or c.args.bytes.now c.loop-read.read 0 c.loop-read-test.true in
     let at = c.as_u32.ensures.value in
-    let last = c.as_u32-last_special.ensures.value in
-    let past = c.if-as_u32-last_special.false in
+    let last = c.as_u32-last.ensures.value in
+    let past = c.if-as_u32-last.false in
     let plain : ¬ IsTrue (is_special_at a next) = λ e. let le = leb-true next a.max_special e in omega (arith, le, at, last, past) in
     let more = advanced-more (built_as a) (IsRead a) c.args.anchored (is_special_at a) c.args.sid c.args.bytes.now c.loop-read.read _ c.loop-read.current _ _ _ _ is c.loop-read.invariant.1 (λ (text : List ℕ) (reads : IsRead a c.args.anchored text c.loop-read.current). reads.lives) c.step-current.ensures.next c.step-current.ensures.cost plain in
     passed-on a c.args.anchored (is_special_at a) c.args.sid next c.args.bytes.now _ (c.loop-read.read + 1) c.pass-read-in-loop-read.result _ _ _ (λ none e. let le = leb-true a.table.start a.max_special e in omega (arith, le, c.requires.apart)) (λ k. (c.type_inv.bytes k).fits) (take_rest c.args.bytes.now (c.loop-read.read + 1)) (let lt = c.loop-read-test.true in omega arith) c.pass-read-in-loop-read.ensures more

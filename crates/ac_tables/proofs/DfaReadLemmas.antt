@@ -16,12 +16,13 @@ use Rattle.ac_input.specs.Input.{is_anchored}
 use Rattle.ac_input.proofs.SameLemmas.{own_inverse-pairing}
 use Rattle.ac_automaton.specs.Automaton.{IsReached, IsState, AtEach, Leads, TellsDead, TellsStart}
 use Rattle.ac_automaton.specs.Named.{Naming, AreNames, IsSpecialState, IsStep}
-use Rattle.ac_automaton.specs.Named.{AllNames, OfNames}
+use Rattle.ac_automaton.specs.Named.{AllNames}
 use Rattle.ac_automaton.proofs.NamedLemmas.{reached-met, read-met, read-next, read-start, read-dead, read-starts, read-known}
 use Rattle.ac_tables.specs.declared.dfa.DFA.{DFA}
 use Rattle.ac_tables.specs.declared.dfa.table.Table.{Table}
 use Rattle.ac_tables.specs.DfaTable.{AreRows, stride_of, list_of, list_start, list_end, matches_by, start_by, last_special_by}
-use Rattle.ac_tables.specs.DfaReads.{dictionary, built_as, matches_at, is_start_at, is_special_at, IsNamingFor, IsRead, list_at, ArePlain, HasRow, HasList}
+use Rattle.ac_tables.specs.DfaLookups.{list_at, ArePlain, HasRow, HasList}
+use Rattle.ac_tables.specs.DfaReads.{dictionary, built_as, matches_at, is_start_at, is_special_at, IsNamingFor, IsRead}
 
 -- ---- where the starts stand
 
@@ -285,3 +286,9 @@ classes-plain classes is all byte small =
     let below = class-below classes byte is small in
     let above = class-above classes (255 - byte) byte is (omega (arith, small)) in
     omega (arith, below, above, all)
+
+-- ---- the layout
+
+-- no row is longer than 256 entries
+pub stride-wide : (dfa : DFA) → dfa.table.stride2 ≤ 8
+stride-wide dfa = ∥∥₁_elim dfa.stands le_prop (λ w. w.1.wide)

@@ -10,3 +10,11 @@ pub mod WordsLemmas
 pub mod LenLemmas
 pub mod StandLemmas
 pub mod DfaReadLemmas
+pub mod DfaIdleLemmas
+pub mod EntryLemmas
+pub mod LayLemmas
+pub mod StatesLemmas
+pub mod RowLemmas
+pub mod CellLemmas
+pub mod WriteLemmas
+pub mod FilledLemmas

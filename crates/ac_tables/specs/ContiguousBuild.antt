@@ -1,13 +1,17 @@
 -- How the words of a contiguous automaton are made, state by state.
 use Rattle.std.specs.Prelude.{◌≡◌, ◌≢◌, ℕ, ◌+◌, ◌<◌, ◌≤◌, Bool, List, length, slice_index}
 use Rattle.ac_input.specs.declared.primitives.number.TheConstants.{GREATEST}
+use Rattle.ac_input.specs.Alphabet.{alphabet_len, IsClasses}
+use Rattle.ac_input.specs.Classes.{IsByteOf, IsAlone, ClassesLeadAlike}
+use Rattle.ac_input.specs.Dictionary.{Dictionary}
 use Rattle.ac_noncontiguous.specs.declared.error.BuildErrorKind.{BuildErrorKind}
 use Rattle.ac_noncontiguous.specs.declared.error.BuildErrorKind.TheVariants.{StateIDOverflow, PatternIDOverflow, PatternTooLong, Memory}
 use Rattle.ac_noncontiguous.specs.declared.nfa.NFA.{NFA}
-use Rattle.ac_noncontiguous.specs.ReadCalls.{state_len, fail_in, FailsIn, EdgesLeadIn, ListsIn}
+use Rattle.ac_noncontiguous.specs.ReadCalls.{state_len, fail_in, special_in, FailsIn, EdgesLeadIn, ListsIn}
 use Rattle.ac_noncontiguous.specs.Reads.{matches_at}
 use Rattle.ac_tables.specs.Words.{StateParts, words_of}
-use Rattle.ac_tables.specs.ContiguousTable.{len_before, place_in, ArePlacesTooGreat}
+use Rattle.ac_tables.specs.ContiguousTable.{place_in, AreWordsOf, ArePlacesTooGreat}
+use Rattle.ac_tables.specs.declared.contiguous.table.Table.{Table}
 
 -- ---- how many words
 
@@ -45,3 +49,22 @@ pub record IsKnown (nfa : NFA) (sid : ℕ) : Type 0 where
 -- and of the first so many, but for the fail state
 abbrev pub AreKnown : NFA → ℕ → Type 0
 AreKnown nfa n = (sid : ℕ) → sid < n → sid ≢ 1 → IsKnown nfa sid
+
+-- ---- classes
+
+-- The classes serve a dictionary: each byte that stands in an entered pattern is a class alone, and bytes of one class lead alike.
+pub record AreServing (m : Dictionary) (classes : List ℕ) : Type 0 where
+  pub alone : (b : ℕ) → b < 256 → IsByteOf m b → IsAlone classes b
+  pub alike : ClassesLeadAlike m classes
+
+-- ---- the table
+
+-- The table is that of an automaton: its words, and the places of its starts and of its last state that matches.
+pub record IsTableOf (nfa : NFA) (dense_depth : ℕ) (table : Table) : Type 0 where
+  pub words : AreWordsOf nfa dense_depth table.classes table.words.items
+  pub alphabet : table.alphabet_len ≡ alphabet_len table.classes
+  pub few_classes : table.alphabet_len ≤ 256
+  pub classes : IsClasses table.classes
+  pub start : table.start ≡ place_in nfa dense_depth table.classes (special_in nfa).start_unanchored_id
+  pub start_anchored : table.start_anchored ≡ place_in nfa dense_depth table.classes (special_in nfa).start_anchored_id
+  pub max_match : table.max_match ≡ place_in nfa dense_depth table.classes (special_in nfa).max_match_id

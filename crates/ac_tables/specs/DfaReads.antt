@@ -1,7 +1,7 @@
 -- What a DFA is built as, and what is known of a number that a search has come to.
-use Rattle.std.specs.Prelude.{◌≡◌, ℕ, ◌+◌, ◌*◌, ◌/◌, ◌<◌, ◌≤◌, ◌==◌, ◌||◌, nat_le, Bool, true, List, length, Option}
+use Rattle.std.specs.Prelude.{◌≡◌, ℕ, ◌/◌, ◌==◌, ◌||◌, nat_le, Bool, true, List, length, Option}
 use Rattle.ac_input.specs.declared.search.Anchored.{Anchored}
-use Rattle.ac_input.specs.Alphabet.{class}
+use Rattle.ac_input.specs.declared.search.StartKind.{StartKind}
 use Rattle.ac_input.specs.Candidate.{Filter}
 use Rattle.ac_input.specs.Dfa.{Serves}
 use Rattle.ac_input.specs.Dictionary.{Dictionary, dictionary_of}
@@ -9,7 +9,7 @@ use Rattle.ac_automaton.specs.Automaton.{Built}
 use Rattle.ac_automaton.specs.Named.{Naming, IsReadBy}
 use Rattle.ac_tables.specs.declared.dfa.DFA.{DFA}
 use Rattle.ac_tables.specs.declared.dfa.table.Table.{Table}
-use Rattle.ac_tables.specs.DfaTable.{AreRows, stride_of, list_index, list_start, list_end, matches_by}
+use Rattle.ac_tables.specs.DfaTable.{AreRows, stride_of, matches_by}
 
 -- what the automaton is made from
 abbrev pub dictionary : DFA → Dictionary
@@ -49,25 +49,20 @@ pub record IsMadeOf (m : Dictionary) (from : Table) (held : Option Filter) (dfa 
   pub table : dfa.table ≡ from
   pub prefilter : dfa.prefilter ≡ held
 
--- ---- look-ups
+-- ---- the layout
 
--- which of the lists is that of a number
-abbrev pub list_at : Table → ℕ → ℕ
-list_at table sid = list_index table.kind (sid / stride_of table)
+-- the transitions, a row for each state, one after another
+abbrev pub transitions_in : DFA → List ℕ
+transitions_in dfa = dfa.table.trans.items
 
--- each byte is a class of its own
-abbrev pub ArePlain : List ℕ → Type 0
-ArePlain classes = (byte : ℕ) → byte < 256 → class classes byte ≡ byte
+-- how long a row is
+abbrev pub stride_in : DFA → ℕ
+stride_in dfa = stride_of dfa.table
 
--- a whole row begins at the number, with an entry for each class
-pub record HasRow (table : Table) (sid : ℕ) : Type 0 where
-  pub within : sid + stride_of table ≤ length table.trans.items
-  pub classes : (byte : ℕ) → byte < 256 → class table.classes byte < stride_of table
+-- how many rows there are
+abbrev pub state_len_in : DFA → ℕ
+state_len_in dfa = length (transitions_in dfa) / stride_in dfa
 
--- the list of a number stands among the others
-pub record HasList (table : Table) (sid : ℕ) : Type 0 where
-  pub wide : table.stride2 ≤ 8
-  pub past : 2 * stride_of table ≤ sid
-  pub listed : list_at table sid < length table.lists.ends.items
-  pub rising : list_start table.lists (list_at table sid) ≤ list_end table.lists (list_at table sid)
-  pub within : list_end table.lists (list_at table sid) ≤ length table.lists.patterns.items
+-- for which searches there is a start
+abbrev pub start_kind_in : DFA → StartKind
+start_kind_in dfa = dfa.table.kind

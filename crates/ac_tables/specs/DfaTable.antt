@@ -96,6 +96,7 @@ pub record AreRows (m : Dictionary) (table : Table) (names : Naming) : Type 0 wh
   pub matching : (anchored : Bool) (sid : ℕ) → IsTrue (names.met anchored sid) → sid ≢ 0 → (matches_by table sid ≢ []) ↔ (sid ≤ table.max_match)
   pub listed : (anchored : Bool) (sid : ℕ) → IsTrue (names.met anchored sid) → sid ≢ 0 → sid ≤ table.max_match → list_index table.kind (sid / stride_of table) < length table.lists.ends.items
   pub ranges : AreRanges table.lists
+  pub unanchored : names.met true table.start ≡ false
   pub greatest : (table.max_match + stride_of table ≡ table.start) ⊎ (table.max_match ≡ table.start_anchored)
   pub wide : table.stride2 ≤ 8
   pub starts : (row : ℕ) × (2 ≤ row) × (table.start ≡ row * stride_of table) × (table.start_anchored ≡ (row + 1) * stride_of table)

@@ -19,9 +19,13 @@ pub use Rattle.ac_automaton.specs.Automaton
 pub use Rattle.ac_automaton.specs.Named
 pub mod Places
 pub mod DfaTable
+pub mod DfaLookups
 pub mod DfaReads
+
 pub mod Words
 pub mod ContiguousTable
 pub mod ContiguousBuild
 pub mod WordReads
 pub mod ContiguousReads
+pub mod Filling
+pub mod Filler

@@ -1,6 +1,9 @@
 //! The DFA.
 mod automaton;
+mod fill;
 mod lists;
+mod numbers;
+mod reads;
 mod table;
 
 ghost use Rattle.std.specs.Prelude.{◌≡◌, if◌then◌else◌};
@@ -8,9 +11,12 @@ ghost use Rattle.std.proofs.Props.{props};
 ghost use Rattle.ac_input.specs.Dictionary.{dictionary_of};
 ghost use Rattle.ac_input.specs.Pairing.{IsPairing};
 ghost use Rattle.ac_noncontiguous.specs.Nfa.{IsHeldFor};
+ghost use Rattle.ac_automaton.specs.Starters.{SkipsIdle};
+ghost use Rattle.ac_tables.specs.DfaLookups.{IsIdleIn};
 ghost use Rattle.ac_tables.specs.DfaTable.{AreSomeRows, AreParts, last_special_by};
 
 use crate::dfa::table::Table;
+use ac_automaton::starters::Starters;
 use ac_input::pairing::Pairing;
 use ac_input::primitives::StateID;
 use ac_input::search::MatchKind;
@@ -21,6 +27,7 @@ use ac_noncontiguous::nfa::pattern_lens::PatternLens;
 #[derive(Drop)]
 pub struct DFA {
     table: Table,
+    starters: Starters,
     lens: PatternLens,
     /// The last state at which a search has more to do than to read on.
     max_special: StateID,
@@ -30,6 +37,7 @@ pub struct DFA {
     ghost paired: { IsPairing pairing },
     ghost stands: { AreSomeRows (dictionary_of lens pairing kind) table },
     ghost special: { max_special ≡ last_special_by table prefilter },
+    ghost skips: { ∥ SkipsIdle (IsIdleIn table) starters ∥₁ },
     ghost held: { IsHeldFor (dictionary_of lens pairing kind) prefilter } by { Prim.hlevel props },
 }
 
@@ -59,8 +67,10 @@ impl DFA {
         ensures { IsMadeOf (dictionary_of lens pairing kind) table prefilter result }
     {
         let max_special = last_special_of(&table, prefilter.is_some());
+        let starters = table.starters();
         DFA {
             table,
+            starters,
             lens,
             max_special,
             prefilter,

@@ -35,8 +35,8 @@ ListsStream remaining contents b reader_before reader_after writer_before writer
 
 module _ {A R : Type 0} where
   -- what was read and written while they went from the one state to the other
-  abbrev pub Lists : {W : Type 0} → (R → Option (List ℕ)) → (W → Option (List ℕ)) → StreamFindIter A R → StreamFindIter A R → Watched W → Watched W → Result (Unit {0}) StreamError → Type 0
-  Lists remaining contents from to before after result = ListsStream remaining contents (progress_of from).built (reader_of from) (reader_of to) before after result
+  abbrev pub ListsOn : {W : Type 0} → (R → Option (List ℕ)) → (W → Option (List ℕ)) → StreamFindIter A R → StreamFindIter A R → Watched W → Watched W → Result (Unit {0}) StreamError → Type 0
+  ListsOn remaining contents from to before after result = ListsStream remaining contents (progress_of from).built (reader_of from) (reader_of to) before after result
 
   -- what that cost
   abbrev pub CostsOn : {E : Type 0} → StreamFindIter A R → StreamFindIter A R → Steps → Steps → Result (Unit {0}) E → Type 0

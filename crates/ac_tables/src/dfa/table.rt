@@ -7,9 +7,11 @@ ghost use Rattle.std.specs.Prelude.{◌≡◌, ◌↔◌, ◌+◌, ◌==◌, ◌
 ghost use Rattle.ac_input.specs.Alphabet.{class};
 ghost use Rattle.ac_input.specs.Dfa.{Serves};
 ghost use Rattle.ac_tables.specs.DfaTable.{list_of};
-ghost use Rattle.ac_tables.specs.DfaReads.{ArePlain, HasRow, HasList, list_at};
+ghost use Rattle.ac_automaton.specs.Starters.{SkipsIdle};
+ghost use Rattle.ac_tables.specs.DfaLookups.{ArePlain, HasRow, HasList, IsIdleIn, list_at};
 
 use crate::dfa::lists::Lists;
+use ac_automaton::starters::Starters;
 use ac_input::alphabet::ByteClasses;
 use ac_input::primitives::{PatternID, StateID};
 use ac_input::search::{Anchored, StartKind};
@@ -50,14 +52,14 @@ impl Table {
         if plain { byte } else { self.classes.get(byte) }
     }
 
-    /// The state after one more byte.
+    /// The state after one more byte. The sum is one of 32 bits, so that it needs no widening in between.
     #[inline]
     pub(crate) fn next(&self, plain: bool, sid: StateID, byte: u8) -> StateID
         requires row { HasRow self.now sid }
         requires plain { IsTrue plain → ArePlain self.now.classes }
         ensures { result ≡ slice_index self.now.trans.items (sid + class self.now.classes byte) }
     {
-        self.trans[sid.as_usize() + self.class(plain, byte) as usize]
+        self.trans[(sid.as_u32() + self.class(plain, byte) as u32) as usize]
     }
 
     /// Whether there is a start for searches of this anchoring.
@@ -77,6 +79,23 @@ impl Table {
         ensures { result ≡ ((sid == self.now.start) || (sid == self.now.start_anchored)) }
     {
         sid == self.start || sid == self.start_anchored
+    }
+
+    /// The bytes that lead from the unanchored start to another state. It makes one look-up for each byte.
+    pub(crate) fn starters(&self) -> Starters
+        requires { Serves self.now.kind Anchored.No → HasRow self.now self.now.start }
+        ensures { SkipsIdle (IsIdleIn self.now) result }
+    {
+        if !self.serves(Anchored::No) || self.start <= self.max_match {
+            return Starters::Many;
+        }
+        let mut starters = Starters::None;
+        for byte in 0..256usize {
+            if self.next(false, self.start, byte as u8) != self.start {
+                starters = starters.with(byte as u8);
+            }
+        }
+        starters
     }
 
     /// Which of the lists is that of a state.

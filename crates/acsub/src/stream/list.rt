@@ -16,7 +16,7 @@ ghost use Rattle.ac_automaton.specs.StreamReplace.{CostsStream, IsBegun};
 ghost use Rattle.ac_automaton.specs.Watched.{IsOfWrite, has_ended};
 ghost use Rattle.acsub.specs.Finder.{IsBuiltFor};
 ghost use Rattle.acsub.specs.Stream.{IfMemory, IfStreamMemory, IsNoRefusal, Streams};
-ghost use Rattle.acsub.specs.StreamList.{CostsOn, CountsOn, Lists, ListsStream, SendsLines, StopsLines, StopsWriting, WritesLines};
+ghost use Rattle.acsub.specs.StreamList.{CostsOn, CountsOn, ListsOn, ListsStream, SendsLines, StopsLines, StopsWriting, WritesLines};
 ghost use Rattle.acsub.specs.Transformed.{IsStreamed};
 ghost use Rattle.acsub.specs.declared.settings.Mode.TheVariants.{List};
 
@@ -98,7 +98,7 @@ fn list_read<A: Automaton, R: Read, W: Write>(
     requires filled { 1 ≤ shortest (progress_of matches.old).built.dictionary.patterns }
     requires empty { output.old ≡ [] }
     requires unended { has_ended (reader_of matches.old) ≡ false }
-    ensures lists { Lists R.remaining W.contents matches.old matches.new
+    ensures list { ListsOn R.remaining W.contents matches.old matches.new
         writer.old writer.new result }
     ensures costs { CostsOn matches.old matches.new steps.old steps.new result }
     ensures begun { IfErr result IsBegun }

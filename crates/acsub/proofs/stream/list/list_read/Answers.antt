@@ -21,8 +21,8 @@ loop-next-init g c =
       counted = ScanCounts-none s c.args.steps.now;
     }
 
-pub returns-in_err-found-clause-lists : goal.returns-in_err-found-clause-lists
-returns-in_err-found-clause-lists g c =
+pub returns-in_err-found-clause-list : goal.returns-in_err-found-clause-list
+returns-in_err-found-clause-list g c =
     let p = err_from_is_err_and c.from_residual.result c.from_residual.ensures.1 in
     rw (p.1, p.2) (next-stopped g.R.Read.remaining g.W.Write.contents c.args.matches.now.stream.built c.loop-next.matches.stream c.next_counted.new.self.stream c.args.matches.now.reader.now c.loop-next.matches.reader.now c.next_counted.new.self.reader.now c.args.writer.now c.loop-next.writer c.loop-next.invariant.listed c.next_counted.ensures.goes.1 c.in_err-found.field-0.0 (rw c.in_err-found.was at c.in-Some.ensures.gives.0))
 
@@ -55,8 +55,8 @@ loop-next-preserved g c =
       counted = ScanCounts-then c.args.matches.now.stream c.next_counted.new.self.stream c.write_lines.new.matches.stream c.args.steps.now c.next_counted.new.steps c.write_lines.new.steps first c.write_lines.ensures.counts;
     }
 
-pub returns-in_err-write_lines-clause-lists : goal.returns-in_err-write_lines-clause-lists
-returns-in_err-write_lines-clause-lists g c =
+pub returns-in_err-write_lines-clause-list : goal.returns-in_err-write_lines-clause-list
+returns-in_err-write_lines-clause-list g c =
     let p = err_from_is_err_and c.from_residual-in_err-write_lines.result c.from_residual-in_err-write_lines.ensures.1 in
     let next = rw c.in_ok-found.was at c.in-Some.ensures.gives.0 in
     let lists = ends-failed_write g.R.Read.remaining g.W.Write.contents c.args.matches.now.stream.built c.loop-next.matches.stream c.next_counted.new.self.stream c.args.matches.now.reader.now c.loop-next.matches.reader.now c.next_counted.new.self.reader.now c.args.writer.now c.loop-next.writer c.loop-next.invariant.listed c.next_counted.ensures.goes.1 c.in_ok-found.found next c.write_lines.new.matches.stream c.write_lines.new.writer c.in_err-write_lines.field-0.0 c.in_err-write_lines.ensures.stopped c.write_lines.ensures.kept c.in_err-write_lines.ensures.kind in
@@ -76,8 +76,8 @@ returns-in_err-write_lines-clause-costs g c =
       searched = tt;
     }))
 
-pub returns-clause-lists : goal.returns-clause-lists
-returns-clause-lists g c =
+pub returns-clause-list : goal.returns-clause-list
+returns-clause-list g c =
     let next = c.in_default.ensures.gives.0 in
     (ends-whole g.R.Read.remaining g.W.Write.contents c.args.matches.now.stream.built c.loop-next.matches.stream c.next_counted.new.self.stream c.args.matches.now.reader.now c.loop-next.matches.reader.now c.next_counted.new.self.reader.now c.args.writer.now c.loop-next.writer c.loop-next.invariant.listed c.next_counted.ensures.goes.1 next).0
 

@@ -1,0 +1,195 @@
+-- The entries of a row: where a byte leads from a state, by a transition of its own or by its failure.
+use Rattle.std.proofs.Common.{◌≡◌, ◌≢◌, ◌⊎◌, ℕ, ◌+◌, ◌-◌, ◌*◌, ◌<◌, ◌≤◌, Bool, true, false, List, [], ◌∷◌, ◌++◌, length, slice_get, Option, Some, None, inl, inr, ⊎_elim, refl, sym, ap, subst, ◌∙◌, arith}
+use Rattle.std.specs.Prelude.{slice_index, ◌==◌, if◌then◌else◌}
+use Rattle.std.specs.Coded.{le_prop, Coded-set, coded_ℕ}
+use Rattle.std.proofs.Math.Logic.{∥∥₁_elim}
+use Rattle.std.proofs.lemmas.Bool.{cases_lt, cases_eq, cond-true, cond-false}
+use Rattle.std.proofs.lemmas.Bool.Decides.{nat_tests}
+use Rattle.ac_input.specs.declared.search.Anchored.{Anchored}
+use Rattle.ac_input.specs.declared.search.Anchored.TheVariants.{No, Yes}
+use Rattle.ac_input.specs.Alphabet.{class}
+use Rattle.ac_input.specs.Classes.{BytesLeadAlike}
+use Rattle.ac_input.specs.Dictionary.{Dictionary, BeginsEntered}
+use Rattle.ac_input.specs.Input.{is_anchored}
+use Rattle.ac_input.specs.LiveLaws.{IsOwnInverse}
+use Rattle.ac_input.specs.States.{LeadsTo, FailsTo}
+use Rattle.ac_input.proofs.LeadsLemmas.{leads-failure, leads-failure_none}
+use Rattle.ac_input.proofs.SameLemmas.{own_inverse-pairing}
+use Rattle.ac_noncontiguous.specs.declared.nfa.NFA.{NFA}
+use Rattle.ac_noncontiguous.specs.Lookups.{other_start}
+use Rattle.ac_noncontiguous.specs.Nfa.{state_of, AreTexts}
+use Rattle.ac_noncontiguous.specs.Reads.{dictionary}
+use Rattle.ac_noncontiguous.specs.ReadCalls.{state_len, fail_in, edges_in, special_in, StandFor, IsFull, IsEdgeIn, MayBeMet, LeadsIn, FailsIn}
+use Rattle.ac_noncontiguous.proofs.NextLemmas.{state-some, state-none, straight, stuck, stuck-dead}
+use Rattle.ac_noncontiguous.proofs.ReadCallLemmas.{edges-lead, fails-in, alike-in}
+use Rattle.ac_tables.specs.DfaTable.{row_of, number_of, IsCell}
+use Rattle.ac_tables.specs.Filling.{Plan, number_in, cell_in, IsFit, IsRowRight, IsBlank, entry_in, HasClass, IsEntry, Written, Kept}
+use Rattle.ac_tables.proofs.RowLemmas.{row-first}
+
+-- ---- the automaton
+
+-- the texts for which its states stand
+pub texts-of : (nfa : NFA) (text : ℕ → List ℕ) → StandFor nfa text → AreTexts (dictionary nfa) (state_len nfa) (special_in nfa).start_unanchored_id text
+texts-of nfa text t =
+    let counted = t.counted in
+    let count : t.len ≡ state_len nfa = omega (arith, counted) in
+    subst (λ (n : ℕ). AreTexts (dictionary nfa) n nfa.tables.start text) count t.texts
+
+-- each byte is the partner of its partner
+pub inverse-of : (nfa : NFA) → IsOwnInverse (dictionary nfa).pairing
+inverse-of nfa = own_inverse-pairing nfa.pairing nfa.paired
+
+-- where the starts stand
+pub starts-of : (nfa : NFA) → (1 < (special_in nfa).start_unanchored_id) × ((special_in nfa).start_unanchored_id + 1 < state_len nfa)
+starts-of nfa = (∥∥₁_elim nfa.stands le_prop (λ w. (texts-of nfa w.0 w.1).starts.0), ∥∥₁_elim nfa.stands le_prop (λ w. (texts-of nfa w.0 w.1).starts.1))
+
+-- a search of either anchoring may come to the dead state
+pub met-dead : (nfa : NFA) (anchored : Anchored) → MayBeMet nfa anchored 0
+met-dead nfa anchored =
+    let s = starts-of nfa in
+    record { within = omega (arith, s.1); stands = λ e. omega (arith, e); own = by anchored }
+  where
+    by : (a : Anchored) → 0 ≢ other_start (special_in nfa).start_unanchored_id (is_anchored a)
+    by No e = let s = starts-of nfa in omega (arith, s.0, e)
+    by Yes e = let s = starts-of nfa in omega (arith, s.0, e)
+
+-- ---- the dead state
+
+-- it stands in the front
+pub number-dead : (p : Plan) (anchored : Anchored) → number_in p anchored 0 ≡ 0
+number-dead p anchored =
+    let none : 0 * p.stride ≡ 0 = omega arith in
+    ap (λ (row : ℕ). row * p.stride) (row-first p.kind (special_in p.nfa).start_unanchored_id (is_anchored anchored) 0 (omega arith)) ∙ none
+
+-- and leads to itself
+pub dead-right : (p : Plan) (anchored : Anchored) (trans : List ℕ) → IsFit p → IsBlank p.stride (number_in p anchored 0) trans → IsRowRight p anchored 0 trans
+dead-right p anchored trans fit blank byte small = (
+  0,
+  (record { met = met-dead p.nfa anchored; dead = λ e. e; leads = λ text t past. absurd (omega (arith, past)) }, blank (class p.classes byte) (fit.letters byte small) ∙ sym (number-dead p anchored)),
+)
+
+-- ---- by a transition
+
+-- bytes of one class lead alike
+alike-of : (p : Plan) → IsFit p → (b c : ℕ) → b < 256 → c < 256 → class p.classes b ≡ class p.classes c → BytesLeadAlike (dictionary p.nfa) b c
+alike-of p fit b c b_in c_in same = alike-in p.nfa b c b_in c_in (fit.finer b c b_in c_in same)
+
+-- where a transition leads there is a state, to which all bytes of its class lead
+leads-straight : (p : Plan) (anchored : Anchored) (sid c byte next : ℕ) → IsFit p → MayBeMet p.nfa anchored sid → c < 256 → byte < 256 → class p.classes c ≡ class p.classes byte → next < state_len p.nfa → next ≢ 1 → ((text : ℕ → List ℕ) → StandFor p.nfa text → IsEdgeIn p.nfa text sid c next) → LeadsIn p.nfa anchored sid byte next
+leads-straight p anchored sid c byte next fit met c_in byte_in same within stands edge =
+    let nfa = p.nfa in
+    let m = dictionary nfa in
+    let start = (special_in nfa).start_unanchored_id in
+    let of = λ (text : ℕ → List ℕ) (t : StandFor nfa text). straight m (state_len nfa) start text (is_anchored anchored) sid c next (inverse-of nfa) (texts-of nfa text t) (edge text t) met.within met.stands met.own stands in
+    record {
+      met = record {
+        within = within;
+        stands = stands;
+        own = λ e. ∥∥₁_elim nfa.stands (λ x y. absurd x) (λ w. (of w.0 w.1).other e);
+      };
+      dead = λ is. ∥∥₁_elim nfa.stands (Coded-set coded_ℕ next 0) (λ w. (of w.0 w.1).dead is);
+      leads = λ text t past. alike-of p fit c byte c_in byte_in same (is_anchored anchored) (text sid) (state_of text next) ((of text t).leads past);
+    }
+
+-- where it leads to none, an anchored search is over
+leads-over : (p : Plan) (sid c byte : ℕ) → IsFit p → MayBeMet p.nfa Yes sid → c < 256 → byte < 256 → class p.classes c ≡ class p.classes byte → ((text : ℕ → List ℕ) → StandFor p.nfa text → IsEdgeIn p.nfa text sid c 1) → LeadsIn p.nfa Yes sid byte 0
+leads-over p sid c byte fit met c_in byte_in same edge =
+    let nfa = p.nfa in
+    let m = dictionary nfa in
+    let start = (special_in nfa).start_unanchored_id in
+    record {
+      met = met-dead nfa Yes;
+      dead = λ _. refl;
+      leads = λ text t past. alike-of p fit c byte c_in byte_in same true (text sid) None (stuck-dead m start text sid c (stuck m (state_len nfa) start text sid c (texts-of nfa text t) (edge text t) met.stands));
+    }
+
+-- from the states that unanchored searches come to none leads to none
+never-none : (nfa : NFA) (sid k c : ℕ) → MayBeMet nfa No sid → 1 < sid → slice_get (edges_in nfa sid) k ≢ Some (c, 1)
+never-none nfa sid k c met past is =
+    let e = edges-lead nfa sid met.within in
+    let start = (special_in nfa).start_unanchored_id in
+    ⊎_elim
+    (λ (here : sid ≡ start).
+    ∥∥₁_elim nfa.stands (λ x y. absurd x) (λ w. (stuck (dictionary nfa) (state_len nfa) start w.0 sid c (texts-of nfa w.0 w.1) ((e.leading w.0 w.1).lead k c 1 is) met.stands).apart here))
+    (λ (there : sid ≢ start).
+    let more = e.some k c 1 (λ full. ⊎_elim (λ (zero_is : sid ≡ 0). omega (arith, past, zero_is)) (λ (s : (sid ≡ start) ⊎ (sid ≡ start + 1)). ⊎_elim there met.own s) full) is in
+    omega (arith, more))
+    (cases_eq sid start)
+
+-- what is written for a state but the fail state
+entry-some : (p : Plan) (anchored : Anchored) (next : ℕ) → next ≢ 1 → entry_in p anchored next ≡ number_in p anchored next
+entry-some p anchored next some = cond-false (next == 1) 0 (number_in p anchored next) (grind (arith, nat_tests))
+
+-- where it is the fail state the byte leads to none, which an anchored search alone can meet
+written-none : (p : Plan) (anchored : Anchored) (sid k c byte cell : ℕ) → IsFit p → MayBeMet p.nfa anchored sid → 1 < sid → slice_get (edges_in p.nfa sid) k ≡ Some (c, 1) → byte < 256 → class p.classes c ≡ class p.classes byte → cell ≡ 0 → (to : ℕ) × IsCell p.nfa p.kind p.stride cell anchored sid byte to
+written-none p No sid k c byte cell fit met past is byte_in same zero_is = absurd (never-none p.nfa sid k c met past is)
+written-none p Yes sid k c byte cell fit met past is byte_in same zero_is =
+    let e = edges-lead p.nfa sid met.within in (
+      0,
+      (leads-over p sid c byte fit met (e.within k c 1 is).0 byte_in same (λ text t. (e.leading text t).lead k c 1 is), zero_is ∙ sym (number-dead p Yes)),
+    )
+
+-- so an entry that is written is right
+pub written-right : (p : Plan) (anchored : Anchored) (sid k c byte next cell : ℕ) → IsFit p → MayBeMet p.nfa anchored sid → 1 < sid → slice_get (edges_in p.nfa sid) k ≡ Some (c, next) → byte < 256 → class p.classes c ≡ class p.classes byte → cell ≡ entry_in p anchored next → (to : ℕ) × IsCell p.nfa p.kind p.stride cell anchored sid byte to
+written-right p anchored sid k c byte next cell fit met past is byte_in same written =
+    let e = edges-lead p.nfa sid met.within in
+    let w = e.within k c next is in
+    ⊎_elim
+    (λ (none : next ≡ 1). written-none p anchored sid k c byte cell fit met past (subst (λ (n : ℕ). slice_get (edges_in p.nfa sid) k ≡ Some (c, n)) none is) byte_in same (written ∙ cond-true (next == 1) 0 (number_in p anchored next) (grind (arith, nat_tests))))
+    (λ (some : next ≢ 1). (next, (leads-straight p anchored sid c byte next fit met w.0 byte_in same w.1 some (λ text t. (e.leading text t).lead k c next is), written ∙ entry-some p anchored next some)))
+    (cases_eq next 1)
+
+-- ---- without one
+
+-- a byte that no transition has leads to none
+no-edge : (p : Plan) (sid byte : ℕ) → sid < state_len p.nfa → byte < 256 → ((k c next : ℕ) → ¬ HasClass p.classes (edges_in p.nfa sid) (class p.classes byte) k c next) → (text : ℕ → List ℕ) → StandFor p.nfa text → IsEdgeIn p.nfa text sid byte 1
+no-edge p sid byte within byte_in none text t = ((edges-lead p.nfa sid within).leading text t).missing byte byte_in (λ k next is. none k byte next (is, refl))
+
+-- where the failure leads with it, the state does
+leads-by_failure : (nfa : NFA) (sid byte next : ℕ) → MayBeMet nfa No sid → 1 < sid → ((text : ℕ → List ℕ) → StandFor nfa text → IsEdgeIn nfa text sid byte 1) → LeadsIn nfa No (fail_in nfa sid) byte next → LeadsIn nfa No sid byte next
+leads-by_failure nfa sid byte next met past edge h =
+    let m = dictionary nfa in
+    let start = (special_in nfa).start_unanchored_id in
+    let fail = fail_in nfa sid in
+    let f = fails-in nfa sid met.within in
+    record {
+      met = h.met;
+      dead = λ e. absurd (omega (arith, past, e));
+      leads = λ text t more.
+          let texts = texts-of nfa text t in
+          let s = stuck m (state_len nfa) start text sid byte texts (edge text t) met.stands in
+          let fails = f.fails text t past in
+          ⊎_elim
+          (λ (none : fail ≡ 0).
+          let some : text sid ≢ [] = λ e. ⊎_elim s.apart met.own (texts.others sid past met.within e) in
+          let over = leads-failure_none m (text sid) byte some (subst (FailsTo m (text sid)) (state-none text fail none) fails) s.none in
+          subst (LeadsTo m false (text sid ++ byte ∷ [])) (sym (state-none text next (h.dead none))) over)
+          (λ (is : fail ≢ 0).
+          let stands = f.stands in
+          let deep : 1 < fail = omega (arith, is, stands) in
+          (leads-failure m (text sid) (text fail) byte (state_of text next) (inverse-of nfa) (subst (FailsTo m (text sid)) (state-some text fail deep) fails) s.none).0 (h.leads text t deep))
+          (cases_eq fail 0);
+    }
+
+-- ---- rows
+
+-- a row is right that has the transitions over that of the failure
+pub row-plain : (p : Plan) (sid : ℕ) (old new : List ℕ) → IsFit p → MayBeMet p.nfa No sid → 1 < sid → ((x : ℕ) → x < p.stride → IsEntry p No (edges_in p.nfa sid) x (slice_index old (number_in p No (fail_in p.nfa sid) + x)) (slice_index new (number_in p No sid + x))) → IsRowRight p No (fail_in p.nfa sid) old → IsRowRight p No sid new
+row-plain p sid old new fit met past entries right byte small = by (entries (class p.classes byte) (fit.letters byte small))
+  where
+    by : IsEntry p No (edges_in p.nfa sid) (class p.classes byte) (slice_index old (cell_in p No (fail_in p.nfa sid) byte)) (slice_index new (cell_in p No sid byte)) → (to : ℕ) × IsCell p.nfa p.kind p.stride (slice_index new (cell_in p No sid byte)) No sid byte to
+    by (Written k c next has is) = written-right p No sid k c byte next (slice_index new (cell_in p No sid byte)) fit met past has.0 small has.1 is
+    by (Kept none is) =
+        let r = right byte small in
+        (r.0, (leads-by_failure p.nfa sid byte r.0 met past (no-edge p sid byte met.within small none) r.1.0, is ∙ r.1.1))
+
+-- and for anchored searches one that has them over a blank one
+pub row-anchored : (p : Plan) (sid : ℕ) (old new : List ℕ) → IsFit p → MayBeMet p.nfa Yes sid → 1 < sid → ((x : ℕ) → x < p.stride → IsEntry p Yes (edges_in p.nfa sid) x (slice_index old (number_in p Yes sid + x)) (slice_index new (number_in p Yes sid + x))) → IsBlank p.stride (number_in p Yes sid) old → IsRowRight p Yes sid new
+row-anchored p sid old new fit met past entries blank byte small = by (entries (class p.classes byte) (fit.letters byte small))
+  where
+    by : IsEntry p Yes (edges_in p.nfa sid) (class p.classes byte) (slice_index old (cell_in p Yes sid byte)) (slice_index new (cell_in p Yes sid byte)) → (to : ℕ) × IsCell p.nfa p.kind p.stride (slice_index new (cell_in p Yes sid byte)) Yes sid byte to
+    by (Written k c next has is) = written-right p Yes sid k c byte next (slice_index new (cell_in p Yes sid byte)) fit met past has.0 small has.1 is
+    by (Kept none is) = (
+      0,
+      (leads-over p sid byte byte fit met small small refl (no-edge p sid byte met.within small none), is ∙ (blank (class p.classes byte) (fit.letters byte small) ∙ sym (number-dead p Yes))),
+    )

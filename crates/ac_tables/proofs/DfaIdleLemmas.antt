@@ -1,0 +1,66 @@
+-- What a search by a DFA passes over that stands in the start.
+use Rattle.std.proofs.Common.{◌≡◌, ℕ, ◌+◌, ◌<◌, ◌≤◌, Bool, true, false, IsTrue, List, [], ◌∷◌, length, drop, refl, sym, ap, subst, ◌∙◌, arith}
+use Rattle.std.specs.Prelude.{slice_index}
+use Rattle.std.specs.Coded.{le_prop}
+use Rattle.std.proofs.Math.Logic.{∥∥₁_elim, ∥∥₁_map}
+use Rattle.std.proofs.lemmas.Bool.{false≢true}
+use Rattle.std.proofs.lemmas.List.{get_or-drop}
+use Rattle.ac_input.specs.declared.search.Anchored.{Anchored}
+use Rattle.ac_input.specs.declared.search.Anchored.TheVariants.{No}
+use Rattle.ac_input.specs.declared.steps.Steps.{Steps}
+use Rattle.ac_input.specs.Dfa.{Serves}
+use Rattle.ac_input.specs.Dictionary.{Dictionary}
+use Rattle.ac_automaton.specs.Named.{Naming, IsStep, IsIdleBy}
+use Rattle.ac_automaton.specs.Starters.{SkipsIdle, PassesIdle}
+use Rattle.ac_automaton.proofs.CursorLemmas.{HasAdvanced}
+use Rattle.ac_automaton.proofs.IdleLemmas.{pass-advanced}
+use Rattle.ac_tables.specs.declared.dfa.DFA.{DFA}
+use Rattle.ac_tables.specs.declared.dfa.table.Table.{Table}
+use Rattle.ac_tables.specs.DfaTable.{AreSomeRows, matches_by}
+use Rattle.ac_tables.specs.DfaLookups.{HasRow, IsIdleIn}
+use Rattle.ac_tables.specs.DfaReads.{dictionary, built_as, matches_at, is_start_at, is_special_at, IsNamingFor, IsRead}
+use Rattle.ac_tables.proofs.DfaReadLemmas.{all-names, listed-within}
+
+-- the unanchored start has a row, where there are unanchored searches
+pub start-row : (m : Dictionary) (table : Table) → AreSomeRows m table → Serves table.kind No → HasRow table table.start
+start-row m table h serves =
+    record {
+      within = ∥∥₁_elim h le_prop (λ w. (w.1.within false table.start (w.1.first No serves).met).0);
+      classes = λ byte small. ∥∥₁_elim h le_prop (λ w. w.1.classes byte small);
+    }
+
+-- nothing matches past the last number that does
+past-none : (table : Table) (sid : ℕ) → table.max_match < sid → matches_by table sid ≡ []
+past-none table sid past = by (matches_by table sid) refl
+  where
+    by : (ns : List ℕ) → matches_by table sid ≡ ns → matches_by table sid ≡ []
+    by [] is = is
+    by (n ∷ ns) is =
+        let le = (listed-within table sid (λ none. let e : n ∷ ns ≡ [] = sym is ∙ none in cc)).1 in
+        absurd (omega (arith, le, past))
+
+-- an idle byte of the table is one by its names
+pub idle-by : (dfa : DFA) (anchored : Anchored) (byte : ℕ) → byte < 256 → IsIdleIn dfa.table byte → IsIdleBy (dictionary dfa) (IsNamingFor dfa anchored) (matches_at dfa) dfa.table.start byte
+idle-by dfa anchored byte small idle =
+    record {
+      plain = past-none dfa.table dfa.table.start idle.plain;
+      stays = by;
+    }
+  where
+    by : (side : Bool) (names : Naming) → IsNamingFor dfa anchored names → IsTrue (names.met side dfa.table.start) → IsStep (dictionary dfa) names side dfa.table.start byte dfa.table.start
+    by false names fits met = subst (IsStep (dictionary dfa) names false dfa.table.start byte) idle.stays (fits.1.steps No dfa.table.start byte idle.serves met small)
+    by true names fits met = absurd (false≢true (sym fits.1.unanchored ∙ met))
+
+-- so what the starters pass over is idle
+skips-by : (dfa : DFA) (anchored : Anchored) → ∥ SkipsIdle (IsIdleBy (dictionary dfa) (IsNamingFor dfa anchored) (matches_at dfa) dfa.table.start) dfa.starters ∥₁
+skips-by dfa anchored = ∥∥₁_map dfa.skips (λ skips byte small none. idle-by dfa anchored byte small (skips byte small none))
+
+-- reading on over what is passed over; a search doesn't stop at a start that matches nothing
+pub passed-on : (dfa : DFA) (anchored : Anchored) (stops : ℕ → Bool) (sid current : ℕ) (bytes rest : List ℕ) (n passed : ℕ) (s t u : Steps)
+    → (matches_at dfa dfa.table.start ≡ [] → ¬ IsTrue (stops dfa.table.start))
+    → ((k : ℕ) → slice_index bytes k < 256) → rest ≡ drop n bytes → n ≤ length bytes → PassesIdle dfa.starters dfa.table.start current rest passed t u
+    → HasAdvanced (built_as dfa) (IsRead dfa) anchored stops sid bytes n current s t
+    → (n + passed ≤ length bytes) × HasAdvanced (built_as dfa) (IsRead dfa) anchored stops sid bytes (n + passed) current s u
+passed-on dfa anchored stops sid current bytes rest n passed s t u apart small is within passes has =
+    pass-advanced (built_as dfa) (IsNamingFor dfa) (matches_at dfa) (is_start_at dfa) (is_special_at dfa) stops dfa.table.start dfa.starters anchored sid current bytes rest n passed s t u (all-names dfa anchored) (skips-by dfa anchored) apart
+    (λ k. subst (λ (b : ℕ). b < 256) (sym (ap (λ (l : List ℕ). slice_index l k) is ∙ get_or-drop n bytes k 0)) (small (n + k))) is within passes has

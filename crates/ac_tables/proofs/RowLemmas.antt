@@ -1,0 +1,151 @@
+-- The rows of the states, and their numbers.
+use Rattle.std.proofs.Common.{◌≡◌, ◌≢◌, ◌⊎◌, ℕ, ◌+◌, ◌-◌, ◌*◌, ◌<◌, ◌≤◌, Bool, true, false, inl, inr, ⊎_elim, refl, sym, ap, subst, ◌∙◌, arith, rules}
+use Rattle.std.specs.Prelude.{nat_le, if◌then◌else◌}
+use Rattle.std.proofs.lemmas.Bool.{cases_lt, cases_eq, cond-true, cond-false}
+use Rattle.std.proofs.lemmas.Bool.Decides.{nat_tests}
+use Rattle.std.proofs.lemmas.Nat.{mul-add-lt, mul-le}
+use Rattle.ac_input.specs.declared.search.Anchored.{Anchored}
+use Rattle.ac_input.specs.declared.search.Anchored.TheVariants.{No, Yes}
+use Rattle.ac_input.specs.declared.search.StartKind.{StartKind}
+use Rattle.ac_input.specs.declared.search.StartKind.TheVariants as starts
+use Rattle.ac_input.specs.Dfa.{Serves, dfa_states}
+use Rattle.ac_input.specs.Input.{is_anchored}
+use Rattle.ac_noncontiguous.specs.Lookups.{other_start}
+use Rattle.ac_tables.specs.DfaTable.{row_of, number_of}
+
+-- ---- the row of a state
+
+le-true : (a b : ℕ) → a ≤ b → nat_le a b ≡ true
+le-true a b h = grind (arith, nat_tests)
+
+le-false : (a b : ℕ) → b < a → nat_le a b ≡ false
+le-false a b h = grind (arith, nat_tests)
+
+-- the first two stay in their places
+pub row-first : (kind : StartKind) (start : ℕ) (a : Bool) (i : ℕ) → i ≤ 1 → row_of kind start a i ≡ i
+row-first starts.Unanchored start a i h = refl
+row-first starts.Anchored start a i h = refl
+row-first starts.Both start false i h = cond-true (nat_le i 1) i (if nat_le i start then 2 * i - 2 else 2 * i - 4) (le-true i 1 h)
+row-first starts.Both start true i h = cond-true (nat_le i 1) i (if nat_le start i then 2 * i - 3 else 2 * i - 1) (le-true i 1 h)
+
+-- with both start kinds, for unanchored searches
+row-up : (start i : ℕ) → 1 < i → i ≤ start → row_of starts.Both start false i ≡ 2 * i - 2
+row-up start i past h = cond-false (nat_le i 1) i (if nat_le i start then 2 * i - 2 else 2 * i - 4) (le-false i 1 past) ∙ cond-true (nat_le i start) (2 * i - 2) (2 * i - 4) (le-true i start h)
+
+row-after : (start i : ℕ) → 1 < i → start < i → row_of starts.Both start false i ≡ 2 * i - 4
+row-after start i past h = cond-false (nat_le i 1) i (if nat_le i start then 2 * i - 2 else 2 * i - 4) (le-false i 1 past) ∙ cond-false (nat_le i start) (2 * i - 2) (2 * i - 4) (le-false i start h)
+
+-- and for anchored ones
+row-anchored_up : (start i : ℕ) → 1 < i → i < start → row_of starts.Both start true i ≡ 2 * i - 1
+row-anchored_up start i past h = cond-false (nat_le i 1) i (if nat_le start i then 2 * i - 3 else 2 * i - 1) (le-false i 1 past) ∙ cond-false (nat_le start i) (2 * i - 3) (2 * i - 1) (le-false start i h)
+
+row-anchored_after : (start i : ℕ) → 1 < i → start ≤ i → row_of starts.Both start true i ≡ 2 * i - 3
+row-anchored_after start i past h = cond-false (nat_le i 1) i (if nat_le start i then 2 * i - 3 else 2 * i - 1) (le-false i 1 past) ∙ cond-true (nat_le start i) (2 * i - 3) (2 * i - 1) (le-true start i h)
+
+-- where the row of a state may be, case by case
+rows-plain : {P : Type 0} (start i : ℕ) → (i ≤ 1 → row_of starts.Both start false i ≡ i → P) → (1 < i → i ≤ start → row_of starts.Both start false i + 2 ≡ 2 * i → P) → (1 < i → start < i → row_of starts.Both start false i + 4 ≡ 2 * i → P) → 0 < start → P
+rows-plain start i first up after some =
+    ⊎_elim
+    (λ (past : 1 < i).
+    ⊎_elim
+    (λ (behind : start < i). let e = row-after start i past behind in after past behind (omega (arith, e, past, behind, some)))
+    (λ (before : i ≤ start). let e = row-up start i past before in up past before (omega (arith, e, past)))
+    (cases_lt start i))
+    (λ (low : i ≤ 1). first low (row-first starts.Both start false i low))
+    (cases_lt 1 i)
+
+rows-anchored : {P : Type 0} (start i : ℕ) → (i ≤ 1 → row_of starts.Both start true i ≡ i → P) → (1 < i → i < start → row_of starts.Both start true i + 1 ≡ 2 * i → P) → (1 < i → start ≤ i → row_of starts.Both start true i + 3 ≡ 2 * i → P) → P
+rows-anchored start i first up after =
+    ⊎_elim
+    (λ (past : 1 < i).
+    ⊎_elim
+    (λ (before : i < start). let e = row-anchored_up start i past before in up past before (omega (arith, e, past)))
+    (λ (behind : start ≤ i). let e = row-anchored_after start i past behind in after past behind (omega (arith, e, past)))
+    (cases_lt i start))
+    (λ (low : i ≤ 1). first low (row-first starts.Both start true i low))
+    (cases_lt 1 i)
+
+-- ---- within the table
+
+-- each row is one of them
+pub row-below : (kind : StartKind) (start len : ℕ) (a : Bool) (i : ℕ) → 1 < start → start + 1 < len → i < len → row_of kind start a i < dfa_states kind len
+row-below starts.Unanchored start len a i past within h = h
+row-below starts.Anchored start len a i past within h = h
+row-below starts.Both start len false i past within h = rows-plain start i (λ low e. omega (arith, e, low, past, within)) (λ more up e. omega (arith, e, up, past, within)) (λ more up e. omega (arith, e, h)) (omega (arith, past))
+row-below starts.Both start len true i past within h = rows-anchored start i (λ low e. omega (arith, e, low, past, within)) (λ more up e. omega (arith, e, up, within)) (λ more up e. omega (arith, e, h))
+
+-- a state past the first two has a row past them
+pub row-past : (kind : StartKind) (start : ℕ) (a : Bool) (i : ℕ) → 1 < start → 1 < i → i ≢ other_start start a → 1 < row_of kind start a i
+row-past starts.Unanchored start a i past h own = h
+row-past starts.Anchored start a i past h own = h
+row-past starts.Both start false i past h own = rows-plain start i (λ low e. omega (arith, low, h)) (λ more up e. omega (arith, e, h)) (λ more up e. omega (arith, e, up, past)) (omega (arith, past))
+row-past starts.Both start true i past h own = rows-anchored start i (λ low e. omega (arith, low, h)) (λ more up e. omega (arith, e, h)) (λ more up e. omega (arith, e, up, past, own))
+
+-- a place in a row is one of the table
+pub place-below : (rows row stride x len : ℕ) → row < rows → x < stride → len ≡ rows * stride → row * stride + x < len
+place-below rows row stride x len low in_row is = let h = mul-add-lt row stride x rows low in_row in omega (arith, h, is)
+
+-- and the whole row is
+pub row-room : (rows row stride len : ℕ) → row < rows → len ≡ rows * stride → row * stride + stride ≤ len
+row-room rows row stride len low is =
+    let h : (row + 1) * stride ≤ rows * stride = mul-le (row + 1) stride rows stride (omega (arith, low)) (omega arith) in
+    let e : (row + 1) * stride ≡ row * stride + stride = search (rules, arith) in
+    omega (arith, h, e, is)
+
+-- the number of each row fits, where the last one's does
+pub number-fits : (rows row stride most : ℕ) → row < rows → (rows - 1) * stride ≤ most → row * stride ≤ most
+number-fits rows row stride most low h =
+    let le : row * stride ≤ (rows - 1) * stride = mul-le row stride (rows - 1) stride (omega (arith, low)) (omega arith) in
+    omega (arith, le, h)
+
+-- two rows have no place in common
+pub rows-apart : (row other stride x y : ℕ) → row ≢ other → x < stride → y < stride → row * stride + x ≢ other * stride + y
+rows-apart row other stride x y apart in_row in_other same =
+    ⊎_elim
+    (λ (less : row < other). let h = mul-add-lt row stride x other less in_row in let e : stride * other ≡ other * stride = search (rules, arith) in omega (arith, h, same, e))
+    (λ (more : other ≤ row). let h = mul-add-lt other stride y row (omega (arith, more, apart)) in_other in omega (arith, h, same))
+    (cases_lt row other)
+
+-- ---- no two states have one row
+
+-- Two states with one row are one; with both start kinds, past the first two, for searches of one anchoring.
+pub row-one : (kind : StartKind) (start : ℕ) (a b : Bool) (i j : ℕ) → 1 < start → i ≢ other_start start a → j ≢ other_start start b → row_of kind start a i ≡ row_of kind start b j → (i ≡ j) × (kind ≡ starts.Both → 1 < i → a ≡ b)
+row-one starts.Unanchored start a b i j past not_i not_j same = (same, λ both. absurd (let e : starts.Unanchored ≡ starts.Both = both in cc))
+row-one starts.Anchored start a b i j past not_i not_j same = (same, λ both. absurd (let e : starts.Anchored ≡ starts.Both = both in cc))
+row-one starts.Both start false false i j past not_i not_j same =
+    let some : 0 < start = omega (arith, past) in
+    let one : i ≡ j = rows-plain start i
+    (λ low e. rows-plain start j (λ low_j f. omega (arith, e, f, same)) (λ more up f. omega (arith, e, f, same, low, more)) (λ more up f. omega (arith, e, f, same, low, more, up, past)) some)
+    (λ past_i up_i e. rows-plain start j (λ low_j f. omega (arith, e, f, same, low_j, past_i)) (λ more up f. omega (arith, e, f, same)) (λ more up f. omega (arith, e, f, same, up, up_i, not_j)) some)
+    (λ past_i up_i e. rows-plain start j (λ low_j f. omega (arith, e, f, same, low_j, past_i, up_i, past)) (λ more up f. omega (arith, e, f, same, up, up_i, not_i)) (λ more up f. omega (arith, e, f, same)) some)
+    some in
+    (one, λ _ _. refl)
+row-one starts.Both start true true i j past not_i not_j same =
+    let one : i ≡ j = rows-anchored start i
+    (λ low e. rows-anchored start j (λ low_j f. omega (arith, e, f, same)) (λ more up f. omega (arith, e, f, same, low, more)) (λ more up f. omega (arith, e, f, same, low, more, up, past, not_j)))
+    (λ past_i up_i e. rows-anchored start j (λ low_j f. omega (arith, e, f, same, low_j, past_i)) (λ more up f. omega (arith, e, f, same)) (λ more up f. omega (arith, e, f, same, up, up_i, not_j)))
+    (λ past_i up_i e. rows-anchored start j (λ low_j f. omega (arith, e, f, same, low_j, past_i, up_i, past, not_i)) (λ more up f. omega (arith, e, f, same, up, up_i, not_i)) (λ more up f. omega (arith, e, f, same))) in
+    (one, λ _ _. refl)
+row-one starts.Both start false true i j past not_i not_j same =
+    let some : 0 < start = omega (arith, past) in
+    rows-plain start i
+    (λ low e. rows-anchored start j (λ low_j f. (omega (arith, e, f, same), λ _ more. absurd (omega (arith, low, more)))) (λ more up f. absurd (omega (arith, e, f, same, low, more))) (λ more up f. absurd (omega (arith, e, f, same, low, more, up, past, not_j))))
+    (λ past_i up_i e. rows-anchored start j (λ low_j f. absurd (omega (arith, e, f, same, low_j, past_i))) (λ more up f. absurd (omega (arith, e, f, same))) (λ more up f. absurd (omega (arith, e, f, same))))
+    (λ past_i up_i e. rows-anchored start j (λ low_j f. absurd (omega (arith, e, f, same, low_j, past_i, up_i, past))) (λ more up f. absurd (omega (arith, e, f, same))) (λ more up f. absurd (omega (arith, e, f, same))))
+    some
+row-one starts.Both start true false i j past not_i not_j same =
+    let some : 0 < start = omega (arith, past) in
+    rows-plain start j
+    (λ low e. rows-anchored start i (λ low_i f. (omega (arith, e, f, same), λ _ more. absurd (omega (arith, low_i, more)))) (λ more up f. absurd (omega (arith, e, f, same, low, more))) (λ more up f. absurd (omega (arith, e, f, same, low, more, up, past, not_i))))
+    (λ past_j up_j e. rows-anchored start i (λ low_i f. absurd (omega (arith, e, f, same, low_i, past_j))) (λ more up f. absurd (omega (arith, e, f, same))) (λ more up f. absurd (omega (arith, e, f, same))))
+    (λ past_j up_j e. rows-anchored start i (λ low_i f. absurd (omega (arith, e, f, same, low_i, past_j, up_j, past))) (λ more up f. absurd (omega (arith, e, f, same))) (λ more up f. absurd (omega (arith, e, f, same))))
+    some
+
+-- so the rows of two states that are served are two
+pub row-apart : (kind : StartKind) (start : ℕ) (a b : Anchored) (i j : ℕ) → Serves kind a → Serves kind b → 1 < start → 1 < i → i ≢ other_start start (is_anchored a) → j ≢ other_start start (is_anchored b) → (a ≡ b → i ≢ j) → row_of kind start (is_anchored a) i ≢ row_of kind start (is_anchored b) j
+row-apart starts.Unanchored start a b i j sa sb past more not_i not_j ne same = ne (sa ∙ sym sb) same
+row-apart starts.Anchored start a b i j sa sb past more not_i not_j ne same = ne (sa ∙ sym sb) same
+row-apart starts.Both start No No i j sa sb past more not_i not_j ne same = ne refl (row-one starts.Both start false false i j past not_i not_j same).0
+row-apart starts.Both start Yes Yes i j sa sb past more not_i not_j ne same = ne refl (row-one starts.Both start true true i j past not_i not_j same).0
+row-apart starts.Both start No Yes i j sa sb past more not_i not_j ne same = let e : false ≡ true = (row-one starts.Both start false true i j past not_i not_j same).1 refl more in cc
+row-apart starts.Both start Yes No i j sa sb past more not_i not_j ne same = let e : true ≡ false = (row-one starts.Both start true false i j past not_i not_j same).1 refl more in cc

@@ -1,0 +1,106 @@
+-- How the rows of a DFA are filled.
+use Rattle.std.specs.Prelude.{◌≡◌, ◌≢◌, ◌⊎◌, ℕ, ◌+◌, ◌-◌, ◌*◌, ◌<◌, ◌≤◌, ◌==◌, if◌then◌else◌, Bool, true, false, List, length, slice_get, slice_index, Option, Some, None}
+use Rattle.ac_input.specs.declared.primitives.number.TheConstants.{GREATEST}
+use Rattle.ac_input.specs.declared.search.Anchored.{Anchored}
+use Rattle.ac_input.specs.declared.search.Anchored.TheVariants.{No, Yes}
+use Rattle.ac_input.specs.declared.search.StartKind.{StartKind}
+use Rattle.ac_input.specs.Alphabet.{class}
+use Rattle.ac_input.specs.Dfa.{Serves, dfa_states}
+use Rattle.ac_input.specs.Input.{is_anchored}
+use Rattle.ac_noncontiguous.specs.declared.error.BuildErrorKind.{BuildErrorKind}
+use Rattle.ac_noncontiguous.specs.declared.error.BuildErrorKind.TheVariants.{StateIDOverflow, PatternIDOverflow, PatternTooLong, Memory}
+use Rattle.ac_noncontiguous.specs.declared.nfa.NFA.{NFA}
+use Rattle.ac_noncontiguous.specs.ReadCalls.{state_len, depth_in, special_in, classes_in, MayBeMet}
+use Rattle.ac_tables.specs.DfaTable.{number_of, IsCell}
+
+-- ---- the size
+
+-- refused since the number of the last state is past the greatest
+abbrev pub IsOverflow : ℕ → BuildErrorKind → Type 0
+IsOverflow last (StateIDOverflow max requested) = (max ≡ GREATEST) × (max < requested) × (GREATEST < last)
+IsOverflow last (PatternIDOverflow max requested) = ⊥
+IsOverflow last (PatternTooLong pattern len) = ⊥
+IsOverflow last Memory = ⊥
+
+-- ---- what is filled
+
+-- where the states of an automaton have their rows, and by which classes of bytes these go
+pub record Plan : Type 0 where
+  pub nfa : NFA
+  pub kind : StartKind
+  pub classes : List ℕ
+  pub stride : ℕ
+
+-- the number of a state
+abbrev pub number_in : Plan → Anchored → ℕ → ℕ
+number_in p anchored sid = number_of p.kind (special_in p.nfa).start_unanchored_id p.stride (is_anchored anchored) sid
+
+-- where the entry of a byte stands in the row of a state
+abbrev pub cell_in : Plan → Anchored → ℕ → ℕ → ℕ
+cell_in p anchored sid byte = number_in p anchored sid + class p.classes byte
+
+-- Each class has its place in a row, bytes of one class are so in the automaton's own classes too, and the last row has a number.
+pub record IsFit (p : Plan) : Type 0 where
+  pub wide : p.stride ≤ 256
+  pub letters : (byte : ℕ) → byte < 256 → class p.classes byte < p.stride
+  pub finer : (b c : ℕ) → b < 256 → c < 256 → class p.classes b ≡ class p.classes c → class (classes_in p.nfa) b ≡ class (classes_in p.nfa) c
+  pub few : (dfa_states p.kind (state_len p.nfa) - 1) * p.stride ≤ GREATEST
+
+-- ---- one row
+
+-- the row of a state is right: each byte's entry is the number of the state to which it leads
+abbrev pub IsRowRight : Plan → Anchored → ℕ → List ℕ → Type 0
+IsRowRight p anchored sid trans = (byte : ℕ) → byte < 256 → (next : ℕ) × IsCell p.nfa p.kind p.stride (slice_index trans (cell_in p anchored sid byte)) anchored sid byte next
+
+-- nothing but the dead state stands in so many places from here on
+abbrev pub IsBlank : ℕ → ℕ → List ℕ → Type 0
+IsBlank stride at trans = (x : ℕ) → x < stride → slice_index trans (at + x) ≡ 0
+
+-- only so many places from here on have changed
+pub record IsChangedIn (stride at : ℕ) (old new : List ℕ) : Type 0 where
+  pub len : length new ≡ length old
+  pub before : (k : ℕ) → k < at → slice_index new k ≡ slice_index old k
+  pub after : (k : ℕ) → at + stride ≤ k → slice_index new k ≡ slice_index old k
+
+-- what is written for a transition: the number of the next state, and the dead state for none
+abbrev pub entry_in : Plan → Anchored → ℕ → ℕ
+entry_in p anchored next = if next == 1 then 0 else number_in p anchored next
+
+-- one of some transitions has a byte of this class
+abbrev pub HasClass : List ℕ → List (ℕ × ℕ) → ℕ → ℕ → ℕ → ℕ → Type 0
+HasClass classes edges x k byte next = (slice_get edges k ≡ Some (byte, next)) × (class classes byte ≡ x)
+
+-- A class has the entry of one of some transitions that has a byte of it, or where there is none the entry that it had.
+pub data IsEntry (p : Plan) (anchored : Anchored) (edges : List (ℕ × ℕ)) (x old new : ℕ) : Type 0 where
+  Written : (k byte next : ℕ) → HasClass p.classes edges x k byte next → new ≡ entry_in p anchored next → IsEntry p anchored edges x old new
+  Kept : ((k byte next : ℕ) → ¬ HasClass p.classes edges x k byte next) → new ≡ old → IsEntry p anchored edges x old new
+
+-- some transitions are written over a row
+pub record AreWritten (p : Plan) (anchored : Anchored) (at : ℕ) (edges : List (ℕ × ℕ)) (old new : List ℕ) : Type 0 where
+  pub alone : IsChangedIn p.stride at old new
+  pub entries : (x : ℕ) → x < p.stride → IsEntry p anchored edges x (slice_index old (at + x)) (slice_index new (at + x))
+
+-- ---- all rows
+
+-- The rows of one state for unanchored searches and of one for anchored ones are right, where such searches are served; those of
+-- all other states are as they were.
+pub record AreFilled (p : Plan) (plain anchored : ℕ) (old new : List ℕ) : Type 0 where
+  pub len : length new ≡ length old
+  pub row : Serves p.kind No → IsRowRight p No plain new
+  pub row_anchored : Serves p.kind Yes → IsRowRight p Yes anchored new
+  pub others : (a : Anchored) (sid x : ℕ) → Serves p.kind a → MayBeMet p.nfa a sid → (a ≡ No → sid ≢ plain) → (a ≡ Yes → sid ≢ anchored) → x < p.stride → slice_index new (number_in p a sid + x) ≡ slice_index old (number_in p a sid + x)
+
+-- The rows of the states in front of one place, and of those from the unanchored start up to another one, are filled.
+abbrev pub IsDone : ℕ → ℕ → ℕ → ℕ → Type 0
+IsDone start low high sid = (sid < low) ⊎ ((start ≤ sid) × (sid < high))
+
+-- so far the rows are right, and all others are blank
+pub record AreRowsUpTo (p : Plan) (low high : ℕ) (trans : List ℕ) : Type 0 where
+  pub len : length trans ≡ dfa_states p.kind (state_len p.nfa) * p.stride
+  pub right : (a : Anchored) (sid : ℕ) → Serves p.kind a → MayBeMet p.nfa a sid → IsDone (special_in p.nfa).start_unanchored_id low high sid → IsRowRight p a sid trans
+  pub blank : (a : Anchored) (sid : ℕ) → Serves p.kind a → MayBeMet p.nfa a sid → (¬ IsDone (special_in p.nfa).start_unanchored_id low high sid) → IsBlank p.stride (number_in p a sid) trans
+
+-- which of two states is filled next: the one of the first run, where the second run has no more, or its state is no deeper
+pub record IsMerged (nfa : NFA) (start low high : ℕ) (first : Bool) : Type 0 where
+  pub yes : first ≡ true → (low < start) × ((high < state_len nfa) → depth_in nfa low ≤ depth_in nfa high)
+  pub no : first ≡ false → (high < state_len nfa) × ((low < start) → depth_in nfa high < depth_in nfa low)

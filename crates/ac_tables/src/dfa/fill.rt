@@ -1,0 +1,161 @@
+//! How the rows of a DFA are filled.
+//!
+//! In the row of a state stands for each class of bytes the next state, all failures followed. For unanchored searches it is the
+//! row of the state's failure with the state's own transitions written over it: where a byte leads nowhere from a state, it leads
+//! where it does from the failure. For anchored searches it has the transitions alone.
+//!
+//! A failure is less deep than its state, so rows are filled in order of depth. The states come in two runs, before the starts and
+//! after them, in each of which depth never falls; so the runs are merged. It takes time in proportion to the table.
+ghost use Rattle.std.specs.Prelude.{◌≡◌};
+ghost use Rattle.ac_noncontiguous.specs.ReadCalls.{special_in};
+ghost use Rattle.ac_tables.specs.Filling.{IsFit};
+
+use crate::dfa::numbers::Numbers;
+use ac_input::alphabet::ByteClasses;
+use ac_input::primitives::StateID;
+use ac_input::search::{Anchored, StartKind};
+use ac_noncontiguous::nfa::NFA;
+
+/// The number of the fail state of the noncontiguous automaton, which stands where a byte leads nowhere.
+const FAIL: usize = 1;
+
+/// What the rows are filled from.
+#[derive(Clone, Copy)]
+pub(super) struct Filler<'a> {
+    pub nfa: &'a NFA,
+    pub classes: &'a ByteClasses,
+    pub numbers: Numbers,
+    ghost starts: { numbers.start ≡ (special_in nfa.now).start_unanchored_id },
+    ghost fit: { IsFit (record { nfa = nfa.now; kind = numbers.kind; classes = classes.now; stride = numbers.stride }) },
+}
+
+impl<'a> Filler<'a> {
+    ghost use Rattle.std.specs.Prelude.{◌≢◌, ◌⊎◌, ◌+◌, ◌*◌, ◌<◌, ◌≤◌, length};
+    ghost use Rattle.ac_input.specs.declared.search.Anchored.TheVariants.{No, Yes};
+    ghost use Rattle.ac_input.specs.Dfa.{Serves, dfa_states};
+    ghost use Rattle.ac_noncontiguous.specs.ReadCalls.{state_len, fail_in, edges_in, MayBeMet};
+    ghost use Rattle.ac_tables.specs.Filling.{number_in, entry_in, IsRowRight, IsBlank, IsChangedIn, AreWritten, AreFilled, AreRowsUpTo, IsMerged};
+    ghost use Rattle.ac_tables.specs.Filler.{plan_of};
+
+    /// Where the row of a state begins.
+    #[inline]
+    fn place(&self, anchored: Anchored, sid: StateID) -> usize
+        requires { sid < state_len self.now.nfa.now }
+        ensures { result ≡ number_in (plan_of self.now) anchored sid }
+    {
+        self.numbers.number(anchored, sid).as_usize()
+    }
+
+    /// What is written for a transition to this state.
+    #[inline]
+    fn entry(&self, anchored: Anchored, next: StateID) -> StateID
+        requires { next < state_len self.now.nfa.now }
+        ensures { result ≡ entry_in (plan_of self.now) anchored next }
+    {
+        if next.as_usize() == FAIL {
+            return StateID::ZERO;
+        }
+        self.numbers.number(anchored, next)
+    }
+
+    /// Writes the transitions of a state over its row.
+    fn write(&self, anchored: Anchored, sid: StateID, trans: &mut [StateID])
+        requires kept { sid < state_len self.now.nfa.now }
+        requires room { number_in (plan_of self.now) anchored sid + self.now.numbers.stride ≤ length trans.old }
+        ensures { AreWritten (plan_of self.now) anchored (number_in (plan_of self.now) anchored sid)
+            (edges_in self.now.nfa.now sid) trans.old trans.new }
+    {
+        let row = self.place(anchored, sid);
+        for (byte, next) in self.nfa.iter_trans(sid) {
+            trans[row + self.classes.get(byte) as usize] = self.entry(anchored, next);
+        }
+    }
+
+    /// Fills the row of a state for unanchored searches, from that of its failure.
+    fn fill_unanchored(&self, sid: StateID, trans: &mut [StateID])
+        requires met { MayBeMet self.now.nfa.now No sid × (1 < sid) }
+        requires len { length trans.old ≡ dfa_states self.now.numbers.kind (state_len self.now.nfa.now) * self.now.numbers.stride }
+        requires failure { IsRowRight (plan_of self.now) No (fail_in self.now.nfa.now sid) trans.old }
+        ensures alone { IsChangedIn self.now.numbers.stride (number_in (plan_of self.now) No sid) trans.old trans.new }
+        ensures right { IsRowRight (plan_of self.now) No sid trans.new }
+    {
+        let row = self.place(Anchored::No, sid);
+        let failure = self.place(Anchored::No, self.nfa.fail(sid));
+        trans.copy_within(failure..failure + self.numbers.stride, row);
+        self.write(Anchored::No, sid, trans);
+    }
+
+    /// Fills the row of a state for anchored searches, which is blank.
+    fn fill_anchored(&self, sid: StateID, trans: &mut [StateID])
+        requires met { MayBeMet self.now.nfa.now Yes sid × (1 < sid) }
+        requires len { length trans.old ≡ dfa_states self.now.numbers.kind (state_len self.now.nfa.now) * self.now.numbers.stride }
+        requires blank { IsBlank self.now.numbers.stride (number_in (plan_of self.now) Yes sid) trans.old }
+        ensures alone { IsChangedIn self.now.numbers.stride (number_in (plan_of self.now) Yes sid) trans.old trans.new }
+        ensures right { IsRowRight (plan_of self.now) Yes sid trans.new }
+    {
+        self.write(Anchored::Yes, sid, trans);
+    }
+
+    /// Fills the row of one state for unanchored searches, and that of another for anchored ones, where such are served.
+    fn fill(&self, plain: StateID, anchored: StateID, trans: &mut [StateID])
+        requires met { MayBeMet self.now.nfa.now No plain × (1 < plain) × MayBeMet self.now.nfa.now Yes anchored × (1 < anchored) }
+        requires len { length trans.old ≡ dfa_states self.now.numbers.kind (state_len self.now.nfa.now) * self.now.numbers.stride }
+        requires failure { Serves self.now.numbers.kind No → IsRowRight (plan_of self.now) No (fail_in self.now.nfa.now plain) trans.old }
+        requires blank { Serves self.now.numbers.kind Yes → IsBlank self.now.numbers.stride (number_in (plan_of self.now) Yes anchored) trans.old }
+        ensures { AreFilled (plan_of self.now) plain anchored trans.old trans.new }
+    {
+        match self.numbers.kind {
+            StartKind::Unanchored => self.fill_unanchored(plain, trans),
+            StartKind::Anchored => self.fill_anchored(anchored, trans),
+            StartKind::Both => {
+                self.fill_unanchored(plain, trans);
+                self.fill_anchored(anchored, trans);
+            }
+        }
+    }
+
+    /// Whether the next state of the first run is filled before that of the second: it is no deeper, or the second has no more.
+    fn is_first_next(&self, low: usize, high: usize) -> bool
+        requires low { low ≤ self.now.numbers.start }
+        requires high { high ≤ state_len self.now.nfa.now }
+        requires some { (low < self.now.numbers.start) ⊎ (high < state_len self.now.nfa.now) }
+        ensures { IsMerged self.now.nfa.now self.now.numbers.start low high result }
+    {
+        if low == self.numbers.start.as_usize() {
+            return false;
+        }
+        if high == self.nfa.state_len() {
+            return true;
+        }
+        self.nfa.depth(StateID::must(low)) <= self.nfa.depth(StateID::must(high))
+    }
+
+    /// Fills all rows of a table that is blank.
+    pub(super) fn fill_all(&self, trans: &mut [StateID])
+        requires len { length trans.old ≡ dfa_states self.now.numbers.kind (state_len self.now.nfa.now) * self.now.numbers.stride }
+        requires blank { IsBlank (length trans.old) 0 trans.old }
+        ensures { AreRowsUpTo (plan_of self.now) (state_len self.now.nfa.now) (state_len self.now.nfa.now) trans.new }
+    {
+        let states = self.nfa.state_len();
+        let special = self.nfa.special();
+        self.fill(
+            special.start_unanchored_id,
+            special.start_anchored_id,
+            trans,
+        );
+        let start = special.start_unanchored_id.as_usize();
+        let mut low = FAIL + 1;
+        let mut high = start + 2;
+        while low < start || high < states {
+            if self.is_first_next(low, high) {
+                let next = StateID::must(low);
+                self.fill(next, next, trans);
+                low += 1;
+            } else {
+                let next = StateID::must(high);
+                self.fill(next, next, trans);
+                high += 1;
+            }
+        }
+    }
+}

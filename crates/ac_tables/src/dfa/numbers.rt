@@ -1,0 +1,84 @@
+//! Which number each state of the noncontiguous automaton has in the table of a DFA.
+//!
+//! With one start kind the rows are in the order of the states. With both, each state has two rows next to each other, one for
+//! either anchoring; only the dead state, the fail state and the two starts have one. So the rows of the states that match stay in
+//! front, the two starts come next, and a number is computed, not looked up.
+ghost use Rattle.std.specs.Prelude.{◌≡◌, ◌+◌, ◌-◌, ◌*◌, ◌≤◌, OnOk, IfErr};
+ghost use Rattle.ac_input.specs.declared.primitives.number.TheConstants.{GREATEST};
+ghost use Rattle.ac_input.specs.Dfa.{dfa_states};
+ghost use Rattle.ac_input.specs.Input.{is_anchored};
+ghost use Rattle.ac_tables.specs.DfaTable.{row_of, number_of};
+ghost use Rattle.ac_tables.specs.Filling.{IsOverflow};
+
+use ac_input::primitives::{GREATEST, StateID};
+use ac_input::search::{Anchored, StartKind};
+use ac_noncontiguous::error::{BuildError, BuildErrorKind};
+
+/// How many rows there are for so many states of the noncontiguous automaton.
+pub(super) fn rows(kind: StartKind, states: usize) -> usize
+    requires some { 2 ≤ states }
+    requires few { states ≤ GREATEST + 1 }
+    ensures { result ≡ dfa_states kind states }
+{
+    match kind {
+        StartKind::Both => 2 * states - 4,
+        StartKind::Unanchored | StartKind::Anchored => states,
+    }
+}
+
+/// Refuses so many rows of this length where the number of the last one would be past the greatest.
+pub(super) fn check_size(rows: usize, stride: usize) -> Result<(), BuildError>
+    requires { 1 ≤ rows }
+    ensures fits { OnOk result ((rows - 1) * stride ≤ GREATEST) }
+    ensures refused { IfErr result (IsOverflow ((rows - 1) * stride)) }
+{
+    let last = (rows - 1).checked_mul(stride).unwrap_or(usize::MAX);
+    if last > GREATEST {
+        return Err(BuildErrorKind::StateIDOverflow {
+            max: GREATEST as u64,
+            requested_max: last as u64,
+        }
+        .into());
+    }
+    Ok(())
+}
+
+/// Where the rows of the states begin.
+#[derive(Clone, Copy)]
+pub(super) struct Numbers {
+    pub kind: StartKind,
+    /// The unanchored start of the noncontiguous automaton.
+    pub start: StateID,
+    /// How many entries a row has.
+    pub stride: usize,
+}
+
+impl Numbers {
+    /// The row of a state for searches of this anchoring.
+    #[inline]
+    fn row(&self, anchored: Anchored, sid: StateID) -> usize
+        ensures { result ≡ row_of self.now.kind self.now.start (is_anchored anchored) sid }
+    {
+        let at = sid.as_usize();
+        let start = self.start.as_usize();
+        if at <= 1 {
+            return at;
+        }
+        match self.kind {
+            StartKind::Unanchored | StartKind::Anchored => at,
+            StartKind::Both => match anchored {
+                Anchored::No => { if at <= start { 2 * at - 2 } else { 2 * at - 4 } }
+                Anchored::Yes => { if start <= at { 2 * at - 3 } else { 2 * at - 1 } }
+            },
+        }
+    }
+
+    /// Where the row of a state begins, which is its number.
+    #[inline]
+    pub(super) fn number(&self, anchored: Anchored, sid: StateID) -> StateID
+        requires { number_of self.now.kind self.now.start self.now.stride (is_anchored anchored) sid ≤ GREATEST }
+        ensures { result ≡ number_of self.now.kind self.now.start self.now.stride (is_anchored anchored) sid }
+    {
+        StateID::must(self.row(anchored, sid) * self.stride)
+    }
+}

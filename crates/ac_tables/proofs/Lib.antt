@@ -14,3 +14,4 @@ pub mod RowLemmas
 pub mod CellLemmas
 pub mod WriteLemmas
 pub mod FilledLemmas
+pub mod BuildLemmas

@@ -2,6 +2,7 @@
 mod layout;
 mod places;
 mod reads;
+mod states;
 mod table;
 mod words;
 

@@ -18,3 +18,5 @@ pub mod RowLemmas
 pub mod CellLemmas
 pub mod WriteLemmas
 pub mod FilledLemmas
+pub mod DfaListLemmas
+pub mod TableLemmas

@@ -1,11 +1,11 @@
 -- The words of a state, read where they stand: its kind, its failure, where a class leads, and its patterns.
-use Rattle.std.proofs.Common.{◌≡◌, ◌≢◌, ◌⊎◌, ℕ, zero, suc, ◌+◌, ◌*◌, ◌/◌, ◌%◌, ◌-◌, ◌<◌, ◌≤◌, Bool, true, false, map, List, [], ◌∷◌, ◌++◌, length, take, drop, get_or, Option, Some, None, inl, inr, refl, sym, ap, subst, ◌∙◌, ⊎_elim, arith, length-append}
-use Rattle.std.specs.Prelude.{◌==◌, ◌&&◌, ◌||◌, nat_lt, nat_le, slice_index, slice_get, if◌then◌else◌}
+use Rattle.std.proofs.Common.{◌≡◌, ◌≢◌, ℕ, ◌+◌, ◌/◌, ◌%◌, ◌<◌, ◌≤◌, Bool, true, false, map, List, [], ◌∷◌, ◌++◌, length, take, drop, get_or, refl, sym, ap, subst, ◌∙◌, arith, length-append}
+use Rattle.std.specs.Prelude.{◌==◌, ◌||◌, nat_lt, if◌then◌else◌}
 use Rattle.std.specs.List.{range_with_len}
-use Rattle.std.proofs.lemmas.Bool.{cases_Bool, cases_lt, cases_eq, or_cases, or_parts, and_parts, and_cases, eqb-true, eqb-false, eq-eqb, ne_eqb, ltb-true, ltb-false, leb-true, cond-true, cond-false}
+use Rattle.std.proofs.lemmas.Bool.{or_parts, and_parts, eqb-true, eq-eqb, ne_eqb, ltb-false, cond-true, cond-false}
 use Rattle.std.proofs.lemmas.List.{get_or-take, get_or-drop, take-take, take_at, drop-drop, drop-take, drop_at}
 use Rattle.std.proofs.lemmas.List.FromFn.{length-map-range_with_len, get_or-map-range_with_len}
-use Rattle.ac_tables.specs.Words.{StateParts, Form, Dense, One, Sparse, most_sparse, is_single, form_of, next_by, packed, classes_of, nexts_of, first_class, kind_word, transition_words, one_pattern, match_words, words_of, StandsAt}
+use Rattle.ac_tables.specs.Words.{StateParts, Form, Dense, One, Sparse, most_sparse, is_single, form_of, next_by, packed, classes_of, nexts_of, first_class, kind_word, transition_words, match_words, words_of, StandsAt}
 
 -- ---- some words of many
 
@@ -23,8 +23,8 @@ stands-right words p q at h =
     let long = length-append p q in (
       omega (arith, h.0, long),
       ap (take (length q)) (sym (drop-drop (length p) at words))
-      ∙ (sym (drop-take (length p) (length q) (drop at words))
-      ∙ (ap (λ (n : ℕ). drop (length p) (take n (drop at words))) (sym long) ∙ (ap (drop (length p)) h.1 ∙ drop_at p q (length p) refl))),
+          ∙ (sym (drop-take (length p) (length q) (drop at words))
+          ∙ (ap (λ (n : ℕ). drop (length p) (take n (drop at words))) (sym long) ∙ (ap (drop (length p)) h.1 ∙ drop_at p q (length p) refl))),
     )
 
 -- each stands at its place

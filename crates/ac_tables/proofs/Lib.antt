@@ -2,6 +2,10 @@ pub mod PlacesLemmas
 pub mod PackedLemmas
 pub mod DecodeLemmas
 pub mod StateLemmas
+pub mod MatchLemmas
+pub mod TestLemmas
+pub mod FollowLemmas
+pub mod NameLemmas
 pub mod WordsLemmas
 pub mod LenLemmas
 pub mod StandLemmas
@@ -15,3 +19,5 @@ pub mod CellLemmas
 pub mod WriteLemmas
 pub mod FilledLemmas
 pub mod BuildLemmas
+pub mod DfaListLemmas
+pub mod TableLemmas

@@ -1,11 +1,10 @@
 -- Classes packed four in a word: what the bytes of the words are, and that the first of them that is the wanted class tells the
 -- transition.
-use Rattle.std.proofs.Common.{◌≡◌, ◌≢◌, ◌⊎◌, ℕ, zero, suc, ◌+◌, ◌*◌, ◌/◌, ◌-◌, ◌<◌, ◌≤◌, map, List, [], ◌∷◌, ◌++◌, length, get_or, Option, Some, refl, sym, ap, ◌∙◌, ⊎_elim, arith}
-use Rattle.std.specs.Prelude.{All, if◌then◌else◌, ◌==◌, replicate}
-use Rattle.std.specs.Int.{w32, to_le_bytes, from_le_bytes}
-use Rattle.std.specs.List.{flat_map}
-use Rattle.std.proofs.lemmas.Bool.{eqb-true, eqb-false, eq-eqb, ne_eqb, cases_lt, cond-true, cond-false}
-use Rattle.std.proofs.lemmas.List.{get_or-replicate, get_or_append_left, get_or-append_right}
+use Rattle.std.proofs.Common.{◌≡◌, ◌≢◌, ℕ, zero, suc, ◌+◌, ◌*◌, ◌-◌, ◌<◌, ◌≤◌, List, [], ◌∷◌, ◌++◌, length, get_or, Some, refl, sym, ap, ◌∙◌, ⊎_elim, arith}
+use Rattle.std.specs.Prelude.{◌==◌, replicate}
+use Rattle.std.specs.Int.{w32, to_le_bytes}
+use Rattle.std.proofs.lemmas.Bool.{eq-eqb, ne_eqb, cases_lt, cond-true, cond-false}
+use Rattle.std.proofs.lemmas.List.{get_or-replicate, get_or_append_left}
 use Rattle.std.proofs.lemmas.Nat.{le_bytes_4}
 use Rattle.ac_tables.specs.Words.{next_by, word_of, packed, classes_of, nexts_of}
 use Rattle.ac_tables.specs.WordReads.{unpacked, IsFirstPlace}
@@ -65,8 +64,7 @@ unpack-packed (a ∷ b ∷ c ∷ d ∷ e ∷ rest) small =
     let r = small 2 (omega arith) in
     let s = small 3 (omega arith) in
     let more = unpack-packed (e ∷ rest) (λ i within. small (suc (suc (suc (suc i)))) (omega arith)) in
-    let len = more.2 in
-    (
+    let len = more.2 in (
       more.0,
       ap (λ (xs : List ℕ). xs ++ unpacked (packed (e ∷ rest))) (bytes-word a b c d p q r s) ∙ ap (λ (xs : List ℕ). a ∷ b ∷ c ∷ d ∷ xs) more.1,
       omega (arith, len),

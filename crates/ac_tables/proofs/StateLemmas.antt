@@ -1,18 +1,19 @@
 -- A state of the table, read at its place: where a byte leads from it.
-use Rattle.std.proofs.Common.{◌≡◌, ◌≢◌, ◌⊎◌, ℕ, zero, suc, ◌+◌, ◌*◌, ◌/◌, ◌%◌, ◌-◌, ◌<◌, ◌≤◌, Bool, true, false, map, List, [], ◌∷◌, ◌++◌, length, take, drop, get_or, Option, Some, None, inl, inr, refl, sym, ap, subst, ◌∙◌, ⊎_elim, arith}
-use Rattle.std.specs.Prelude.{slice_index, slice_get}
+use Rattle.std.proofs.Common.{◌≡◌, ◌≢◌, ℕ, ◌+◌, ◌/◌, ◌%◌, ◌-◌, ◌<◌, ◌≤◌, List, length, take, drop, get_or, Option, Some, None, refl, sym, ap, subst, ◌∙◌, ⊎_elim, arith}
+use Rattle.std.specs.Prelude.{slice_index, bit_and}
 use Rattle.std.specs.Coded.{le_prop, Coded-set, coded_ℕ}
 use Rattle.std.proofs.Math.Logic.{∥∥₁_elim}
 use Rattle.std.proofs.lemmas.Bool.{cases_lt}
 use Rattle.std.proofs.lemmas.List.{get_or-map, length-map, get_or_append_left, get_or_read}
+use Rattle.std.proofs.lemmas.Nat.{and_mask}
 use Rattle.std.proofs.lemmas.Option.{slice_get-get_or}
 use Rattle.ac_input.specs.declared.primitives.number.TheConstants.{GREATEST}
-use Rattle.ac_input.specs.Alphabet.{class, alphabet_len}
+use Rattle.ac_input.specs.Alphabet.{alphabet_len}
 use Rattle.ac_tables.specs.declared.contiguous.table.Table.{Table}
-use Rattle.ac_tables.specs.Words.{StateParts, form_of, Sparse, next_by, packed, classes_of, nexts_of, kind_word, first_class, words_of}
-use Rattle.ac_tables.specs.WordReads.{unpacked, IsFirstPlace, IsStateAt, IsPlace, IsSparseAt, ClassLeadsTo, StepsTo}
-use Rattle.ac_tables.proofs.DecodeLemmas.{state-kind, form-dense, form-one, form-sparse, kind-one, dense-next, one-next, sparse-classes, sparse-nexts, stands-item}
-use Rattle.ac_tables.proofs.PackedLemmas.{AreBytes, last_of, unpack-packed, unpack-long, first-hit, no-hit}
+use Rattle.ac_tables.specs.Words.{StateParts, form_of, next_by, packed, classes_of, nexts_of, kind_word, first_class}
+use Rattle.ac_tables.specs.WordReads.{unpacked, IsFirstPlace, IsStateAt, IsPlace, IsSparseAt, StepsTo, FailsTo}
+use Rattle.ac_tables.proofs.DecodeLemmas.{state-kind, state-fail, form-dense, form-one, form-sparse, kind-one, dense-next, one-next, sparse-classes, sparse-nexts, stands-item}
+use Rattle.ac_tables.proofs.PackedLemmas.{AreBytes, unpack-packed, unpack-long, first-hit, no-hit}
 
 -- ---- a place
 
@@ -20,20 +21,28 @@ use Rattle.ac_tables.proofs.PackedLemmas.{AreBytes, last_of, unpack-packed, unpa
 pub place-within : (table : Table) (sid : ℕ) → IsPlace table sid → sid < length table.words.items
 place-within table sid h = ∥∥₁_elim h le_prop (λ w. (state-kind table.words.items sid table.alphabet_len w.0 w.1.stands).0)
 
+-- what was read at the state's place is its first word
+pub first-of : (words : List ℕ) (sid at word : ℕ) → sid < length words → at ≡ sid → word ≡ get_or words at word → get_or words sid 0 ≡ word
+first-of words sid at word within is read = sym (get_or_read words at word (omega (arith, within, is)) read 0 ∙ ap (λ (n : ℕ). get_or words n 0) is)
+
+-- so its low bits are the kind
+pub kind-of : (words : List ℕ) (sid at word : ℕ) → sid < length words → at ≡ sid → word ≡ get_or words at word → get_or words sid 0 % 256 ≡ bit_and word 255
+kind-of words sid at word within is read = ap (λ (n : ℕ). n % 256) (first-of words sid at word within is read) ∙ sym (and_mask word 8)
+
 -- what the first word says of the kind is what the state says of it
-same-kind : (table : Table) (sid : ℕ) (s : StateParts) (kind low : ℕ) → IsStateAt table sid s → slice_index table.words.items sid % 256 ≡ low → kind_word (form_of s) s.edges % 256 ≡ low
-same-kind table sid s kind low h is = ap (λ (n : ℕ). n % 256) (sym (state-kind table.words.items sid table.alphabet_len s h.stands).1) ∙ is
+same-kind : (table : Table) (sid : ℕ) (s : StateParts) (low : ℕ) → IsStateAt table sid s → slice_index table.words.items sid % 256 ≡ low → kind_word (form_of s) s.edges % 256 ≡ low
+same-kind table sid s low h is = ap (λ (n : ℕ). n % 256) (sym (state-kind table.words.items sid table.alphabet_len s h.stands).1) ∙ is
 
 -- ---- a state with an entry for each class
 
 pub dense-at : (table : Table) (sid c place : ℕ) (s : StateParts) → IsStateAt table sid s → slice_index table.words.items sid % 256 ≡ 255 → c < table.alphabet_len → place ≡ sid + 2 + c → (place < length table.words.items) × (slice_index table.words.items place ≡ next_by s.edges c)
-dense-at table sid c place s h kind within there = dense-next table.words.items sid table.alphabet_len s h.stands c place (form-dense s (same-kind table sid s 0 255 h kind)) within there
+dense-at table sid c place s h kind within there = dense-next table.words.items sid table.alphabet_len s h.stands c place (form-dense s (same-kind table sid s 255 h kind)) within there
 
 -- ---- a state with one transition
 
 pub one-at : (table : Table) (sid : ℕ) (s : StateParts) → IsStateAt table sid s → slice_index table.words.items sid % 256 ≡ 254 → (sid + 2 < length table.words.items) × ((c : ℕ) → slice_index table.words.items sid / 256 ≡ c → slice_index table.words.items (sid + 2) ≡ next_by s.edges c) × ((c : ℕ) → slice_index table.words.items sid / 256 ≢ c → next_by s.edges c ≡ 1)
 one-at table sid s h kind =
-    let form = form-one s (same-kind table sid s 0 254 h kind) in
+    let form = form-one s (same-kind table sid s 254 h kind) in
     let next = one-next table.words.items sid table.alphabet_len s h.stands form.0 form.1 in
     let first : slice_index table.words.items sid / 256 ≡ first_class s.edges =
     ap (λ (n : ℕ). n / 256) ((state-kind table.words.items sid table.alphabet_len s h.stands).1 ∙ ap (λ f. kind_word f s.edges) form.0) ∙ (kind-one s.edges).1 in
@@ -62,7 +71,7 @@ pub record AreSparse (words : List ℕ) (sid len : ℕ) (edges : List (ℕ × �
 
 pub sparse-at : (table : Table) (sid len : ℕ) (s : StateParts) → IsStateAt table sid s → IsSparseAt table sid len → AreSparse table.words.items sid len s.edges
 sparse-at table sid len s h sparse =
-    let kind = same-kind table sid s 0 len h sparse.kind in
+    let kind = same-kind table sid s len h sparse.kind in
     let form = form-sparse s (λ e. sparse.dense (sym kind ∙ e)) (λ e. sparse.one (sym kind ∙ e)) in
     let count : length s.edges ≡ len = sym form.2 ∙ kind in
     let few = form.1 in
@@ -160,3 +169,16 @@ dense-place table sid c h kind within = ∥∥₁_elim h le_prop (λ w. (dense-a
 -- and that of the only transition
 pub one-place : (table : Table) (sid : ℕ) → IsPlace table sid → slice_index table.words.items sid % 256 ≡ 254 → sid + 2 < length table.words.items
 one-place table sid h kind = ∥∥₁_elim h le_prop (λ w. (one-at table sid w.0 w.1 kind).0)
+
+-- ---- to which state it fails
+
+-- the second word is one of the words,
+pub fail-within : (table : Table) (sid : ℕ) → IsPlace table sid → sid + 1 < length table.words.items
+fail-within table sid h = ∥∥₁_elim h le_prop (λ w. (state-fail table.words.items sid table.alphabet_len w.0 w.1.stands).0)
+
+-- and says to which
+pub fail-read : (table : Table) (sid place fail : ℕ) → place ≡ sid + 1 → fail ≡ get_or table.words.items place fail → FailsTo table sid fail
+fail-read table sid place fail is read s h =
+    let there = state-fail table.words.items sid table.alphabet_len s h.stands in
+    let within = there.0 in
+    get_or_read table.words.items place fail (omega (arith, within, is)) read 0 ∙ (ap (λ (n : ℕ). get_or table.words.items n 0) is ∙ there.1)

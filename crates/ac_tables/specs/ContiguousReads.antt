@@ -1,10 +1,11 @@
 -- What a contiguous automaton is built as, and what is known of a number that a search has come to.
-use Rattle.std.specs.Prelude.{◌≡◌, ℕ, ◌==◌, ◌||◌, nat_le, Bool, false, List, Option}
+use Rattle.std.specs.Prelude.{◌≡◌, ℕ, ◌==◌, ◌||◌, nat_le, Bool, false, IsTrue, List, Option}
 use Rattle.ac_input.specs.declared.search.Anchored.{Anchored}
+use Rattle.ac_input.specs.declared.steps.Steps.{Steps}
 use Rattle.ac_input.specs.Candidate.{Filter}
 use Rattle.ac_input.specs.Dictionary.{Dictionary, dictionary_of}
 use Rattle.ac_automaton.specs.Automaton.{Built}
-use Rattle.ac_automaton.specs.Named.{Naming, IsReadBy}
+use Rattle.ac_automaton.specs.Named.{Naming, OfNames, IsPaidStep, IsReadBy}
 use Rattle.ac_tables.specs.declared.contiguous.NFA.{NFA}
 use Rattle.ac_tables.specs.declared.contiguous.table.Table.{Table}
 use Rattle.ac_tables.specs.Words.{StateParts}
@@ -38,6 +39,19 @@ IsLaidOut nfa names = (parts : ℕ → StateParts) × AreStates (dictionary nfa)
 -- A state is read by a search.
 abbrev pub IsRead : NFA → Anchored → List ℕ → ℕ → Type 0
 IsRead nfa anchored text sid = IsReadBy (built_as nfa) (IsLaidOut nfa) (matches_at nfa) (is_start_at nfa) (is_special_at nfa) anchored text sid
+
+-- ---- look-ups
+
+-- a search of this anchoring may come to the state
+abbrev pub IsMet : NFA → Bool → ℕ → Type 0
+IsMet nfa anchored sid = ∥ ((names : Naming) × IsLaidOut nfa names × IsTrue (names.met anchored sid)) ∥₁
+
+-- Whatever the places stand for: the state to which a byte leads in a search, and how many states were looked at to find it, after
+-- so many for the same byte.
+abbrev pub LeadsNext : NFA → Bool → ℕ → ℕ → ℕ → ℕ → Steps → Steps → Type 0
+LeadsNext nfa anchored done sid byte next before after = OfNames (IsLaidOut nfa) anchored sid (λ names. IsPaidStep (dictionary nfa) names anchored done sid byte next before after)
+
+-- ---- how it is made
 
 -- it is made for this dictionary, of this table, and holds this prefilter
 pub record IsMadeOf (m : Dictionary) (from : Table) (held : Option Filter) (nfa : NFA) : Type 0 where

@@ -80,6 +80,7 @@ pub record AreStates (m : Dictionary) (table : Table) (names : Naming) (parts : 
   pub few : (anchored : Bool) (sid : ℕ) → IsTrue (names.met anchored sid) → length (parts sid).matches ≤ GREATEST + 1
   pub matching : (anchored : Bool) (sid : ℕ) → IsTrue (names.met anchored sid) → sid ≢ 0 → ((parts sid).matches ≢ []) ↔ (sid ≤ table.max_match)
   pub greatest : (table.max_match < table.start) ⊎ (table.max_match ≡ table.start_anchored)
+  pub before : (anchored : Bool) (sid : ℕ) → IsTrue (names.met anchored sid) → sid ≢ 0 → sid < table.start → sid ≤ table.max_match
   pub between : (anchored : Bool) (sid : ℕ) → IsTrue (names.met anchored sid) → sid < table.start_anchored → sid ≤ table.start
   pub past : (1 < table.start) × (table.start < table.start_anchored)
 

@@ -1,15 +1,10 @@
 -- What look-ups in the words of a contiguous automaton answer.
-use Rattle.std.specs.Prelude.{◌≡◌, ◌≢◌, ℕ, ◌+◌, ◌-◌, ◌/◌, ◌%◌, ◌<◌, ◌≤◌, ◌==◌, ◌&&◌, nat_le, not, Bool, IsTrue, if◌then◌else◌, List, [], ◌∷◌, length, take, drop, slice_get, slice_index, Option, Some, None}
+use Rattle.std.specs.Prelude.{◌≡◌, ◌≢◌, ℕ, ◌+◌, ◌-◌, ◌/◌, ◌%◌, ◌<◌, ◌≤◌, ◌==◌, ◌&&◌, nat_le, not, if◌then◌else◌, List, [], ◌∷◌, length, take, drop, slice_get, slice_index, Option, Some, None}
 use Rattle.std.specs.Int.{w32, to_le_bytes}
 use Rattle.std.specs.List.{flat_map}
 use Rattle.ac_input.specs.declared.primitives.number.TheConstants.{GREATEST}
-use Rattle.ac_input.specs.declared.steps.Steps.{Steps}
 use Rattle.ac_input.specs.Alphabet.{class, alphabet_len}
-use Rattle.ac_input.specs.Dictionary.{Dictionary}
-use Rattle.ac_input.specs.Limits.{IsWithinLimits}
-use Rattle.ac_automaton.specs.Named.{Naming, IsStep, IsLooked, text_len}
 use Rattle.ac_tables.specs.declared.contiguous.table.Table.{Table}
-use Rattle.ac_tables.specs.ContiguousTable.{AreStates}
 use Rattle.ac_tables.specs.Words.{StateParts, next_by, one_pattern, words_of, StandsAt}
 
 -- ---- classes packed in words
@@ -51,6 +46,10 @@ ClassLeadsTo table sid wanted next = (s : StateParts) → IsStateAt table sid s 
 abbrev pub StepsTo : Table → ℕ → ℕ → ℕ → Type 0
 StepsTo table sid byte next = ClassLeadsTo table sid (class table.classes byte) next
 
+-- to which state one fails
+abbrev pub FailsTo : Table → ℕ → ℕ → Type 0
+FailsTo table sid fail = (s : StateParts) → IsStateAt table sid s → fail ≡ s.fail
+
 -- how many words the transitions of a state have, by its kind
 abbrev pub transitions_len : ℕ → ℕ → ℕ
 transitions_len alphabet kind = if kind == 255 then alphabet else if kind == 254 then 1 else kind + (kind + 3) / 4
@@ -63,17 +62,16 @@ list_place table sid = sid + 2 + transitions_len table.alphabet_len (slice_index
 abbrev pub list_from : List ℕ → ℕ → List ℕ
 list_from words at = if nat_le one_pattern (slice_index words at) then (slice_index words at - one_pattern) ∷ [] else take (slice_index words at) (drop (at + 1) words)
 
+-- the patterns of a state that has some
+abbrev pub listed_at : Table → ℕ → List ℕ
+listed_at table sid = list_from table.words.items (list_place table sid)
+
 -- the patterns that match at a state; none at the dead state, and none past the last state that matches
 abbrev pub matches_by : Table → ℕ → List ℕ
-matches_by table sid = if not (sid == 0) && nat_le sid table.max_match then list_from table.words.items (list_place table sid) else []
+matches_by table sid = if not (sid == 0) && nat_le sid table.max_match then listed_at table sid else []
 
--- ---- one look-up
-
--- a search of this anchoring may come to the place
-pub record IsMetBy (table : Table) (anchored : Bool) (sid : ℕ) : Type 0 where
-  pub met : ∥ ((m : Dictionary) × (names : Naming) × (parts : ℕ → StateParts) × AreStates m table names parts × ∥ IsWithinLimits m ∥₁ × IsTrue (names.met anchored sid)) ∥₁
-
--- Whatever the places stand for: the state to which a byte leads in a search, and how many states were looked at to find it, after
--- so many for the same byte.
-abbrev pub LeadsNext : Table → Bool → ℕ → ℕ → ℕ → ℕ → Steps → Steps → Type 0
-LeadsNext table anchored done sid byte next before after = (m : Dictionary) (names : Naming) (parts : ℕ → StateParts) → AreStates m table names parts → IsTrue (names.met anchored sid) → IsStep m names anchored sid byte next × IsLooked done (text_len (names.text sid)) (text_len (names.text next)) before after
+-- The state there has patterns, and these are among the words.
+pub record HasList (table : Table) (sid : ℕ) : Type 0 where
+  pub first : sid < length table.words.items
+  pub list : list_place table sid < length table.words.items
+  pub rest : slice_index table.words.items (list_place table sid) < one_pattern → list_place table sid + 1 + slice_index table.words.items (list_place table sid) ≤ length table.words.items

@@ -1,4 +1,5 @@
 //! The contiguous automaton.
+mod automaton;
 mod layout;
 mod places;
 mod reads;

@@ -1,10 +1,11 @@
 //! Look-ups in the words of a contiguous automaton.
-ghost use Rattle.std.specs.Prelude.{◌≡◌, ◌≤◌, ◌+◌, length, take, drop};
-ghost use Rattle.ac_tables.specs.WordReads.{unpacked, IsFirstPlace, IsPlace, IsSparseAt, ClassLeadsTo, StepsTo};
+ghost use Rattle.std.specs.Prelude.{◌≡◌, ◌<◌, ◌≤◌, ℕ, ◌+◌, length, take, drop, slice_get, Some};
+ghost use Rattle.ac_input.specs.declared.primitives.number.TheConstants.{GREATEST};
+ghost use Rattle.ac_tables.specs.WordReads.{unpacked, IsFirstPlace, IsPlace, IsSparseAt, ClassLeadsTo, StepsTo, HasList, list_place, listed_at, transitions_len};
 
-use crate::contiguous::layout::{DENSE, HEAD, KIND, NOWHERE, ONE};
+use crate::contiguous::layout::{DENSE, HEAD, KIND, NOWHERE, ONE, ONE_PATTERN};
 use crate::contiguous::table::Table;
-use ac_input::primitives::StateID;
+use ac_input::primitives::{PatternID, StateID};
 
 /// So many words, from a place on.
 #[inline]
@@ -84,5 +85,64 @@ impl Table {
         ensures { StepsTo self.now sid byte result }
     {
         StateID::must(self.next_word(sid, byte) as usize)
+    }
+}
+
+impl Table {
+    /// How many words the transitions of a state have, by its kind.
+    #[inline]
+    fn transitions_len(&self, kind: u32) -> usize
+        ensures { result ≡ transitions_len self.now.alphabet_len kind }
+    {
+        if kind == DENSE {
+            return self.alphabet_len;
+        }
+        if kind == ONE {
+            return 1;
+        }
+        let len = kind as usize;
+        len + (len + 3) / 4
+    }
+
+    /// Where the patterns of a state begin that has some.
+    #[inline]
+    fn list_place(&self, sid: StateID) -> usize
+        requires { HasList self.now sid }
+        ensures { result ≡ list_place self.now sid }
+    {
+        let at = sid.as_usize();
+        at + HEAD + self.transitions_len(self.words[at] & KIND)
+    }
+
+    /// How many patterns match at a state at which some do.
+    pub(super) fn match_len(&self, sid: StateID) -> usize
+        requires { HasList self.now sid }
+        ensures { result ≡ length (listed_at self.now sid) }
+    {
+        let word = self.words[self.list_place(sid)];
+        if word >= ONE_PATTERN {
+            return 1;
+        }
+        word as usize
+    }
+
+    /// One of the patterns that match at a state.
+    pub(super) fn match_pattern(&self, sid: StateID, index: usize) -> PatternID
+        requires list { HasList self.now sid }
+        requires within { index < length (listed_at self.now sid) }
+        requires known { (k n : ℕ) → slice_get (listed_at self.now sid) k ≡ Some n → n ≤ GREATEST }
+        ensures { slice_get (listed_at self.now sid) index ≡ Some result }
+    {
+        let at = self.list_place(sid);
+        let word = self.words[at];
+        if word >= ONE_PATTERN {
+            return PatternID::must((word - ONE_PATTERN) as usize);
+        }
+        PatternID::must(self.words[at + 1 + index] as usize)
+    }
+
+    /// How many bytes of memory it takes, beside itself.
+    pub(super) fn memory_usage(&self) -> usize {
+        self.words.len().saturating_mul(4)
     }
 }

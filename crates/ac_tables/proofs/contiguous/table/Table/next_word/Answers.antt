@@ -1,19 +1,9 @@
 -- A byte leads where the words of the state have its class.
-use Rattle.std.proofs.Common.{◌≡◌, ◌≢◌, ◌≤◌, ◌<◌, ℕ, ◌+◌, ◌/◌, ◌%◌, List, length, get_or, ap, sym, refl, subst, ◌∙◌, arith}
-use Rattle.std.specs.Prelude.{bit_and, slice_index}
+use Rattle.std.proofs.Common.{ℕ, ◌+◌, ◌/◌, get_or, ap, sym, ◌∙◌, arith}
 use Rattle.std.proofs.lemmas.List.{get_or_read}
-use Rattle.std.proofs.lemmas.Nat.{and_mask}
 use Rattle.ac_tables.specs.Words.{next_by}
-use Rattle.ac_tables.proofs.StateLemmas.{place-within, place-alphabet, dense-place, one-place, dense-at, one-at}
+use Rattle.ac_tables.proofs.StateLemmas.{first-of, kind-of, place-within, place-alphabet, dense-place, one-place, dense-at, one-at}
 use Rattle.ac_tables.proofs.contiguous.table.Table.next_word.Goals as goal
-
--- what was read at the state's place is its first word
-first-of : (words : List ℕ) (sid at word : ℕ) → sid < length words → at ≡ sid → word ≡ get_or words at word → get_or words sid 0 ≡ word
-first-of words sid at word within is read = sym (get_or_read words at word (omega (arith, within, is)) read 0 ∙ ap (λ (n : ℕ). get_or words n 0) is)
-
--- so its low bits are the kind
-kind-of : (words : List ℕ) (sid at word : ℕ) → sid < length words → at ≡ sid → word ≡ get_or words at word → get_or words sid 0 % 256 ≡ bit_and word 255
-kind-of words sid at word within is read = ap (λ (n : ℕ). n % 256) (first-of words sid at word within is read) ∙ sym (and_mask word 8)
 
 pub index-word-requires : goal.index-word-requires
 index-word-requires c = let within = place-within c.args.self.now c.args.sid c.requires in omega (arith, within, c.as_usize-at.ensures.value)

@@ -1,0 +1,95 @@
+-- What the words say where the states have names: edges, failures, and where a search may come.
+use Rattle.std.proofs.Common.{◌≡◌, ◌≢◌, ℕ, ◌<◌, ◌≤◌, Bool, true, false, IsTrue, List, [], ◌∷◌, ◌++◌, Some, None, sym, subst, ⊎_elim, arith}
+use Rattle.std.specs.Coded.{le_prop}
+use Rattle.std.proofs.Math.Logic.{∥∥₁_elim, ∥∥₁_map}
+use Rattle.std.proofs.lemmas.Bool.{cases_eq}
+use Rattle.ac_input.specs.declared.primitives.number.TheConstants.{GREATEST}
+use Rattle.ac_input.specs.declared.steps.Steps.{Steps}
+use Rattle.ac_input.specs.Alphabet.{class}
+use Rattle.ac_input.specs.Dictionary.{Dictionary, BeginsEntered}
+use Rattle.ac_input.specs.Steps.{Done}
+use Rattle.ac_automaton.specs.Named.{Naming, OfNames, IsEdgeBy, IsFailureBy, AreNumbers}
+use Rattle.ac_automaton.proofs.LinkedLemmas.{paid-straight, paid-dead, paid-followed}
+use Rattle.ac_automaton.proofs.NamedLemmas.{stands-for, begins-or-not}
+use Rattle.ac_tables.specs.declared.contiguous.NFA.{NFA}
+use Rattle.ac_tables.specs.declared.contiguous.table.Table.{Table}
+use Rattle.ac_tables.specs.ContiguousTable.{AreStates}
+use Rattle.ac_tables.specs.ContiguousReads.{dictionary, IsLaidOut, IsMet, LeadsNext}
+use Rattle.ac_tables.specs.WordReads.{IsStateAt, IsPlace, StepsTo, FailsTo}
+use Rattle.ac_tables.specs.Words.{StateParts, next_by}
+
+-- ---- a state that is met
+
+-- each byte leads to a number that fits
+edge-small : (m : Dictionary) (names : Naming) (start sid byte next : ℕ) → ((anchored : Bool) (i : ℕ) → IsTrue (names.met anchored i) → i ≤ GREATEST) → AreNumbers m names start → IsEdgeBy m names start sid byte next → next ≤ GREATEST
+edge-small m names start sid byte next small numbers edge =
+    ⊎_elim
+    (λ (none : names.text sid ≡ None). small true next (edge.dead none).0)
+    (λ (is : (text : List ℕ) × (names.text sid ≡ Some text)).
+    ⊎_elim
+    (λ (begins : BeginsEntered m (is.0 ++ byte ∷ [])). small true next (edge.child is.0 is.1 begins).0)
+    (λ (none : ¬ BeginsEntered m (is.0 ++ byte ∷ [])).
+    ⊎_elim
+    (λ (at : sid ≡ start). small false next (edge.back is.0 is.1 at none).0)
+    (λ (apart : sid ≢ start). let e = edge.none is.0 is.1 apart none in omega (arith, e))
+    (cases_eq sid start))
+    (begins-or-not m (is.0 ++ byte ∷ []) numbers.inverse))
+    (stands-for names sid)
+
+-- its words stand at its place
+pub met-state : (m : Dictionary) (table : Table) (names : Naming) (parts : ℕ → StateParts) (anchored : Bool) (sid : ℕ) → AreStates m table names parts → IsTrue (names.met anchored sid) → IsStateAt table sid (parts sid)
+met-state m table names parts anchored sid a met = record {
+  stands = a.stand anchored sid met;
+  alphabet = a.alphabet;
+  few_classes = a.few_classes;
+  fits = λ k edge is. a.fits anchored sid k edge met is;
+  nexts = λ byte small. edge-small m names table.start sid byte (next_by (parts sid).edges (class table.classes byte)) a.small a.linked.numbers (a.linked.edges anchored sid byte met small);
+}
+
+pub met-place : (nfa : NFA) (anchored : Bool) (sid : ℕ) → IsMet nfa anchored sid → IsPlace nfa.table sid
+met-place nfa anchored sid h = ∥∥₁_map h (λ w. (w.1.0 sid, met-state (dictionary nfa) nfa.table w.0 w.1.0 anchored sid w.1.1 w.2))
+
+-- ---- what look-ups say of names
+
+pub laid-numbers : (nfa : NFA) (names : Naming) → IsLaidOut nfa names → AreNumbers (dictionary nfa) names nfa.table.start
+laid-numbers nfa names fits = fits.1.linked.numbers
+
+-- a step of the words is an edge of the names,
+pub laid-edge : (nfa : NFA) (anchored : Bool) (sid byte next : ℕ) → byte < 256 → StepsTo nfa.table sid byte next → OfNames (IsLaidOut nfa) anchored sid (λ names. IsEdgeBy (dictionary nfa) names nfa.table.start sid byte next)
+laid-edge nfa anchored sid byte next small steps names fits met =
+    let s = met-state (dictionary nfa) nfa.table names fits.0 anchored sid fits.1 met in
+    subst (IsEdgeBy (dictionary nfa) names nfa.table.start sid byte) (sym (steps (fits.0 sid) s)) (fits.1.linked.edges anchored sid byte met small)
+
+-- and a failure is one of them
+pub laid-failure : (nfa : NFA) (sid fail : ℕ) → FailsTo nfa.table sid fail → OfNames (IsLaidOut nfa) false sid (λ names. IsFailureBy (dictionary nfa) names sid fail)
+laid-failure nfa sid fail fails names fits met =
+    let s = met-state (dictionary nfa) nfa.table names fits.0 false sid fits.1 met in
+    subst (IsFailureBy (dictionary nfa) names sid) (sym (fails (fits.0 sid) s)) (fits.1.linked.failures sid met)
+
+-- unanchored searches may come to the failure of a state
+pub met-fail : (nfa : NFA) (sid fail : ℕ) → IsMet nfa false sid → FailsTo nfa.table sid fail → IsMet nfa false fail
+met-fail nfa sid fail h fails = ∥∥₁_map h (λ w. (w.0, w.1, (laid-failure nfa sid fail fails w.0 w.1 w.2).met))
+
+-- and its number fits
+pub fail-small : (nfa : NFA) (sid fail : ℕ) → IsMet nfa false sid → FailsTo nfa.table sid fail → fail ≤ GREATEST
+fail-small nfa sid fail h fails = ∥∥₁_elim h le_prop (λ w. w.1.1.small false fail (laid-failure nfa sid fail fails w.0 w.1 w.2).met)
+
+-- ---- one look-up
+
+-- straight on
+pub leads-straight : (nfa : NFA) (anchored : Bool) (sid byte next : ℕ) (before after : Steps) → byte < 256 → StepsTo nfa.table sid byte next → next ≢ 1 → Done 1 0 0 before after → LeadsNext nfa anchored 0 sid byte next before after
+leads-straight nfa anchored sid byte next before after small steps some one names fits met =
+    paid-straight (dictionary nfa) names nfa.table.start anchored sid byte next before after (laid-numbers nfa names fits) (laid-edge nfa anchored sid byte next small steps names fits met) met some one
+
+-- to the dead state, in an anchored search
+pub leads-to_dead : (nfa : NFA) (anchored : Bool) (sid byte next dead : ℕ) (before after : Steps) → anchored ≡ true → byte < 256 → StepsTo nfa.table sid byte next → next ≡ 1 → dead ≡ 0 → Done 1 0 0 before after → LeadsNext nfa anchored 0 sid byte dead before after
+leads-to_dead nfa false sid byte next dead before after free small steps nothing zero_is one = absurd (cc)
+leads-to_dead nfa true sid byte next dead before after free small steps nothing zero_is one = λ names fits met.
+    let met_zero : IsTrue (names.met true dead) = subst (λ (n : ℕ). IsTrue (names.met true n)) (sym zero_is) fits.1.dead_met in
+    paid-dead (dictionary nfa) names nfa.table.start sid byte next dead before after (laid-edge nfa true sid byte next small steps names fits met) nothing
+    met_zero ((fits.1.dead true dead met_zero).1 zero_is) one
+
+-- over the states to which it fails
+pub leads-followed : (nfa : NFA) (anchored : Bool) (sid byte next : ℕ) (before between after : Steps) → anchored ≡ false → Done 1 0 0 before between → LeadsNext nfa false 1 sid byte next between after → LeadsNext nfa anchored 0 sid byte next before after
+leads-followed nfa true sid byte next before between after free one h = absurd (cc)
+leads-followed nfa false sid byte next before between after free one h = λ names fits met. paid-followed (dictionary nfa) names sid byte next before between after one (h names fits met)

@@ -1,0 +1,25 @@
+-- The test is that of the two starts, so it tells what they do.
+use Rattle.std.proofs.Common.{◌≡◌, Bool, inl, ap, ap₂, sym, subst, ◌∙◌, ℕ}
+use Rattle.std.specs.Prelude.{◌==◌, ◌||◌}
+use Rattle.std.proofs.lemmas.Bool.{eq-eqb, ne_eqb}
+use Rattle.ac_automaton.specs.Automaton.{TellsStart}
+use Rattle.ac_automaton.proofs.NamedLemmas.{read-starts}
+use Rattle.ac_tables.specs.ContiguousReads.{built_as, matches_at, is_start_at, is_special_at, IsLaidOut, IsRead}
+use Rattle.ac_tables.proofs.NameLemmas.{names-are}
+use Rattle.ac_tables.proofs.TestLemmas.{start-has}
+use Rattle.ac_tables.proofs.contiguous.automaton.NFAAutomaton.is_start.Goals as goal
+
+pub returns-then-at-as_u32-clause-tells : goal.returns-then-at-as_u32-clause-tells
+returns-then-at-as_u32-clause-tells c =
+    let a = c.args.self.now in
+    let is = start-has c.args.sid a.table.start a.table.start_anchored (inl (sym c.as_u32-at.ensures.value ∙ (c.if-at-as_u32.true ∙ c.as_u32.ensures.value))) in
+    subst (TellsStart (built_as a) (IsRead a) (matches_at a) c.args.sid) (is ∙ sym (eq-eqb c.as_u32-at.result c.as_u32.result c.if-at-as_u32.true))
+    (read-starts (built_as a) (IsLaidOut a) (matches_at a) (is_start_at a) (is_special_at a) c.args.sid (names-are a))
+
+pub returns-else-at-as_u32-clause-tells : goal.returns-else-at-as_u32-clause-tells
+returns-else-at-as_u32-clause-tells c =
+    let a = c.args.self.now in
+    let other = ne_eqb c.args.sid a.table.start (λ e. c.if-at-as_u32.false (c.as_u32-at.ensures.value ∙ (e ∙ sym c.as_u32.ensures.value))) in
+    let same : (c.args.sid == a.table.start_anchored) ≡ (c.as_u32-at.result == c.as_u32-else-at-as_u32.result) = ap₂ (λ (x y : ℕ). x == y) (sym c.as_u32-at.ensures.value) (sym c.as_u32-else-at-as_u32.ensures.value) in
+    subst (TellsStart (built_as a) (IsRead a) (matches_at a) c.args.sid) (ap (λ (b : Bool). b || (c.args.sid == a.table.start_anchored)) other ∙ same)
+    (read-starts (built_as a) (IsLaidOut a) (matches_at a) (is_start_at a) (is_special_at a) c.args.sid (names-are a))

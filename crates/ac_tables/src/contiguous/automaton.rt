@@ -1,0 +1,215 @@
+//! Searching with the automaton.
+ghost use Rattle.std.specs.Prelude.{false};
+ghost use Rattle.ac_input.specs.Input.{is_anchored};
+ghost use Rattle.ac_tables.specs.ContiguousReads.{IsMet, LeadsNext};
+ghost use Rattle.ac_tables.specs.WordReads.{StepsTo, FailsTo};
+
+use crate::contiguous::NFA;
+use crate::contiguous::layout::NOWHERE;
+use ac_automaton::automaton::{Advance, Automaton};
+use ac_automaton::error::MatchError;
+use ac_input::primitives::{PatternID, StateID};
+use ac_input::search::{Anchored, MatchKind};
+use ac_input::steps::Steps;
+use ac_literal::prefilter::Prefilter;
+
+impl NFA {
+    /// The state that is asked where no transition has the byte.
+    #[inline]
+    fn fail(&self, sid: StateID) -> StateID
+        requires { IsMet self.now false sid }
+        ensures { FailsTo self.now.table sid result }
+    {
+        StateID::must(self.table.words[sid.as_usize() + 1] as usize)
+    }
+
+    /// Where the byte leads from the states to which a state fails, one after another, where it leads to none from the state itself.
+    ///
+    /// Few bytes of most texts need it, so it stays out of the loops that call it.
+    #[inline(never)]
+    fn follow(&self, sid: StateID, byte: u8, steps: &mut Steps) -> StateID
+        requires met { IsMet self.now false sid }
+        requires stuck { StepsTo self.now.table sid byte 1 }
+        ensures { LeadsNext self.now false 1 sid byte result steps.old steps.new }
+    {
+        let mut from = sid;
+        loop {
+            from = self.fail(from);
+            steps.look();
+            let next = self.table.step(from, byte);
+            if next.as_u32() != NOWHERE {
+                return next;
+            }
+        }
+    }
+
+    /// The state after one more byte, where the search began with this anchoring; and counts the states that it looks at.
+    #[inline]
+    fn next(&self, anchored: Anchored, sid: StateID, byte: u8, steps: &mut Steps) -> StateID
+        requires { IsMet self.now (is_anchored anchored) sid }
+        ensures { LeadsNext self.now (is_anchored anchored) 0 sid byte result steps.old steps.new }
+    {
+        steps.look();
+        let next = self.table.step(sid, byte);
+        if next.as_u32() != NOWHERE {
+            return next;
+        }
+        match anchored {
+            Anchored::No => self.follow(sid, byte, steps),
+            Anchored::Yes => StateID::ZERO,
+        }
+    }
+}
+
+impl Automaton for NFA {
+    ghost use Rattle.ac_tables.specs.ContiguousReads.{built_as, IsRead, matches_at, is_start_at, is_special_at};
+
+    ghost built = { built_as };
+
+    ghost supports = { λ nfa anchored. Unit {0} };
+
+    ghost Reaches = { IsRead };
+
+    ghost matches = { matches_at };
+
+    ghost starts = { is_start_at };
+
+    ghost special = { is_special_at };
+
+    ghost tells = { λ nfa anchored text sid reads. reads.tells };
+
+    ghost lives = { λ nfa anchored text sid reads. reads.lives };
+
+    ghost pairs = { λ nfa anchored text sid reads. reads.inverse };
+
+    ghost stops = { λ nfa anchored text sid reads. reads.stops };
+
+    fn start_state(&self, anchored: Anchored) -> Result<StateID, MatchError> {
+        Ok(match anchored {
+            Anchored::No => self.table.start,
+            Anchored::Yes => self.table.start_anchored,
+        })
+    }
+
+    #[inline]
+    fn next_state_counted(
+        &self,
+        anchored: Anchored,
+        sid: StateID,
+        byte: u8,
+        steps: &mut Steps,
+    ) -> StateID {
+        self.next(anchored, sid, byte, steps)
+    }
+
+    fn advance(
+        &self,
+        anchored: Anchored,
+        sid: StateID,
+        bytes: &[u8],
+        steps: &mut Steps,
+    ) -> Advance {
+        let last_special = self.max_special.as_u32();
+        let mut current = sid;
+        for (read, byte) in bytes.iter().enumerate() {
+            current = self.next_state_counted(anchored, current, *byte, steps);
+            if current.as_u32() <= last_special {
+                return Advance {
+                    sid: current,
+                    taken: read + 1,
+                };
+            }
+        }
+        Advance {
+            sid: current,
+            taken: bytes.len(),
+        }
+    }
+
+    fn advance_to_match(
+        &self,
+        anchored: Anchored,
+        sid: StateID,
+        bytes: &[u8],
+        steps: &mut Steps,
+    ) -> Advance {
+        let last_match = self.table.max_match.as_u32();
+        let mut current = sid;
+        for (read, byte) in bytes.iter().enumerate() {
+            current = self.next_state_counted(anchored, current, *byte, steps);
+            if current.as_u32() <= last_match && self.is_match(current) {
+                return Advance {
+                    sid: current,
+                    taken: read + 1,
+                };
+            }
+        }
+        Advance {
+            sid: current,
+            taken: bytes.len(),
+        }
+    }
+
+    #[inline]
+    fn is_special(&self, sid: StateID) -> bool {
+        sid.as_u32() <= self.max_special.as_u32()
+    }
+
+    #[inline]
+    fn is_dead(&self, sid: StateID) -> bool {
+        sid.as_u32() == 0
+    }
+
+    #[inline]
+    fn is_match(&self, sid: StateID) -> bool {
+        NOWHERE < sid.as_u32() && sid.as_u32() <= self.table.max_match.as_u32()
+    }
+
+    #[inline]
+    fn is_start(&self, sid: StateID) -> bool {
+        let at = sid.as_u32();
+        at == self.table.start.as_u32() || at == self.table.start_anchored.as_u32()
+    }
+
+    fn match_kind(&self) -> MatchKind {
+        self.kind
+    }
+
+    fn match_len(&self, sid: StateID) -> usize {
+        self.table.match_len(sid)
+    }
+
+    fn match_pattern(&self, sid: StateID, index: usize) -> PatternID {
+        self.table.match_pattern(sid, index)
+    }
+
+    fn patterns_len(&self) -> usize {
+        self.lens.len()
+    }
+
+    fn pattern_len(&self, pattern: PatternID) -> usize {
+        self.lens.pattern_len(pattern)
+    }
+
+    fn min_pattern_len(&self) -> usize {
+        self.lens.shortest()
+    }
+
+    fn max_pattern_len(&self) -> usize {
+        self.lens.longest()
+    }
+
+    fn memory_usage(&self) -> usize {
+        self.table
+            .memory_usage()
+            .saturating_add(self.lens.memory_usage())
+            .saturating_add(match &self.prefilter {
+                Some(prefilter) => prefilter.memory_usage(),
+                None => 0,
+            })
+    }
+
+    fn prefilter(&self) -> Option<&Prefilter> {
+        self.prefilter.as_ref()
+    }
+}

@@ -21,7 +21,7 @@ use Rattle.ac_noncontiguous.specs.Nfa.{state_of, AreTexts}
 use Rattle.ac_noncontiguous.specs.Reads.{dictionary}
 use Rattle.ac_noncontiguous.specs.ReadCalls.{state_len, fail_in, edges_in, special_in, StandFor, IsFull, IsEdgeIn, MayBeMet, LeadsIn, FailsIn}
 use Rattle.ac_noncontiguous.proofs.NextLemmas.{state-some, state-none, straight, stuck, stuck-dead}
-use Rattle.ac_noncontiguous.proofs.ReadCallLemmas.{edges-lead, fails-in, alike-in}
+use Rattle.ac_noncontiguous.proofs.ReadCallLemmas.{edges-lead, fails-in, alike-in, special-in}
 use Rattle.ac_tables.specs.DfaTable.{row_of, number_of, IsCell}
 use Rattle.ac_tables.specs.Filling.{Plan, number_in, cell_in, IsFit, IsRowRight, IsBlank, entry_in, HasClass, IsEntry, Written, Kept}
 use Rattle.ac_tables.proofs.RowLemmas.{row-first}
@@ -42,6 +42,29 @@ inverse-of nfa = own_inverse-pairing nfa.pairing nfa.paired
 -- where the starts stand
 pub starts-of : (nfa : NFA) → (1 < (special_in nfa).start_unanchored_id) × ((special_in nfa).start_unanchored_id + 1 < state_len nfa)
 starts-of nfa = (∥∥₁_elim nfa.stands le_prop (λ w. (texts-of nfa w.0 w.1).starts.0), ∥∥₁_elim nfa.stands le_prop (λ w. (texts-of nfa w.0 w.1).starts.1))
+
+-- where the last state that matches stands
+pub last-match : (nfa : NFA) → ((special_in nfa).max_match_id + 1 ≤ (special_in nfa).start_unanchored_id) ⊎ ((special_in nfa).start_unanchored_id + 1 ≤ (special_in nfa).max_match_id)
+last-match nfa =
+    ⊎_elim
+    (λ (low : (special_in nfa).max_match_id < (special_in nfa).start_unanchored_id). inl (omega (arith, low)))
+    (λ (high : (special_in nfa).start_unanchored_id ≤ (special_in nfa).max_match_id).
+    inr (∥∥₁_elim nfa.stands le_prop (λ w. ⊎_elim (λ (a : (special_in nfa).max_match_id + 1 ≡ (special_in nfa).start_unanchored_id). absurd (omega (arith, a, high))) (λ (b : (special_in nfa).max_match_id ≡ (special_in nfa).start_unanchored_id + 1). omega (arith, b)) (special-in nfa w.0 w.1).last_match)))
+    (cases_lt (special_in nfa).max_match_id (special_in nfa).start_unanchored_id)
+
+-- it is the one before the starts, or the anchored one
+pub last-match_is : (nfa : NFA) → ((special_in nfa).max_match_id + 1 ≡ (special_in nfa).start_unanchored_id) ⊎ ((special_in nfa).max_match_id ≡ (special_in nfa).start_unanchored_id + 1)
+last-match_is nfa =
+    let low : (special_in nfa).start_unanchored_id ≤ (special_in nfa).max_match_id + 1 = ∥∥₁_elim nfa.stands le_prop (λ w. ⊎_elim (λ (a : (special_in nfa).max_match_id + 1 ≡ (special_in nfa).start_unanchored_id). omega (arith, a)) (λ (b : (special_in nfa).max_match_id ≡ (special_in nfa).start_unanchored_id + 1). omega (arith, b)) (special-in nfa w.0 w.1).last_match) in
+    let high : (special_in nfa).max_match_id ≤ (special_in nfa).start_unanchored_id + 1 = ∥∥₁_elim nfa.stands le_prop (λ w. ⊎_elim (λ (a : (special_in nfa).max_match_id + 1 ≡ (special_in nfa).start_unanchored_id). omega (arith, a)) (λ (b : (special_in nfa).max_match_id ≡ (special_in nfa).start_unanchored_id + 1). omega (arith, b)) (special-in nfa w.0 w.1).last_match) in
+    ⊎_elim
+    (λ (a : (special_in nfa).max_match_id + 1 ≤ (special_in nfa).start_unanchored_id). inl (omega (arith, a, low)))
+    (λ (b : (special_in nfa).start_unanchored_id + 1 ≤ (special_in nfa).max_match_id). inr (omega (arith, b, high)))
+    (last-match nfa)
+
+-- so it is not the dead one
+pub last-match_past : (nfa : NFA) → 1 ≤ (special_in nfa).max_match_id
+last-match_past nfa = let s = starts-of nfa in ⊎_elim (λ (a : (special_in nfa).max_match_id + 1 ≡ (special_in nfa).start_unanchored_id). omega (arith, a, s.0)) (λ (b : (special_in nfa).max_match_id ≡ (special_in nfa).start_unanchored_id + 1). omega (arith, b)) (last-match_is nfa)
 
 -- a search of either anchoring may come to the dead state
 pub met-dead : (nfa : NFA) (anchored : Anchored) → MayBeMet nfa anchored 0

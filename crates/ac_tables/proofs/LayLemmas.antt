@@ -10,7 +10,7 @@ use Rattle.ac_input.specs.Dictionary.{BeginsEntered}
 use Rattle.ac_input.specs.Failure.{IsList}
 use Rattle.ac_input.specs.LiveLaws.{IsOwnInverse, canonical}
 use Rattle.ac_input.specs.States.{FailsTo, LeadsTo}
-use Rattle.ac_automaton.specs.Named.{Naming, nowhere, text_len, IsEdgeBy, IsFailureBy, IsFirst, AreLinked}
+use Rattle.ac_automaton.specs.Named.{Naming, nowhere, text_len, IsEdgeBy, IsFailureBy, AreNumbers, AreLinked}
 use Rattle.ac_noncontiguous.specs.declared.nfa.NFA.{NFA}
 use Rattle.ac_noncontiguous.specs.Nfa.{state_of}
 use Rattle.ac_noncontiguous.specs.Reads.{dictionary, matches_at}
@@ -189,14 +189,13 @@ failure-named nfa dense_depth classes text i fail h i_in i_met is =
 
 -- ---- the whole
 
--- edges and failures are right
-pub linked : (nfa : NFA) (dense_depth : ℕ) (classes : List ℕ) (text : ℕ → List ℕ) → Laid nfa text dense_depth classes → AreLinked (dictionary nfa) (names_in nfa dense_depth classes text) (place_in nfa dense_depth classes (start_in nfa)) (λ sid byte. next_by (parts_in nfa dense_depth classes sid).edges (class classes byte)) (λ sid. (parts_in nfa dense_depth classes sid).fail)
-linked nfa dense_depth classes text h =
+-- the numbers stand for texts
+numbers : (nfa : NFA) (dense_depth : ℕ) (classes : List ℕ) (text : ℕ → List ℕ) → Laid nfa text dense_depth classes → AreNumbers (dictionary nfa) (names_in nfa dense_depth classes text) (place_in nfa dense_depth classes (start_in nfa))
+numbers nfa dense_depth classes text h =
     let place = place_in nfa dense_depth classes in
     let names = names_in nfa dense_depth classes text in
     let start = start_in nfa in
     let bounds : AreBounds nfa text (special_in nfa) = h.bounds text h.stand in
-    let start_in_len : start < state_len nfa = let w = bounds.within in omega (arith, w) in
     record {
       inverse = h.inverse;
       apart = λ anchored. at-met nfa dense_depth classes text anchored (λ sid. sid ≢ nowhere) (λ i i_in i_met e. met-stands start anchored i i_met (place-one nfa dense_depth classes i 1 e));
@@ -213,9 +212,24 @@ linked nfa dense_depth classes text h =
           (λ (s : i ≡ start). ap place s)
           (λ (n : i ≡ start + 1). absurd (met-unanchored start i i_met n))
           ((bounds.empty i p.0 i_in).0 p.1));
-      canonical = λ anchored sid t met. at-met nfa dense_depth classes text anchored (λ n. names.text n ≡ Some t → BeginsEntered (dictionary nfa) t) (λ i i_in i_met e.
+      begin = λ anchored sid t met. at-met nfa dense_depth classes text anchored (λ n. names.text n ≡ Some t → BeginsEntered (dictionary nfa) t × (map (canonical (dictionary nfa).pairing) t ≡ t)) (λ i i_in i_met e.
           let p = text-some text i t (sym (text-at nfa dense_depth classes text anchored i i_in i_met) ∙ e) in
-          subst (BeginsEntered (dictionary nfa)) p.1 (h.begin text h.stand i p.0 i_in).0) sid met;
+          let own = h.begin text h.stand i p.0 i_in in (
+            subst (BeginsEntered (dictionary nfa)) p.1 own.0,
+            subst (λ (v : List ℕ). map (canonical (dictionary nfa).pairing) v ≡ v) p.1 own.1,
+          )) sid met;
+    }
+
+-- edges and failures are right
+pub linked : (nfa : NFA) (dense_depth : ℕ) (classes : List ℕ) (text : ℕ → List ℕ) → Laid nfa text dense_depth classes → AreLinked (dictionary nfa) (names_in nfa dense_depth classes text) (place_in nfa dense_depth classes (start_in nfa)) (λ sid byte. next_by (parts_in nfa dense_depth classes sid).edges (class classes byte)) (λ sid. (parts_in nfa dense_depth classes sid).fail)
+linked nfa dense_depth classes text h =
+    let place = place_in nfa dense_depth classes in
+    let names = names_in nfa dense_depth classes text in
+    let start = start_in nfa in
+    let bounds : AreBounds nfa text (special_in nfa) = h.bounds text h.stand in
+    let start_in_len : start < state_len nfa = let w = bounds.within in omega (arith, w) in
+    record {
+      numbers = numbers nfa dense_depth classes text h;
       edges = λ anchored sid byte met small. at-met nfa dense_depth classes text anchored (λ n. IsEdgeBy (dictionary nfa) names (place start) n byte (next_by (parts_in nfa dense_depth classes n).edges (class classes byte))) (λ i i_in i_met.
           let known = h.known i i_in (met-stands start anchored i i_met) in
           let long : 1 < state_len nfa = let p = bounds.past in omega (arith, p, start_in_len) in

@@ -19,3 +19,6 @@ pub mod RowLemmas
 pub mod CellLemmas
 pub mod WriteLemmas
 pub mod FilledLemmas
+pub mod BuildLemmas
+pub mod DfaListLemmas
+pub mod TableLemmas

@@ -1,9 +1,9 @@
 -- The rows of the states, and their numbers.
 use Rattle.std.proofs.Common.{◌≡◌, ◌≢◌, ◌⊎◌, ℕ, ◌+◌, ◌-◌, ◌*◌, ◌<◌, ◌≤◌, Bool, true, false, inl, inr, ⊎_elim, refl, sym, ap, subst, ◌∙◌, arith, rules}
-use Rattle.std.specs.Prelude.{nat_le, if◌then◌else◌}
+use Rattle.std.specs.Prelude.{nat_le, if◌then◌else◌, ◌/◌, ◌↔◌}
 use Rattle.std.proofs.lemmas.Bool.{cases_lt, cases_eq, cond-true, cond-false}
 use Rattle.std.proofs.lemmas.Bool.Decides.{nat_tests}
-use Rattle.std.proofs.lemmas.Nat.{mul-add-lt, mul-le}
+use Rattle.std.proofs.lemmas.Nat.{mul-add-lt, mul-le, div-mul-add}
 use Rattle.ac_input.specs.declared.search.Anchored.{Anchored}
 use Rattle.ac_input.specs.declared.search.Anchored.TheVariants.{No, Yes}
 use Rattle.ac_input.specs.declared.search.StartKind.{StartKind}
@@ -11,7 +11,7 @@ use Rattle.ac_input.specs.declared.search.StartKind.TheVariants as starts
 use Rattle.ac_input.specs.Dfa.{Serves, dfa_states}
 use Rattle.ac_input.specs.Input.{is_anchored}
 use Rattle.ac_noncontiguous.specs.Lookups.{other_start}
-use Rattle.ac_tables.specs.DfaTable.{row_of, number_of}
+use Rattle.ac_tables.specs.DfaTable.{row_of, number_of, list_index}
 
 -- ---- the row of a state
 
@@ -149,3 +149,113 @@ row-apart starts.Both start No No i j sa sb past more not_i not_j ne same = ne r
 row-apart starts.Both start Yes Yes i j sa sb past more not_i not_j ne same = ne refl (row-one starts.Both start true true i j past not_i not_j same).0
 row-apart starts.Both start No Yes i j sa sb past more not_i not_j ne same = let e : false ≡ true = (row-one starts.Both start false true i j past not_i not_j same).1 refl more in cc
 row-apart starts.Both start Yes No i j sa sb past more not_i not_j ne same = let e : true ≡ false = (row-one starts.Both start true false i j past not_i not_j same).1 refl more in cc
+
+-- ---- numbers
+
+-- two places of rows are one only where the rows are,
+pub scale-one : (a b s : ℕ) → 0 < s → a * s ≡ b * s → a ≡ b
+scale-one a b s some same =
+    ⊎_elim
+    (λ (e : a ≡ b). e)
+    (λ (ne : a ≢ b). absurd (rows-apart a b s 0 0 ne some some (omega (arith, same))))
+    (cases_eq a b)
+
+-- and go up with them
+pub scale-le : (a b s : ℕ) → 0 < s → (a * s ≤ b * s) ↔ (a ≤ b)
+scale-le a b s some = (
+  λ le.
+      ⊎_elim
+      (λ (less : b < a).
+      let h : (b + 1) * s ≤ a * s = mul-le (b + 1) s a s (omega (arith, less)) (omega arith) in
+      let e : (b + 1) * s ≡ b * s + s = omega arith in
+      absurd (omega (arith, h, e, le, some)))
+      (λ (up : a ≤ b). up)
+      (cases_lt b a),
+  λ le. mul-le a s b s le (omega arith),
+)
+
+-- the row of a number
+pub number-row : (row s : ℕ) → 0 < s → row * s / s ≡ row
+number-row row s some = let e : row * s + 0 ≡ row * s = omega arith in ap (λ (n : ℕ). n / s) (sym e) ∙ div-mul-add row s 0 some
+
+-- ---- the states that match
+
+-- the row of the last one, right before that of the unanchored start, or that of the anchored start
+row-last : (start last : ℕ) → 1 < start → (last + 1 ≡ start → row_of starts.Both start true last + 3 ≡ 2 * start) × (last ≡ start + 1 → row_of starts.Both start true last + 1 ≡ 2 * start)
+row-last start last past = (
+  λ is. rows-anchored start last (λ low e. omega (arith, is, low, e, past)) (λ more up e. omega (arith, is, e)) (λ more up e. omega (arith, is, up)),
+  λ is. rows-anchored start last (λ low e. omega (arith, is, low, past)) (λ more up e. omega (arith, is, up)) (λ more up e. omega (arith, is, e)),
+)
+
+-- a row is at most that of the last state that matches exactly where the state is at most that
+pub row-le : (kind : StartKind) (start last : ℕ) (a : Bool) (i : ℕ) → 1 < start → (last + 1 ≡ start) ⊎ (last ≡ start + 1) → i ≢ 1 → i ≢ other_start start a → (row_of kind start a i ≤ row_of kind start true last) ↔ (i ≤ last)
+row-le starts.Unanchored start last a i past is stands own = (λ h. h, λ h. h)
+row-le starts.Anchored start last a i past is stands own = (λ h. h, λ h. h)
+row-le starts.Both start last false i past is stands own =
+    let r = row-last start last past in
+    ⊎_elim
+    (λ (before : last + 1 ≡ start).
+    let at = r.0 before in
+    rows-plain start i (λ low e. (λ h. omega (arith, low, before, past), λ h. omega (arith, e, low, at, past, stands))) (λ more up e. (λ h. omega (arith, e, at, h, before), λ h. omega (arith, e, at, h, before))) (λ more up e. (λ h. absurd (omega (arith, e, at, h, up)), λ h. absurd (omega (arith, h, up, before)))) (omega (arith, past)))
+    (λ (own_start : last ≡ start + 1).
+    let at = r.1 own_start in
+    rows-plain start i (λ low e. (λ h. omega (arith, low, own_start), λ h. omega (arith, e, low, at, past))) (λ more up e. (λ h. omega (arith, up, own_start), λ h. omega (arith, e, at, up))) (λ more up e. (λ h. absurd (omega (arith, e, at, h, up, own)), λ h. absurd (omega (arith, h, up, own, own_start)))) (omega (arith, past)))
+    is
+row-le starts.Both start last true i past is stands own =
+    let r = row-last start last past in
+    ⊎_elim
+    (λ (before : last + 1 ≡ start).
+    let at = r.0 before in
+    rows-anchored start i (λ low e. (λ h. omega (arith, low, before, past), λ h. omega (arith, e, low, at, past, stands))) (λ more up e. (λ h. omega (arith, up, before), λ h. omega (arith, e, at, up))) (λ more up e. (λ h. absurd (omega (arith, e, at, h, up, own)), λ h. absurd (omega (arith, h, up, before)))))
+    (λ (own_start : last ≡ start + 1).
+    let at = r.1 own_start in
+    rows-anchored start i (λ low e. (λ h. omega (arith, low, own_start), λ h. omega (arith, e, low, at, past))) (λ more up e. (λ h. omega (arith, up, own_start), λ h. omega (arith, e, at, up))) (λ more up e. (λ h. omega (arith, e, at, h, own_start), λ h. omega (arith, e, at, h, own_start))))
+    is
+
+-- half of an even number, and of the odd one after it
+half : (n r : ℕ) → r < 2 → (n * 2 + r) / 2 ≡ n
+half n r lt = div-mul-add n 2 r lt
+
+-- The list of a state up to the starts is the one that is as far from the first; with both start kinds the two starts share one.
+pub index-is : (kind : StartKind) (start : ℕ) (a : Bool) (i : ℕ) → 1 < start → 1 < i → i ≤ start + 1 → i ≢ other_start start a → (list_index kind (row_of kind start a i) + 2 ≡ i) ⊎ ((list_index kind (row_of kind start a i) + 2 ≡ start) × (i ≡ start + 1))
+index-is starts.Unanchored start a i past more up own = inl (omega (arith, more))
+index-is starts.Anchored start a i past more up own = inl (omega (arith, more))
+index-is starts.Both start false i past more up own =
+    rows-plain start i
+    (λ low e. absurd (omega (arith, low, more)))
+    (λ _ before e.
+    let is : row_of starts.Both start false i - 2 ≡ (i - 2) * 2 + 0 = omega (arith, e, more) in
+    let h : (row_of starts.Both start false i - 2) / 2 ≡ i - 2 = ap (λ (n : ℕ). n / 2) is ∙ half (i - 2) 0 (omega arith) in
+    inl (omega (arith, h, more)))
+    (λ _ after e. absurd (omega (arith, after, up, own)))
+    (omega (arith, past))
+index-is starts.Both start true i past more up own =
+    rows-anchored start i
+    (λ low e. absurd (omega (arith, low, more)))
+    (λ _ before e.
+    let is : row_of starts.Both start true i - 2 ≡ (i - 2) * 2 + 1 = omega (arith, e, more) in
+    let h : (row_of starts.Both start true i - 2) / 2 ≡ i - 2 = ap (λ (n : ℕ). n / 2) is ∙ half (i - 2) 1 (omega arith) in
+    inl (omega (arith, h, more)))
+    (λ _ after e.
+    let last : i ≡ start + 1 = omega (arith, after, up, own) in
+    let is : row_of starts.Both start true i - 2 ≡ (start - 2) * 2 + 1 = omega (arith, e, last, past) in
+    let h : (row_of starts.Both start true i - 2) / 2 ≡ start - 2 = ap (λ (n : ℕ). n / 2) is ∙ half (start - 2) 1 (omega arith) in
+    inr (omega (arith, h, past), last))
+
+-- the row of the anchored start is the one after that of the unanchored one
+pub row-starts : (kind : StartKind) (start : ℕ) → 1 < start → row_of kind start true (start + 1) ≡ row_of kind start false start + 1
+row-starts starts.Unanchored start past = refl
+row-starts starts.Anchored start past = refl
+row-starts starts.Both start past =
+    let a = row-up start start past (omega arith) in
+    let b = row-anchored_after start (start + 1) (omega (arith, past)) (omega arith) in
+    omega (arith, a, b, past)
+
+-- and the row after that of the last state that matches is that of the unanchored start, where the starts don't match
+pub row-before_starts : (kind : StartKind) (start last : ℕ) → 1 < start → last + 1 ≡ start → row_of kind start true last + 1 ≡ row_of kind start false start
+row-before_starts starts.Unanchored start last past is = is
+row-before_starts starts.Anchored start last past is = is
+row-before_starts starts.Both start last past is =
+    let a = row-up start start past (omega arith) in
+    let b = (row-last start last past).0 is in
+    omega (arith, a, b, past)

@@ -133,6 +133,13 @@ states nfa dense_depth table text h t =
           (λ (before : max + 1 ≡ start). inl (omega (arith, rises max start (omega (arith, before)), start_is, max_is)))
           (λ (last : max ≡ start + 1). inr (max_is ∙ (ap place last ∙ sym next_is)))
           bounds.last_match;
+      before = λ anchored. each anchored (λ sid. sid ≢ 0 → sid < table.start → sid ≤ table.max_match) (λ i i_in i_met live lt.
+          let less : i < start = place-later nfa dense_depth classes i start (omega (arith, lt, start_is)) in
+          let low : i ≤ max = ⊎_elim (λ (a : max + 1 ≡ start). omega (arith, a, less)) (λ (b : max ≡ start + 1). omega (arith, b, less)) bounds.last_match in
+          ⊎_elim
+          (λ (more : i < max). omega (arith, rises i max more, max_is))
+          (λ (ge : max ≤ i). let e : i ≡ max = omega (arith, low, ge) in let one = ap place e in omega (arith, one, max_is))
+          (cases_lt i max));
       between = λ anchored. each anchored (λ sid. sid < table.start_anchored → sid ≤ table.start) (λ i i_in i_met lt.
           let before : i < start + 1 = place-later nfa dense_depth classes i (start + 1) (omega (arith, lt, next_is)) in
           ⊎_elim

@@ -1,5 +1,5 @@
 -- How the words of a contiguous automaton are made, state by state.
-use Rattle.std.specs.Prelude.{◌≡◌, ◌≢◌, ℕ, ◌+◌, ◌<◌, ◌≤◌, Bool, List, length, slice_index}
+use Rattle.std.specs.Prelude.{◌≡◌, ◌≢◌, ℕ, ◌+◌, ◌<◌, ◌≤◌, Bool, List, ◌++◌, map, take, drop, length, slice_index}
 use Rattle.ac_input.specs.declared.primitives.number.TheConstants.{GREATEST}
 use Rattle.ac_input.specs.Alphabet.{alphabet_len, IsClasses}
 use Rattle.ac_input.specs.Classes.{IsByteOf, IsAlone, ClassesLeadAlike}
@@ -10,7 +10,7 @@ use Rattle.ac_noncontiguous.specs.declared.nfa.NFA.{NFA}
 use Rattle.ac_noncontiguous.specs.ReadCalls.{state_len, fail_in, special_in, FailsIn, EdgesLeadIn, ListsIn}
 use Rattle.ac_noncontiguous.specs.Reads.{matches_at}
 use Rattle.ac_tables.specs.Words.{StateParts, words_of}
-use Rattle.ac_tables.specs.ContiguousTable.{place_in, AreWordsOf, ArePlacesTooGreat}
+use Rattle.ac_tables.specs.ContiguousTable.{placed, place_in, words_at, AreWordsOf, ArePlacesTooGreat}
 use Rattle.ac_tables.specs.declared.contiguous.table.Table.{Table}
 
 -- ---- how many words
@@ -68,3 +68,14 @@ pub record IsTableOf (nfa : NFA) (dense_depth : ℕ) (table : Table) : Type 0 wh
   pub start : table.start ≡ place_in nfa dense_depth table.classes (special_in nfa).start_unanchored_id
   pub start_anchored : table.start_anchored ≡ place_in nfa dense_depth table.classes (special_in nfa).start_anchored_id
   pub max_match : table.max_match ≡ place_in nfa dense_depth table.classes (special_in nfa).max_match_id
+
+-- the words of a state were put after the others, and the read calls tell of it
+pub record IsStateWritten (nfa : NFA) (dense_depth : ℕ) (classes : List ℕ) (sid : ℕ) (before after : List ℕ) : Type 0 where
+  pub words : after ≡ before ++ words_at nfa dense_depth classes sid
+  pub known : sid ≢ 1 → IsKnown nfa sid
+
+-- The first so many transitions of a state were read, and these are left.
+pub record AreReadTo (classes : List ℕ) (place : ℕ → ℕ) (edges : List (ℕ × ℕ)) (n : ℕ) (done left : List (ℕ × ℕ)) : Type 0 where
+  pub read : done ≡ map (placed classes place) (take n edges)
+  pub rest : left ≡ drop n edges
+  pub within : n ≤ length edges

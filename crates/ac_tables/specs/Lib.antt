@@ -29,3 +29,5 @@ pub mod WordReads
 pub mod ContiguousReads
 pub mod Filling
 pub mod Filler
+pub mod DfaLists
+pub mod DfaMade

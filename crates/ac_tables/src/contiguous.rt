@@ -3,6 +3,7 @@ mod automaton;
 mod layout;
 mod places;
 mod reads;
+mod states;
 mod table;
 mod words;
 

@@ -1,6 +1,13 @@
 //! The patterns of the states that match: one vector, and where the list of each state ends.
+ghost use Rattle.std.specs.Prelude.{IfOk};
+ghost use Rattle.ac_tables.specs.DfaLists.{IsListAdded, AreListsOf};
 
-use ac_input::primitives::PatternID;
+use ac_input::primitives::{PatternID, StateID};
+use ac_noncontiguous::nfa::NFA;
+use std::alloc::{AllocError, Global};
+
+/// The number of the first state of the noncontiguous automaton that may match.
+const FIRST: usize = 2;
 
 /// The lists, one after another.
 #[derive(Drop)]
@@ -8,4 +15,29 @@ pub(crate) struct Lists {
     pub patterns: Vec<PatternID>,
     /// Where each list ends; the first begins at 0, and each other one where the one before it ends.
     pub ends: Vec<usize>,
+}
+
+impl Lists {
+    /// Puts a list after the others.
+    fn push(&mut self, list: &[PatternID]) -> Result<(), AllocError>
+        ensures { IfOk result (λ _. IsListAdded list.now self.old self.new) }
+    {
+        self.patterns.extend_from_slice(list)?;
+        self.ends.push(self.patterns.len())?;
+        Ok(())
+    }
+
+    /// The lists of the states that match, in the order of the states.
+    pub(super) fn of(alloc: Global, nfa: &NFA) -> Result<Lists, AllocError>
+        ensures { IfOk result (AreListsOf nfa.now) }
+    {
+        let mut lists = Lists {
+            patterns: Vec::new(alloc),
+            ends: Vec::new(alloc),
+        };
+        for sid in FIRST..nfa.special().max_match_id.one_more() {
+            lists.push(nfa.match_list(StateID::must(sid)))?;
+        }
+        Ok(lists)
+    }
 }

@@ -1,0 +1,83 @@
+//! The words of all states, one state after another.
+ghost use Rattle.std.specs.Prelude.{◌≡◌, ◌<◌, map, length, slice_index, IfOk};
+ghost use Rattle.ac_noncontiguous.specs.ReadCalls.{state_len, edges_in, EdgesLeadIn};
+ghost use Rattle.ac_tables.specs.ContiguousTable.{placed, AreWordsOf};
+ghost use Rattle.ac_tables.specs.ContiguousBuild.{ArePlaces, IsStateWritten, AreKnown};
+
+use crate::contiguous::places::FAIL;
+use crate::contiguous::words::{Parts, push_state};
+use ac_input::alphabet::ByteClasses;
+use ac_input::primitives::StateID;
+use ac_noncontiguous::nfa::NFA;
+use std::alloc::{AllocError, Global};
+
+/// Reads the transitions of the state, each with its byte's class and the place of the next state, in place of what was there.
+fn read_edges(
+    nfa: &NFA,
+    sid: StateID,
+    classes: &ByteClasses,
+    places: &[StateID],
+    edges: &mut Vec<(u8, StateID)>,
+) -> Result<(), AllocError>
+    requires within { sid < state_len nfa.now }
+    requires places { length places.now ≡ state_len nfa.now }
+    ensures lead { EdgesLeadIn nfa.now sid }
+    ensures read { IfOk result (λ _.
+        edges.new.items ≡ map (placed classes.now (slice_index places.now)) (edges_in nfa.now sid)) }
+{
+    edges.clear();
+    for (byte, next) in nfa.iter_trans(sid) {
+        edges.push((classes.get(byte), places[next.as_usize()]))?;
+    }
+    Ok(())
+}
+
+/// Puts the words of the state after those of the states before it. Its transitions are read into `edges`.
+fn push_words(
+    nfa: &NFA,
+    sid: StateID,
+    dense_depth: usize,
+    classes: &ByteClasses,
+    places: &[StateID],
+    edges: &mut Vec<(u8, StateID)>,
+    words: &mut Vec<u32>,
+) -> Result<(), AllocError>
+    requires within { sid < state_len nfa.now }
+    requires places { ArePlaces nfa.now dense_depth classes.now places.now }
+    ensures { IfOk result (λ _. IsStateWritten nfa.now dense_depth classes.now sid
+        words.old.items words.new.items) }
+{
+    if sid.as_usize() == FAIL {
+        return Ok(());
+    }
+    read_edges(nfa, sid, classes, places, edges)?;
+    let parts = Parts {
+        shallow: nfa.depth(sid) < dense_depth,
+        fail: places[nfa.fail(sid).as_usize()],
+        edges,
+        matches: nfa.match_list(sid),
+    };
+    push_state(&parts, classes.alphabet_len(), words)
+}
+
+/// The words of the states, one state after another. There are so many.
+pub(super) fn words(
+    alloc: Global,
+    nfa: &NFA,
+    dense_depth: usize,
+    classes: &ByteClasses,
+    places: &[StateID],
+    words_len: usize,
+) -> Result<Vec<u32>, AllocError>
+    requires { ArePlaces nfa.now dense_depth classes.now places.now }
+    ensures { IfOk result (λ words. AreWordsOf nfa.now dense_depth classes.now words.items
+        × AreKnown nfa.now (state_len nfa.now)) }
+{
+    let mut edges = Vec::new(alloc);
+    let mut words = Vec::with_capacity(alloc, words_len)?;
+    for state in 0..nfa.state_len() {
+        let sid = StateID::must(state);
+        push_words(nfa, sid, dense_depth, classes, places, &mut edges, &mut words)?;
+    }
+    Ok(words)
+}

@@ -1,4 +1,36 @@
-//! The contiguous automaton.
+//! The contiguous automaton: all states in one vector of 32-bit words.
+//!
+//! It has the states of the noncontiguous automaton, and follows failures as that one does. But a state is a few neighbouring words,
+//! and its number is the place of the first of them. So a look-up reads one or two lines of the cache, and the whole takes about
+//! half the memory. A DFA is faster still, and takes many times as much.
+//!
+//! The words of a state are, in this order:
+//!
+//! - Its kind, in the low eight bits. It is 255 where the state keeps an entry for each class of bytes, and 254 where it has a single
+//!   transition and no pattern; the class of that one stands in the next eight bits. Else it says how many transitions there are.
+//! - The state to which it fails.
+//! - Its transitions. With an entry for each class: the next states, 1 where a class leads nowhere. A single one: the next state. Else
+//!   their classes, four in a word from the lowest bits up, where the last class fills the last word; and then the next states.
+//! - Its patterns, if some match: of one its number with the highest bit set, of several how many there are and then their numbers.
+//!
+//! The states nearest to the start keep an entry for each class, since a search spends most of its time there.
+//!
+//! The patterns `b`, `abc` and `abcd` have six classes: the bytes below `a`, then `a`, `b`, `c` and `d`, and those above. Their words:
+//!
+//! ```text
+//! state           place  kind  fail  transitions       patterns
+//! dead                0   255     0  0 0 0 0 0 0
+//! b                   8   255    30  1 1 1 1 1 1       2147483648
+//! ab                 17     1     8  50529027 22       2147483648
+//! abc                22     1    30  67372036 27       2147483649
+//! abcd               27     0    30                    2147483650
+//! start              30   255     0  30 46 8 30 30 30
+//! anchored start     38   255     0  1 46 8 1 1 1
+//! a                  46   255    30  1 1 17 1 1 1
+//! ```
+//!
+//! In the start class 1, that of `a`, leads to the state at 46, and class 2 from there to the one at 17. That state matches `b`. It
+//! has one transition: 50529027 is four times class 3, so `c` leads on to 22. Any other byte is asked of the state at 8.
 mod automaton;
 mod layout;
 mod places;

@@ -1,9 +1,9 @@
 -- What a search passes over that stands in the start: bytes that leave it there.
-use Rattle.std.proofs.Common.{◌≡◌, ◌≢◌, ⊎_elim, ℕ, zero, suc, ◌+◌, ◌-◌, ◌<◌, ◌≤◌, Bool, false, IsTrue, List, [], ◌∷◌, ◌++◌, length, take, drop, Option, sym, ap, ap₂, subst, ◌∙◌, arith, length-drop, take-append-drop}
+use Rattle.std.proofs.Common.{◌≡◌, ◌≢◌, ◌↔◌, ⊎_elim, ℕ, zero, suc, ◌+◌, ◌-◌, ◌<◌, ◌≤◌, Bool, false, IsTrue, List, [], ◌∷◌, ◌++◌, length, take, drop, Option, sym, ap, ap₂, subst, ◌∙◌, arith, length-drop, take-append-drop}
 use Rattle.std.specs.Prelude.{slice_index}
 use Rattle.std.proofs.Math.Logic.{∥∥₁_elim, ∥∥₁_map, ∥∥₁_prop}
 use Rattle.std.proofs.lemmas.Bool.{cases_lt, cases_eq, false≢true}
-use Rattle.std.proofs.lemmas.List.{append-nil, append_assoc, drop-take, length-take-le, take-take}
+use Rattle.std.proofs.lemmas.List.{append-nil, append_assoc, drop-take, get_or-drop, length-take-le, take-take}
 use Rattle.std.proofs.lemmas.Option.{slice_get-get_or}
 use Rattle.ac_input.specs.Number.{StateID}
 use Rattle.ac_input.specs.declared.search.Anchored.{Anchored}
@@ -15,10 +15,11 @@ use Rattle.ac_input.specs.Steps.{Done}
 use Rattle.ac_input.specs.Work.{IsLookups}
 use Rattle.ac_automaton.specs.declared.starters.Starters.{Starters}
 use Rattle.ac_automaton.specs.declared.starters.Starters.TheVariants.{Many}
-use Rattle.ac_automaton.specs.Automaton.{Built, Leads}
+use Rattle.ac_automaton.specs.declared.automaton.Advance.{Advance}
+use Rattle.ac_automaton.specs.Automaton.{Built, IsReached, Leads, Advances}
 use Rattle.ac_automaton.specs.Named.{Naming, AllNames, IsReachedBy, IsReadBy, IsIdleBy}
 use Rattle.ac_automaton.specs.Starters.{is_starter, AddsStarter, SkipsBelow, SkipsIdle, PassesIdle}
-use Rattle.ac_automaton.proofs.CursorLemmas.{HasAdvanced, lookups-join, take-more}
+use Rattle.ac_automaton.proofs.CursorLemmas.{HasAdvanced, lookups-join, take-more, reached-on}
 use Rattle.ac_automaton.proofs.NamedLemmas.{named-next, read-from, cost-looks}
 
 -- ---- the bytes that are gathered, one after another
@@ -135,7 +136,7 @@ advanced-same b Reaches anchored stops sid current bytes n s t u none has =
 -- out may differ from one anchoring to the other.
 pub pass-advanced : (b : Built) (Fits : Anchored → Naming → Type 0) (matches : ℕ → List ℕ) (starts special stops : ℕ → Bool) (start : ℕ) (starters : Starters) (anchored : Anchored) (sid current : ℕ) (bytes rest : List ℕ) (n passed : ℕ) (s t u : Steps)
     → AllNames b (Fits anchored) matches starts special → ∥ SkipsIdle (IsIdleBy b.dictionary (Fits anchored) matches start) starters ∥₁ → (matches start ≡ [] → ¬ IsTrue (stops start))
-    → ((k : ℕ) → slice_index rest k < 256) → rest ≡ drop n bytes → n ≤ length bytes → PassesIdle starters start current rest passed t u
+    → ((k : ℕ) → slice_index bytes k < 256) → rest ≡ drop n bytes → n ≤ length bytes → PassesIdle starters start current rest passed t u
     → HasAdvanced b (λ (a : Anchored). IsReadBy b (Fits a) matches starts special a) anchored stops sid bytes n current s t
     → (n + passed ≤ length bytes) × HasAdvanced b (λ (a : Anchored). IsReadBy b (Fits a) matches starts special a) anchored stops sid bytes (n + passed) current s u
 pass-advanced b Fits matches starts special stops start starters anchored sid current bytes rest n zero s t u all skips apart small is within passes has =
@@ -147,10 +148,22 @@ pass-advanced b Fits matches starts special stops start starters anchored sid cu
     let at : current ≡ start = passes.at (omega arith) in
     let inside = passes.within in
     let fits : n + suc k ≤ length bytes = let left = ap length is in let all_left = length-drop n bytes in omega (arith, inside, left, all_left, within) in
-    let quiet : ¬ IsTrue (stops start) = λ e. ∥∥₁_elim skips (λ x y. absurd x) (λ idle. apart (idle (slice_index rest 0) (small 0) (passes.idle 0 (omega arith))).plain e) in
+    let fit : (j : ℕ) → slice_index rest j < 256 = λ j. let same : slice_index rest j ≡ slice_index bytes (n + j) = ap (λ (l : List ℕ). slice_index l j) is ∙ get_or-drop n bytes j 0 in subst (λ (v : ℕ). v < 256) (sym same) (small (n + j)) in
+    let quiet : ¬ IsTrue (stops start) = λ e. ∥∥₁_elim skips (λ x y. absurd x) (λ idle. apart (idle (slice_index rest 0) (fit 0) (passes.idle 0 (omega arith))).plain e) in
     let there = subst (λ (c : ℕ). HasAdvanced b R anchored stops sid bytes n c s t) at has in
     let run = advanced-run b R anchored stops sid bytes n (suc k) start s t u fits quiet (λ text reads. reads.lives)
     (λ j le. subst (λ (l : List ℕ). Leads (R anchored) start (take j l) start) is
-    (run-reads b (Fits anchored) matches starts special start starters anchored rest j all skips small (omega (arith, le, inside)) (λ i lt. passes.idle i (omega (arith, lt, le)))))
+    (run-reads b (Fits anchored) matches starts special start starters anchored rest j all skips fit (omega (arith, le, inside)) (λ i lt. passes.idle i (omega (arith, lt, le)))))
     passes.counted there in
     (fits, subst (λ (c : ℕ). HasAdvanced b R anchored stops sid bytes (n + suc k) c s u) (sym at) run)
+
+-- ---- where it stops
+
+-- Two tests that agree on the states that are reached stop reading on alike.
+pub advances-alike : (Reaches : List ℕ → StateID → Type 0) (tests others : StateID → Bool) (sid : StateID) (bytes : List ℕ) (stop : Advance) → IsReached Reaches sid → ((i : StateID) → IsReached Reaches i → (IsTrue (tests i) ↔ IsTrue (others i))) → Advances Reaches tests sid bytes stop → Advances Reaches others sid bytes stop
+advances-alike Reaches tests others sid bytes stop reached alike h = record {
+  taken = h.taken;
+  reads = h.reads;
+  plain = λ at some lt. let mid = h.plain at some lt in (mid.0, mid.1, λ e. mid.2 ((alike mid.0 (reached-on Reaches sid (take at bytes) mid.0 reached mid.1)).1 e));
+  stops = λ lt. (alike stop.sid (reached-on Reaches sid (take stop.taken bytes) stop.sid reached h.reads)).0 (h.stops lt);
+}

@@ -1,19 +1,23 @@
--- Where a byte leads from a state of the automaton: straight on, or over the states to which it fails.
-use Rattle.std.proofs.Common.{◌≡◌, ◌≢◌, ◌⊎◌, ℕ, zero, suc, ◌+◌, ◌<◌, ◌≤◌, map, Bool, true, false, List, [], ◌∷◌, ◌++◌, length, drop, Option, None, Some, inl, inr, ⊎_elim, refl, sym, ap, subst, ◌∙◌, arith, length-append}
-use Rattle.std.proofs.Math.Logic.{∥∥₁_elim, ∥∥₁_map}
-use Rattle.std.proofs.lemmas.Bool.{cases_eq}
+-- What the states of the tables are named, and where a byte leads from one: straight on, or over the states to which it fails.
+use Rattle.std.proofs.Common.{◌≡◌, ◌≢◌, ◌⊎◌, ℕ, zero, suc, ◌+◌, ◌<◌, Bool, true, false, IsTrue, map, List, [], ◌∷◌, ◌++◌, length, drop, Option, None, Some, inl, inr, ⊎_elim, refl, sym, ap, subst, ◌∙◌, arith, length-append}
+use Rattle.std.specs.Prelude.{◌==◌, ◌&&◌, nat_lt, not}
 use Rattle.std.specs.Coded.{le_prop}
+use Rattle.std.proofs.Math.Logic.{∥∥₁_elim, ∥∥₁_map}
+use Rattle.std.proofs.lemmas.Bool.{and_parts, and_from, ne_eqb, eq-eqb, lt-ltb, ltb-true}
 use Rattle.std.proofs.lemmas.List.{length-map, nil_from_length}
+use Rattle.std.proofs.lemmas.Option.{same_Some}
 use Rattle.ac_input.specs.declared.steps.Steps.{Steps}
 use Rattle.ac_input.specs.Dictionary.{Dictionary, BeginsEntered}
 use Rattle.ac_input.specs.LiveLaws.{IsOwnInverse, canonical}
 use Rattle.ac_input.specs.States.{LeadsTo, FailsTo}
 use Rattle.ac_input.specs.Steps.{Done}
 use Rattle.ac_input.proofs.FailureLemmas.{failure-shorter}
-use Rattle.ac_input.proofs.LeadsLemmas.{leads-one, leads-some, leads-itself, leads-child, leads-dead, leads-failure, leads-failure_none, fails-state}
+use Rattle.ac_input.proofs.LeadsLemmas.{leads-dead}
+use Rattle.ac_automaton.specs.Named.{Naming, OfNames, text_len, nowhere, IsEdgeBy, IsFailureBy, AreNumbers}
+use Rattle.ac_automaton.proofs.LinkedLemmas as linked
 use Rattle.ac_noncontiguous.specs.declared.nfa.tables.Tables.{Tables}
 use Rattle.ac_noncontiguous.specs.Nfa.{state_of, fail_of, depth_of, IsEdge, AreTexts, AreTables}
-use Rattle.ac_noncontiguous.specs.Lookups.{IsKept, IsVisited, StepsTo, other_start, text_len, IsNextState, LeadsNext}
+use Rattle.ac_noncontiguous.specs.Lookups.{IsKept, IsVisited, StepsTo, other_start, naming_of, IsNamingOf, LeadsNext}
 
 -- ---- what a number stands for
 
@@ -33,109 +37,155 @@ state-some text (suc (suc i)) some = refl
 pub state-none : (text : ℕ → List ℕ) (i : ℕ) → i ≡ 0 → state_of text i ≡ None
 state-none text i zero_is = ap (state_of text) zero_is
 
--- a text begins an entered pattern or does not
-pub begins-or-not : (m : Dictionary) (text : List ℕ) → IsOwnInverse m.pairing → BeginsEntered m text ⊎ (¬ BeginsEntered m text)
-begins-or-not m text inverse = by (leads-some m true text inverse).0 (leads-some m true text inverse).1
-  where
-    by : (r : Option (List ℕ)) → LeadsTo m true text r → BeginsEntered m text ⊎ (¬ BeginsEntered m text)
-    by None dead = inr (λ begins. let e = leads-one m true text None (Some (map (canonical m.pairing) text)) dead (leads-itself m true text begins) in cc)
-    by (Some state) live = inl (let first : live.0 ≡ 0 = live.1.0.anchor refl in subst (λ (k : ℕ). BeginsEntered m (drop k text)) first live.1.0.begins)
+-- a state but 1 that stands for none is the dead one
+pub is-dead : (text : ℕ → List ℕ) (i : ℕ) → i ≢ 1 → state_of text i ≡ None → i ≡ 0
+is-dead text i stands none =
+    ⊎_elim
+    (λ (dead : (i ≡ 0) × (◌≡◌ {A = Option (List ℕ)} None None)). dead.0)
+    (λ (some : (1 < i) × (Some (text i) ≡ None)). absurd (let e = some.1 in cc))
+    (by-number text (λ r. r ≡ None) i stands none)
 
--- ---- straight on
+-- and one that stands for a text is past 1
+pub is-text : (text : ℕ → List ℕ) (i : ℕ) (state : List ℕ) → state_of text i ≡ Some state → (1 < i) × (text i ≡ state)
+is-text text zero state some = absurd (let e : None ≡ Some state = some in cc)
+is-text text (suc zero) state some = absurd (let e : None ≡ Some state = some in cc)
+is-text text (suc (suc i)) state some = (omega arith, same_Some (text (suc (suc i))) state some)
+
+-- ---- which numbers are met
+
+-- a number is met that is one of the states, but not the fail state or the start of the other anchoring;
+pub is-met : (text : ℕ → List ℕ) (len start : ℕ) (anchored : Bool) (i : ℕ) → i < len → i ≢ 1 → i ≢ other_start start anchored → IsTrue ((naming_of text len start).met anchored i)
+is-met text len start anchored i within stands own =
+    and_from (nat_lt i len) (not (i == 1) && not (i == other_start start anchored)) (lt-ltb i len within)
+    (and_from (not (i == 1)) (not (i == other_start start anchored)) (ap (λ (b : Bool). not b) (ne_eqb i 1 stands)) (ap (λ (b : Bool). not b) (ne_eqb i (other_start start anchored) own)))
+
+-- and no other
+pub met-is : (text : ℕ → List ℕ) (len start : ℕ) (anchored : Bool) (i : ℕ) → IsTrue ((naming_of text len start).met anchored i) → (i < len) × (i ≢ 1) × (i ≢ other_start start anchored)
+met-is text len start anchored i met =
+    let all = and_parts (nat_lt i len) (not (i == 1) && not (i == other_start start anchored)) met in
+    let both = and_parts (not (i == 1)) (not (i == other_start start anchored)) all.1 in
+    (ltb-true i len all.0, apart i 1 both.0, apart i (other_start start anchored) both.1)
+  where
+    apart : (a b : ℕ) → not (a == b) ≡ true → a ≢ b
+    apart a b differ e = let same = eq-eqb a b e in let there : not (a == b) ≡ false = ap (λ (x : Bool). not x) same in absurd (let f : true ≡ false = sym differ ∙ there in cc)
+
+-- a state that isn't a start is met from both
+pub both-met : (text : ℕ → List ℕ) (len start i : ℕ) → i < len → i ≢ 1 → i ≢ start → i ≢ start + 1 → (anchored : Bool) → IsTrue ((naming_of text len start).met anchored i)
+both-met text len start i within stands one next true = is-met text len start true i within stands one
+both-met text len start i within stands one next false = is-met text len start false i within stands next
+
+-- ---- the names of the states of tables
+
+-- the texts of the states are canonical bytes, and only the starts stand for the empty one
+pub numbers-of : (m : Dictionary) (len start : ℕ) (text : ℕ → List ℕ) → IsOwnInverse m.pairing → AreTexts m len start text → AreNumbers m (naming_of text len start) start
+numbers-of m len start text inverse t = record {
+  inverse = inverse;
+  apart = λ anchored i met. (met-is text len start anchored i met).1;
+  unanchored = never ((naming_of text len start).met true start) (λ met. (met-is text len start true start met).2 refl);
+  only = λ i met empty.
+      let w = met-is text len start false i met in
+      let is = is-text text i [] empty in
+      ⊎_elim (λ (one : i ≡ start). one) (λ (next : i ≡ start + 1). absurd (w.2 next)) (t.others i is.0 w.0 is.1);
+  begin = λ anchored i state met some.
+      let is = is-text text i state some in
+      let b = t.begin i is.0 (met-is text len start anchored i met).0 in
+      subst (λ (v : List ℕ). BeginsEntered m v × (map (canonical m.pairing) v ≡ v)) is.1 b;
+}
+  where
+    never : (b : Bool) → ¬ IsTrue b → b ≡ false
+    never true none = absurd (none refl)
+    never false none = refl
+
+-- a text with a byte after it is not empty
+not-empty : (xs : List ℕ) (b : ℕ) → xs ++ b ∷ [] ≢ []
+not-empty xs b e = let n = ap length e in let k = length-append xs (b ∷ []) in omega (arith, n, k)
+
+-- where a byte leads in the tables it leads by their names
+pub edge-of : (m : Dictionary) (len start : ℕ) (text : ℕ → List ℕ) (i byte j : ℕ) → AreTexts m len start text → IsEdge m len start text i byte j → i ≢ 1 → IsEdgeBy m (naming_of text len start) start i byte j
+edge-of m len start text i byte j t edge stands =
+    let starts = t.starts in
+    record {
+      dead = λ none.
+          let to = edge.dead (is-dead text i stands none) in
+          let met = both-met text len start j (omega (arith, to, starts.1)) (λ e. omega (arith, to, e)) (λ e. omega (arith, to, starts.0, e)) (λ e. omega (arith, to, e)) in
+          (met true, met false, (λ e. omega (arith, to, e)), state-none text j to);
+      child = λ state some begins.
+          let is = is-text text i state some in
+          let child = edge.child is.0 (subst (λ (v : List ℕ). BeginsEntered m (v ++ byte ∷ [])) (sym is.1) begins) in
+          let full : text j ≢ [] = λ e. not-empty (text i) (canonical m.pairing byte) (sym child.2 ∙ e) in
+          let met = both-met text len start j child.1 (λ e. omega (arith, child.0, e)) (λ e. full (ap text e ∙ starts.2)) (λ e. full (ap text e ∙ starts.3)) in
+          (met true, met false, (λ e. omega (arith, child.0, e)), state-some text j child.0 ∙ ap Some (child.2 ∙ ap (λ (v : List ℕ). v ++ canonical m.pairing byte ∷ []) is.1));
+      none = λ state some apart begins_none.
+          let is = is-text text i state some in
+          edge.none is.0 apart (subst (λ (v : List ℕ). ¬ BeginsEntered m (v ++ byte ∷ [])) (sym is.1) begins_none);
+      back = λ state some at begins_none.
+          let is = is-text text i state some in
+          let back = edge.back at (subst (λ (v : List ℕ). ¬ BeginsEntered m (v ++ byte ∷ [])) (sym is.1) begins_none) in
+          let there = there-back j back.0 in
+          (there.0, there.1, there.2, subst (λ (v : List ℕ). LeadsTo m false (v ++ byte ∷ []) (state_of text j)) is.1 back.1);
+    }
+  where
+    there-back : (j : ℕ) → (j ≡ 0) ⊎ (j ≡ start) → IsTrue ((naming_of text len start).met false j) × (j ≢ nowhere) × (text_len (state_of text j) ≡ 0)
+    there-back j (inl zero_is) =
+        let starts = t.starts in
+        (is-met text len start false j (omega (arith, zero_is, starts.1)) (λ e. omega (arith, zero_is, e)) (λ e. omega (arith, zero_is, e)), (λ e. omega (arith, zero_is, e)), ap text_len (state-none text j zero_is))
+    there-back j (inr is) =
+        let starts = t.starts in
+        let past : 1 < j = omega (arith, starts.0, is) in (
+          is-met text len start false j (omega (arith, is, starts.1)) (λ e. omega (arith, past, e)) (λ e. omega (arith, is, e)),
+          (λ e. omega (arith, past, e)),
+          ap text_len (state-some text j past) ∙ ap length (ap text is ∙ starts.2),
+        )
+
+-- and where a state fails to it fails by them
+pub failure-of : (m : Dictionary) (tables : Tables) (text : ℕ → List ℕ) (i : ℕ) → (t : AreTables m text tables) → i < t.len → IsFailureBy m (naming_of text t.len tables.start) i (fail_of tables.states.items i)
+failure-of m tables text i t within =
+    let w = t.failures.within i within in
+    record {
+      met = is-met text t.len tables.start false (fail_of tables.states.items i) w.0 w.1 w.2;
+      fails = λ state some.
+          let is = is-text text i state some in
+          subst (λ (v : List ℕ). FailsTo m v (state_of text (fail_of tables.states.items i))) is.1 (t.failures.fails i is.0 within);
+    }
+
+-- what holds of the names that tables give their states, holds of all by which they are those of a dictionary
+pub of-names : (m : Dictionary) (tables : Tables) (P : Naming → Type 0) → ((text : ℕ → List ℕ) (t : AreTables m text tables) → P (naming_of text t.len tables.start)) → (names : Naming) → IsNamingOf m tables names → P names
+of-names m tables P h names w = subst P (sym w.2) (h w.0 w.1)
+
+-- so it is of the numbers,
+pub names-numbers : (m : Dictionary) (tables : Tables) → IsOwnInverse m.pairing → (names : Naming) → IsNamingOf m tables names → AreNumbers m names tables.start
+names-numbers m tables inverse = of-names m tables (λ names. AreNumbers m names tables.start) (λ text t. numbers-of m t.len tables.start text inverse t.texts)
+
+-- of where a byte leads,
+pub names-edge : (m : Dictionary) (tables : Tables) (anchored : Bool) (i byte j : ℕ) → StepsTo tables i byte j → OfNames (IsNamingOf m tables) anchored i (λ names. IsEdgeBy m names tables.start i byte j)
+names-edge m tables anchored i byte j steps =
+    of-names m tables (λ names. IsTrue (names.met anchored i) → IsEdgeBy m names tables.start i byte j) (λ text t met.
+    let w = met-is text t.len tables.start anchored i met in
+    edge-of m t.len tables.start text i byte j t.texts (steps m text t w.0).1 w.1)
+
+-- and of where a state fails to
+pub names-failure : (m : Dictionary) (tables : Tables) (i fail : ℕ) → fail ≡ fail_of tables.states.items i → OfNames (IsNamingOf m tables) false i (λ names. IsFailureBy m names i fail)
+names-failure m tables i fail is =
+    of-names m tables (λ names. IsTrue (names.met false i) → IsFailureBy m names i fail) (λ text t met.
+    subst (IsFailureBy m (naming_of text t.len tables.start) i) (sym is) (failure-of m tables text i t (met-is text t.len tables.start false i met).0))
+
+-- ---- straight on, and nowhere, of texts
 
 -- What a byte leads to from a state, but to none.
 pub record IsStraight (m : Dictionary) (len start : ℕ) (text : ℕ → List ℕ) (anchored : Bool) (i byte j : ℕ) : Type 0 where
   pub other : j ≢ other_start start anchored
   pub dead : i ≡ 0 → j ≡ 0
   pub leads : 1 < i → LeadsTo m anchored (text i ++ byte ∷ []) (state_of text j)
-  pub longer : text_len (state_of text j) ≤ text_len (state_of text i) + 1
-
--- a text with a byte after it is not empty
-not-empty : (xs : List ℕ) (b : ℕ) → xs ++ b ∷ [] ≢ []
-not-empty xs b e = let n = ap length e in let k = length-append xs (b ∷ []) in omega (arith, n, k)
-
--- neither start is behind a state to which a byte leads
-not-other : (len start : ℕ) (m : Dictionary) (text : ℕ → List ℕ) (anchored : Bool) (j : ℕ) → AreTexts m len start text → text j ≢ [] → j ≢ other_start start anchored
-not-other len start m text true j t some e = some (ap text e ∙ t.starts.2)
-not-other len start m text false j t some e = some (ap text e ∙ t.starts.3)
-
--- from the dead state
-straight-dead : (m : Dictionary) (len start : ℕ) (text : ℕ → List ℕ) (anchored : Bool) (i byte j : ℕ) → AreTexts m len start text → IsEdge m len start text i byte j → i ≡ 0 → IsStraight m len start text anchored i byte j
-straight-dead m len start text anchored i byte j t edge is =
-    let to : j ≡ 0 = edge.dead is in
-    let starts = t.starts in
-    record {
-      other = by anchored to;
-      dead = λ _. to;
-      leads = λ some. absurd (omega arith);
-      longer = let e = ap text_len (state-none text j to) in omega (arith, e);
-    }
-  where
-    by : (anchored : Bool) → j ≡ 0 → j ≢ other_start start anchored
-    by true to e = let starts = t.starts in omega (arith, starts.0, to, e)
-    by false to e = let starts = t.starts in omega (arith, starts.0, to, e)
-
--- to a longer state
-straight-child : (m : Dictionary) (len start : ℕ) (text : ℕ → List ℕ) (anchored : Bool) (i byte j : ℕ) → AreTexts m len start text → IsEdge m len start text i byte j → 1 < i → i < len → BeginsEntered m (text i ++ byte ∷ []) → IsStraight m len start text anchored i byte j
-straight-child m len start text anchored i byte j t edge some within begins =
-    let child = edge.child some begins in
-    let own = (t.begin i some within).1 in
-    let to = state-some text j child.0 in
-    record {
-      other = not-other len start m text anchored j t (λ e. not-empty (text i) (canonical m.pairing byte) (sym child.2 ∙ e));
-      dead = λ none. absurd (omega arith);
-      leads = λ _. subst (LeadsTo m anchored (text i ++ byte ∷ [])) (ap Some (sym child.2) ∙ sym to) (leads-child m anchored (text i) byte own begins);
-      longer =
-          let e : text_len (state_of text j) ≡ length (text j) = ap text_len to in
-          let f : text_len (state_of text i) ≡ length (text i) = ap text_len (state-some text i some) in
-          let g = ap length child.2 in
-          let h = length-append (text i) (canonical m.pairing byte ∷ []) in
-          omega (arith, e, f, g, h);
-    }
-
--- back to the start
-straight-back : (m : Dictionary) (len start : ℕ) (text : ℕ → List ℕ) (anchored : Bool) (i byte j : ℕ) → AreTexts m len start text → IsEdge m len start text i byte j → anchored ≡ false → i ≡ start → (¬ BeginsEntered m (text i ++ byte ∷ [])) → IsStraight m len start text anchored i byte j
-straight-back m len start text true i byte j t edge free is none = absurd (cc)
-straight-back m len start text false i byte j t edge free is none =
-    let back = edge.back is none in
-    let starts = t.starts in
-    record {
-      other = λ e. ⊎_elim (λ (z : j ≡ 0). omega (arith, starts.0, z, e)) (λ (s : j ≡ start). omega (arith, s, e)) back.0;
-      dead = λ zero_is. absurd (omega (arith, starts.0, is, zero_is));
-      leads = λ _. back.1;
-      longer = ⊎_elim
-          (λ (z : j ≡ 0). let e = ap text_len (state-none text j z) in omega (arith, e))
-          (λ (s : j ≡ start).
-          let some : 1 < j = omega (arith, starts.0, s) in
-          let e : text_len (state_of text j) ≡ length (text j) = ap text_len (state-some text j some) in
-          let f : length (text j) ≡ 0 = ap length (ap text s ∙ starts.2) in
-          omega (arith, e, f))
-          back.0;
-    }
-
--- the state is the start of its own anchoring, where it is a start
-own-start : (start i : ℕ) (anchored : Bool) → i ≡ start → i ≢ other_start start anchored → anchored ≡ false
-own-start start i true is own = absurd (own is)
-own-start start i false is own = refl
 
 -- from any state, where the byte does not lead to none
 pub straight : (m : Dictionary) (len start : ℕ) (text : ℕ → List ℕ) (anchored : Bool) (i byte j : ℕ) → IsOwnInverse m.pairing → AreTexts m len start text → IsEdge m len start text i byte j → i < len → i ≢ 1 → i ≢ other_start start anchored → j ≢ 1 → IsStraight m len start text anchored i byte j
 straight m len start text anchored i byte j inverse t edge within stands own some =
-    ⊎_elim
-    (λ (none : i ≡ 0). straight-dead m len start text anchored i byte j t edge none)
-    (λ (apart : i ≢ 0).
-    let more : 1 < i = omega arith in
-    ⊎_elim
-    (λ (begins : BeginsEntered m (text i ++ byte ∷ [])). straight-child m len start text anchored i byte j t edge more within begins)
-    (λ (none : ¬ BeginsEntered m (text i ++ byte ∷ [])).
-    ⊎_elim
-    (λ (is : i ≡ start). straight-back m len start text anchored i byte j t edge (own-start start i anchored is own) is none)
-    (λ (isnt : i ≢ start). absurd (some (edge.none more isnt none)))
-    (cases_eq i start))
-    (begins-or-not m (text i ++ byte ∷ []) inverse))
-    (cases_eq i 0)
-
--- ---- to none
+    let s = linked.straight m (naming_of text len start) start anchored i byte j (numbers-of m len start text inverse t) (edge-of m len start text i byte j t edge stands) (is-met text len start anchored i within stands own) some in
+    record {
+      other = (met-is text len start anchored j s.step.met).2;
+      dead = λ is. is-dead text j some (s.step.dead (state-none text i is));
+      leads = λ past. s.step.leads (text i) (state-some text i past);
+    }
 
 -- What is known of a state from which a byte leads to none.
 pub record IsStuck (m : Dictionary) (start : ℕ) (text : ℕ → List ℕ) (i byte : ℕ) : Type 0 where
@@ -146,136 +196,15 @@ pub record IsStuck (m : Dictionary) (start : ℕ) (text : ℕ → List ℕ) (i b
 -- which are such
 pub stuck : (m : Dictionary) (len start : ℕ) (text : ℕ → List ℕ) (i byte : ℕ) → AreTexts m len start text → IsEdge m len start text i byte 1 → i ≢ 1 → IsStuck m start text i byte
 stuck m len start text i byte t edge stands =
-    let some : i ≢ 0 = λ z. let e = edge.dead z in omega (arith, e) in
-    let more : 1 < i = omega arith in
-    let none : ¬ BeginsEntered m (text i ++ byte ∷ []) = λ begins. let c = edge.child more begins in omega (arith, c.0) in
-    let starts = t.starts in
-    record {
-      more = more;
-      none = none;
-      apart = λ is. ⊎_elim (λ (z : 1 ≡ 0). omega (arith, z)) (λ (s : 1 ≡ start). omega (arith, starts.0, s)) (edge.back is none).0;
-    }
+    let s = linked.stuck m (naming_of text len start) start i byte 1 (edge-of m len start text i byte 1 t edge stands) refl in
+    let is = is-text text i s.text s.is in
+    record { more = is.0; none = subst (λ (v : List ℕ). ¬ BeginsEntered m (v ++ byte ∷ [])) (sym is.1) s.none; apart = s.apart }
 
 -- in an anchored search such a byte leads to the dead state
 pub stuck-dead : (m : Dictionary) (start : ℕ) (text : ℕ → List ℕ) (i byte : ℕ) → IsStuck m start text i byte → LeadsTo m true (text i ++ byte ∷ []) None
 stuck-dead m start text i byte s = leads-dead m (text i ++ byte ∷ []) s.none
 
 -- ---- over the states to which it fails
-
--- A look-up that began at a state has come to this one, over so many others: it leads on to where the state does, and each state
--- on the way has cost a byte.
-pub record IsFollowing (m : Dictionary) (len start : ℕ) (text : ℕ → List ℕ) (i byte from looks : ℕ) : Type 0 where
-  pub within : from < len
-  pub stands : from ≢ 1
-  pub other : from ≢ start + 1
-  pub leads : 1 < from → (r : Option (List ℕ)) → LeadsTo m false (text from ++ byte ∷ []) r → LeadsTo m false (text i ++ byte ∷ []) r
-  pub dead : from ≡ 0 → LeadsTo m false (text i ++ byte ∷ []) None
-  pub paid : looks + text_len (state_of text from) ≤ length (text i)
-
--- at first
-pub following-none : (m : Dictionary) (len start : ℕ) (text : ℕ → List ℕ) (i byte : ℕ) → i < len → 1 < i → i ≢ start + 1 → IsFollowing m len start text i byte i 0
-following-none m len start text i byte within more other =
-    record {
-      within = within;
-      stands = λ e. omega arith;
-      other = other;
-      leads = λ _ r h. h;
-      dead = λ e. absurd (omega arith);
-      paid = let e : text_len (state_of text i) ≡ length (text i) = ap text_len (state-some text i more) in omega (arith, e);
-    }
-
--- one state more
-pub following-more : (m : Dictionary) (len start : ℕ) (text : ℕ → List ℕ) (i byte from looks fail : ℕ) → IsOwnInverse m.pairing → AreTexts m len start text → IsFollowing m len start text i byte from looks → IsEdge m len start text from byte 1 → FailsTo m (text from) (state_of text fail) → fail < len → fail ≢ 1 → fail ≢ start + 1 → IsFollowing m len start text i byte fail (looks + 1)
-following-more m len start text i byte from looks fail inverse t h edge fails within stands other =
-    let s = stuck m len start text from byte t edge h.stands in
-    let some : text from ≢ [] = λ e. ⊎_elim (λ (a : from ≡ start). s.apart a) (λ (b : from ≡ start + 1). h.other b) (t.others from s.more h.within e) in
-    let long : text_len (state_of text from) ≡ length (text from) = ap text_len (state-some text from s.more) in
-    let paid = h.paid in
-    record {
-      within = within;
-      stands = stands;
-      other = other;
-      leads = λ more r leads.
-          let is : FailsTo m (text from) (Some (text fail)) = subst (FailsTo m (text from)) (state-some text fail more) fails in
-          h.leads s.more r ((leads-failure m (text from) (text fail) byte r inverse is s.none).0 leads);
-      dead = λ none.
-          let is : FailsTo m (text from) None = subst (FailsTo m (text from)) (state-none text fail none) fails in
-          h.leads s.more None (leads-failure_none m (text from) byte some is s.none);
-      paid =
-          ⊎_elim
-          (λ (none : (fail ≡ 0) × FailsTo m (text from) None).
-          let e : text_len (state_of text fail) ≡ 0 = ap text_len (state-none text fail none.0) in
-          let n : length (text from) ≢ 0 = long-some (text from) some in
-          omega (arith, e, long, n, paid))
-          (λ (more : (1 < fail) × FailsTo m (text from) (Some (text fail))).
-          let e : text_len (state_of text fail) ≡ length (text fail) = ap text_len (state-some text fail more.0) in
-          let n = (fails-state m (text from) (text fail) inverse more.1).2 in
-          omega (arith, e, long, n, paid))
-          (by-number text (FailsTo m (text from)) fail stands fails);
-    }
-  where
-    long-some : (xs : List ℕ) → xs ≢ [] → length xs ≢ 0
-    long-some [] some e = some refl
-    long-some (x ∷ xs) some e = omega (arith, e)
-
--- where the byte leads from the last one
-pub following-end : (m : Dictionary) (len start : ℕ) (text : ℕ → List ℕ) (i byte from looks j : ℕ) (before after : Steps) → IsOwnInverse m.pairing → AreTexts m len start text → 1 < i → IsFollowing m len start text i byte from looks → IsEdge m len start text from byte j → j < len → j ≢ 1 → 1 ≤ looks → Done looks 0 0 before after → IsNextState m len start text false 1 i byte j before after
-following-end m len start text i byte from looks j before after inverse t more h edge within stands some count =
-    let s = straight m len start text false from byte j inverse t edge h.within h.stands h.other stands in
-    let paid = h.paid in
-    let longer = s.longer in
-    let e : text_len (state_of text i) ≡ length (text i) = ap text_len (state-some text i more) in
-    record {
-      within = within;
-      stands = stands;
-      other = s.other;
-      dead = λ none. absurd (omega arith);
-      leads = λ _.
-          ⊎_elim
-          (λ (none : from ≡ 0). subst (LeadsTo m false (text i ++ byte ∷ [])) (sym (state-none text j (s.dead none))) (h.dead none))
-          (λ (apart : from ≢ 0). let apart_from = h.stands in let up : 1 < from = omega arith in h.leads up (state_of text j) (s.leads up))
-          (cases_eq from 0);
-      cost = (looks, count, some, omega (arith, paid, longer, e));
-    }
-
--- ---- a look-up
-
--- straight on, with one look
-pub next-straight : (m : Dictionary) (len start : ℕ) (text : ℕ → List ℕ) (anchored : Bool) (i byte j : ℕ) (before after : Steps) → IsOwnInverse m.pairing → AreTexts m len start text → IsEdge m len start text i byte j → i < len → j < len → i ≢ 1 → i ≢ other_start start anchored → j ≢ 1 → Done 1 0 0 before after → IsNextState m len start text anchored 0 i byte j before after
-next-straight m len start text anchored i byte j before after inverse t edge i_in j_in stands own some count =
-    let s = straight m len start text anchored i byte j inverse t edge i_in stands own some in
-    let longer = s.longer in
-    record { within = j_in; stands = some; other = s.other; dead = s.dead; leads = s.leads; cost = (1, count, omega arith, omega (arith, longer)) }
-
--- to the dead state, in an anchored search
-pub next-dead : (m : Dictionary) (len start : ℕ) (text : ℕ → List ℕ) (i byte : ℕ) (before after : Steps) → AreTexts m len start text → IsEdge m len start text i byte 1 → i ≢ 1 → Done 1 0 0 before after → IsNextState m len start text true 0 i byte 0 before after
-next-dead m len start text i byte before after t edge stands count =
-    let s = stuck m len start text i byte t edge stands in
-    let starts = t.starts in
-    record {
-      within = omega (arith, starts.1);
-      stands = λ e. omega (arith, e);
-      other = λ e. omega (arith, starts.0, e);
-      dead = λ _. refl;
-      leads = λ _. stuck-dead m start text i byte s;
-      cost = (1, count, omega arith, omega arith);
-    }
-
--- over the states to which it fails, after one look
-pub next-followed : (m : Dictionary) (len start : ℕ) (text : ℕ → List ℕ) (i byte j : ℕ) (before between after : Steps) → Done 1 0 0 before between → IsNextState m len start text false 1 i byte j between after → IsNextState m len start text false 0 i byte j before after
-next-followed m len start text i byte j before between after one h =
-    let c = h.cost in
-    let le = c.3 in
-    record {
-      within = h.within;
-      stands = h.stands;
-      other = h.other;
-      dead = h.dead;
-      leads = h.leads;
-      cost = (c.0 + 1, record { looked = omega (arith, one.looked, c.1.looked); scanned = omega (arith, one.scanned, c.1.scanned); moved = omega (arith, one.moved, c.1.moved) }, omega arith, omega (arith, le));
-    }
-
--- ---- the same of tables
 
 -- the state to which a kept state fails is kept
 pub kept-fail : (tables : Tables) (i : ℕ) → IsKept tables i → IsKept tables (fail_of tables.states.items i)
@@ -309,69 +238,55 @@ kept-shallower tables i byte h leads = ∥∥₁_elim h.0 le_prop (λ w. by w.0 
         omega (arith, e, n, k, deep))
         (by-number text (FailsTo m (text i)) f f_in.1 (t.failures.fails i s.more within))
 
--- A look-up has come over so many states to one from which the byte leads to none.
+-- A look-up has come over some states to one from which the byte leads to none.
 pub record HasFollowed (tables : Tables) (i byte from : ℕ) (before after : Steps) : Type 0 where
   pub visited : IsVisited tables false from
   pub stuck : StepsTo tables from byte 1
-  pub looks : ℕ
-  pub counted : Done looks 0 0 before after
-  pub follows : (m : Dictionary) (text : ℕ → List ℕ) (t : AreTables m text tables) → IsOwnInverse m.pairing → i < t.len → (1 < i) × IsFollowing m t.len tables.start text i byte from looks
+  pub follows : (m : Dictionary) → IsOwnInverse m.pairing → linked.HasFollowed m (IsNamingOf m tables) tables.start i byte from before after
 
 -- at first
 pub followed-none : (tables : Tables) (i byte : ℕ) (steps : Steps) → IsVisited tables false i → StepsTo tables i byte 1 → HasFollowed tables i byte i steps steps
-followed-none tables i byte steps visited leads =
-    record {
-      visited = visited;
-      stuck = leads;
-      looks = 0;
-      counted = record { looked = omega arith; scanned = omega arith; moved = omega arith };
-      follows = λ m text t inverse within. let s = stuck m t.len tables.start text i byte t.texts (leads m text t within).1 visited.1 in (s.more, following-none m t.len tables.start text i byte within s.more visited.2);
-    }
-
--- the state to which it fails, with one look more
-following-fail : (m : Dictionary) (text : ℕ → List ℕ) (tables : Tables) (i byte from looks : ℕ) → (t : AreTables m text tables) → IsOwnInverse m.pairing → IsFollowing m t.len tables.start text i byte from looks → StepsTo tables from byte 1 → IsFollowing m t.len tables.start text i byte (fail_of tables.states.items from) (looks + 1)
-following-fail m text tables i byte from looks t inverse h leads =
-    let s = stuck m t.len tables.start text from byte t.texts (leads m text t h.within).1 h.stands in
-    let w = t.failures.within from h.within in
-    following-more m t.len tables.start text i byte from looks (fail_of tables.states.items from) inverse t.texts h (leads m text t h.within).1 (t.failures.fails from s.more h.within) w.0 w.1 w.2
+followed-none tables i byte steps visited leads = record {
+  visited = visited;
+  stuck = leads;
+  follows = λ m inverse. linked.followed-none m (IsNamingOf m tables) tables.start i byte 1 steps (names-edge m tables false i byte 1 leads) refl;
+}
 
 -- one state more
 pub followed-more : (tables : Tables) (i byte from fail : ℕ) (before between after : Steps) → HasFollowed tables i byte from before between → fail ≡ fail_of tables.states.items from → Done 1 0 0 between after → StepsTo tables fail byte 1 → HasFollowed tables i byte fail before after
-followed-more tables i byte from fail before between after h is one leads =
-    record {
-      visited = subst (IsVisited tables false) (sym is) (visited-fail tables from h.visited.0);
-      stuck = leads;
-      looks = h.looks + 1;
-      counted = record { looked = omega (arith, one.looked, h.counted.looked); scanned = omega (arith, one.scanned, h.counted.scanned); moved = omega (arith, one.moved, h.counted.moved) };
-      follows = λ m text t inverse within.
-          let f = h.follows m text t inverse within in
-          (f.0, subst (λ (n : ℕ). IsFollowing m t.len tables.start text i byte n (h.looks + 1)) (sym is) (following-fail m text tables i byte from h.looks t inverse f.1 h.stuck));
-    }
+followed-more tables i byte from fail before between after h is one leads = record {
+  visited = subst (IsVisited tables false) (sym is) (visited-fail tables from h.visited.0);
+  stuck = leads;
+  follows = λ m inverse.
+      linked.followed-more m (IsNamingOf m tables) tables.start i byte from fail 1 before between after (h.follows m inverse) (names-numbers m tables inverse) (names-failure m tables from fail is) one (names-edge m tables false fail byte 1 leads) refl;
+}
 
 -- where the byte leads from it
 pub followed-end : (tables : Tables) (i byte from fail j : ℕ) (before between after : Steps) → HasFollowed tables i byte from before between → fail ≡ fail_of tables.states.items from → Done 1 0 0 between after → StepsTo tables fail byte j → j ≢ 1 → LeadsNext tables false 1 i byte j before after
-followed-end tables i byte from fail j before between after h is one leads some m text t inverse within =
-    let f = h.follows m text t inverse within in
-    let at = subst (λ (n : ℕ). IsFollowing m t.len tables.start text i byte n (h.looks + 1)) (sym is) (following-fail m text tables i byte from h.looks t inverse f.1 h.stuck) in
-    let edge = leads m text t at.within in
-    let count : Done (h.looks + 1) 0 0 before after = record { looked = omega (arith, one.looked, h.counted.looked); scanned = omega (arith, one.scanned, h.counted.scanned); moved = omega (arith, one.moved, h.counted.moved) } in
-    following-end m t.len tables.start text i byte fail (h.looks + 1) j before after inverse t.texts f.0 at edge.1 edge.0 some (omega arith) count
+followed-end tables i byte from fail j before between after h is one leads some = λ m inverse.
+    linked.followed-end m (IsNamingOf m tables) tables.start i byte from fail j before between after (h.follows m inverse) (names-numbers m tables inverse) (names-failure m tables from fail is) one (names-edge m tables false fail byte j leads) some
+
+-- ---- a look-up
 
 -- straight on
-pub leads-straight : (tables : Tables) (anchored : Bool) (i byte j : ℕ) (before after : Steps) → IsVisited tables anchored i → StepsTo tables i byte j → j ≢ 1 → Done 1 0 0 before after → LeadsNext tables anchored 0 i byte j before after
-leads-straight tables anchored i byte j before after visited leads some one m text t inverse within =
-    let edge = leads m text t within in
-    next-straight m t.len tables.start text anchored i byte j before after inverse t.texts edge.1 within edge.0 visited.1 visited.2 some one
+pub leads-straight : (tables : Tables) (anchored : Bool) (i byte j : ℕ) (before after : Steps) → StepsTo tables i byte j → j ≢ 1 → Done 1 0 0 before after → LeadsNext tables anchored 0 i byte j before after
+leads-straight tables anchored i byte j before after leads some one = λ m inverse names fits met.
+    linked.paid-straight m names tables.start anchored i byte j before after (names-numbers m tables inverse names fits) (names-edge m tables anchored i byte j leads names fits met) met some one
+
+-- the dead state is met from either start, and stands for none
+pub zero-named : (m : Dictionary) (tables : Tables) (anchored : Bool) → (names : Naming) → IsNamingOf m tables names → IsTrue (names.met anchored 0) × (names.text 0 ≡ None)
+zero-named m tables anchored = of-names m tables (λ names. IsTrue (names.met anchored 0) × (names.text 0 ≡ None)) (λ text t.
+    let s = t.texts.starts in
+    (both-met text t.len tables.start 0 (omega (arith, s.1)) (λ e. omega (arith, e)) (λ e. omega (arith, s.0, e)) (λ e. omega (arith, e)) anchored, refl))
 
 -- to the dead state, in an anchored search
-pub leads-to_dead : (tables : Tables) (anchored : Bool) (i byte j k : ℕ) (before after : Steps) → anchored ≡ true → IsVisited tables anchored i → StepsTo tables i byte j → j ≡ 1 → k ≡ 0 → Done 1 0 0 before after → LeadsNext tables anchored 0 i byte k before after
-leads-to_dead tables false i byte j k before after free visited leads none zero_is one = absurd (cc)
-leads-to_dead tables true i byte j k before after free visited leads none zero_is one = λ m text t inverse within.
-    let edge = leads m text t within in
-    subst (λ (n : ℕ). IsNextState m t.len tables.start text true 0 i byte n before after) (sym zero_is)
-    (next-dead m t.len tables.start text i byte before after t.texts (subst (IsEdge m t.len tables.start text i byte) none edge.1) visited.1 one)
+pub leads-to_dead : (tables : Tables) (anchored : Bool) (i byte j k : ℕ) (before after : Steps) → anchored ≡ true → StepsTo tables i byte j → j ≡ 1 → k ≡ 0 → Done 1 0 0 before after → LeadsNext tables anchored 0 i byte k before after
+leads-to_dead tables false i byte j k before after free leads none zero_is one = absurd (cc)
+leads-to_dead tables true i byte j k before after free leads none zero_is one = λ m inverse names fits met.
+    let dead = subst (λ (n : ℕ). IsTrue (names.met true n) × (names.text n ≡ None)) (sym zero_is) (zero-named m tables true names fits) in
+    linked.paid-dead m names tables.start i byte j k before after (names-edge m tables true i byte j leads names fits met) none dead.0 dead.1 one
 
 -- over the states to which it fails
 pub leads-followed : (tables : Tables) (anchored : Bool) (i byte j : ℕ) (before between after : Steps) → anchored ≡ false → Done 1 0 0 before between → LeadsNext tables false 1 i byte j between after → LeadsNext tables anchored 0 i byte j before after
 leads-followed tables true i byte j before between after free one h = absurd (cc)
-leads-followed tables false i byte j before between after free one h = λ m text t inverse within. next-followed m t.len tables.start text i byte j before between after one (h m text t inverse within)
+leads-followed tables false i byte j before between after free one h = λ m inverse names fits met. linked.paid-followed m names i byte j before between after one (h m inverse names fits met)

@@ -21,18 +21,20 @@ use Rattle.ac_input.proofs.DeadLemmas.{too_many, dead-anchored, dead-failing}
 use Rattle.ac_input.proofs.LeadsLemmas.{fails-state, leads-itself, leads-one, leads-some}
 use Rattle.ac_input.proofs.OnceLemmas.{list-once}
 use Rattle.ac_input.proofs.SameLemmas.{own_inverse-pairing}
+use Rattle.ac_automaton.specs.Named.{IsNamed}
+use Rattle.ac_automaton.proofs.NamedLemmas.{named-read}
 use Rattle.ac_noncontiguous.specs.declared.nfa.NFA.{NFA}
 use Rattle.ac_noncontiguous.specs.declared.nfa.tables.State.{State}
 use Rattle.ac_noncontiguous.specs.declared.nfa.tables.Transition.{Transition}
 use Rattle.ac_noncontiguous.specs.declared.nfa.tables.Tables.{Tables}
 use Rattle.ac_noncontiguous.specs.Nfa.{state_of, transitions_from, matches_from, matches_len, no_transition, byte_at, next_at, edge_of, IsEdge, AreTexts, AreTransitions, AreRows, AreFailures, AreLists, AreTablesOf, last_special}
-use Rattle.ac_noncontiguous.specs.Lookups.{IsKept, IsVisited, other_start, LeadsNext, AreSame}
-use Rattle.ac_noncontiguous.specs.Reads.{dictionary, matches_at, IsRead}
+use Rattle.ac_noncontiguous.specs.Lookups.{IsKept, IsVisited, other_start, naming_of, IsNamingOf, LeadsNext, AreSame}
+use Rattle.ac_noncontiguous.specs.Reads.{dictionary, built_as, matches_at, is_start_at, is_special_at, IsRead}
 use Rattle.ac_noncontiguous.specs.ReadCalls.{state_len, fail_in, depth_in, edges_in, special_in, CountsIn, StandFor, TextsBegin, FailsIn, ListsIn, IsFull, AreLeading, EdgesLeadIn, MayBeMet, LeadsIn, AreRead, OrderedIn, AlikeIn, SpecialIn}
 use Rattle.ac_noncontiguous.proofs.LookupLemmas.{range-within}
-use Rattle.ac_noncontiguous.proofs.NextLemmas.{by-number, state-some, state-none}
+use Rattle.ac_noncontiguous.proofs.NextLemmas.{by-number, state-some, state-none, is-dead, is-met, met-is, of-names}
 use Rattle.ac_noncontiguous.proofs.NamesLemmas.{names-one}
-use Rattle.ac_noncontiguous.proofs.ReadLemmas.{tables-start, read-from}
+use Rattle.ac_noncontiguous.proofs.ReadLemmas.{tables-start, all-names}
 
 -- a number below the count of states is that of one
 pub below-kept : (nfa : NFA) (sid : ℕ) → sid < state_len nfa → IsKept nfa.tables sid
@@ -297,15 +299,18 @@ pub leads-in : (nfa : NFA) (anchored : Anchored) (sid byte next : ℕ) (before a
 leads-in nfa anchored sid byte next before after met h =
     let inverse = own_inverse-pairing nfa.pairing nfa.paired in
     let below = met.within in
-    let of = λ (w : (text : ℕ → List ℕ) × StandFor nfa text). h (dictionary nfa) w.0 w.1 inverse (omega (arith, w.1.counted, below)) in
+    let a = is_anchored anchored in
+    let start = nfa.tables.start in
+    let of = λ (w : (text : ℕ → List ℕ) × StandFor nfa text). (h (dictionary nfa) inverse (naming_of w.0 w.1.len start) (w.0, w.1, refl) (is-met w.0 w.1.len start a sid (omega (arith, w.1.counted, below)) met.stands met.own)).0 in
+    let there = λ (w : (text : ℕ → List ℕ) × StandFor nfa text). met-is w.0 w.1.len start a next (of w).met in
     record {
       met = record {
-        within = ∥∥₁_elim nfa.stands le_prop (λ w. let n = (of w).within in omega (arith, w.1.counted, n));
-        stands = λ e. ∥∥₁_elim nfa.stands (λ x y. absurd x) (λ w. (of w).stands e);
-        own = λ e. ∥∥₁_elim nfa.stands (λ x y. absurd x) (λ w. (of w).other e);
+        within = ∥∥₁_elim nfa.stands le_prop (λ w. let n = (there w).0 in omega (arith, w.1.counted, n));
+        stands = λ e. ∥∥₁_elim nfa.stands (λ x y. absurd x) (λ w. (there w).1 e);
+        own = λ e. ∥∥₁_elim nfa.stands (λ x y. absurd x) (λ w. (there w).2 e);
       };
-      dead = λ is. ∥∥₁_elim nfa.stands (Coded-set coded_ℕ next 0) (λ w. (of w).dead is);
-      leads = λ text t past. (of (text, t)).leads past;
+      dead = λ is. ∥∥₁_elim nfa.stands (Coded-set coded_ℕ next 0) (λ w. is-dead w.0 next (there w).1 ((of w).dead (state-none w.0 sid is)));
+      leads = λ text t past. (of (text, t)).leads (text sid) (state-some text sid past);
     }
 
 -- ---- which states are read
@@ -314,7 +319,8 @@ leads-in nfa anchored sid byte next before after met h =
 stands-read : (nfa : NFA) (names : ℕ → List ℕ) → StandFor nfa names → (anchored : Anchored) (text : List ℕ) (sid : ℕ) → MayBeMet nfa anchored sid → LeadsTo (dictionary nfa) (is_anchored anchored) text (state_of names sid) → IsRead nfa anchored text sid
 stands-read nfa names t anchored text sid met leads =
     let below = met.within in
-    read-from nfa anchored text sid ∣ (names, record { tables_of = t; within = omega (arith, t.counted, below); stands = met.stands; own = met.own; leads = leads }) ∣₁
+    named-read (built_as nfa) (IsNamingOf (dictionary nfa) nfa.tables) (matches_at nfa) (is_start_at nfa) (is_special_at nfa) (naming_of names t.len nfa.tables.start) anchored text sid (all-names nfa) (names, t, refl)
+    (record { met = is-met names t.len nfa.tables.start (is_anchored anchored) sid (omega (arith, t.counted, below)) met.stands met.own; leads = leads })
 
 -- its own text leads to each state past 1
 itself-read : (nfa : NFA) (names : ℕ → List ℕ) → StandFor nfa names → (anchored : Anchored) (sid : ℕ) → 1 < sid → MayBeMet nfa anchored sid → (text : List ℕ) × IsRead nfa anchored text sid
@@ -353,23 +359,30 @@ fail-read nfa names t sid past below not_full (suc (suc i)) is =
     let w = t.failures.within sid within in
     itself-read nfa names t No (suc (suc i)) (omega arith) (record { within = omega (arith, w.0, t.counted, is); stands = λ e. omega (arith, e); own = λ e. w.2 (sym is ∙ e) })
 
+-- what follows of a state that is read and the text, whatever the states stand for, holds of them
+read-holds : (P : Type 0) (nfa : NFA) (anchored : Anchored) (text : List ℕ) (sid : ℕ) → ((x y : P) → x ≡ y) → ((names : ℕ → List ℕ) (t : StandFor nfa names) → sid < t.len → sid ≢ 1 → sid ≢ other_start nfa.tables.start (is_anchored anchored) → LeadsTo (dictionary nfa) (is_anchored anchored) text (state_of names sid) → P) → IsRead nfa anchored text sid → P
+read-holds P nfa anchored text sid prop follows reads =
+    ∥∥₁_elim reads.reached prop (λ w.
+    of-names (dictionary nfa) nfa.tables (λ names. IsNamed (dictionary nfa) names (is_anchored anchored) text sid → P) (λ names t named.
+    let met = met-is names t.len nfa.tables.start (is_anchored anchored) sid named.met in
+    follows names t met.0 met.1 met.2 named.leads) w.0 w.1 w.2)
+
 -- what is read up to a state leads to what it stands for
 read-named : (nfa : NFA) (names : ℕ → List ℕ) → StandFor nfa names → (anchored : Anchored) (text : List ℕ) (sid : ℕ) → IsRead nfa anchored text sid → MayBeMet nfa anchored sid × LeadsTo (dictionary nfa) (is_anchored anchored) text (state_of names sid)
 read-named nfa names t anchored text sid reads =
     let m = dictionary nfa in
     let inverse = own_inverse-pairing nfa.pairing nfa.paired in
     let some = leads-some m (is_anchored anchored) text inverse in
-    let same : some.0 ≡ state_of names sid = ∥∥₁_elim reads.reached (Coded-set (coded_option (coded_list coded_ℕ)) some.0 (state_of names sid)) (λ w.
-    let leads = w.1.leads in
-    let one = leads-one m (is_anchored anchored) text some.0 (state_of w.0 sid) some.1 leads in
+    let same : some.0 ≡ state_of names sid = read-holds (some.0 ≡ state_of names sid) nfa anchored text sid (Coded-set (coded_option (coded_list coded_ℕ)) some.0 (state_of names sid)) (λ others u within stands own leads.
+    let one = leads-one m (is_anchored anchored) text some.0 (state_of others sid) some.1 leads in
     one ∙ ⊎_elim
-    (λ (none : (sid ≡ 0) × LeadsTo m (is_anchored anchored) text None). state-none w.0 sid none.0 ∙ sym (state-none names sid none.0))
-    (λ (more : (1 < sid) × LeadsTo m (is_anchored anchored) text (Some (w.0 sid))). state-some w.0 sid more.0 ∙ (ap Some (names-one m nfa.tables w.0 names inverse w.1.tables_of t sid more.0 w.1.within) ∙ sym (state-some names sid more.0)))
-    (by-number w.0 (LeadsTo m (is_anchored anchored) text) sid w.1.stands leads)) in (
+    (λ (none : (sid ≡ 0) × LeadsTo m (is_anchored anchored) text None). state-none others sid none.0 ∙ sym (state-none names sid none.0))
+    (λ (more : (1 < sid) × LeadsTo m (is_anchored anchored) text (Some (others sid))). state-some others sid more.0 ∙ (ap Some (names-one m nfa.tables others names inverse u t sid more.0 within) ∙ sym (state-some names sid more.0)))
+    (by-number others (LeadsTo m (is_anchored anchored) text) sid stands leads)) reads in (
       record {
-        within = ∥∥₁_elim reads.reached le_prop (λ w. let counted = w.1.tables_of.counted in let inside = w.1.within in omega (arith, counted, inside));
-        stands = λ e. ∥∥₁_elim reads.reached (λ x y. absurd x) (λ w. w.1.stands e);
-        own = λ e. ∥∥₁_elim reads.reached (λ x y. absurd x) (λ w. w.1.own e);
+        within = read-holds (sid < state_len nfa) nfa anchored text sid le_prop (λ others u within stands own leads. let counted = u.counted in omega (arith, counted, within)) reads;
+        stands = λ e. read-holds ⊥ nfa anchored text sid (λ x y. absurd x) (λ others u within stands own leads. stands e) reads;
+        own = λ e. read-holds ⊥ nfa anchored text sid (λ x y. absurd x) (λ others u within stands own leads. own e) reads;
       },
       subst (LeadsTo m (is_anchored anchored) text) same some.1,
     )

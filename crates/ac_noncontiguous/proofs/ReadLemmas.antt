@@ -1,78 +1,31 @@
 -- What the number of a state tells of the text that was read, and what its patterns do.
-use Rattle.std.proofs.Common.{◌≡◌, ◌≢◌, ◌⊎◌, ◌↔◌, ℕ, ◌+◌, ◌<◌, ◌≤◌, Bool, true, false, IsTrue, List, [], ◌∷◌, ◌++◌, length, take, drop, get_or, slice_get, Option, None, Some, inl, inr, ⊎_elim, refl, sym, ap, subst, ◌∙◌, arith, length-drop}
-use Rattle.std.specs.Prelude.{◌==◌, nat_le, slice_index}
-use Rattle.std.specs.Coded.{le_prop, Coded-set, coded_ℕ, coded_bool, coded_list}
+use Rattle.std.proofs.Common.{◌≡◌, ◌≢◌, ◌⊎◌, ◌↔◌, ℕ, ◌+◌, ◌<◌, ◌≤◌, Bool, true, false, IsTrue, List, [], ◌∷◌, length, take, drop, get_or, slice_get, Option, None, Some, inl, inr, ⊎_elim, refl, sym, ap, subst, ◌∙◌, arith, length-drop}
+use Rattle.std.specs.Prelude.{◌==◌, nat_le}
+use Rattle.std.specs.Coded.{le_prop, Coded-set, coded_ℕ, coded_list}
 use Rattle.std.proofs.Math.Logic.{∥∥₁_elim, ∥∥₁_map, ∥∥₁_prop}
-use Rattle.std.proofs.lemmas.Bool.{cases_lt, cases_eq, or_cases, eqb-true, false≢true}
+use Rattle.std.proofs.lemmas.Bool.{cases_lt, cases_eq, or_cases, eqb-true}
 use Rattle.std.proofs.lemmas.Bool.Decides.{nat_tests}
-use Rattle.std.proofs.lemmas.List.{length-take-le, get_or-take, get_or-drop, nil_from_length}
+use Rattle.std.proofs.lemmas.List.{length-take-le, get_or-take, get_or-drop}
 use Rattle.std.proofs.lemmas.Option.{slice_get_read}
 use Rattle.ac_input.specs.declared.primitives.number.TheConstants.{GREATEST}
 use Rattle.ac_input.specs.declared.search.Anchored.{Anchored}
-use Rattle.ac_input.specs.declared.search.Anchored.TheVariants.{No, Yes}
 use Rattle.ac_input.specs.declared.steps.Steps.{Steps}
 use Rattle.ac_input.specs.Candidate.{Filter}
-use Rattle.ac_input.specs.Dictionary.{Dictionary, BeginsEntered, IsLive, live_len}
+use Rattle.ac_input.specs.Dictionary.{Dictionary}
 use Rattle.ac_input.specs.Failure.{IsList}
 use Rattle.ac_input.specs.Input.{is_anchored}
-use Rattle.ac_input.specs.LiveLaws.{IsOwnInverse, canonical}
-use Rattle.ac_input.specs.States.{LeadsTo}
-use Rattle.ac_input.specs.Tells.{Tells}
-use Rattle.ac_input.specs.Work.{IsLookups}
 use Rattle.ac_input.proofs.SameLemmas.{own_inverse-pairing}
-use Rattle.ac_input.proofs.ShadowLemmas.{list-one}
-use Rattle.ac_input.proofs.SomeLemmas.{live-some, list-some}
-use Rattle.ac_input.proofs.StateLemmas.{live-one}
-use Rattle.ac_input.proofs.LeadsLemmas.{leads-one, leads-some, leads-itself, leads-child, leads-next, leads-anchored, leads-stays_dead, leads-long, leads-empty, leads-dead, leads-state, state-tells, dead-tells}
-use Rattle.ac_automaton.specs.Automaton.{IsReached, IsState, IsSpecial}
+use Rattle.ac_automaton.specs.Automaton.{IsReached, IsState, AtEach, Leads, IsReadCost, TellsDead, TellsStart}
+use Rattle.ac_automaton.specs.Named.{AreNames, AllNames, IsSpecialState, IsFirst}
+use Rattle.ac_automaton.proofs.CursorLemmas.{list-none}
+use Rattle.ac_automaton.proofs.NamedLemmas.{reached-met, state-met, read-start, read-next, read-cost, read-dead, read-starts, read-known}
 use Rattle.ac_noncontiguous.specs.declared.nfa.NFA.{NFA}
 use Rattle.ac_noncontiguous.specs.declared.nfa.tables.State.{State}
 use Rattle.ac_noncontiguous.specs.declared.nfa.tables.Tables.{Tables}
-use Rattle.ac_noncontiguous.specs.Nfa.{state_of, matches_from, matches_len, list_of, last_special, AreTablesOf}
-use Rattle.ac_noncontiguous.specs.Lookups.{IsKept, IsVisited, text_len, LeadsNext}
-use Rattle.ac_noncontiguous.specs.Reads.{dictionary, built_as, matches_at, is_start_at, is_special_at, IsReachedBy, IsRead}
-use Rattle.ac_noncontiguous.proofs.LookupLemmas.{read-at}
-use Rattle.ac_noncontiguous.proofs.NextLemmas.{by-number, state-some, state-none, begins-or-not}
-
--- ---- the numbers of states
-
--- where a text is dead, it leads to state 0,
-pub reached-dead : (m : Dictionary) (tables : Tables) (anchored : Bool) (text : List ℕ) (sid : ℕ) → IsReachedBy m tables anchored text sid → IsLive m anchored text None → sid ≤ 0
-reached-dead m tables anchored text sid h dead =
-    ∥∥₁_elim h le_prop (λ w.
-    ⊎_elim
-    (λ (none : (sid ≡ 0) × LeadsTo m anchored text None). omega (arith, none.0))
-    (λ (some : (1 < sid) × LeadsTo m anchored text (Some (w.0 sid))). absurd (let e = live-one m anchored text None (Some some.1.0) dead some.1.1 in cc))
-    (by-number w.0 (LeadsTo m anchored text) sid w.1.stands w.1.leads))
-
--- and else to one past 1
-pub reached-live : (m : Dictionary) (tables : Tables) (anchored : Bool) (text : List ℕ) (sid from : ℕ) → IsReachedBy m tables anchored text sid → IsLive m anchored text (Some from) → 1 < sid
-reached-live m tables anchored text sid from h live =
-    ∥∥₁_elim h le_prop (λ w.
-    ⊎_elim
-    (λ (none : (sid ≡ 0) × LeadsTo m anchored text None). absurd (let e = live-one m anchored text None (Some from) none.1 live in cc))
-    (λ (some : (1 < sid) × LeadsTo m anchored text (Some (w.0 sid))). some.0)
-    (by-number w.0 (LeadsTo m anchored text) sid w.1.stands w.1.leads))
-
--- so state 0 tells of a dead text
-pub zero-dead : (m : Dictionary) (tables : Tables) (anchored : Bool) (text : List ℕ) (sid : ℕ) → IsOwnInverse m.pairing → IsReachedBy m tables anchored text sid → sid ≡ 0 → IsLive m anchored text None
-zero-dead m tables anchored text sid inverse h is = by (live-some m anchored text inverse).0 (live-some m anchored text inverse).1
-  where
-    by : (r : Option ℕ) → IsLive m anchored text r → IsLive m anchored text None
-    by None dead = dead
-    by (Some from) live = let some = reached-live m tables anchored text sid from h live in absurd (omega (arith, some, is))
-
--- no state that is reached stands for none
-pub reached-stands : (m : Dictionary) (tables : Tables) (anchored : Bool) (text : List ℕ) (sid : ℕ) → IsReachedBy m tables anchored text sid → sid ≢ 1
-reached-stands m tables anchored text sid h e = ∥∥₁_elim h (λ x y. absurd x) (λ w. w.1.stands e)
-
--- such a state may be looked up
-pub reached-visited : (m : Dictionary) (tables : Tables) (anchored : Bool) (text : List ℕ) (sid : ℕ) → IsReachedBy m tables anchored text sid → IsVisited tables anchored sid
-reached-visited m tables anchored text sid h = (
-  ∥∥₁_map h (λ w. (m, w.0, w.1.tables_of, w.1.within)),
-  reached-stands m tables anchored text sid h,
-  λ e. ∥∥₁_elim h (λ x y. absurd x) (λ w. w.1.own e),
-)
+use Rattle.ac_noncontiguous.specs.Nfa.{state_of, matches_from, matches_len, list_of, last_special, AreTables, AreTablesOf}
+use Rattle.ac_noncontiguous.specs.Lookups.{IsKept, IsVisited, other_start, naming_of, IsNamingOf, LeadsNext}
+use Rattle.ac_noncontiguous.specs.Reads.{dictionary, built_as, matches_at, is_start_at, is_special_at, IsRead}
+use Rattle.ac_noncontiguous.proofs.NextLemmas.{state-some, state-none, is-dead, is-text, is-met, met-is, of-names}
 
 -- ---- where the starts stand
 
@@ -100,40 +53,6 @@ list-long states matches i within =
     let rest = length-drop (matches_from states i) matches in
     length-take-le (matches_len states i) (drop (matches_from states i) matches) (omega (arith, rest))
 
--- they stand among all
-pub reached-range : (m : Dictionary) (tables : Tables) (anchored : Bool) (text : List ℕ) (sid : ℕ) → IsReachedBy m tables anchored text sid → matches_from tables.states.items sid + matches_len tables.states.items sid ≤ length tables.matches.items
-reached-range m tables anchored text sid h = ∥∥₁_elim h le_prop (λ w. w.1.tables_of.lists.ranges sid w.1.within)
-
--- no list is both empty and not
-some-list : (xs : List ℕ) → xs ≢ [] → 0 < length xs
-some-list [] some = absurd (some refl)
-some-list (x ∷ xs) some = omega arith
-
--- where there are some, the state is at most the greatest that matches,
-pub reached-matches : (m : Dictionary) (tables : Tables) (anchored : Bool) (text : List ℕ) (sid : ℕ) → IsReachedBy m tables anchored text sid → list_of tables.states.items tables.matches.items sid ≢ [] → (1 < sid) × (sid ≤ tables.max_match)
-reached-matches m tables anchored text sid h some =
-    let long = list-long tables.states.items tables.matches.items sid (reached-range m tables anchored text sid h) in
-    let more = some-list (list_of tables.states.items tables.matches.items sid) some in
-    let past : 1 < sid = ∥∥₁_elim h le_prop (λ w.
-    ⊎_elim
-    (λ (lt : 1 < sid). lt)
-    (λ (le : sid ≤ 1).
-    let stands = w.1.stands in
-    let is : sid ≡ 0 = omega (arith, le, stands) in
-    let none = w.1.tables_of.lists.none.0 in
-    let same = ap (matches_len tables.states.items) is in
-    absurd (omega (arith, none, same, long, more)))
-    (cases_lt 1 sid)) in
-    (past, ∥∥₁_elim h le_prop (λ w. (w.1.tables_of.lists.some sid past w.1.within).0 (omega (arith, long, more))))
-
--- and else past it
-pub reached-many : (m : Dictionary) (tables : Tables) (anchored : Bool) (text : List ℕ) (sid : ℕ) → IsReachedBy m tables anchored text sid → 1 < sid → sid ≤ tables.max_match → list_of tables.states.items tables.matches.items sid ≢ []
-reached-many m tables anchored text sid h past le none =
-    let long = list-long tables.states.items tables.matches.items sid (reached-range m tables anchored text sid h) in
-    let empty = ap length none in
-    let some : 0 < matches_len tables.states.items sid = ∥∥₁_elim h le_prop (λ w. (w.1.tables_of.lists.some sid past w.1.within).1 le) in
-    omega (arith, long, empty, some)
-
 -- the one at a place of the list
 pub list-at : (states : List State) (matches : List ℕ) (i index x : ℕ) → matches_from states i + matches_len states i ≤ length matches → index < length (list_of states matches i) → x ≡ get_or matches (matches_from states i + index) x → slice_get (list_of states matches i) index ≡ Some x
 list-at states matches i index x range within is =
@@ -142,58 +61,37 @@ list-at states matches i index x range within is =
     let behind = get_or-drop (matches_from states i) matches index x in
     slice_get_read (list_of states matches i) (length (list_of states matches i)) index x refl within (is ∙ (sym behind ∙ sym front))
 
--- each is the number of a pattern
-pub reached-known : (m : Dictionary) (tables : Tables) (anchored : Bool) (text : List ℕ) (sid index x : ℕ) → IsReachedBy m tables anchored text sid → index < length (list_of tables.states.items tables.matches.items sid) → x ≡ get_or tables.matches.items (matches_from tables.states.items sid + index) x → x < length m.patterns
-reached-known m tables anchored text sid index x h within is =
-    let range = reached-range m tables anchored text sid h in
-    let long = list-long tables.states.items tables.matches.items sid range in
-    let place : matches_from tables.states.items sid + index < length tables.matches.items = omega (arith, long, range, within) in
-    let here = read-at tables.matches.items (matches_from tables.states.items sid + index) x 0 place is in
-    let known : slice_index tables.matches.items (matches_from tables.states.items sid + index) < length m.patterns = ∥∥₁_elim h le_prop (λ w. w.1.tables_of.lists.known (matches_from tables.states.items sid + index) place) in
-    omega (arith, here, known)
+-- no list is both empty and not
+some-list : (xs : List ℕ) → xs ≢ [] → 0 < length xs
+some-list [] some = absurd (some refl)
+some-list (x ∷ xs) some = omega arith
 
--- a list that is another's, whatever the texts are
-pub reached-list : (m : Dictionary) (tables : Tables) (anchored : Bool) (text state ns : List ℕ) (sid : ℕ) → IsReachedBy m tables anchored text sid → LeadsTo m anchored text (Some state) → IsList m state ns → ns ≡ list_of tables.states.items tables.matches.items sid
-reached-list m tables anchored text state ns sid h leads list =
-    ∥∥₁_elim h (Coded-set (coded_list coded_ℕ) ns (list_of tables.states.items tables.matches.items sid)) (λ w.
+-- where there are some, the state is past 1, and at most the greatest that matches,
+list-some : (m : Dictionary) (tables : Tables) (text : ℕ → List ℕ) (i : ℕ) → (t : AreTables m text tables) → i < t.len → i ≢ 1 → list_of tables.states.items tables.matches.items i ≢ [] → (1 < i) × (i ≤ tables.max_match)
+list-some m tables text i t within stands some =
+    let long = list-long tables.states.items tables.matches.items i (t.lists.ranges i within) in
+    let more = some-list (list_of tables.states.items tables.matches.items i) some in
     ⊎_elim
-    (λ (none : (sid ≡ 0) × LeadsTo m anchored text None). absurd (let e = leads-one m anchored text None (Some state) none.1 leads in cc))
-    (λ (some : (1 < sid) × LeadsTo m anchored text (Some (w.0 sid))).
-    let e : Some (w.0 sid) ≡ Some state = leads-one m anchored text (Some (w.0 sid)) (Some state) some.1 leads in
-    let same : w.0 sid ≡ state = cc in
-    let other = subst (λ (v : List ℕ). IsList m v (list_of tables.states.items tables.matches.items sid)) same (w.1.tables_of.lists.lists sid some.0 w.1.within) in
-    list-one m state ns list (list_of tables.states.items tables.matches.items sid) other)
-    (by-number w.0 (LeadsTo m anchored text) sid w.1.stands w.1.leads))
+    (λ (past : 1 < i). (past, (t.lists.some i past within).0 (omega (arith, long, more))))
+    (λ (le : i ≤ 1).
+    let none = t.lists.none.0 in
+    let same : matches_len tables.states.items i ≡ matches_len tables.states.items 0 = ap (matches_len tables.states.items) (omega (arith, le, stands)) in
+    absurd (omega (arith, none, same, long, more)))
+    (cases_lt 1 i)
+
+-- and else past it
+list-many : (m : Dictionary) (tables : Tables) (text : ℕ → List ℕ) (i : ℕ) → (t : AreTables m text tables) → i < t.len → 1 < i → i ≤ tables.max_match → list_of tables.states.items tables.matches.items i ≢ []
+list-many m tables text i t within past le none =
+    let long = list-long tables.states.items tables.matches.items i (t.lists.ranges i within) in
+    let empty = ap length none in
+    let some = (t.lists.some i past within).1 le in
+    omega (arith, long, empty, some)
 
 -- the dead state has none
-pub reached-none : (m : Dictionary) (tables : Tables) (anchored : Bool) (text : List ℕ) (sid : ℕ) → IsReachedBy m tables anchored text sid → sid ≡ 0 → list_of tables.states.items tables.matches.items sid ≡ []
-reached-none m tables anchored text sid h is =
-    ∥∥₁_elim h (Coded-set (coded_list coded_ℕ) (list_of tables.states.items tables.matches.items sid) []) (λ w.
-    let none : matches_len tables.states.items sid ≡ 0 = ap (matches_len tables.states.items) is ∙ w.1.tables_of.lists.none.0 in
-    ap (λ (k : ℕ). take k (drop (matches_from tables.states.items sid) tables.matches.items)) none)
-
--- ---- what they tell
-
--- from either start
-tells-some : (m : Dictionary) (anchored : Anchored) (text state ns : List ℕ) → IsOwnInverse m.pairing → IsList m state ns → LeadsTo m (is_anchored anchored) text (Some state) → Tells m anchored text ns
-tells-some m No text state ns inverse list leads = (state-tells m text state ns inverse list).0 leads
-tells-some m Yes text state ns inverse list leads = (state-tells m text state ns inverse list).1 leads
-
-tells-none : (m : Dictionary) (anchored : Anchored) (text : List ℕ) → IsOwnInverse m.pairing → LeadsTo m (is_anchored anchored) text None → Tells m anchored text []
-tells-none m No text inverse leads = (dead-tells m text inverse).0 leads
-tells-none m Yes text inverse leads = (dead-tells m text inverse).1 leads
-
--- the list of a state that is reached tells of the text
-pub reached-tells : (m : Dictionary) (tables : Tables) (anchored : Anchored) (text : List ℕ) (sid : ℕ) → IsOwnInverse m.pairing → IsReachedBy m tables (is_anchored anchored) text sid → Tells m anchored text (list_of tables.states.items tables.matches.items sid)
-reached-tells m tables anchored text sid inverse h = by (leads-some m (is_anchored anchored) text inverse).0 (leads-some m (is_anchored anchored) text inverse).1
-  where
-    by : (r : Option (List ℕ)) → LeadsTo m (is_anchored anchored) text r → Tells m anchored text (list_of tables.states.items tables.matches.items sid)
-    by None dead =
-        let le = reached-dead m tables (is_anchored anchored) text sid h dead in
-        subst (Tells m anchored text) (sym (reached-none m tables (is_anchored anchored) text sid h (omega (arith, le)))) (tells-none m anchored text inverse dead)
-    by (Some state) leads =
-        let ns = list-some m state inverse in
-        subst (Tells m anchored text) (reached-list m tables (is_anchored anchored) text state ns.0 sid h leads ns.1) (tells-some m anchored text state ns.0 inverse ns.1 leads)
+list-dead : (m : Dictionary) (tables : Tables) (text : ℕ → List ℕ) (i : ℕ) → AreTables m text tables → i ≡ 0 → list_of tables.states.items tables.matches.items i ≡ []
+list-dead m tables text i t is =
+    let none : matches_len tables.states.items i ≡ 0 = ap (matches_len tables.states.items) is ∙ t.lists.none.0 in
+    ap (λ (k : ℕ). take k (drop (matches_from tables.states.items i) tables.matches.items)) none
 
 -- ---- special states
 
@@ -231,23 +129,6 @@ special-start nfa sid past le =
     (λ (b : sid ≢ nfa.tables.start). let c : sid ≡ nfa.tables.start + 1 = omega arith in grind (arith, nat_tests))
     (cases_eq sid nfa.tables.start)
 
--- a special state of a live text matches, or is a start with a prefilter to ask
-special-live : (nfa : NFA) (anchored : Anchored) (text : List ℕ) (sid from : ℕ) → IsReachedBy (dictionary nfa) nfa.tables (is_anchored anchored) text sid → IsLive (dictionary nfa) (is_anchored anchored) text (Some from) → sid ≤ nfa.max_special → IsSpecial (built_as nfa) (matches_at nfa sid) (is_start_at nfa sid) anchored text
-special-live nfa anchored text sid from h live le =
-    let past = reached-live (dictionary nfa) nfa.tables (is_anchored anchored) text sid from h live in
-    ⊎_elim
-    (λ (match : sid ≤ nfa.tables.max_match). inr (inl (reached-many (dictionary nfa) nfa.tables (is_anchored anchored) text sid h past match)))
-    (λ (none : nfa.tables.max_match < sid).
-    ⊎_elim
-    (λ (free : nfa.prefilter ≡ None). let is = last-matches nfa.tables nfa.prefilter nfa.max_special nfa.special free in absurd (omega (arith, is, le, none)))
-    (λ (held : nfa.prefilter ≢ None). let is = last-start nfa.tables nfa.prefilter nfa.max_special nfa.special held in inr (inr (special-start nfa sid none (omega (arith, is, le)), held)))
-    (held-or-not nfa.prefilter))
-    (flip (cases_lt nfa.tables.max_match sid))
-  where
-    flip : (nfa.tables.max_match < sid) ⊎ (sid ≤ nfa.tables.max_match) → (sid ≤ nfa.tables.max_match) ⊎ (nfa.tables.max_match < sid)
-    flip (inl a) = inr a
-    flip (inr b) = inl b
-
 -- the last special state is no less than the greatest that matches
 special-matches : (nfa : NFA) → nfa.tables.max_match ≤ nfa.max_special
 special-matches nfa =
@@ -257,200 +138,172 @@ special-matches nfa =
     (λ (held : nfa.prefilter ≢ None). let is = last-start nfa.tables nfa.prefilter nfa.max_special nfa.special held in omega (arith, is, top))
     (held-or-not nfa.prefilter)
 
--- the states at which a search has more to do are those up to the last special one
-pub reached-stops : (nfa : NFA) (anchored : Anchored) (text : List ℕ) (sid : ℕ) → IsOwnInverse nfa.pairing → IsReachedBy (dictionary nfa) nfa.tables (is_anchored anchored) text sid → IsTrue (is_special_at nfa sid) ↔ IsSpecial (built_as nfa) (matches_at nfa sid) (is_start_at nfa sid) anchored text
-reached-stops nfa anchored text sid inverse h = (λ special. by (live-some (dictionary nfa) (is_anchored anchored) text inverse).0 (live-some (dictionary nfa) (is_anchored anchored) text inverse).1 ((special-le sid nfa.max_special).0 special), back)
-  where
-    by : (r : Option ℕ) → IsLive (dictionary nfa) (is_anchored anchored) text r → sid ≤ nfa.max_special → IsSpecial (built_as nfa) (matches_at nfa sid) (is_start_at nfa sid) anchored text
-    by None dead le = inl dead
-    by (Some from) live le = special-live nfa anchored text sid from h live le
+-- ---- the names of the states
 
-    back : IsSpecial (built_as nfa) (matches_at nfa sid) (is_start_at nfa sid) anchored text → IsTrue (is_special_at nfa sid)
-    back (inl dead) = let le = reached-dead (dictionary nfa) nfa.tables (is_anchored anchored) text sid h dead in (special-le sid nfa.max_special).1 (omega (arith, le))
-    back (inr (inl some)) = let le = (reached-matches (dictionary nfa) nfa.tables (is_anchored anchored) text sid h some).1 in let more = special-matches nfa in (special-le sid nfa.max_special).1 (omega (arith, le, more))
-    back (inr (inr held)) =
-        let is = last-start nfa.tables nfa.prefilter nfa.max_special nfa.special held.1 in
-        (special-le sid nfa.max_special).1 (⊎_elim (λ (a : sid ≡ nfa.tables.start). omega (arith, a, is)) (λ (b : sid ≡ nfa.tables.start + 1). omega (arith, b, is)) (start-is nfa sid held.0))
+-- a start has its number
+pub start-has : (nfa : NFA) (sid : ℕ) → (sid ≡ nfa.tables.start) ⊎ (sid ≡ nfa.tables.start + 1) → IsTrue (is_start_at nfa sid)
+start-has nfa sid (inl a) = grind (arith, nat_tests)
+start-has nfa sid (inr b) = let other : sid ≢ nfa.tables.start = λ e. omega (arith, b, e) in grind (arith, nat_tests)
+
+-- and the dead state doesn't
+start-past : (nfa : NFA) (sid : ℕ) → sid ≡ 0 → is_start_at nfa sid ≡ false
+start-past nfa sid is = by (is_start_at nfa sid) (start-is nfa sid)
+  where
+    by : (b : Bool) → (IsTrue b → (sid ≡ nfa.tables.start) ⊎ (sid ≡ nfa.tables.start + 1)) → b ≡ false
+    by false which = refl
+    by true which =
+        let some = tables-start (dictionary nfa) nfa.tables nfa.stands in
+        absurd (⊎_elim (λ (a : sid ≡ nfa.tables.start). omega (arith, a, is, some)) (λ (b : sid ≡ nfa.tables.start + 1). omega (arith, b, is)) (which refl))
+
+-- a state is special that is the dead one, that matches, or that is a start with a prefilter to ask
+special-forth : (nfa : NFA) (text : ℕ → List ℕ) (sid : ℕ) → (t : AreTables (dictionary nfa) text nfa.tables) → sid < t.len → sid ≢ 1 → sid ≤ nfa.max_special → IsSpecialState (built_as nfa) (matches_at nfa sid) (is_start_at nfa sid) (state_of text sid)
+special-forth nfa text sid t within stands le =
+    ⊎_elim
+    (λ (dead : sid ≡ 0). inl (state-none text sid dead))
+    (λ (apart : sid ≢ 0).
+    ⊎_elim
+    (λ (none : nfa.tables.max_match < sid).
+    ⊎_elim
+    (λ (free : nfa.prefilter ≡ None). let is = last-matches nfa.tables nfa.prefilter nfa.max_special nfa.special free in absurd (omega (arith, is, le, none)))
+    (λ (held : nfa.prefilter ≢ None). let is = last-start nfa.tables nfa.prefilter nfa.max_special nfa.special held in inr (inr (special-start nfa sid none (omega (arith, is, le)), held)))
+    (held-or-not nfa.prefilter))
+    (λ (match : sid ≤ nfa.tables.max_match). inr (inl (list-many (dictionary nfa) nfa.tables text sid t within (omega (arith, stands, apart)) match)))
+    (cases_lt nfa.tables.max_match sid))
+    (cases_eq sid 0)
+
+special-back : (nfa : NFA) (text : ℕ → List ℕ) (sid : ℕ) → (t : AreTables (dictionary nfa) text nfa.tables) → sid < t.len → sid ≢ 1 → IsSpecialState (built_as nfa) (matches_at nfa sid) (is_start_at nfa sid) (state_of text sid) → sid ≤ nfa.max_special
+special-back nfa text sid t within stands (inl dead) = let is = is-dead text sid stands dead in omega (arith, is)
+special-back nfa text sid t within stands (inr (inl some)) = let le = (list-some (dictionary nfa) nfa.tables text sid t within stands some).1 in let more = special-matches nfa in omega (arith, le, more)
+special-back nfa text sid t within stands (inr (inr held)) =
+    let is = last-start nfa.tables nfa.prefilter nfa.max_special nfa.special held.1 in
+    ⊎_elim (λ (a : sid ≡ nfa.tables.start). omega (arith, a, is)) (λ (b : sid ≡ nfa.tables.start + 1). omega (arith, b, is)) (start-is nfa sid held.0)
+
+-- the lists and the tests of the states are those of their texts,
+are-names : (nfa : NFA) (text : ℕ → List ℕ) → (t : AreTables (dictionary nfa) text nfa.tables) → AreNames (built_as nfa) (matches_at nfa) (is_start_at nfa) (is_special_at nfa) (naming_of text t.len nfa.tables.start)
+are-names nfa text t =
+    let start = nfa.tables.start in
+    record {
+      inverse = own_inverse-pairing nfa.pairing nfa.paired;
+      lists = λ anchored sid state met some.
+          let is = is-text text sid state some in
+          subst (λ (v : List ℕ). IsList (dictionary nfa) v (matches_at nfa sid)) is.1 (t.lists.lists sid is.0 (met-is text t.len start anchored sid met).0);
+      none = λ anchored sid met none.
+          let is = is-dead text sid (met-is text t.len start anchored sid met).1 none in
+          (list-dead (dictionary nfa) nfa.tables text sid t is, start-past nfa sid is);
+      starting = λ anchored sid state met some.
+          let is = is-text text sid state some in (
+            (λ start_is. sym is.1 ∙ ⊎_elim (λ (a : sid ≡ start). ap text a ∙ t.texts.starts.2) (λ (b : sid ≡ start + 1). ap text b ∙ t.texts.starts.3) (start-is nfa sid start_is)),
+            (λ empty. start-has nfa sid (t.texts.others sid is.0 (met-is text t.len start anchored sid met).0 (is.1 ∙ empty))),
+          );
+      stopping = λ anchored sid met.
+          let w = met-is text t.len start anchored sid met in (
+            (λ le. special-forth nfa text sid t w.0 w.1 ((special-le sid nfa.max_special).0 le)),
+            (λ special. (special-le sid nfa.max_special).1 (special-back nfa text sid t w.0 w.1 special)),
+          );
+    }
+
+-- whatever texts they stand for
+pub all-names : (nfa : NFA) → AllNames (built_as nfa) (IsNamingOf (dictionary nfa) nfa.tables) (matches_at nfa) (is_start_at nfa) (is_special_at nfa)
+all-names nfa = of-names (dictionary nfa) nfa.tables (AreNames (built_as nfa) (matches_at nfa) (is_start_at nfa) (is_special_at nfa)) (are-names nfa)
 
 -- ---- what is read
-
--- a state that is reached is read
-pub read-from : (nfa : NFA) (anchored : Anchored) (text : List ℕ) (sid : ℕ) → IsReachedBy (dictionary nfa) nfa.tables (is_anchored anchored) text sid → IsRead nfa anchored text sid
-read-from nfa anchored text sid h =
-    let inverse = own_inverse-pairing nfa.pairing nfa.paired in
-    record {
-      reached = h;
-      tells = reached-tells (dictionary nfa) nfa.tables anchored text sid inverse h;
-      lives = live-some (dictionary nfa) (is_anchored anchored) text inverse;
-      inverse = inverse;
-      stops = reached-stops nfa anchored text sid inverse h;
-    }
-
--- ---- one more byte
-
--- where the state leads with it the text does
-pub leads-on : (m : Dictionary) (anchored : Bool) (text state : List ℕ) (byte : ℕ) (r : Option (List ℕ)) → IsOwnInverse m.pairing → LeadsTo m anchored text (Some state) → LeadsTo m anchored (state ++ byte ∷ []) r → LeadsTo m anchored (text ++ byte ∷ []) r
-leads-on m false text state byte r inverse live h = (leads-next m text state byte r inverse live).0 h
-leads-on m true text state byte r inverse live h =
-    let on = leads-anchored m text state byte inverse live in
-    ⊎_elim
-    (λ (begins : BeginsEntered m (state ++ byte ∷ [])).
-    let child = leads-child m true state byte (leads-state m true text state inverse live).0 begins in
-    subst (LeadsTo m true (text ++ byte ∷ [])) (leads-one m true (state ++ byte ∷ []) (Some (state ++ canonical m.pairing byte ∷ [])) r child h) (on.0 begins))
-    (λ (none : ¬ BeginsEntered m (state ++ byte ∷ [])). subst (LeadsTo m true (text ++ byte ∷ [])) (leads-one m true (state ++ byte ∷ []) None r (leads-dead m (state ++ byte ∷ []) none) h) (on.1 none))
-    (begins-or-not m (state ++ byte ∷ []) inverse)
-
--- the state after it is reached by the text with it
-pub reached-next : (m : Dictionary) (tables : Tables) (anchored : Bool) (text : List ℕ) (sid byte j : ℕ) (before after : Steps) → IsOwnInverse m.pairing → LeadsNext tables anchored 0 sid byte j before after → IsReachedBy m tables anchored text sid → IsReachedBy m tables anchored (text ++ byte ∷ []) j
-reached-next m tables anchored text sid byte j before after inverse next h =
-    ∥∥₁_map h (λ w.
-    let n = next m w.0 w.1.tables_of inverse w.1.within in (
-      w.0,
-      record {
-        tables_of = w.1.tables_of;
-        within = n.within;
-        stands = n.stands;
-        own = n.other;
-        leads = ⊎_elim
-            (λ (none : (sid ≡ 0) × LeadsTo m anchored text None). subst (LeadsTo m anchored (text ++ byte ∷ [])) (sym (state-none w.0 j (n.dead none.0))) (leads-stays_dead m anchored text (byte ∷ []) none.1))
-            (λ (some : (1 < sid) × LeadsTo m anchored text (Some (w.0 sid))). leads-on m anchored text (w.0 sid) byte (state_of w.0 j) inverse some.1 (n.leads some.0))
-            (by-number w.0 (LeadsTo m anchored text) sid w.1.stands w.1.leads);
-      },
-    ))
-
--- as many bytes are live as the state has
-live-bytes : (m : Dictionary) (anchored : Bool) (text : List ℕ) (r : Option (List ℕ)) (live : Option ℕ) → LeadsTo m anchored text r → IsLive m anchored text live → live_len text live ≡ text_len r
-live-bytes m anchored text None live leads is = ap (live_len text) (live-one m anchored text live None is leads)
-live-bytes m anchored text (Some state) live leads is = leads-long m anchored text state live leads is
-
--- what a look-up costs, of texts
-pub reached-cost : (m : Dictionary) (tables : Tables) (anchored : Bool) (text : List ℕ) (sid byte j : ℕ) (p q : Option ℕ) (before after : Steps) → IsOwnInverse m.pairing → LeadsNext tables anchored 0 sid byte j before after → IsReachedBy m tables anchored text sid → IsLive m anchored text p → IsLive m anchored (text ++ byte ∷ []) q → IsLookups false 1 (live_len text p) (live_len (text ++ byte ∷ []) q) before after
-reached-cost m tables anchored text sid byte j p q before after inverse next h g k =
-    let there = reached-next m tables anchored text sid byte j before after inverse next h in
-    record {
-      some = ∥∥₁_elim h le_prop (λ w. let c = (next m w.0 w.1.tables_of inverse w.1.within).cost in let d = c.1.looked in let e = c.2 in omega (arith, d, e));
-      bound = ∥∥₁_elim h le_prop (λ w.
-          let n = next m w.0 w.1.tables_of inverse w.1.within in
-          let c = n.cost in
-          let d = c.1.looked in
-          let e = c.3 in
-          let a = live-bytes m anchored text (state_of w.0 sid) p w.1.leads g in
-          let leads : LeadsTo m anchored (text ++ byte ∷ []) (state_of w.0 j) = ⊎_elim
-          (λ (none : (sid ≡ 0) × LeadsTo m anchored text None). subst (LeadsTo m anchored (text ++ byte ∷ [])) (sym (state-none w.0 j (n.dead none.0))) (leads-stays_dead m anchored text (byte ∷ []) none.1))
-          (λ (some : (1 < sid) × LeadsTo m anchored text (Some (w.0 sid))). leads-on m anchored text (w.0 sid) byte (state_of w.0 j) inverse some.1 (n.leads some.0))
-          (by-number w.0 (LeadsTo m anchored text) sid w.1.stands w.1.leads) in
-          let b = live-bytes m anchored (text ++ byte ∷ []) (state_of w.0 j) q leads k in
-          omega (arith, d, e, a, b));
-      one = λ e. absurd (false≢true e);
-      scanned = ∥∥₁_elim h (Coded-set coded_ℕ _ _) (λ w. let c = (next m w.0 w.1.tables_of inverse w.1.within).cost in let d = c.1.scanned in omega (arith, d));
-      moved = ∥∥₁_elim h (Coded-set coded_ℕ _ _) (λ w. let c = (next m w.0 w.1.tables_of inverse w.1.within).cost in let d = c.1.moved in omega (arith, d));
-    }
-
--- ---- the starts
 
 -- the start of a search
 abbrev pub start_of : ℕ → Bool → ℕ
 start_of start false = start
 start_of start true = start + 1
 
--- before the first byte
-pub reached-start : (m : Dictionary) (tables : Tables) (anchored : Bool) (sid : ℕ) → ∥ AreTablesOf m tables ∥₁ → sid ≡ start_of tables.start anchored → IsReachedBy m tables anchored [] sid
-reached-start m tables false sid h is =
-    ∥∥₁_map h (λ w. let s = w.1.texts.starts in (
-      w.0,
-      record {
-        tables_of = w.1;
-        within = omega (arith, s.1, is);
-        stands = λ e. omega (arith, s.0, is, e);
-        own = λ e. omega (arith, is, e);
-        leads =
-            let some : 1 < sid = omega (arith, s.0, is) in
-            let empty : w.0 sid ≡ [] = ap w.0 is ∙ s.2 in
-            subst (LeadsTo m false []) (ap Some (sym empty) ∙ sym (state-some w.0 sid some)) (leads-itself m false [] tt);
-      },
-    ))
-reached-start m tables true sid h is =
-    ∥∥₁_map h (λ w. let s = w.1.texts.starts in (
-      w.0,
-      record {
-        tables_of = w.1;
-        within = omega (arith, s.1, is);
-        stands = λ e. omega (arith, s.0, is, e);
-        own = λ e. omega (arith, is, e);
-        leads =
-            let some : 1 < sid = omega (arith, s.0, is) in
-            let empty : w.0 sid ≡ [] = ap w.0 is ∙ s.3 in
-            subst (LeadsTo m true []) (ap Some (sym empty) ∙ sym (state-some w.0 sid some)) (leads-itself m true [] tt);
-      },
-    ))
+-- it stands for the empty text
+start-first : (nfa : NFA) (anchored : Bool) (text : ℕ → List ℕ) → (t : AreTables (dictionary nfa) text nfa.tables) → IsFirst (naming_of text t.len nfa.tables.start) anchored (start_of nfa.tables.start anchored)
+start-first nfa false text t =
+    let start = nfa.tables.start in
+    let s = t.texts.starts in
+    record { met = is-met text t.len start false start (omega (arith, s.1)) (λ e. omega (arith, s.0, e)) (λ e. omega (arith, e)); empty = state-some text start s.0 ∙ ap Some s.2 }
+start-first nfa true text t =
+    let start = nfa.tables.start in
+    let s = t.texts.starts in
+    record { met = is-met text t.len start true (start + 1) s.1 (λ e. omega (arith, s.0, e)) (λ e. omega (arith, e)); empty = state-some text (start + 1) (omega (arith, s.0)) ∙ ap Some s.3 }
 
--- a text that has come to a start is not dead
-pub start-alive : (nfa : NFA) (anchored : Bool) (text : List ℕ) (sid : ℕ) → IsReachedBy (dictionary nfa) nfa.tables anchored text sid → (sid ≡ nfa.tables.start) ⊎ (sid ≡ nfa.tables.start + 1) → ¬ IsLive (dictionary nfa) anchored text None
-start-alive nfa anchored text sid h is dead =
-    let le = reached-dead (dictionary nfa) nfa.tables anchored text sid h dead in
-    let some = tables-start (dictionary nfa) nfa.tables nfa.stands in
-    ⊎_elim (λ (a : sid ≡ nfa.tables.start). omega (arith, a, le, some)) (λ (b : sid ≡ nfa.tables.start + 1). omega (arith, b, le)) is
+-- so it is read before the first byte
+pub start-read : (nfa : NFA) (anchored : Anchored) (sid : ℕ) → sid ≡ start_of nfa.tables.start (is_anchored anchored) → IsRead nfa anchored [] sid
+start-read nfa anchored sid is =
+    subst (IsRead nfa anchored []) (sym is)
+    (read-start (built_as nfa) (IsNamingOf (dictionary nfa) nfa.tables) (matches_at nfa) (is_start_at nfa) (is_special_at nfa) anchored (start_of nfa.tables.start (is_anchored anchored)) (all-names nfa)
+    (∥∥₁_map nfa.stands (λ w. (naming_of w.0 w.1.len nfa.tables.start, (w.0, w.1, refl), start-first nfa (is_anchored anchored) w.0 w.1))))
 
--- and nothing of it is live
-pub start-empty : (nfa : NFA) (anchored : Bool) (text : List ℕ) (sid : ℕ) → IsReachedBy (dictionary nfa) nfa.tables anchored text sid → (sid ≡ nfa.tables.start) ⊎ (sid ≡ nfa.tables.start + 1) → IsLive (dictionary nfa) anchored text (Some (length text))
-start-empty nfa anchored text sid h is = by (leads-some (dictionary nfa) anchored text (own_inverse-pairing nfa.pairing nfa.paired)).0 (leads-some (dictionary nfa) anchored text (own_inverse-pairing nfa.pairing nfa.paired)).1
-  where
-    by : (r : Option (List ℕ)) → LeadsTo (dictionary nfa) anchored text r → IsLive (dictionary nfa) anchored text (Some (length text))
-    by None dead = absurd (start-alive nfa anchored text sid h is dead)
-    by (Some state) leads =
-        let short : length state ≤ 0 = ∥∥₁_elim h le_prop (λ w.
-        let s = w.1.tables_of.texts.starts in
-        let empty : w.0 sid ≡ [] = ⊎_elim (λ (a : sid ≡ nfa.tables.start). ap w.0 a ∙ s.2) (λ (b : sid ≡ nfa.tables.start + 1). ap w.0 b ∙ s.3) is in
-        let past : 1 < sid = ⊎_elim (λ (a : sid ≡ nfa.tables.start). omega (arith, a, s.0)) (λ (b : sid ≡ nfa.tables.start + 1). omega (arith, b, s.0)) is in
-        let e : Some (w.0 sid) ≡ Some state = leads-one (dictionary nfa) anchored text (Some (w.0 sid)) (Some state) (subst (LeadsTo (dictionary nfa) anchored text) (state-some w.0 sid past) w.1.leads) leads in
-        let same : state ≡ [] = cc in
-        let none = ap length same in
-        omega (arith, none)) in
-        leads-empty (dictionary nfa) anchored text (subst (λ (v : List ℕ). LeadsTo (dictionary nfa) anchored text (Some v)) (nil_from_length state (omega (arith, short))) leads)
+-- a look-up leads where the byte does,
+pub next-read : (nfa : NFA) (anchored : Anchored) (sid byte next : ℕ) (before after : Steps) → LeadsNext nfa.tables (is_anchored anchored) 0 sid byte next before after → Leads (IsRead nfa anchored) sid (byte ∷ []) next
+next-read nfa anchored sid byte next before after leads =
+    read-next (built_as nfa) (IsNamingOf (dictionary nfa) nfa.tables) (matches_at nfa) (is_start_at nfa) (is_special_at nfa) anchored sid byte next (all-names nfa)
+    (λ names fits met. (leads (dictionary nfa) (own_inverse-pairing nfa.pairing nfa.paired) names fits met).0)
 
--- a start has its number
-start-has : (nfa : NFA) (sid : ℕ) → (sid ≡ nfa.tables.start) ⊎ (sid ≡ nfa.tables.start + 1) → IsTrue (is_start_at nfa sid)
-start-has nfa sid (inl a) = grind (arith, nat_tests)
-start-has nfa sid (inr b) = let other : sid ≢ nfa.tables.start = λ e. omega (arith, b, e) in grind (arith, nat_tests)
-
--- and where nothing of a text is live, it has come to a start: only the two starts stand for the empty text
-pub empty-start : (nfa : NFA) (anchored : Bool) (text : List ℕ) (sid : ℕ) → IsReachedBy (dictionary nfa) nfa.tables anchored text sid → IsLive (dictionary nfa) anchored text (Some (length text)) → IsTrue (is_start_at nfa sid)
-empty-start nfa anchored text sid h live =
-    ∥∥₁_elim h (Coded-set coded_bool (is_start_at nfa sid) true) (λ w.
-    ⊎_elim
-    (λ (none : (sid ≡ 0) × LeadsTo (dictionary nfa) anchored text None). absurd (let e = live-one (dictionary nfa) anchored text None (Some (length text)) none.1 live in cc))
-    (λ (some : (1 < sid) × LeadsTo (dictionary nfa) anchored text (Some (w.0 sid))).
-    let long = leads-long (dictionary nfa) anchored text (w.0 sid) (Some (length text)) some.1 live in
-    start-has nfa sid (w.1.tables_of.texts.others sid some.0 w.1.within (nil_from_length (w.0 sid) (omega (arith, long)))))
-    (by-number w.0 (LeadsTo (dictionary nfa) anchored text) sid w.1.stands w.1.leads))
+-- and is paid by the bytes that are given up
+pub next-cost : (nfa : NFA) (anchored : Anchored) (sid byte next : ℕ) (before after : Steps) → LeadsNext nfa.tables (is_anchored anchored) 0 sid byte next before after → IsReadCost (built_as nfa) (IsRead nfa) anchored sid (byte ∷ []) before after
+next-cost nfa anchored sid byte next before after leads =
+    read-cost (built_as nfa) (IsNamingOf (dictionary nfa) nfa.tables) (matches_at nfa) (is_start_at nfa) (is_special_at nfa) anchored sid byte next before after refl
+    (λ names fits met. leads (dictionary nfa) (own_inverse-pairing nfa.pairing nfa.paired) names fits met)
 
 -- ---- a state that some text reaches
 
+-- what follows of a state that isn't the fail state, whatever the states stand for, holds of it,
+pub state-holds : (P : Type 0) (nfa : NFA) (sid : ℕ) → ((x y : P) → x ≡ y) → ((text : ℕ → List ℕ) (t : AreTables (dictionary nfa) text nfa.tables) → sid < t.len → sid ≢ 1 → P) → IsState (IsRead nfa) sid → P
+state-holds P nfa sid prop follows =
+    state-met P (built_as nfa) (IsNamingOf (dictionary nfa) nfa.tables) (matches_at nfa) (is_start_at nfa) (is_special_at nfa) sid prop
+    (λ anchored. of-names (dictionary nfa) nfa.tables (λ names. IsTrue (names.met anchored sid) → P) (λ text t met. let w = met-is text t.len nfa.tables.start anchored sid met in follows text t w.0 w.1))
+
+-- and where the search is of one anchoring, what follows of one that isn't the start of the other either
+reached-holds : (P : Type 0) (nfa : NFA) (anchored : Anchored) (sid : ℕ) → ((x y : P) → x ≡ y) → ((text : ℕ → List ℕ) (t : AreTables (dictionary nfa) text nfa.tables) → sid < t.len → sid ≢ 1 → sid ≢ other_start nfa.tables.start (is_anchored anchored) → P) → IsReached (IsRead nfa anchored) sid → P
+reached-holds P nfa anchored sid prop follows =
+    reached-met P (built_as nfa) (IsNamingOf (dictionary nfa) nfa.tables) (matches_at nfa) (is_start_at nfa) (is_special_at nfa) anchored sid prop
+    (of-names (dictionary nfa) nfa.tables (λ names. IsTrue (names.met (is_anchored anchored) sid) → P) (λ text t met. let w = met-is text t.len nfa.tables.start (is_anchored anchored) sid met in follows text t w.0 w.1 w.2))
+
 -- it may be looked up,
 pub state-kept : (nfa : NFA) (sid : ℕ) → IsState (IsRead nfa) sid → IsKept nfa.tables sid
-state-kept nfa sid h = ∥∥₁_elim h ∥∥₁_prop (λ w. (reached-visited (dictionary nfa) nfa.tables (is_anchored w.0) w.1 sid w.2.reached).0)
+state-kept nfa sid = state-holds (IsKept nfa.tables sid) nfa sid ∥∥₁_prop (λ text t within stands. ∣ (dictionary nfa, text, t, within) ∣₁)
 
 pub state-visited : (nfa : NFA) (anchored : Anchored) (sid : ℕ) → IsReached (IsRead nfa anchored) sid → IsVisited nfa.tables (is_anchored anchored) sid
 state-visited nfa anchored sid h = (
-  ∥∥₁_elim h ∥∥₁_prop (λ w. (reached-visited (dictionary nfa) nfa.tables (is_anchored anchored) w.0 sid w.1.reached).0),
-  λ e. ∥∥₁_elim h (λ x y. absurd x) (λ w. (reached-visited (dictionary nfa) nfa.tables (is_anchored anchored) w.0 sid w.1.reached).1 e),
-  λ e. ∥∥₁_elim h (λ x y. absurd x) (λ w. (reached-visited (dictionary nfa) nfa.tables (is_anchored anchored) w.0 sid w.1.reached).2 e),
+  reached-holds (IsKept nfa.tables sid) nfa anchored sid ∥∥₁_prop (λ text t within stands own. ∣ (dictionary nfa, text, t, within) ∣₁) h,
+  λ e. reached-holds ⊥ nfa anchored sid (λ x y. absurd x) (λ text t within stands own. stands e) h,
+  λ e. reached-holds ⊥ nfa anchored sid (λ x y. absurd x) (λ text t within stands own. own e) h,
 )
 
 -- its patterns stand among all,
 pub state-range : (nfa : NFA) (sid : ℕ) → IsState (IsRead nfa) sid → matches_from nfa.tables.states.items sid + matches_len nfa.tables.states.items sid ≤ length nfa.tables.matches.items
-state-range nfa sid h = ∥∥₁_elim h le_prop (λ w. reached-range (dictionary nfa) nfa.tables (is_anchored w.0) w.1 sid w.2.reached)
+state-range nfa sid = state-holds _ nfa sid le_prop (λ text t within stands. t.lists.ranges sid within)
 
 -- each is the number of one,
-pub state-known : (nfa : NFA) (sid index x : ℕ) → IsState (IsRead nfa) sid → index < length (matches_at nfa sid) → x ≡ get_or nfa.tables.matches.items (matches_from nfa.tables.states.items sid + index) x → x < length (dictionary nfa).patterns
-state-known nfa sid index x h within is = ∥∥₁_elim h le_prop (λ w. reached-known (dictionary nfa) nfa.tables (is_anchored w.0) w.1 sid index x w.2.reached within is)
+pub state-known : (nfa : NFA) (sid index x : ℕ) → IsState (IsRead nfa) sid → slice_get (matches_at nfa sid) index ≡ Some x → x < length (dictionary nfa).patterns
+state-known nfa sid index x h is = read-known (built_as nfa) (IsNamingOf (dictionary nfa) nfa.tables) (matches_at nfa) (is_start_at nfa) (is_special_at nfa) sid index x (all-names nfa) h is
 
 -- and it has some where it is past 1 and no greater than the greatest that matches
 pub state-matches : (nfa : NFA) (sid : ℕ) → IsState (IsRead nfa) sid → matches_at nfa sid ≢ [] → (1 < sid) × (sid ≤ nfa.tables.max_match)
 state-matches nfa sid h some = (
-  ∥∥₁_elim h le_prop (λ w. (reached-matches (dictionary nfa) nfa.tables (is_anchored w.0) w.1 sid w.2.reached some).0),
-  ∥∥₁_elim h le_prop (λ w. (reached-matches (dictionary nfa) nfa.tables (is_anchored w.0) w.1 sid w.2.reached some).1),
+  state-holds (1 < sid) nfa sid le_prop (λ text t within stands. (list-some (dictionary nfa) nfa.tables text sid t within stands some).0) h,
+  state-holds (sid ≤ nfa.tables.max_match) nfa sid le_prop (λ text t within stands. (list-some (dictionary nfa) nfa.tables text sid t within stands some).1) h,
 )
 
 pub state-many : (nfa : NFA) (sid : ℕ) → IsState (IsRead nfa) sid → 1 < sid → sid ≤ nfa.tables.max_match → matches_at nfa sid ≢ []
-state-many nfa sid h past le none = ∥∥₁_elim h (λ x y. absurd x) (λ w. reached-many (dictionary nfa) nfa.tables (is_anchored w.0) w.1 sid w.2.reached past le none)
+state-many nfa sid h past le none = state-holds ⊥ nfa sid (λ x y. absurd x) (λ text t within stands. list-many (dictionary nfa) nfa.tables text sid t within past le none) h
+
+-- the start has none where it is past the greatest
+pub start-plain : (nfa : NFA) → nfa.tables.max_match < nfa.tables.start → matches_at nfa nfa.tables.start ≡ []
+start-plain nfa apart =
+    ∥∥₁_elim nfa.stands (Coded-set (coded_list coded_ℕ) (matches_at nfa nfa.tables.start) []) (λ w.
+    let s = w.1.texts.starts in
+    list-none (matches_at nfa nfa.tables.start) (λ some. let m = list-some (dictionary nfa) nfa.tables w.0 nfa.tables.start w.1 (omega (arith, s.1)) (λ e. omega (arith, s.0, e)) some in omega (arith, m.1, apart)))
+
+-- ---- what its tests tell
+
+-- whether it is the dead state
+pub dead-said : (nfa : NFA) (sid : ℕ) (dead : Bool) → IsTrue dead ↔ (sid ≡ 0) → AtEach (IsRead nfa) sid (TellsDead (built_as nfa) dead)
+dead-said nfa sid dead is =
+    read-dead (built_as nfa) (IsNamingOf (dictionary nfa) nfa.tables) (matches_at nfa) (is_start_at nfa) (is_special_at nfa) sid dead
+    (λ anchored. of-names (dictionary nfa) nfa.tables (λ names. IsTrue (names.met anchored sid) → (names.text sid ≡ None) ↔ IsTrue dead) (λ text t met.
+    ((λ none. is.1 (is-dead text sid (met-is text t.len nfa.tables.start anchored sid met).1 none)), (λ tells. state-none text sid (is.0 tells)))))
+
+-- whether it is a start
+pub start-said : (nfa : NFA) (sid : ℕ) (start : Bool) → start ≡ is_start_at nfa sid → TellsStart (built_as nfa) (IsRead nfa) (matches_at nfa) sid start
+start-said nfa sid start is =
+    subst (TellsStart (built_as nfa) (IsRead nfa) (matches_at nfa) sid) (sym is)
+    (read-starts (built_as nfa) (IsNamingOf (dictionary nfa) nfa.tables) (matches_at nfa) (is_start_at nfa) (is_special_at nfa) sid (all-names nfa))

@@ -38,8 +38,6 @@ pub mod Lists
 pub mod PatternLens
 pub mod Nfa
 pub mod Lookups
-pub mod Starters
-pub mod Idle
 pub mod Reads
 pub mod ReadCalls
 pub mod Builder

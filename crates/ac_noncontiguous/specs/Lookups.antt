@@ -1,10 +1,9 @@
 -- What the look-ups in the tables of an automaton answer.
-use Rattle.std.specs.Prelude.{◌≡◌, ◌≢◌, ◌⊎◌, ℕ, ◌+◌, ◌<◌, ◌≤◌, Bool, true, false, List, [], ◌∷◌, ◌++◌, length, Option, Some, None}
+use Rattle.std.specs.Prelude.{◌≡◌, ◌≢◌, ◌⊎◌, ℕ, ◌+◌, ◌<◌, ◌≤◌, ◌==◌, ◌&&◌, nat_lt, not, Bool, true, false, List}
 use Rattle.ac_input.specs.declared.steps.Steps.{Steps}
 use Rattle.ac_input.specs.Dictionary.{Dictionary}
 use Rattle.ac_input.specs.LiveLaws.{IsOwnInverse}
-use Rattle.ac_input.specs.States.{LeadsTo}
-use Rattle.ac_input.specs.Steps.{Done}
+use Rattle.ac_automaton.specs.Named.{Naming, OfNames, IsPaidStep}
 use Rattle.ac_noncontiguous.specs.declared.nfa.tables.Transition.{Transition}
 use Rattle.ac_noncontiguous.specs.declared.nfa.tables.Tables.{Tables}
 use Rattle.ac_noncontiguous.specs.Nfa.{state_of, byte_at, next_at, IsEdge, AreTables}
@@ -34,31 +33,31 @@ abbrev pub other_start : ℕ → Bool → ℕ
 other_start start true = start
 other_start start false = start + 1
 
+-- The states stand for these texts, and their numbers for the states. No search comes to the fail state, or to the start of the
+-- other anchoring.
+abbrev pub naming_of : (ℕ → List ℕ) → ℕ → ℕ → Naming
+naming_of text len start = record {
+  text = state_of text;
+  met = λ anchored i. nat_lt i len && (not (i == 1) && not (i == other_start start anchored));
+}
+
+-- the tables are those of the dictionary, and name their states so
+abbrev pub IsNamingOf : Dictionary → Tables → Naming → Type 0
+IsNamingOf m tables names = (text : ℕ → List ℕ) × (t : AreTables m text tables) × (names ≡ naming_of text t.len tables.start)
+
 -- a state to which a search of this anchoring may come
 abbrev pub IsVisited : Tables → Bool → ℕ → Type 0
 IsVisited tables anchored i = IsKept tables i × (i ≢ 1) × (i ≢ other_start tables.start anchored)
 
--- how many bytes a state has; the dead one has none
-abbrev pub text_len : Option (List ℕ) → ℕ
-text_len None = 0
-text_len (Some state) = length state
-
--- Some states were looked at, after so many for the same byte: all in all at most two more than the bytes that were given up.
-abbrev pub IsLooked : ℕ → ℕ → ℕ → Steps → Steps → Type 0
-IsLooked done bytes next before after = (looks : ℕ) × Done looks 0 0 before after × (1 ≤ looks) × (done + looks + next ≤ bytes + 2)
-
--- The state to which a byte leads from another one in a search, and how many states were looked at to find it.
-pub record IsNextState (m : Dictionary) (len start : ℕ) (text : ℕ → List ℕ) (anchored : Bool) (done i byte j : ℕ) (before after : Steps) : Type 0 where
-  pub within : j < len
-  pub stands : j ≢ 1
-  pub other : j ≢ other_start start anchored
-  pub dead : i ≡ 0 → j ≡ 0
-  pub leads : 1 < i → LeadsTo m anchored (text i ++ byte ∷ []) (state_of text j)
-  pub cost : IsLooked done (text_len (state_of text i)) (text_len (state_of text j)) before after
-
--- whatever dictionary the tables are those of
+-- The state to which a byte leads from another one in a search, and how many states were looked at to find it, whatever dictionary
+-- the tables are those of.
 abbrev pub LeadsNext : Tables → Bool → ℕ → ℕ → ℕ → ℕ → Steps → Steps → Type 0
-LeadsNext tables anchored done i byte j before after = (m : Dictionary) (text : ℕ → List ℕ) (t : AreTables m text tables) → IsOwnInverse m.pairing → i < t.len → IsNextState m t.len tables.start text anchored done i byte j before after
+LeadsNext tables anchored done i byte j before after = (m : Dictionary) → IsOwnInverse m.pairing → OfNames (IsNamingOf m tables) anchored i (λ names. IsPaidStep m names anchored done i byte j before after)
+
+-- Over this byte a search that stands in the start stays there, and the start matches nothing.
+pub record IsIdle (tables : Tables) (byte : ℕ) : Type 0 where
+  pub plain : tables.max_match < tables.start
+  pub leads : StepsTo tables tables.start byte tables.start
 
 -- ---- copies
 

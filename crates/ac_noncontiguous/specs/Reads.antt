@@ -1,16 +1,12 @@
 -- What the automaton is built as, and what is known of a state that a search has come to.
-use Rattle.std.specs.Prelude.{◌≢◌, ◌↔◌, ℕ, ◌+◌, ◌<◌, ◌==◌, ◌||◌, nat_le, Bool, false, IsTrue, List, Option}
+use Rattle.std.specs.Prelude.{ℕ, ◌+◌, ◌==◌, ◌&&◌, ◌||◌, nat_le, Bool, false, List}
 use Rattle.ac_input.specs.declared.search.Anchored.{Anchored}
-use Rattle.ac_input.specs.Dictionary.{Dictionary, dictionary_of, IsLive}
-use Rattle.ac_input.specs.Input.{is_anchored}
-use Rattle.ac_input.specs.LiveLaws.{IsOwnInverse}
-use Rattle.ac_input.specs.States.{LeadsTo}
-use Rattle.ac_input.specs.Tells.{Tells}
-use Rattle.ac_automaton.specs.Automaton.{Built, IsSpecial}
+use Rattle.ac_input.specs.Dictionary.{Dictionary, dictionary_of}
+use Rattle.ac_automaton.specs.Automaton.{Built}
+use Rattle.ac_automaton.specs.Named.{IsReadBy}
 use Rattle.ac_noncontiguous.specs.declared.nfa.NFA.{NFA}
-use Rattle.ac_noncontiguous.specs.declared.nfa.tables.Tables.{Tables}
-use Rattle.ac_noncontiguous.specs.Nfa.{state_of, list_of, AreTables}
-use Rattle.ac_noncontiguous.specs.Lookups.{other_start}
+use Rattle.ac_noncontiguous.specs.Nfa.{list_of}
+use Rattle.ac_noncontiguous.specs.Lookups.{IsNamingOf}
 
 -- what the automaton is made from
 abbrev pub dictionary : NFA → Dictionary
@@ -32,22 +28,10 @@ is_start_at nfa sid = (sid == nfa.tables.start) || (sid == nfa.tables.start + 1)
 abbrev pub is_special_at : NFA → ℕ → Bool
 is_special_at nfa sid = nat_le sid nfa.max_special
 
--- A number stands for the state to which a text leads from a start, where the states stand for these texts.
-pub record IsNamed (m : Dictionary) (tables : Tables) (names : ℕ → List ℕ) (anchored : Bool) (text : List ℕ) (sid : ℕ) : Type 0 where
-  pub tables_of : AreTables m names tables
-  pub within : sid < tables_of.len
-  pub stands : sid ≢ 1
-  pub own : sid ≢ other_start tables.start anchored
-  pub leads : LeadsTo m anchored text (state_of names sid)
+-- the states between two, these included
+abbrev pub is_between : ℕ → ℕ → ℕ → Bool
+is_between first last sid = nat_le first sid && nat_le sid last
 
--- some texts are such
-abbrev pub IsReachedBy : Dictionary → Tables → Bool → List ℕ → ℕ → Type 0
-IsReachedBy m tables anchored text sid = ∥ ((names : ℕ → List ℕ) × IsNamed m tables names anchored text sid) ∥₁
-
--- A state is read by a search: it is reached by the text, and its patterns tell what the definitions ask of them.
-pub record IsRead (nfa : NFA) (anchored : Anchored) (text : List ℕ) (sid : ℕ) : Type 0 where
-  pub reached : IsReachedBy (dictionary nfa) nfa.tables (is_anchored anchored) text sid
-  pub tells : Tells (dictionary nfa) anchored text (matches_at nfa sid)
-  pub lives : (from : Option ℕ) × IsLive (dictionary nfa) (is_anchored anchored) text from
-  pub inverse : IsOwnInverse nfa.pairing
-  pub stops : IsTrue (is_special_at nfa sid) ↔ IsSpecial (built_as nfa) (matches_at nfa sid) (is_start_at nfa sid) anchored text
+-- a number is read by a search
+abbrev pub IsRead : NFA → Anchored → List ℕ → ℕ → Type 0
+IsRead nfa anchored text sid = IsReadBy (built_as nfa) (IsNamingOf (dictionary nfa) nfa.tables) (matches_at nfa) (is_start_at nfa) (is_special_at nfa) anchored text sid

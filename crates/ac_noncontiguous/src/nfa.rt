@@ -9,22 +9,22 @@
 mod automaton;
 pub mod pattern_lens;
 pub mod read;
-pub(crate) mod starters;
 pub(crate) mod tables;
 
 ghost use Rattle.std.specs.Prelude.{◌≡◌, ◌≤◌, ◌+◌, if◌then◌else◌};
 ghost use Rattle.std.proofs.Props.{props};
+ghost use Rattle.ac_automaton.specs.Starters.{SkipsIdle};
 ghost use Rattle.ac_input.specs.Classes.{AreByteClasses};
 ghost use Rattle.ac_input.specs.Dictionary.{dictionary_of};
 ghost use Rattle.ac_input.specs.Limits.{IsWithinLimits};
 ghost use Rattle.ac_input.specs.Pairing.{IsPairing};
 ghost use Rattle.ac_input.specs.declared.primitives.number.TheConstants.{GREATEST};
 ghost use Rattle.ac_noncontiguous.specs.Nfa.{AreTablesOf, last_special, IsHeldFor, AreParts};
-ghost use Rattle.ac_noncontiguous.specs.Starters.{SkipsIdle};
+ghost use Rattle.ac_noncontiguous.specs.Lookups.{IsIdle};
 
 use crate::nfa::pattern_lens::PatternLens;
-use crate::nfa::starters::Starters;
 use crate::nfa::tables::Tables;
+use ac_automaton::starters::Starters;
 use ac_input::pairing::Pairing;
 use ac_input::primitives::StateID;
 use ac_input::search::MatchKind;
@@ -46,7 +46,7 @@ pub struct NFA {
     ghost stands: { ∥ AreTablesOf (dictionary_of lens pairing kind) tables ∥₁ },
     ghost classed: { ∥ AreByteClasses (dictionary_of lens pairing kind) tables.classes ∥₁ },
     ghost special: { max_special ≡ last_special tables prefilter },
-    ghost skips: { ∥ SkipsIdle tables starters ∥₁ },
+    ghost skips: { ∥ SkipsIdle (IsIdle tables) starters ∥₁ },
     ghost held: { IsHeldFor (dictionary_of lens pairing kind) prefilter } by { Prim.hlevel props },
 }
 
@@ -77,7 +77,7 @@ impl NFA {
         ensures { IsMadeOf (dictionary_of lens pairing kind) tables prefilter result }
     {
         let max_special = last_special_of(&tables, prefilter.is_some());
-        let starters = Starters::of(&tables);
+        let starters = tables.starters();
         NFA {
             tables,
             starters,

@@ -6,6 +6,7 @@ pub mod MatchLemmas
 pub mod TestLemmas
 pub mod FollowLemmas
 pub mod NameLemmas
+pub mod SkipLemmas
 pub mod WordsLemmas
 pub mod LenLemmas
 pub mod StandLemmas

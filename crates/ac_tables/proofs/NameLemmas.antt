@@ -31,7 +31,7 @@ list-zero table sid is =
     (and_left (not (sid == 0)) (nat_le sid table.max_match) (ap not (eq-eqb sid 0 is)))
 
 -- nor have those past the last that matches;
-list-past : (table : Table) (sid : ℕ) → table.max_match < sid → matches_by table sid ≡ []
+pub list-past : (table : Table) (sid : ℕ) → table.max_match < sid → matches_by table sid ≡ []
 list-past table sid past =
     cond-false (not (sid == 0) && nat_le sid table.max_match) (listed_at table sid) []
     (and_right (not (sid == 0)) (nat_le sid table.max_match) (lt-leb sid table.max_match past))
@@ -41,6 +41,14 @@ pub list-within : (table : Table) (sid : ℕ) → sid ≢ 0 → sid ≤ table.ma
 list-within table sid some le =
     cond-true (not (sid == 0) && nat_le sid table.max_match) (listed_at table sid) []
     (and_from (not (sid == 0)) (nat_le sid table.max_match) (ap not (ne_eqb sid 0 some)) (le-leb sid table.max_match le))
+
+-- a number with patterns is at most the last that matches
+pub listed-within : (table : Table) (sid : ℕ) → matches_by table sid ≢ [] → sid ≤ table.max_match
+listed-within table sid some =
+    ⊎_elim
+    (λ (past : table.max_match < sid). absurd (some (list-past table sid past)))
+    (λ (le : sid ≤ table.max_match). le)
+    (cases_lt table.max_match sid)
 
 -- a list that isn't other than the empty one is it
 none-of : (ns : List ℕ) → ¬ (ns ≢ []) → ns ≡ []

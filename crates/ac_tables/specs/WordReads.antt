@@ -46,6 +46,11 @@ ClassLeadsTo table sid wanted next = (s : StateParts) → IsStateAt table sid s 
 abbrev pub StepsTo : Table → ℕ → ℕ → ℕ → Type 0
 StepsTo table sid byte next = ClassLeadsTo table sid (class table.classes byte) next
 
+-- Over this byte a search that stands in the unanchored start stays there, and the start matches nothing.
+pub record IsIdleAt (table : Table) (byte : ℕ) : Type 0 where
+  pub plain : table.max_match < table.start
+  pub stays : StepsTo table table.start byte table.start
+
 -- to which state one fails
 abbrev pub FailsTo : Table → ℕ → ℕ → Type 0
 FailsTo table sid fail = (s : StateParts) → IsStateAt table sid s → fail ≡ s.fail

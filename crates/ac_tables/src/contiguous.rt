@@ -13,9 +13,12 @@ ghost use Rattle.ac_input.specs.Dictionary.{dictionary_of};
 ghost use Rattle.ac_input.specs.Limits.{IsWithinLimits};
 ghost use Rattle.ac_input.specs.Pairing.{IsPairing};
 ghost use Rattle.ac_noncontiguous.specs.Nfa.{IsHeldFor};
+ghost use Rattle.ac_automaton.specs.Starters.{SkipsIdle};
 ghost use Rattle.ac_tables.specs.ContiguousTable.{AreSomeStates, AreContiguousParts, last_special_in};
+ghost use Rattle.ac_tables.specs.WordReads.{IsIdleAt};
 
 use crate::contiguous::table::Table;
+use ac_automaton::starters::Starters;
 use ac_input::pairing::Pairing;
 use ac_input::primitives::StateID;
 use ac_input::search::MatchKind;
@@ -26,6 +29,7 @@ use ac_noncontiguous::nfa::pattern_lens::PatternLens;
 #[derive(Drop)]
 pub struct NFA {
     table: Table,
+    starters: Starters,
     lens: PatternLens,
     /// The last state at which a search has more to do than to read on.
     max_special: StateID,
@@ -35,6 +39,7 @@ pub struct NFA {
     ghost paired: { IsPairing pairing },
     ghost within: { ∥ IsWithinLimits (dictionary_of lens pairing kind) ∥₁ },
     ghost stands: { AreSomeStates (dictionary_of lens pairing kind) table },
+    ghost skips: { ∥ SkipsIdle (IsIdleAt table) starters ∥₁ },
     ghost special: { max_special ≡ last_special_in table prefilter },
     ghost held: { IsHeldFor (dictionary_of lens pairing kind) prefilter } by { Prim.hlevel props },
 }
@@ -65,8 +70,10 @@ impl NFA {
         ensures { IsMadeOf (dictionary_of lens pairing kind) table prefilter result }
     {
         let max_special = last_special_of(&table, prefilter.is_some());
+        let starters = table.starters();
         NFA {
             table,
+            starters,
             lens,
             max_special,
             prefilter,

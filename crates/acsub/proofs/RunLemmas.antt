@@ -38,7 +38,7 @@ memory_answer settings rules file grammar = record { rules = rules; grammar = gr
 
 -- the answer where the input could not be read to its end
 pub read_answer : {R W : Type 0} (remaining : R → Option (List ℕ)) (contents : W → Option (List ℕ)) (settings : Settings) (rules : List Rule) (r r' : Watched R) (w : Watched W) (e : RunError) → IsAccepted settings rules → ¬ IsStreamed settings rules → ReadsWhole remaining r r' (Err e)
-    → RanRules remaining contents r r' w w settings rules (Err e)
+    → RanRules remaining contents r r' w w (record { settings = settings; rules = rules }) (Err e)
 read_answer remaining contents settings rules r r' w (errors.Rule e) accepted held h = absurd h
 read_answer remaining contents settings rules r r' w (errors.Setting e) accepted held h = absurd h
 read_answer remaining contents settings rules r r' w (errors.Build kind) accepted held h = absurd h
@@ -66,7 +66,7 @@ write_failed contents settings rules w w' pieces input stalls s accepted held wh
 
 module _ {R W : Type 0} (remaining : R → Option (List ℕ)) (contents : W → Option (List ℕ)) (settings : Settings) (rules : List Rule) (r r' : Watched R) (w w' : Watched W) (pieces : List (List ℕ)) (input : List ℕ) (accepted : IsAccepted settings rules) (held : ¬ IsStreamed settings rules) (gave : HasGiven remaining r r' pieces 0) (whole : AreWhole pieces) (is : input ≡ concat pieces) where
   -- the answer once the input was read to its end, and its text was written
-  pub written_answer : Sent contents w w' [] [] (output_of settings rules input) → RanRules remaining contents r r' w w' settings rules (Ok tt)
+  pub written_answer : Sent contents w w' [] [] (output_of settings rules input) → RanRules remaining contents r r' w w' (record { settings = settings; rules = rules }) (Ok tt)
   written_answer sent = (
     record { pieces = pieces; failed_reads = 0; taken = sent.gained; failed_writes = 0; stalled_writes = 0 },
     record { reader = gave; writer = HasTaken-from_sent contents w w' [] [] _ sent },
@@ -75,16 +75,16 @@ module _ {R W : Type 0} (remaining : R → Option (List ℕ)) (contents : W → 
   )
 
   -- the same, where a write stopped
-  pub write_answer : (error : StreamError) (told : RunError) → IsToldAs error told → Stopped contents w w' [] (output_of settings rules input) → IsOfWrite w w' error → RanRules remaining contents r r' w w' settings rules (Err told)
+  pub write_answer : (error : StreamError) (told : RunError) → IsToldAs error told → Stopped contents w w' [] (output_of settings rules input) → IsOfWrite w w' error → RanRules remaining contents r r' w w' (record { settings = settings; rules = rules }) (Err told)
   write_answer (stream.Config error) told t stopped kind = absurd kind
   write_answer (stream.Read error) told t stopped kind = absurd kind
-  write_answer (stream.Write error) told t stopped kind = subst (λ (e : RunError). RanRules remaining contents r r' w w' settings rules (Err e)) (sym t) (
+  write_answer (stream.Write error) told t stopped kind = subst (λ (e : RunError). RanRules remaining contents r r' w w' (record { settings = settings; rules = rules }) (Err e)) (sym t) (
     record { pieces = pieces; failed_reads = 0; taken = stopped.gained; failed_writes = 1; stalled_writes = 0 },
     record { reader = gave; writer = HasTaken-from_stopped contents w w' [] _ 0 stopped (kind ∙ sym (add-zero _)) },
     λ refusal. refusal,
     write_failed contents settings rules w w' pieces input 0 stopped accepted held whole is,
   )
-  write_answer stream.WriteZero told t stopped kind = subst (λ (e : RunError). RanRules remaining contents r r' w w' settings rules (Err e)) (sym t) (
+  write_answer stream.WriteZero told t stopped kind = subst (λ (e : RunError). RanRules remaining contents r r' w w' (record { settings = settings; rules = rules }) (Err e)) (sym t) (
     record { pieces = pieces; failed_reads = 0; taken = stopped.gained; failed_writes = 1; stalled_writes = 1 },
     record { reader = gave; writer = HasTaken-from_stopped contents w w' [] _ 1 stopped kind },
     λ refusal. refusal,
@@ -110,7 +110,7 @@ prepared_answer settings file errors.Memory h = memory_answer settings h.0 file 
 prepared_answer settings file errors.Position h = absurd h
 
 -- what was run with what was prepared for the settings was run with them
-pub ran_prepared : {R W : Type 0} (remaining : R → Option (List ℕ)) (contents : W → Option (List ℕ)) (r r' : Watched R) (w w' : Watched W) (settings : Settings) (file : List ℕ) (plan : Plan) (result : Result (Unit {0}) RunError) → plan.settings ≡ settings → IsRuleFile file plan.rules → RanRules remaining contents r r' w w' plan.settings plan.rules result → Ran remaining contents r r' w w' settings file result
+pub ran_prepared : {R W : Type 0} (remaining : R → Option (List ℕ)) (contents : W → Option (List ℕ)) (r r' : Watched R) (w w' : Watched W) (settings : Settings) (file : List ℕ) (plan : Plan) (result : Result (Unit {0}) RunError) → plan.settings ≡ settings → IsRuleFile file plan.rules → RanRules remaining contents r r' w w' plan result → Ran remaining contents r r' w w' settings file result
 ran_prepared remaining contents r r' w w' settings file plan result same grammar ran = (ran.0, ran.1, subst (λ (s : Settings). AnswersRun s file ran.0 result) same (ran.3 file grammar))
 
 -- what was prepared of a file passes no limit of a build, and the file has no other rules
@@ -146,7 +146,7 @@ bad_line_answer settings file m (Err errors.Memory) a n = other_answer file a.ru
 bad_line_answer settings file m (Err errors.Position) a n = other_answer file a.rules (Err errors.Position) n a.grammar (λ h. cc)
 
 -- nothing was moved, since there was no memory before anything was read
-pub memory_ran : {R W : Type 0} (remaining : R → Option (List ℕ)) (contents : W → Option (List ℕ)) (settings : Settings) (rules : List Rule) (r : Watched R) (w : Watched W) → RanRules remaining contents r r w w settings rules (Err errors.Memory)
+pub memory_ran : {R W : Type 0} (remaining : R → Option (List ℕ)) (contents : W → Option (List ℕ)) (settings : Settings) (rules : List Rule) (r : Watched R) (w : Watched W) → RanRules remaining contents r r w w (record { settings = settings; rules = rules }) (Err errors.Memory)
 memory_ran remaining contents settings rules r w = (nothing, HasMoved-nothing remaining contents r w, λ refusal. refusal, λ file grammar. memory_answer settings rules file grammar)
 
 -- why rules are not accepted is why nothing is prepared

@@ -468,10 +468,10 @@ module _ (settings : Settings) (rules : List Rule) (b : Built) (built : b.dictio
   answers-told m reads.Position told t h = subst (λ (e : RunError). AnswersStream settings rules m (Err e)) (sym t) (record { long = h.long; written = subst (IsBeginning m.taken) (lines-output (concat m.pieces)) h.written; failed = h.failed })
 
   module _ {R W : Type 0} (remaining : R → Option (List ℕ)) (contents : W → Option (List ℕ)) (r0 r1 : Watched R) (w0 w1 : Watched W) where
-    pub lists-streams : ListsStream remaining contents b r0 r1 w0 w1 (Ok tt) → Streams remaining contents r0 r1 w0 w1 settings rules (Ok tt)
+    pub lists-streams : ListsStream remaining contents b r0 r1 w0 w1 (Ok tt) → Streams remaining contents r0 r1 w0 w1 (record { settings = settings; rules = rules }) (Ok tt)
     lists-streams h = (h.0, h.1, pieces-within b settings rules h.0 built h.2, record { whole = h.3.whole; written = h.3.written ∙ lines-output (concat h.0.pieces); failed = h.3.failed })
 
-    pub lists-told : (error : StreamError) (told : RunError) → IsToldAs error told → ListsStream remaining contents b r0 r1 w0 w1 (Err error) → Streams remaining contents r0 r1 w0 w1 settings rules (Err told)
+    pub lists-told : (error : StreamError) (told : RunError) → IsToldAs error told → ListsStream remaining contents b r0 r1 w0 w1 (Err error) → Streams remaining contents r0 r1 w0 w1 (record { settings = settings; rules = rules }) (Err told)
     lists-told error told t h = (h.0, h.1, pieces-within b settings rules h.0 built h.2, answers-told h.0 error told t h.3)
 
 -- nothing was moved, where there was no memory

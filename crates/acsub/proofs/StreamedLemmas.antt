@@ -125,11 +125,11 @@ pieces-within b settings rules m is short = subst (λ (d : Dictionary). AllFit (
 
 -- what was replaced over a stream, where that stopped
 pub streams-told : {R W : Type 0} (remaining : R → Option (List ℕ)) (contents : W → Option (List ℕ)) (b : Built) (settings : Settings) (rules : List Rule) (texts : List (List ℕ)) (r r' : Watched R) (w w' : Watched W) (error : StreamError) (told : RunError) → b.dictionary ≡ dictionary_for settings (patterns_of rules) → settings.mode ≡ modes.Replace → texts ≡ replacements_of rules → IsToldAs error told
-    → ReplacesStream remaining contents b texts r r' w w' (Err error) → Streams remaining contents r r' w w' settings rules (Err told)
+    → ReplacesStream remaining contents b texts r r' w w' (Err error) → Streams remaining contents r r' w w' (record { settings = settings; rules = rules }) (Err told)
 streams-told remaining contents b settings rules texts r r' w w' error told is mode same t (m, moved, short, a) = (m, moved, pieces-within b settings rules m is short, replaced-told b settings rules m error told is mode t (subst (λ (ts : List (List ℕ)). AnswersWriting (replaced_in b ts) (IsReplacedFront b ts) m (Err error)) same a))
 
 -- there was no memory before anything was read
-pub streams-nothing : {R W : Type 0} (remaining : R → Option (List ℕ)) (contents : W → Option (List ℕ)) (settings : Settings) (rules : List Rule) (r : Watched R) (w : Watched W) → Streams remaining contents r r w w settings rules (Err errors.Memory)
+pub streams-nothing : {R W : Type 0} (remaining : R → Option (List ℕ)) (contents : W → Option (List ℕ)) (settings : Settings) (rules : List Rule) (r : Watched R) (w : Watched W) → Streams remaining contents r r w w (record { settings = settings; rules = rules }) (Err errors.Memory)
 streams-nothing remaining contents settings rules r w = (nothing, HasMoved-nothing remaining contents r w, λ k d lt. absurd (omega arith), record { pieces = refl; taken = refl; failed = (refl, refl, refl) })
 
 -- ---- what a run says of it
@@ -141,7 +141,7 @@ streamed_failed settings rules m stalls accepted streamed h file grammar =
 
 -- the answer of a run that writes while it reads
 pub streamed_answer : {R W : Type 0} (remaining : R → Option (List ℕ)) (contents : W → Option (List ℕ)) (settings : Settings) (rules : List Rule) (r r' : Watched R) (w w' : Watched W) (result : Result (Unit {0}) RunError) → IsAccepted settings rules → IsStreamed settings rules
-    → Streams remaining contents r r' w w' settings rules result → RanRules remaining contents r r' w w' settings rules result
+    → Streams remaining contents r r' w w' (record { settings = settings; rules = rules }) result → RanRules remaining contents r r' w w' (record { settings = settings; rules = rules }) result
 streamed_answer remaining contents settings rules r r' w w' (Ok done) accepted streamed (m, moved, short, a) = (m, moved, λ refusal. refusal, λ file grammar. record { rules = rules; grammar = grammar; accepted = accepted; whole = a.whole; written = a.written; failed = a.failed })
 streamed_answer remaining contents settings rules r r' w w' (Err (errors.Rule e)) accepted streamed (m, moved, short, a) = absurd a
 streamed_answer remaining contents settings rules r r' w w' (Err (errors.Setting e)) accepted streamed (m, moved, short, a) = absurd a
@@ -154,7 +154,7 @@ streamed_answer remaining contents settings rules r r' w w' (Err errors.Position
 
 -- no read gave more than the buffer has room for
 pub streamed_short : {R W : Type 0} (remaining : R → Option (List ℕ)) (contents : W → Option (List ℕ)) (settings : Settings) (rules : List Rule) (r r' : Watched R) (w w' : Watched W) (result : Result (Unit {0}) RunError)
-    → Streams remaining contents r r' w w' settings rules result → ReadsWithin (stream_room rules) r r'
+    → Streams remaining contents r r' w w' (record { settings = settings; rules = rules }) result → ReadsWithin (stream_room rules) r r'
 streamed_short remaining contents settings rules r r' w w' result (m, moved, short, a) = (m.pieces, moved.reader.pieces, short)
 
 -- the same, where the rules are those of a file of which that was prepared

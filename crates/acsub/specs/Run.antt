@@ -120,9 +120,9 @@ Ran remaining contents reader_before reader_after writer_before writer_after set
     (m : Moved) × HasMoved remaining contents reader_before reader_after writer_before writer_after m × AnswersRun settings file m result
 
 -- the same, where the rules are known, whichever file spells them; and then nothing is refused
-abbrev pub RanRules : {R W : Type 0} → (R → Option (List ℕ)) → (W → Option (List ℕ)) → Watched R → Watched R → Watched W → Watched W → Settings → List Rule → Result (Unit {0}) RunError → Type 0
-RanRules remaining contents reader_before reader_after writer_before writer_after settings rules result =
-    (m : Moved) × HasMoved remaining contents reader_before reader_after writer_before writer_after m × ¬ IsRefusal result × ((file : List ℕ) → IsRuleFile file rules → AnswersRun settings file m result)
+abbrev pub RanRules : {R W : Type 0} → (R → Option (List ℕ)) → (W → Option (List ℕ)) → Watched R → Watched R → Watched W → Watched W → Plan → Result (Unit {0}) RunError → Type 0
+RanRules remaining contents reader_before reader_after writer_before writer_after plan result =
+    (m : Moved) × HasMoved remaining contents reader_before reader_after writer_before writer_after m × ¬ IsRefusal result × ((file : List ℕ) → IsRuleFile file plan.rules → AnswersRun plan.settings file m result)
 
 -- Where the text is written while the input is read, a run is out of memory before anything is read.
 abbrev pub RefusesMemoryFirst : {R W : Type 0} → Settings → List ℕ → Watched R → Watched R → Watched W → Watched W → Type 0

@@ -7,6 +7,7 @@ use Rattle.ac_automaton.specs.declared.error.MatchErrorKind.{MatchErrorKind}
 use Rattle.ac_automaton.specs.declared.error.StreamError.{StreamError}
 use Rattle.ac_automaton.specs.declared.error.StreamError.TheVariants as stream
 use Rattle.ac_automaton.specs.declared.watched.Watched.{Watched}
+use Rattle.acsub.specs.Plan.{Plan}
 use Rattle.acsub.specs.Transformed.{IsOutputFront, output_of, stream_room}
 use Rattle.acsub.specs.declared.error.RunError.{RunError}
 use Rattle.acsub.specs.declared.error.RunError.TheVariants as errors
@@ -25,9 +26,9 @@ AnswersStream settings rules m (Err errors.Memory) = MovedNothing m
 AnswersStream settings rules m (Err errors.Position) = WroteOutOfPlaces (output_of settings rules) (IsOutputFront settings rules) m
 
 -- what a run that writes while it reads has read, no piece longer than the buffer, and written, and what it answered
-abbrev pub Streams : {R W : Type 0} → (R → Option (List ℕ)) → (W → Option (List ℕ)) → Watched R → Watched R → Watched W → Watched W → Settings → List Rule → Result (Unit {0}) RunError → Type 0
-Streams remaining contents reader_before reader_after writer_before writer_after settings rules result =
-    (m : Moved) × HasMoved remaining contents reader_before reader_after writer_before writer_after m × AllFit (stream_room rules) m.pieces × AnswersStream settings rules m result
+abbrev pub Streams : {R W : Type 0} → (R → Option (List ℕ)) → (W → Option (List ℕ)) → Watched R → Watched R → Watched W → Watched W → Plan → Result (Unit {0}) RunError → Type 0
+Streams remaining contents reader_before reader_after writer_before writer_after plan result =
+    (m : Moved) × HasMoved remaining contents reader_before reader_after writer_before writer_after m × AllFit (stream_room plan.rules) m.pieces × AnswersStream plan.settings plan.rules m result
 
 -- the error of a search of a stream, as a run tells it
 abbrev pub IsToldAs : StreamError → RunError → Type 0

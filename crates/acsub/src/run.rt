@@ -115,7 +115,7 @@ fn transform<A: Automaton, R: Read, W: Write>(
     requires open { has_ended reader.old ≡ false }
     requires accepted { IsAccepted prepared.now.settings prepared.now.rules }
     ensures ran { RanRules R.remaining W.contents reader.old reader.new writer.old writer.new
-        prepared.now.settings prepared.now.rules result }
+        prepared.now result }
     ensures memory { RunsOutFirst prepared.now reader.old reader.new writer.old writer.new result }
     ensures short { ReadsByBuffer prepared.now reader.old reader.new }
     ensures cost { CostsRun prepared.now reader.old reader.new steps.old steps.new result }
@@ -138,7 +138,7 @@ fn transform_held<A: Automaton, R: Read, W: Write>(
     requires accepted { IsAccepted prepared.now.settings prepared.now.rules }
     requires held { ¬ IsStreamed prepared.now.settings prepared.now.rules }
     ensures ran { RanRules R.remaining W.contents reader.old reader.new writer.old writer.new
-        prepared.now.settings prepared.now.rules result }
+        prepared.now result }
     ensures cost { CostsRun prepared.now reader.old reader.new steps.old steps.new result }
 {
     let mut output = Output::new(alloc)?;

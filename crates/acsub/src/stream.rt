@@ -41,7 +41,7 @@ pub fn stream_text<A: Automaton, R: Read, W: Write>(
     requires supports { A.supports engine.now No }
     requires streamed { IsStreamed prepared.now.settings prepared.now.rules }
     ensures streams { Streams R.remaining W.contents reader.old reader.new writer.old writer.new
-        prepared.now.settings prepared.now.rules result }
+        prepared.now result }
     ensures costs { CostsStream (A.built engine.now) reader.old reader.new
         steps.old steps.new result }
     ensures memory { IfMemory result (NoneTouched reader.old reader.new writer.old writer.new) }
@@ -68,7 +68,7 @@ pub(crate) fn stream_replaced<A: Automaton, R: Read, W: Write>(
     requires streamed { IsStreamed prepared.now.settings prepared.now.rules }
     requires mode { prepared.now.settings.mode ≡ Replace }
     ensures streams { Streams R.remaining W.contents reader.old reader.new writer.old writer.new
-        prepared.now.settings prepared.now.rules result }
+        prepared.now result }
     ensures costs { CostsStream (A.built engine.now) reader.old reader.new
         steps.old steps.new result }
     ensures memory { IfMemory result (NoneTouched reader.old reader.new writer.old writer.new) }

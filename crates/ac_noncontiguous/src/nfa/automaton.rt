@@ -1,8 +1,7 @@
 //! Searching with the automaton.
-ghost use Rattle.std.specs.Prelude.{take};
-ghost use Rattle.ac_automaton.specs.Automaton.{IsReached, Advances, IsReadCost, is_matching};
-ghost use Rattle.ac_noncontiguous.specs.Reads.{built_as, matches_at, IsRead};
-ghost use Rattle.ac_noncontiguous.specs.Idle.{PassesIdle};
+ghost use Rattle.std.specs.Prelude.{◌<◌, take};
+ghost use Rattle.ac_automaton.specs.Automaton.{IsReached, Advances, IsReadCost};
+ghost use Rattle.ac_noncontiguous.specs.Reads.{built_as, is_between, IsRead};
 
 use crate::nfa::NFA;
 use crate::nfa::tables::FAIL;
@@ -14,49 +13,39 @@ use ac_input::steps::Steps;
 use ac_literal::prefilter::Prefilter;
 
 impl NFA {
-    /// How many bytes at the front lead from the state to itself, where it is the start; it counts a look for each.
-    #[inline]
-    fn pass_idle(&self, sid: StateID, bytes: &[u8], steps: &mut Steps) -> usize
-        ensures { PassesIdle self.now sid bytes.now result steps.old steps.new }
-    {
-        if sid.as_u32() != self.tables.start.as_u32() {
-            return 0;
-        }
-        let idle = self.starters.idle(bytes);
-        steps.looks(idle);
-        idle
-    }
-
-    /// Reads on as `advance_to_match`, and passes quickly over the bytes that leave it in the start.
+    /// Reads on to the first state between two numbers, and passes quickly over the bytes that leave it in the start.
     ///
-    /// It stays out of `advance_to_match`, whose other loop is the slower for it.
+    /// It stays out of the calls that make it, whose other loops are the slower for it.
     #[inline(never)]
-    fn skip_to_match(
+    fn skip(
         &self,
         anchored: Anchored,
         sid: StateID,
         bytes: &[u8],
+        first: usize,
+        last: StateID,
         steps: &mut Steps,
     ) -> Advance
-        requires { IsReached (IsRead self.now anchored) sid }
-        ensures goes { Advances (IsRead self.now anchored) (is_matching (matches_at self.now)) sid
-            bytes.now result }
+        requires reached { IsReached (IsRead self.now anchored) sid }
+        requires past { last < self.now.tables.start }
+        ensures goes { Advances (IsRead self.now anchored) (is_between first last) sid bytes.now
+            result }
         ensures cost { IsReadCost (built_as self.now) (IsRead self.now) anchored sid
             (take result.taken bytes.now) steps.old steps.new }
     {
-        let last_match = self.tables.max_match.as_u32();
+        let start = self.tables.start;
         let mut current = sid;
-        let mut read = self.pass_idle(current, bytes, steps);
+        let mut read = self.starters.pass(start, current, bytes, steps);
         while read < bytes.len() {
             current = self.next_state_counted(anchored, current, bytes[read], steps);
             read += 1;
-            if current.as_u32() <= last_match && self.is_match(current) {
+            if first <= current.as_usize() && current.as_u32() <= last.as_u32() {
                 return Advance {
                     sid: current,
                     taken: read,
                 };
             }
-            read += self.pass_idle(current, &bytes[read..], steps);
+            read += self.starters.pass(start, current, &bytes[read..], steps);
         }
         Advance {
             sid: current,
@@ -113,6 +102,9 @@ impl Automaton for NFA {
         bytes: &[u8],
         steps: &mut Steps,
     ) -> Advance {
+        if self.starters.are_few() && self.max_special.as_u32() < self.tables.start.as_u32() {
+            return self.skip(anchored, sid, bytes, 0, self.max_special, steps);
+        }
         let last_special = self.max_special.as_u32();
         let mut current = sid;
         for (read, byte) in bytes.iter().enumerate() {
@@ -137,8 +129,8 @@ impl Automaton for NFA {
         bytes: &[u8],
         steps: &mut Steps,
     ) -> Advance {
-        if self.starters.are_few() {
-            return self.skip_to_match(anchored, sid, bytes, steps);
+        if self.starters.are_few() && self.tables.max_match.as_u32() < self.tables.start.as_u32() {
+            return self.skip(anchored, sid, bytes, FAIL + 1, self.tables.max_match, steps);
         }
         let last_match = self.tables.max_match.as_u32();
         let mut current = sid;

@@ -5,10 +5,12 @@
 //! next state for each class of bytes: there a look-up is three loads (where the row begins, the class of the byte, and
 //! the next state), elsewhere it halves the range.
 ghost use Rattle.std.specs.Prelude.{◌≡◌, ◌≤◌, ◌+◌, false, length, take, drop, IfOk};
+ghost use Rattle.ac_automaton.specs.Starters.{SkipsIdle};
 ghost use Rattle.ac_input.specs.Input.{is_anchored};
 ghost use Rattle.ac_noncontiguous.specs.Nfa.{fail_of};
-ghost use Rattle.ac_noncontiguous.specs.Lookups.{IsKept, IsVisited, StepsTo, AreRisingIn, IsNextIn, LeadsNext, AreSame};
+ghost use Rattle.ac_noncontiguous.specs.Lookups.{IsKept, IsVisited, StepsTo, AreRisingIn, IsNextIn, LeadsNext, IsIdle, AreSame};
 
+use ac_automaton::starters::Starters;
 use ac_input::alphabet::ByteClasses;
 use ac_input::primitives::{PatternID, StateID};
 use ac_input::search::Anchored;
@@ -175,6 +177,24 @@ impl Tables {
             Anchored::No => self.follow(sid, byte, steps),
             Anchored::Yes => StateID::ZERO,
         }
+    }
+
+    /// The bytes that lead from the start to another state. It makes one look-up for each byte.
+    pub(crate) fn starters(&self) -> Starters
+        requires { IsKept self.now self.now.start }
+        ensures { SkipsIdle (IsIdle self.now) result }
+    {
+        let start = self.start.as_u32();
+        if start <= self.max_match.as_u32() {
+            return Starters::Many;
+        }
+        let mut starters = Starters::None;
+        for byte in 0..256usize {
+            if self.step(self.start, byte as u8).as_u32() != start {
+                starters = starters.with(byte as u8);
+            }
+        }
+        starters
     }
 
     /// How many bytes of memory they take, beside themselves.

@@ -1,7 +1,8 @@
 //! Searching with the automaton.
-ghost use Rattle.std.specs.Prelude.{false};
+ghost use Rattle.std.specs.Prelude.{◌<◌, false, take};
 ghost use Rattle.ac_input.specs.Input.{is_anchored};
-ghost use Rattle.ac_tables.specs.ContiguousReads.{IsMet, LeadsNext};
+ghost use Rattle.ac_automaton.specs.Automaton.{IsReached, Advances, IsReadCost, is_matching};
+ghost use Rattle.ac_tables.specs.ContiguousReads.{built_as, matches_at, is_special_at, IsRead, IsMet, LeadsNext};
 ghost use Rattle.ac_tables.specs.WordReads.{StepsTo, FailsTo};
 
 use crate::contiguous::NFA;
@@ -59,6 +60,82 @@ impl NFA {
             Anchored::Yes => StateID::ZERO,
         }
     }
+
+    /// Reads on as `advance`, and passes quickly over the bytes that leave it in the start, which is no special state.
+    ///
+    /// It stays out of `advance`, whose other loop is the slower for it.
+    #[inline(never)]
+    fn skip_to_special(
+        &self,
+        anchored: Anchored,
+        sid: StateID,
+        bytes: &[u8],
+        steps: &mut Steps,
+    ) -> Advance
+        requires reached { IsReached (IsRead self.now anchored) sid }
+        requires apart { self.now.max_special < self.now.table.start }
+        ensures goes { Advances (IsRead self.now anchored) (is_special_at self.now) sid bytes.now result }
+        ensures cost { IsReadCost (built_as self.now) (IsRead self.now) anchored sid
+            (take result.taken bytes.now) steps.old steps.new }
+    {
+        let last = self.max_special.as_u32();
+        let mut current = sid;
+        let mut read = self.starters.pass(self.table.start, current, bytes, steps);
+        while read < bytes.len() {
+            current = self.next_state_counted(anchored, current, bytes[read], steps);
+            read += 1;
+            if current.as_u32() <= last {
+                return Advance {
+                    sid: current,
+                    taken: read,
+                };
+            }
+            read += self
+                .starters
+                .pass(self.table.start, current, &bytes[read..], steps);
+        }
+        Advance {
+            sid: current,
+            taken: read,
+        }
+    }
+
+    /// Reads on as `advance_to_match`, and passes quickly over the bytes that leave it in the start.
+    #[inline(never)]
+    fn skip_to_match(
+        &self,
+        anchored: Anchored,
+        sid: StateID,
+        bytes: &[u8],
+        steps: &mut Steps,
+    ) -> Advance
+        requires { IsReached (IsRead self.now anchored) sid }
+        ensures goes { Advances (IsRead self.now anchored) (is_matching (matches_at self.now)) sid
+            bytes.now result }
+        ensures cost { IsReadCost (built_as self.now) (IsRead self.now) anchored sid
+            (take result.taken bytes.now) steps.old steps.new }
+    {
+        let last = self.table.max_match.as_u32();
+        let mut current = sid;
+        let mut read = self.starters.pass(self.table.start, current, bytes, steps);
+        while read < bytes.len() {
+            current = self.next_state_counted(anchored, current, bytes[read], steps);
+            read += 1;
+            if current.as_u32() <= last && self.is_match(current) {
+                return Advance {
+                    sid: current,
+                    taken: read,
+                };
+            }
+            read += self
+                .starters
+                .pass(self.table.start, current, &bytes[read..], steps);
+        }
+        Advance {
+            sid: current,
+            taken: read,
+        }
+    }
 }
 
 impl Automaton for NFA {
@@ -109,6 +186,9 @@ impl Automaton for NFA {
         bytes: &[u8],
         steps: &mut Steps,
     ) -> Advance {
+        if self.starters.are_few() && self.max_special < self.table.start {
+            return self.skip_to_special(anchored, sid, bytes, steps);
+        }
         let last_special = self.max_special.as_u32();
         let mut current = sid;
         for (read, byte) in bytes.iter().enumerate() {
@@ -133,6 +213,9 @@ impl Automaton for NFA {
         bytes: &[u8],
         steps: &mut Steps,
     ) -> Advance {
+        if self.starters.are_few() {
+            return self.skip_to_match(anchored, sid, bytes, steps);
+        }
         let last_match = self.table.max_match.as_u32();
         let mut current = sid;
         for (read, byte) in bytes.iter().enumerate() {

@@ -1,10 +1,12 @@
 //! Look-ups in the words of a contiguous automaton.
 ghost use Rattle.std.specs.Prelude.{◌≡◌, ◌<◌, ◌≤◌, ℕ, ◌+◌, length, take, drop, slice_get, Some};
 ghost use Rattle.ac_input.specs.declared.primitives.number.TheConstants.{GREATEST};
-ghost use Rattle.ac_tables.specs.WordReads.{unpacked, IsFirstPlace, IsPlace, IsSparseAt, ClassLeadsTo, StepsTo, HasList, list_place, listed_at, transitions_len};
+ghost use Rattle.ac_automaton.specs.Starters.{SkipsIdle};
+ghost use Rattle.ac_tables.specs.WordReads.{unpacked, IsFirstPlace, IsPlace, IsSparseAt, ClassLeadsTo, StepsTo, IsIdleAt, HasList, list_place, listed_at, transitions_len};
 
 use crate::contiguous::layout::{DENSE, HEAD, KIND, NOWHERE, ONE, ONE_PATTERN};
 use crate::contiguous::table::Table;
+use ac_automaton::starters::Starters;
 use ac_input::primitives::{PatternID, StateID};
 
 /// So many words, from a place on.
@@ -85,6 +87,25 @@ impl Table {
         ensures { StepsTo self.now sid byte result }
     {
         StateID::must(self.next_word(sid, byte) as usize)
+    }
+}
+
+impl Table {
+    /// The bytes that lead from the unanchored start to another state. It makes one look-up for each byte.
+    pub(super) fn starters(&self) -> Starters
+        requires { IsPlace self.now self.now.start }
+        ensures { SkipsIdle (IsIdleAt self.now) result }
+    {
+        if self.start <= self.max_match {
+            return Starters::Many;
+        }
+        let mut starters = Starters::None;
+        for byte in 0..256usize {
+            if self.step(self.start, byte as u8) != self.start {
+                starters = starters.with(byte as u8);
+            }
+        }
+        starters
     }
 }
 

@@ -14,9 +14,4 @@ returns-clause-value c =
     (subst (λ (k : ℕ). c.index-2.result.now ≡ get_or a.tables.matches.items (k + c.args.index) c.index-2.result.now) (sym here) c.index-2.ensures)
 
 pub returns-clause-known : goal.returns-clause-known
-returns-clause-known c =
-    let a = c.args.self.now in
-    let kept = state-kept a c.args.sid c.requires.valid in
-    let here = ap (λ (s : State). s.matches) (kept-read a.tables c.args.sid c.as_usize.result c.index.result.now kept c.as_usize.ensures.value c.index.ensures) in
-    state-known a c.args.sid c.args.index c.index-2.result.now c.requires.valid c.requires.within
-    (subst (λ (k : ℕ). c.index-2.result.now ≡ get_or a.tables.matches.items (k + c.args.index) c.index-2.result.now) (sym here) c.index-2.ensures)
+returns-clause-known c = state-known c.args.self.now c.args.sid c.args.index c.index-2.result.now c.requires.valid (returns-clause-value c)

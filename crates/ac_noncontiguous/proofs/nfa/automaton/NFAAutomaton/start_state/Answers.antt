@@ -1,8 +1,7 @@
-use Rattle.std.proofs.Common.{[], ap, sym, ◌∙◌}
+use Rattle.std.proofs.Common.{ap, sym, ◌∙◌}
 use Rattle.ac_input.specs.declared.search.Anchored.{Anchored}
 use Rattle.ac_input.specs.Input.{is_anchored}
-use Rattle.ac_noncontiguous.specs.Reads.{dictionary}
-use Rattle.ac_noncontiguous.proofs.ReadLemmas.{start_of, reached-start, read-from}
+use Rattle.ac_noncontiguous.proofs.ReadLemmas.{start_of, start-read}
 use Rattle.ac_noncontiguous.proofs.nfa.automaton.NFAAutomaton.start_state.Goals as goal
 use Rattle.ac_noncontiguous.proofs.nfa.automaton.NFAAutomaton.start_state.Goals.{in-No, in-Yes}
 
@@ -10,10 +9,9 @@ pub returns : goal.returns
 returns c =
     let a = c.args.self.now in (
       tt,
-      read-from a c.args.anchored [] c.match-anchored.result
-          (reached-start (dictionary a) a.tables (is_anchored c.args.anchored) c.match-anchored.result a.stands
+      start-read a c.args.anchored c.match-anchored.result
           (elim c.match-anchored.branch [
             | in-No w ↦ w.result-is ∙ sym (ap (λ (x : Anchored). start_of a.tables.start (is_anchored x)) w.in-No.is)
             | in-Yes w ↦ w.result-is ∙ (w.must.ensures ∙ (w.one_more.ensures.value ∙ sym (ap (λ (x : Anchored). start_of a.tables.start (is_anchored x)) w.in-Yes.is)))
-          ])),
+          ]),
     )

@@ -2,12 +2,17 @@ use Rattle.std.proofs.Common.{ℕ, List, IsTrue, sym, ◌∙◌, arith}
 use Rattle.std.proofs.lemmas.Bool.{false≢true}
 use Rattle.std.proofs.lemmas.Option.{slice_get-get_or}
 use Rattle.ac_automaton.specs.Automaton.{is_matching}
-use Rattle.ac_automaton.proofs.CursorLemmas.{advanced-cost, advanced-more, advances-there, advances-all, advanced-all_cost, reached-on, reached-state}
+use Rattle.ac_automaton.proofs.CursorLemmas.{advanced-none, advanced-cost, advanced-more, advances-there, advances-all, advanced-all_cost, reached-on, reached-state}
 use Rattle.ac_automaton.proofs.PassLemmas.{matching-some, some-matching}
 use Rattle.ac_tables.specs.ContiguousReads.{built_as, matches_at, IsRead}
 use Rattle.ac_tables.proofs.NameLemmas.{state-matches}
 use Rattle.ac_tables.proofs.contiguous.automaton.NFAAutomaton.advance_to_match.Goals as goal
 use Rattle.ac_tables.proofs.contiguous.automaton.NFAAutomaton.advance_to_match.Goals.{else-as_u32-last_match-via-then-as_u32-last_match+else-is_match, else-as_u32-last_match-via-else-as_u32-last_match}
+
+pub loop-read-init : goal.loop-read-init
+loop-read-init c =
+    let a = c.args.self.now in
+    advanced-none (built_as a) (IsRead a) c.args.anchored (is_matching (matches_at a)) c.args.sid c.args.bytes.now c.args.steps.now
 
 pub next_state_counted-current-requires : goal.next_state_counted-current-requires
 next_state_counted-current-requires c = reached-on (IsRead c.args.self.now c.args.anchored) c.args.sid _ c.loop-read.current c.requires c.loop-read.invariant.reads

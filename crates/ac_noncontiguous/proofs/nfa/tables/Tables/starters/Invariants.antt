@@ -1,0 +1,6 @@
+use Rattle.ac_automaton.specs.Starters.{SkipsBelow}
+use Rattle.ac_noncontiguous.specs.Lookups.{IsIdle}
+use Rattle.ac_noncontiguous.proofs.nfa.tables.Tables.starters.Given as goal
+
+abbrev pub invariant-loop-byte : goal.invariant-loop-byte
+invariant-loop-byte l = SkipsBelow (IsIdle l.self) l.byte l.starters

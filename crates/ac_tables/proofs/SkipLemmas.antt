@@ -1,0 +1,54 @@
+-- What a search by a contiguous automaton passes over that stands in the start.
+use Rattle.std.proofs.Common.{◌≡◌, ℕ, ◌+◌, ◌<◌, ◌≤◌, Bool, true, false, IsTrue, List, [], length, drop, sym, ap, subst, ◌∙◌, arith}
+use Rattle.std.specs.Prelude.{slice_index}
+use Rattle.std.proofs.Math.Logic.{∥∥₁_map}
+use Rattle.std.proofs.lemmas.Bool.{false≢true}
+use Rattle.std.proofs.lemmas.List.{get_or-drop}
+use Rattle.ac_input.specs.declared.search.Anchored.{Anchored}
+use Rattle.ac_input.specs.declared.steps.Steps.{Steps}
+use Rattle.ac_input.specs.Dictionary.{Dictionary}
+use Rattle.ac_automaton.specs.Named.{Naming, IsStep, IsIdleBy}
+use Rattle.ac_automaton.specs.Starters.{SkipsIdle, PassesIdle}
+use Rattle.ac_automaton.proofs.CursorLemmas.{HasAdvanced}
+use Rattle.ac_automaton.proofs.IdleLemmas.{pass-advanced}
+use Rattle.ac_automaton.proofs.LinkedLemmas.{straight}
+use Rattle.ac_tables.specs.declared.contiguous.NFA.{NFA}
+use Rattle.ac_tables.specs.declared.contiguous.table.Table.{Table}
+use Rattle.ac_tables.specs.ContiguousTable.{AreSomeStates}
+use Rattle.ac_tables.specs.ContiguousReads.{dictionary, built_as, matches_at, is_start_at, is_special_at, IsLaidOut, IsRead}
+use Rattle.ac_tables.specs.WordReads.{IsPlace, IsIdleAt}
+use Rattle.ac_tables.proofs.FollowLemmas.{met-state, laid-numbers, laid-edge}
+use Rattle.ac_tables.proofs.NameLemmas.{list-past, names-are}
+
+-- the unanchored start has its words
+pub start-place : (m : Dictionary) (table : Table) → AreSomeStates m table → IsPlace table table.start
+start-place m table h = ∥∥₁_map h (λ w. (w.1 table.start, met-state m table w.0 w.1 false table.start w.2 (w.2.first false).met))
+
+-- an idle byte of the words is one by their names
+pub idle-by : (nfa : NFA) (byte : ℕ) → byte < 256 → IsIdleAt nfa.table byte → IsIdleBy (dictionary nfa) (IsLaidOut nfa) (matches_at nfa) nfa.table.start byte
+idle-by nfa byte small idle =
+    record {
+      plain = list-past nfa.table nfa.table.start idle.plain;
+      stays = by;
+    }
+  where
+    by : (anchored : Bool) (names : Naming) → IsLaidOut nfa names → IsTrue (names.met anchored nfa.table.start) → IsStep (dictionary nfa) names anchored nfa.table.start byte nfa.table.start
+    by false names fits met =
+        let past = fits.1.past in
+        (straight (dictionary nfa) names nfa.table.start false nfa.table.start byte nfa.table.start (laid-numbers nfa names fits) (laid-edge nfa false nfa.table.start byte nfa.table.start small idle.stays names fits met) met
+        (λ e. omega (arith, past, e))).step
+    by true names fits met = absurd (false≢true (sym (laid-numbers nfa names fits).unanchored ∙ met))
+
+-- so what the starters pass over is idle
+pub skips-by : (nfa : NFA) → ∥ SkipsIdle (IsIdleBy (dictionary nfa) (IsLaidOut nfa) (matches_at nfa) nfa.table.start) nfa.starters ∥₁
+skips-by nfa = ∥∥₁_map nfa.skips (λ skips byte small none. idle-by nfa byte small (skips byte small none))
+
+-- reading on over what is passed over; a search doesn't stop at a start that matches nothing
+pub passed-on : (nfa : NFA) (anchored : Anchored) (stops : ℕ → Bool) (sid current : ℕ) (bytes rest : List ℕ) (n passed : ℕ) (s t u : Steps)
+    → (matches_at nfa nfa.table.start ≡ [] → ¬ IsTrue (stops nfa.table.start))
+    → ((k : ℕ) → slice_index bytes k < 256) → rest ≡ drop n bytes → n ≤ length bytes → PassesIdle nfa.starters nfa.table.start current rest passed t u
+    → HasAdvanced (built_as nfa) (IsRead nfa) anchored stops sid bytes n current s t
+    → (n + passed ≤ length bytes) × HasAdvanced (built_as nfa) (IsRead nfa) anchored stops sid bytes (n + passed) current s u
+passed-on nfa anchored stops sid current bytes rest n passed s t u apart small is within passes has =
+    pass-advanced (built_as nfa) (λ (a : Anchored). IsLaidOut nfa) (matches_at nfa) (is_start_at nfa) (is_special_at nfa) stops nfa.table.start nfa.starters anchored sid current bytes rest n passed s t u (names-are nfa) (skips-by nfa) apart
+    (λ k. subst (λ (b : ℕ). b < 256) (sym (ap (λ (l : List ℕ). slice_index l k) is ∙ get_or-drop n bytes k 0)) (small (n + k))) is within passes has

@@ -86,15 +86,22 @@ fn push(place: StateID, places: &mut Vec<StateID>) -> Result<(), AllocError>
     Ok(places.push(place)?)
 }
 
-/// The places of the states, one for each.
-pub(super) fn places(
+/// The places of the states, and how many words they take.
+#[derive(Drop)]
+pub(super) struct Layout {
+    pub places: Vec<StateID>,
+    pub words_len: usize,
+}
+
+/// Lays the states out, one after another.
+pub(super) fn lay_out(
     alloc: Global,
     nfa: &NFA,
     dense_depth: usize,
     classes: &ByteClasses,
-) -> Result<Vec<StateID>, BuildError>
+) -> Result<Layout, BuildError>
     ensures made { IfOk result
-        (λ places. ArePlaces nfa.now dense_depth classes.now places.items) }
+        (λ layout. ArePlaces nfa.now dense_depth classes.now layout.places.items) }
     ensures refused { IfErr result (IsRefusedFor nfa.now dense_depth classes.now) }
 {
     let states = nfa.state_len();
@@ -104,5 +111,8 @@ pub(super) fn places(
         push(place_of(state, before)?, &mut places)?;
         before += len_of(nfa, StateID::must(state), dense_depth, classes);
     }
-    Ok(places)
+    Ok(Layout {
+        places,
+        words_len: before,
+    })
 }

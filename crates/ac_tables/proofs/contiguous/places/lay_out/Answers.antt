@@ -5,7 +5,7 @@ use Rattle.ac_input.specs.declared.primitives.number.TheConstants.{GREATEST}
 use Rattle.ac_noncontiguous.specs.declared.error.BuildErrorKind.TheVariants.{StateIDOverflow}
 use Rattle.ac_tables.specs.ContiguousBuild.{ArePlacesOf, IsRefusedFor}
 use Rattle.ac_tables.proofs.LenLemmas.{places-more, before-more, place-too_great}
-use Rattle.ac_tables.proofs.contiguous.places.places.Goals as goal
+use Rattle.ac_tables.proofs.contiguous.places.lay_out.Goals as goal
 
 pub returns-in_err-place_of-clause-refused : goal.returns-in_err-place_of-clause-refused
 returns-in_err-place_of-clause-refused c =

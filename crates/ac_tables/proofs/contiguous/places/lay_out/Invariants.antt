@@ -1,7 +1,7 @@
 use Rattle.std.proofs.Common.{◌≡◌}
 use Rattle.ac_tables.specs.ContiguousTable.{len_before}
 use Rattle.ac_tables.specs.ContiguousBuild.{ArePlacesOf}
-use Rattle.ac_tables.proofs.contiguous.places.places.Given as goal
+use Rattle.ac_tables.proofs.contiguous.places.lay_out.Given as goal
 
 -- those so far, and where the next one stands
 abbrev pub invariant-loop-state : goal.invariant-loop-state

@@ -23,8 +23,8 @@ stands-right words p q at h =
     let long = length-append p q in (
       omega (arith, h.0, long),
       ap (take (length q)) (sym (drop-drop (length p) at words))
-      ∙ (sym (drop-take (length p) (length q) (drop at words))
-      ∙ (ap (λ (n : ℕ). drop (length p) (take n (drop at words))) (sym long) ∙ (ap (drop (length p)) h.1 ∙ drop_at p q (length p) refl))),
+          ∙ (sym (drop-take (length p) (length q) (drop at words))
+          ∙ (ap (λ (n : ℕ). drop (length p) (take n (drop at words))) (sym long) ∙ (ap (drop (length p)) h.1 ∙ drop_at p q (length p) refl))),
     )
 
 -- each stands at its place

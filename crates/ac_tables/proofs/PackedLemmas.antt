@@ -65,8 +65,7 @@ unpack-packed (a ∷ b ∷ c ∷ d ∷ e ∷ rest) small =
     let r = small 2 (omega arith) in
     let s = small 3 (omega arith) in
     let more = unpack-packed (e ∷ rest) (λ i within. small (suc (suc (suc (suc i)))) (omega arith)) in
-    let len = more.2 in
-    (
+    let len = more.2 in (
       more.0,
       ap (λ (xs : List ℕ). xs ++ unpacked (packed (e ∷ rest))) (bytes-word a b c d p q r s) ∙ ap (λ (xs : List ℕ). a ∷ b ∷ c ∷ d ∷ xs) more.1,
       omega (arith, len),

@@ -1,25 +1,31 @@
--- What a search by a DFA passes over that stands in the start.
+-- What a search by a DFA passes over that stands in the start; and at which states it stops between two numbers.
 use Rattle.std.proofs.Common.{◌≡◌, ℕ, ◌+◌, ◌<◌, ◌≤◌, Bool, true, false, IsTrue, List, [], ◌∷◌, length, drop, refl, sym, ap, subst, ◌∙◌, arith}
 use Rattle.std.specs.Prelude.{slice_index}
 use Rattle.std.specs.Coded.{le_prop}
 use Rattle.std.proofs.Math.Logic.{∥∥₁_elim, ∥∥₁_map}
-use Rattle.std.proofs.lemmas.Bool.{false≢true}
+use Rattle.std.proofs.lemmas.Bool.{leb-true, le-leb, false≢true}
 use Rattle.std.proofs.lemmas.List.{get_or-drop}
 use Rattle.ac_input.specs.declared.search.Anchored.{Anchored}
 use Rattle.ac_input.specs.declared.search.Anchored.TheVariants.{No}
 use Rattle.ac_input.specs.declared.steps.Steps.{Steps}
 use Rattle.ac_input.specs.Dfa.{Serves}
 use Rattle.ac_input.specs.Dictionary.{Dictionary}
+use Rattle.ac_automaton.specs.Automaton.{IsReached, Advances, is_matching}
+use Rattle.ac_automaton.specs.declared.automaton.Advance.{Advance}
 use Rattle.ac_automaton.specs.Named.{Naming, IsStep, IsIdleBy}
 use Rattle.ac_automaton.specs.Starters.{SkipsIdle, PassesIdle}
-use Rattle.ac_automaton.proofs.CursorLemmas.{HasAdvanced}
+use Rattle.ac_automaton.proofs.CursorLemmas.{HasAdvanced, reached-state}
 use Rattle.ac_automaton.proofs.IdleLemmas.{pass-advanced}
+use Rattle.ac_automaton.proofs.IdleLemmas.{advances-alike}
+use Rattle.ac_automaton.proofs.PassLemmas.{matching-some, some-matching}
+use Rattle.ac_noncontiguous.specs.Reads.{is_between}
+use Rattle.ac_noncontiguous.proofs.IdleLemmas.{between}
 use Rattle.ac_tables.specs.declared.dfa.DFA.{DFA}
 use Rattle.ac_tables.specs.declared.dfa.table.Table.{Table}
 use Rattle.ac_tables.specs.DfaTable.{AreSomeRows, matches_by}
 use Rattle.ac_tables.specs.DfaLookups.{HasRow, IsIdleIn}
 use Rattle.ac_tables.specs.DfaReads.{dictionary, built_as, matches_at, is_start_at, is_special_at, IsNamingFor, IsRead}
-use Rattle.ac_tables.proofs.DfaReadLemmas.{all-names, listed-within}
+use Rattle.ac_tables.proofs.DfaReadLemmas.{all-names, listed-within, state-matches}
 
 -- the unanchored start has a row, where there are unanchored searches
 pub start-row : (m : Dictionary) (table : Table) → AreSomeRows m table → Serves table.kind No → HasRow table table.start
@@ -64,3 +70,26 @@ pub passed-on : (dfa : DFA) (anchored : Anchored) (stops : ℕ → Bool) (sid cu
 passed-on dfa anchored stops sid current bytes rest n passed s t u apart small is within passes has =
     pass-advanced (built_as dfa) (IsNamingFor dfa) (matches_at dfa) (is_start_at dfa) (is_special_at dfa) stops dfa.table.start dfa.starters anchored sid current bytes rest n passed s t u (all-names dfa anchored) (skips-by dfa anchored) apart
     (λ k. subst (λ (b : ℕ). b < 256) (sym (ap (λ (l : List ℕ). slice_index l k) is ∙ get_or-drop n bytes k 0)) (small (n + k))) is within passes has
+
+-- ---- where it stops
+
+-- the start is past the last of them
+pub start-plain : (first last start : ℕ) → last < start → ¬ IsTrue (is_between first last start)
+start-plain first last start past e = let w = (between first last start).0 e in omega (arith, w.1, past)
+
+-- the states that match are those from 1 on, up to the greatest that matches;
+pub between-matching : (dfa : DFA) (first last : ℕ) (anchored : Anchored) (sid : ℕ) (bytes : List ℕ) (stop : Advance) → first ≡ 1 → last ≡ dfa.table.max_match → IsReached (IsRead dfa anchored) sid → Advances (IsRead dfa anchored) (is_between first last) sid bytes stop → Advances (IsRead dfa anchored) (is_matching (matches_at dfa)) sid bytes stop
+between-matching dfa first last anchored sid bytes stop from to reached =
+    advances-alike (IsRead dfa anchored) (is_between first last) (is_matching (matches_at dfa)) sid bytes stop reached (λ i there.
+    let state = reached-state (IsRead dfa) anchored i there in (
+      (λ e. let w = (between first last i).0 e in matching-some (matches_at dfa i) (state-matches dfa i state (λ zero. let at : i ≡ 0 = zero in omega (arith, w.0, from, at)) (omega (arith, w.1, to)))),
+      (λ e. let m = listed-within dfa.table i (some-matching (matches_at dfa i) e) in let some = m.0 in (between first last i).1 (omega (arith, some, from), omega (arith, m.1, to))),
+    ))
+
+-- and those that are special are all up to the last special one
+pub between-special : (dfa : DFA) (first last : ℕ) (anchored : Anchored) (sid : ℕ) (bytes : List ℕ) (stop : Advance) → first ≡ 0 → last ≡ dfa.max_special → IsReached (IsRead dfa anchored) sid → Advances (IsRead dfa anchored) (is_between first last) sid bytes stop → Advances (IsRead dfa anchored) (is_special_at dfa) sid bytes stop
+between-special dfa first last anchored sid bytes stop from to reached =
+    advances-alike (IsRead dfa anchored) (is_between first last) (is_special_at dfa) sid bytes stop reached (λ i there. (
+      (λ e. let w = (between first last i).0 e in le-leb i dfa.max_special (omega (arith, w.1, to))),
+      (λ e. let le = leb-true i dfa.max_special e in (between first last i).1 (omega (arith, from), omega (arith, le, to))),
+    ))

@@ -1,8 +1,14 @@
 //! Searching with the DFA.
-ghost use Rattle.std.specs.Prelude.{◌<◌, [], ◌∷◌, take, IsTrue};
-ghost use Rattle.ac_automaton.specs.Automaton.{IsReached, Leads, IsReadCost, Advances, is_matching};
+//!
+//! Nearly all the time goes into one loop: the class of a byte, an addition, a load, and one comparison for all states at which there
+//! is more to do than to read on. Where each byte is a class of its own, no class is loaded. An anchored search runs the same loop:
+//! its start leads to rows of its own. Where few bytes lead out of the start, a search that stands there finds the next of them by
+//! `memchr`.
+ghost use Rattle.std.specs.Prelude.{◌≡◌, ◌<◌, [], ◌∷◌, IsTrue};
+ghost use Rattle.ac_automaton.specs.Automaton.{IsReached, Leads};
+ghost use Rattle.ac_noncontiguous.specs.Reads.{is_between};
 ghost use Rattle.ac_tables.specs.DfaLookups.{ArePlain};
-ghost use Rattle.ac_tables.specs.DfaReads.{built_as, IsRead, matches_at, is_special_at};
+ghost use Rattle.ac_tables.specs.DfaReads.{IsRead, CostsReading, ReadsTo};
 
 use crate::dfa::DFA;
 use ac_automaton::automaton::{Advance, Automaton};
@@ -11,6 +17,15 @@ use ac_input::primitives::{PatternID, StateID};
 use ac_input::search::{Anchored, MatchKind};
 use ac_input::steps::Steps;
 use ac_literal::prefilter::Prefilter;
+
+/// Whether the state is between two numbers, these included.
+#[inline(always)]
+fn is_between(first: u32, last: u32, sid: StateID) -> bool
+    ensures { result ≡ is_between first last sid }
+{
+    let at = sid.as_u32();
+    first <= at && at <= last
+}
 
 impl DFA {
     /// The state after one more byte; it counts one look. Where each byte is a class of its own, a caller may say so.
@@ -26,82 +41,73 @@ impl DFA {
         requires reached { IsReached (IsRead self.now anchored) sid }
         requires plain { IsTrue plain → ArePlain self.now.table.classes }
         ensures next { Leads (IsRead self.now anchored) sid (byte ∷ []) result }
-        ensures cost { IsReadCost (built_as self.now) (IsRead self.now) anchored sid
-            (byte ∷ []) steps.old steps.new }
+        ensures cost { CostsReading self.now anchored sid (byte ∷ []) steps.old steps.new }
     {
         steps.look();
         self.table.next(plain, sid, byte)
     }
 
-    /// Reads on as `advance`, and passes quickly over the bytes that leave it in the start, which is no special state.
-    ///
-    /// It stays out of `advance`, whose other loop is the slower for it.
-    #[inline(never)]
-    fn skip_to_special(
+    /// Reads on to the first state between two numbers, these included.
+    #[inline(always)]
+    fn read_on(
         &self,
         anchored: Anchored,
         sid: StateID,
         bytes: &[u8],
-        steps: &mut Steps,
-    ) -> Advance
-        requires reached { IsReached (IsRead self.now anchored) sid }
-        requires apart { self.now.max_special < self.now.table.start }
-        ensures goes { Advances (IsRead self.now anchored) (is_special_at self.now) sid bytes.now result }
-        ensures cost { IsReadCost (built_as self.now) (IsRead self.now) anchored sid
-            (take result.taken bytes.now) steps.old steps.new }
-    {
-        let last = self.max_special.as_u32();
-        let mut current = sid;
-        let mut read = self.starters.pass(self.table.start, current, bytes, steps);
-        while read < bytes.len() {
-            current = self.step(false, anchored, current, bytes[read], steps);
-            read += 1;
-            if current.as_u32() <= last {
-                return Advance {
-                    sid: current,
-                    taken: read,
-                };
-            }
-            read += self
-                .starters
-                .pass(self.table.start, current, &bytes[read..], steps);
-        }
-        Advance {
-            sid: current,
-            taken: read,
-        }
-    }
-
-    /// Reads on as `advance_to_match`, and passes quickly over the bytes that leave it in the start.
-    #[inline(never)]
-    fn skip_to_match(
-        &self,
-        anchored: Anchored,
-        sid: StateID,
-        bytes: &[u8],
+        first: u32,
+        last: u32,
         steps: &mut Steps,
     ) -> Advance
         requires { IsReached (IsRead self.now anchored) sid }
-        ensures goes { Advances (IsRead self.now anchored) (is_matching (matches_at self.now)) sid
-            bytes.now result }
-        ensures cost { IsReadCost (built_as self.now) (IsRead self.now) anchored sid
-            (take result.taken bytes.now) steps.old steps.new }
+        ensures { ReadsTo self.now anchored first last sid bytes.now result steps.old steps.new }
     {
-        let last = self.table.max_match.as_u32();
+        let plain = self.table.is_plain();
         let mut current = sid;
-        let mut read = self.starters.pass(self.table.start, current, bytes, steps);
+        for (read, byte) in bytes.iter().enumerate() {
+            current = self.step(plain, anchored, current, *byte, steps);
+            if is_between(first, last, current) {
+                return Advance {
+                    sid: current,
+                    taken: read + 1,
+                };
+            }
+        }
+        Advance {
+            sid: current,
+            taken: bytes.len(),
+        }
+    }
+
+    /// The same, and passes quickly over the bytes that leave it in the start.
+    ///
+    /// It stays out of the calls that make it, whose other loops are the slower for it.
+    #[inline(never)]
+    fn skip(
+        &self,
+        anchored: Anchored,
+        sid: StateID,
+        bytes: &[u8],
+        first: u32,
+        last: u32,
+        steps: &mut Steps,
+    ) -> Advance
+        requires reached { IsReached (IsRead self.now anchored) sid }
+        requires past { last < self.now.table.start }
+        ensures { ReadsTo self.now anchored first last sid bytes.now result steps.old steps.new }
+    {
+        let start = self.table.start;
+        let mut current = sid;
+        let mut read = self.starters.pass(start, current, bytes, steps);
         while read < bytes.len() {
             current = self.step(false, anchored, current, bytes[read], steps);
             read += 1;
-            if current.as_u32() <= last && self.is_match(current) {
+            if is_between(first, last, current) {
                 return Advance {
                     sid: current,
                     taken: read,
                 };
             }
-            read += self
-                .starters
-                .pass(self.table.start, current, &bytes[read..], steps);
+            read += self.starters.pass(start, current, &bytes[read..], steps);
         }
         Advance {
             sid: current,
@@ -166,25 +172,11 @@ impl Automaton for DFA {
         bytes: &[u8],
         steps: &mut Steps,
     ) -> Advance {
-        if self.starters.are_few() && self.max_special < self.table.start {
-            return self.skip_to_special(anchored, sid, bytes, steps);
-        }
-        let plain = self.table.is_plain();
         let last_special = self.max_special.as_u32();
-        let mut current = sid;
-        for (read, byte) in bytes.iter().enumerate() {
-            current = self.step(plain, anchored, current, *byte, steps);
-            if current.as_u32() <= last_special {
-                return Advance {
-                    sid: current,
-                    taken: read + 1,
-                };
-            }
+        if self.starters.are_few() && last_special < self.table.start.as_u32() {
+            return self.skip(anchored, sid, bytes, 0, last_special, steps);
         }
-        Advance {
-            sid: current,
-            taken: bytes.len(),
-        }
+        self.read_on(anchored, sid, bytes, 0, last_special, steps)
     }
 
     fn advance_to_match(
@@ -194,25 +186,11 @@ impl Automaton for DFA {
         bytes: &[u8],
         steps: &mut Steps,
     ) -> Advance {
-        if self.starters.are_few() {
-            return self.skip_to_match(anchored, sid, bytes, steps);
-        }
-        let plain = self.table.is_plain();
         let last_match = self.table.max_match.as_u32();
-        let mut current = sid;
-        for (read, byte) in bytes.iter().enumerate() {
-            current = self.step(plain, anchored, current, *byte, steps);
-            if current.as_u32() <= last_match && self.is_match(current) {
-                return Advance {
-                    sid: current,
-                    taken: read + 1,
-                };
-            }
+        if self.starters.are_few() && last_match < self.table.start.as_u32() {
+            return self.skip(anchored, sid, bytes, 1, last_match, steps);
         }
-        Advance {
-            sid: current,
-            taken: bytes.len(),
-        }
+        self.read_on(anchored, sid, bytes, 1, last_match, steps)
     }
 
     #[inline]

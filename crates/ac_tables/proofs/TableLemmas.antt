@@ -5,7 +5,8 @@ use Rattle.std.proofs.Math.Logic.{∥∥₁_elim, ∥∥₁_map}
 use Rattle.ac_input.specs.declared.primitives.number.TheConstants.{GREATEST}
 use Rattle.ac_input.specs.Alphabet.{class}
 use Rattle.ac_input.specs.Classes.{IsByteOf, IsAlone, ClassesLeadAlike}
-use Rattle.ac_input.specs.Dictionary.{Dictionary}
+use Rattle.ac_input.specs.declared.search.MatchKind.{MatchKind}
+use Rattle.ac_input.specs.Dictionary.{Dictionary, dictionary_of}
 use Rattle.ac_input.specs.Pairing.{IsPairing}
 use Rattle.ac_input.specs.States.{LeadsTo}
 use Rattle.ac_input.proofs.ClassLemmas.{byte-alone}
@@ -73,3 +74,12 @@ some-states nfa dense_depth table places some begin known bounds paired serving 
       fits = h.fits;
     } in
     (names_in nfa dense_depth table.classes w.0, parts_in nfa dense_depth table.classes, states nfa dense_depth table w.0 laid made))
+
+-- ---- the dictionary
+
+-- of patterns, pairing and kind that are those of another
+pub same-dictionary : (m : Dictionary) (patterns : List (List ℕ)) (pairing : List ℕ) (kind : MatchKind) → patterns ≡ m.patterns → pairing ≡ m.pairing → kind ≡ m.kind → dictionary_of patterns pairing kind ≡ m
+same-dictionary m patterns pairing kind p q k =
+    ap (λ (x : List (List ℕ)). dictionary_of x pairing kind) p
+    ∙ ap (λ (x : List ℕ). dictionary_of m.patterns x kind) q
+    ∙ ap (λ (x : MatchKind). dictionary_of m.patterns m.pairing x) k

@@ -31,3 +31,4 @@ pub mod Filling
 pub mod Filler
 pub mod DfaLists
 pub mod DfaMade
+pub mod ContiguousBuilder

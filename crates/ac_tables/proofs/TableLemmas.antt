@@ -16,8 +16,10 @@ use Rattle.ac_noncontiguous.specs.declared.nfa.read.Special.{Special}
 use Rattle.ac_noncontiguous.specs.Reads.{dictionary}
 use Rattle.ac_noncontiguous.specs.ReadCalls.{state_len, classes_in, special_in, StandForSome, TextsBegin, SpecialIn, ClassesAreThose, AlikeIn}
 use Rattle.ac_tables.specs.declared.contiguous.table.Table.{Table}
-use Rattle.ac_tables.specs.ContiguousTable.{place_in, AreSomeStates, ArePlacesTooGreat}
-use Rattle.ac_tables.specs.ContiguousBuild.{ArePlaces, AreKnown, AreServing, IsTableOf}
+use Rattle.ac_automaton.specs.Named.{Naming}
+use Rattle.ac_tables.specs.Words.{StateParts, words_of, StandsAt}
+use Rattle.ac_tables.specs.ContiguousTable.{AreStates, AreSomeStates, ArePlacesTooGreat}
+use Rattle.ac_tables.specs.ContiguousBuild.{ArePlaces, AreKnown, AreServing, IsTableOf, IsSameTable}
 use Rattle.ac_tables.proofs.LayLemmas.{Laid, names_in, parts_in}
 use Rattle.ac_tables.proofs.StatesLemmas.{states}
 
@@ -83,3 +85,40 @@ same-dictionary m patterns pairing kind p q k =
     ap (λ (x : List (List ℕ)). dictionary_of x pairing kind) p
     ∙ ap (λ (x : List ℕ). dictionary_of m.patterns x kind) q
     ∙ ap (λ (x : MatchKind). dictionary_of m.patterns m.pairing x) k
+
+-- ---- copies
+
+-- the states of a table are those of one that has the same words
+words-copied : (m : Dictionary) (old new : Table) (names : Naming) (parts : ℕ → StateParts) → new.words.items ≡ old.words.items → AreStates m old names parts → AreStates m (record old { words = new.words }) names parts
+words-copied m old new names parts same h = record {
+  alphabet = h.alphabet;
+  few_classes = h.few_classes;
+  small = h.small;
+  stand = λ anchored sid met. subst (λ (ws : List ℕ). StandsAt ws sid (words_of old.alphabet_len (parts sid))) (sym same) (h.stand anchored sid met);
+  fits = h.fits;
+  linked = h.linked;
+  dead = h.dead;
+  dead_met = h.dead_met;
+  first = h.first;
+  starting = h.starting;
+  lists = h.lists;
+  none = h.none;
+  few = h.few;
+  matching = h.matching;
+  greatest = h.greatest;
+  before = h.before;
+  between = h.between;
+  past = h.past;
+}
+
+-- and so are those of a copy
+pub states-copied : (m : Dictionary) (old new : Table) → IsSameTable old new → AreSomeStates m old → AreSomeStates m new
+states-copied m old new same some = ∥∥₁_map some (λ w.
+    let names = w.0 in
+    let parts = w.1 in
+    let words = words-copied m old new names parts same.words w.2 in
+    let classes = subst (λ (x : List ℕ). AreStates m (record old { words = new.words; classes = x }) names parts) (sym same.classes) words in
+    let alphabet = subst (λ (x : ℕ). AreStates m (record old { words = new.words; classes = new.classes; alphabet_len = x }) names parts) (sym same.alphabet_len) classes in
+    let start = subst (λ (x : ℕ). AreStates m (record old { words = new.words; classes = new.classes; alphabet_len = new.alphabet_len; start = x }) names parts) (sym same.start) alphabet in
+    let anchored = subst (λ (x : ℕ). AreStates m (record old { words = new.words; classes = new.classes; alphabet_len = new.alphabet_len; start = new.start; start_anchored = x }) names parts) (sym same.start_anchored) start in
+    (names, parts, subst (λ (x : ℕ). AreStates m (record old { words = new.words; classes = new.classes; alphabet_len = new.alphabet_len; start = new.start; start_anchored = new.start_anchored; max_match = x }) names parts) (sym same.max_match) anchored))

@@ -33,6 +33,7 @@
 //! has one transition: 50529027 is four times class 3, so `c` leads on to 22. Any other byte is asked of the state at 8.
 mod automaton;
 pub mod builder;
+mod copies;
 mod layout;
 mod places;
 mod reads;

@@ -1,3 +1,5 @@
 pub mod Engine
 pub mod EngineLaws
 pub mod AhoCorasick
+pub mod Replaced
+pub mod Streamed

@@ -1,6 +1,8 @@
 //! The automaton that most callers need, and which one serves it.
 mod automaton;
+mod replace;
 mod search;
+mod stream;
 
 ghost use Rattle.std.specs.Prelude.{◌≡◌, ◌↔◌, IfOk, IsTrue, length};
 ghost use Rattle.ac_input.specs.Work.{longest, shortest};

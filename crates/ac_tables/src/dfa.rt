@@ -1,7 +1,6 @@
 //! The DFA.
 mod automaton;
 mod lists;
-mod reads;
 mod table;
 
 ghost use Rattle.std.specs.Prelude.{◌≡◌, if◌then◌else◌};

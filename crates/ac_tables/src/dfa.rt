@@ -3,7 +3,6 @@ mod automaton;
 mod fill;
 mod lists;
 mod numbers;
-mod reads;
 mod table;
 
 ghost use Rattle.std.specs.Prelude.{◌≡◌, if◌then◌else◌};

@@ -3,3 +3,4 @@ pub mod EngineLaws
 pub mod AhoCorasick
 pub mod Replaced
 pub mod Streamed
+pub mod Builder

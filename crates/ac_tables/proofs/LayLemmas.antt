@@ -119,13 +119,13 @@ edge-named nfa dense_depth classes text anchored i byte j next h i_in i_met j_in
     let stands_i = met-stands start anchored i i_met in
     let not_fail : j ≢ 1 → next ≢ nowhere = λ ne e. ne (place-one nfa dense_depth classes j 1 (sym is ∙ e)) in
     let both : j ≢ 1 → j ≢ start → j ≢ start + 1 → IsTrue (names.met true next) × IsTrue (names.met false next) × (next ≢ nowhere) × (names.text next ≡ state_of text j) = λ ne a b.
-    let t = met-other start true j ne a b in
-    let f = met-other start false j ne a b in (
-      subst (λ (n : ℕ). IsTrue (names.met true n)) (sym is) (met-at nfa dense_depth classes text true j j_in t),
-      subst (λ (n : ℕ). IsTrue (names.met false n)) (sym is) (met-at nfa dense_depth classes text false j j_in f),
-      not_fail ne,
-      ap (λ (n : ℕ). names.text n) is ∙ text-at nfa dense_depth classes text true j j_in t,
-    ) in
+        let t = met-other start true j ne a b in
+        let f = met-other start false j ne a b in (
+          subst (λ (n : ℕ). IsTrue (names.met true n)) (sym is) (met-at nfa dense_depth classes text true j j_in t),
+          subst (λ (n : ℕ). IsTrue (names.met false n)) (sym is) (met-at nfa dense_depth classes text false j j_in f),
+          not_fail ne,
+          ap (λ (n : ℕ). names.text n) is ∙ text-at nfa dense_depth classes text true j j_in t,
+        ) in
     let past : (t : List ℕ) → names.text (place i) ≡ Some t → (1 < i) × (text i ≡ t) = λ t e. text-some text i t (sym named ∙ e) in
     record {
       dead = λ e.
@@ -157,12 +157,12 @@ edge-named nfa dense_depth classes text anchored i byte j next h i_in i_met j_in
           let f = met-but start j not_one not_next in
           let to : names.text next ≡ state_of text j = ap (λ (n : ℕ). names.text n) is ∙ text-at nfa dense_depth classes text false j j_in f in
           let short : text_len (state_of text j) ≡ 0 =
-          ⊎_elim
-          (λ (z : j ≡ 0). ap (λ (k : ℕ). text_len (state_of text k)) z)
-          (λ (s : j ≡ start).
-          let past_j : 1 < j = omega (arith, s, past_start) in
-          ap text_len (text-past text j past_j) ∙ ap (λ (v : List ℕ). length v) ((bounds.empty j past_j j_in).1 (inl s)))
-          back.0 in (
+              ⊎_elim
+              (λ (z : j ≡ 0). ap (λ (k : ℕ). text_len (state_of text k)) z)
+              (λ (s : j ≡ start).
+              let past_j : 1 < j = omega (arith, s, past_start) in
+              ap text_len (text-past text j past_j) ∙ ap (λ (v : List ℕ). length v) ((bounds.empty j past_j j_in).1 (inl s)))
+              back.0 in (
             subst (λ (n : ℕ). IsTrue (names.met false n)) (sym is) (met-at nfa dense_depth classes text false j j_in f),
             not_fail not_one,
             ap text_len to ∙ short,

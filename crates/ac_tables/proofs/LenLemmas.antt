@@ -49,20 +49,20 @@ packed-long (a ∷ b ∷ c ∷ d ∷ rest) =
 form-dense : (s : StateParts) → (s.shallow ≡ true) ⊎ (most_sparse < length s.edges) → form_of s ≡ Dense
 form-dense s h =
     let test : (s.shallow || nat_lt most_sparse (length s.edges)) ≡ true =
-    ⊎_elim
-    (λ (a : s.shallow ≡ true). or_left s.shallow (nat_lt most_sparse (length s.edges)) a)
-    (λ (b : most_sparse < length s.edges). or_right s.shallow (nat_lt most_sparse (length s.edges)) (grind (arith, nat_tests)))
-    h in
+        ⊎_elim
+        (λ (a : s.shallow ≡ true). or_left s.shallow (nat_lt most_sparse (length s.edges)) a)
+        (λ (b : most_sparse < length s.edges). or_right s.shallow (nat_lt most_sparse (length s.edges)) (grind (arith, nat_tests)))
+        h in
     cond-true (s.shallow || nat_lt most_sparse (length s.edges)) Dense (if is_single s then One else Sparse) test
 
 form-sparse : (s : StateParts) → s.shallow ≡ false → length s.edges ≤ most_sparse → (length s.edges ≢ 1) ⊎ (length s.matches ≢ 0) → form_of s ≡ Sparse
 form-sparse s deep few h =
     let test : (s.shallow || nat_lt most_sparse (length s.edges)) ≡ false = grind (arith, nat_tests) in
     let single : is_single s ≡ false =
-    ⊎_elim
-    (λ (a : length s.edges ≢ 1). grind (arith, nat_tests))
-    (λ (b : length s.matches ≢ 0). grind (arith, nat_tests))
-    h in
+        ⊎_elim
+        (λ (a : length s.edges ≢ 1). grind (arith, nat_tests))
+        (λ (b : length s.matches ≢ 0). grind (arith, nat_tests))
+        h in
     cond-false (s.shallow || nat_lt most_sparse (length s.edges)) Dense (if is_single s then One else Sparse) test ∙ cond-false (is_single s) One Sparse single
 
 -- kind and failure, the transitions, and the patterns

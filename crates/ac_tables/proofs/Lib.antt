@@ -22,3 +22,5 @@ pub mod FilledLemmas
 pub mod BuildLemmas
 pub mod DfaListLemmas
 pub mod TableLemmas
+pub mod DfaBuildLemmas
+pub mod DfaCopyLemmas

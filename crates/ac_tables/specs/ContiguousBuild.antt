@@ -79,3 +79,12 @@ pub record AreReadTo (classes : List ℕ) (place : ℕ → ℕ) (edges : List (�
   pub read : done ≡ map (placed classes place) (take n edges)
   pub rest : left ≡ drop n edges
   pub within : n ≤ length edges
+
+-- the same table once more
+pub record IsSameTable (old new : Table) : Type 0 where
+  pub words : new.words.items ≡ old.words.items
+  pub classes : new.classes ≡ old.classes
+  pub alphabet_len : new.alphabet_len ≡ old.alphabet_len
+  pub start : new.start ≡ old.start
+  pub start_anchored : new.start_anchored ≡ old.start_anchored
+  pub max_match : new.max_match ≡ old.max_match

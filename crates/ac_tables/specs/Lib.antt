@@ -31,3 +31,6 @@ pub mod Filling
 pub mod Filler
 pub mod DfaLists
 pub mod DfaMade
+pub mod ContiguousBuilder
+pub mod DfaBuild
+pub mod DfaCopy

@@ -32,6 +32,8 @@
 //! In the start class 1, that of `a`, leads to the state at 46, and class 2 from there to the one at 17. That state matches `b`. It
 //! has one transition: 50529027 is four times class 3, so `c` leads on to 22. Any other byte is asked of the state at 8.
 mod automaton;
+pub mod builder;
+mod copies;
 mod layout;
 mod places;
 mod reads;

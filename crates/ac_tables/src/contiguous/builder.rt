@@ -3,11 +3,12 @@
 //! It is made from a noncontiguous automaton, state by state: first all places are found, then the words are written with their
 //! final numbers. It takes time and memory in proportion to the transitions and lists of that automaton, and `alphabet_len` words
 //! more for each dense state.
-ghost use Rattle.std.specs.Prelude.{◌≡◌, option_map, IfOk, IfErr};
+ghost use Rattle.std.specs.Prelude.{◌≡◌, IfOk, IfErr};
 ghost use Rattle.ac_input.specs.Pairing.{IsPairing, IsFolded};
+ghost use Rattle.ac_automaton.specs.Automaton.{OwnsPrefilter};
 ghost use Rattle.ac_noncontiguous.specs.Reads.{dictionary, built_as};
 ghost use Rattle.ac_tables.specs.ContiguousBuild.{AreServing, IsRefusedFor};
-ghost use Rattle.ac_tables.specs.ContiguousBuilder.{AreFirst, AreClassesFor, IsTableFrom, IsMadeFrom, IsRefusedFrom, IsBuiltOf, IsRefusedOf, IsBuiltAtFirst, IsRefusedAtFirst, words_in, IsCopy};
+ghost use Rattle.ac_tables.specs.ContiguousBuilder.{AreFirst, AreClassesFor, IsTableFrom, IsMadeFrom, IsRefusedFrom, IsBuiltOf, IsRefusedOf, IsBuiltAtFirst, IsRefusedAtFirst, noncontiguous_of, words_in};
 
 use crate::contiguous::NFA;
 use crate::contiguous::places::lay_out;
@@ -62,4 +63,208 @@ fn table_of(
         words,
         classes,
     })
+}
+
+/// The automaton's prefilter once more, if it holds one.
+fn clone_prefilter(alloc: Global, nfa: &nfa::NFA) -> Result<Option<Prefilter>, AllocError>
+    ensures same { IfOk result (λ copy. copy ≡ (built_as nfa.now).prefilter) }
+    ensures own { OwnsPrefilter (built_as nfa.now) }
+{
+    match nfa.prefilter() {
+        Some(prefilter) => Ok(Some(prefilter.clone(alloc)?)),
+        None => Ok(None),
+    }
+}
+
+/// The settings of a contiguous automaton. A builder may build several times.
+///
+/// ```text
+/// let mut builder = Builder::new();
+/// builder.match_kind(MatchKind::LeftmostFirst).dense_depth(3);
+/// let nfa = builder.build(alloc, &[b"fox", b"dog"])?;
+/// ```
+#[derive(Clone, Drop)]
+pub struct Builder {
+    kind: MatchKind,
+    pairing: Pairing,
+    prefilter: bool,
+    dense_depth: usize,
+    byte_classes: bool,
+}
+
+impl Model for Builder {
+    ghost use Rattle.ac_tables.specs.ContiguousBuilder.{Settings};
+
+    ghost Value = { Settings };
+
+    ghost view = { λ b. record {
+      kind = b.kind;
+      pairing = b.pairing;
+      prefilter = b.prefilter;
+      dense_depth = b.dense_depth;
+      byte_classes = b.byte_classes;
+    } };
+
+    ghost inverse = { λ s. record {
+      kind = s.kind;
+      pairing = s.pairing;
+      prefilter = s.prefilter;
+      dense_depth = s.dense_depth;
+      byte_classes = s.byte_classes;
+    } };
+}
+
+impl Default for Builder {
+    ghost use Rattle.ac_tables.specs.ContiguousBuilder.{AreFirst};
+
+    ghost is_default = { AreFirst };
+
+    fn default() -> Builder {
+        Builder::new()
+    }
+}
+
+impl Builder {
+    /// Standard matches, no byte paired, a prefilter wanted, dense states of less than two bytes, and bytes put into classes.
+    pub fn new() -> Builder
+        ensures { AreFirst result }
+    {
+        Builder {
+            kind: MatchKind::Standard,
+            pairing: Pairing::none(),
+            prefilter: true,
+            dense_depth: DENSE_DEPTH,
+            byte_classes: true,
+        }
+    }
+
+    /// Sets which of several overlapping occurrences is the match.
+    pub fn match_kind(&mut self, kind: MatchKind) -> &mut Builder
+        ensures same { result.ghost_name ≡ self.entry.ghost_name }
+        ensures value { result.now ≡ record self.old { kind = kind } }
+    {
+        self.kind = kind;
+        self
+    }
+
+    /// Sets whether ASCII letters count as the same in their two cases. It sets the whole pairing: of this call and
+    /// [`Builder::pairing`] the last one decides.
+    pub fn ascii_case_insensitive(&mut self, yes: bool) -> &mut Builder
+        ensures same { result.ghost_name ≡ self.entry.ghost_name }
+        ensures rest { result.now ≡ record self.old { pairing = result.now.pairing } }
+        ensures pairing { IsFolded yes result.now.pairing }
+    {
+        let pairing = if yes {
+            Pairing::ascii()
+        } else {
+            Pairing::none()
+        };
+        self.pairing(pairing)
+    }
+
+    /// Sets which bytes stand for one another. At first none does.
+    pub fn pairing(&mut self, pairing: Pairing) -> &mut Builder
+        ensures same { result.ghost_name ≡ self.entry.ghost_name }
+        ensures value { result.now ≡ record self.old { pairing = pairing } }
+    {
+        self.pairing = pairing;
+        self
+    }
+
+    /// Sets whether searches have a prefilter, where one serves. It changes no answer.
+    pub fn prefilter(&mut self, yes: bool) -> &mut Builder
+        ensures same { result.ghost_name ≡ self.entry.ghost_name }
+        ensures value { result.now ≡ record self.old { prefilter = yes } }
+    {
+        self.prefilter = yes;
+        self
+    }
+
+    /// Sets to which depth states are dense: those to which fewer bytes lead. A dense state has an entry for each class of bytes,
+    /// so that a look-up there takes two loads. It changes no answer.
+    pub fn dense_depth(&mut self, depth: usize) -> &mut Builder
+        ensures same { result.ghost_name ≡ self.entry.ghost_name }
+        ensures value { result.now ≡ record self.old { dense_depth = depth } }
+    {
+        self.dense_depth = depth;
+        self
+    }
+
+    /// Sets whether bytes are put into classes that no state tells apart. Without them a dense state has 256 entries. It changes no
+    /// answer.
+    pub fn byte_classes(&mut self, yes: bool) -> &mut Builder
+        ensures same { result.ghost_name ≡ self.entry.ghost_name }
+        ensures value { result.now ≡ record self.old { byte_classes = yes } }
+    {
+        self.byte_classes = yes;
+        self
+    }
+
+    /// The contiguous automaton that finds what this one finds, and holds its prefilter.
+    ///
+    /// Of the settings only [`Builder::dense_depth`] and [`Builder::byte_classes`] count here. It is refused where the first word
+    /// of a state would stand past the greatest number, before memory for the words is taken, and where memory ends.
+    pub fn build_from_noncontiguous(
+        &self,
+        alloc: Global,
+        nfa: &nfa::NFA,
+    ) -> Result<NFA, BuildError>
+        ensures made { IfOk result (IsMadeFrom self.now nfa.now) }
+        ensures refused { IfErr result (IsRefusedFrom self.now nfa.now) }
+    {
+        let classes = classes_of(nfa, self.byte_classes)?;
+        let pairing = *nfa.pairing();
+        let table = table_of(alloc, nfa, self.dense_depth, classes)?;
+        let lens = nfa.pattern_lens().clone(alloc)?;
+        let prefilter = clone_prefilter(alloc, nfa)?;
+        Ok(NFA::from_parts(table, lens, prefilter, pairing, nfa.match_kind()))
+    }
+
+    /// The settings of the noncontiguous automaton, which needs no rows.
+    fn noncontiguous(&self) -> builder::Builder
+        ensures { result ≡ noncontiguous_of self.now }
+    {
+        let mut builder = builder::Builder::new();
+        builder.match_kind(self.kind);
+        builder.pairing(self.pairing);
+        builder.dense_depth(0);
+        builder.prefilter(self.prefilter);
+        builder
+    }
+
+    /// The automaton of the patterns, which are numbered from 0 in this order.
+    ///
+    /// It is refused where a noncontiguous automaton of the patterns is, and where the first word of a state would stand past the
+    /// greatest number.
+    pub fn build(&self, alloc: Global, patterns: &[&[u8]]) -> Result<NFA, BuildError>
+        ensures built { IfOk result (IsBuiltOf self.now patterns.now) }
+        ensures refused { IfErr result (IsRefusedOf self.now patterns.now) }
+    {
+        let nfa = self.noncontiguous().build(alloc, patterns)?;
+        self.build_from_noncontiguous(alloc, &nfa)
+    }
+}
+
+impl NFA {
+    /// The automaton of the patterns by the settings that a builder has at first: standard matches, no byte paired.
+    pub fn new(alloc: Global, patterns: &[&[u8]]) -> Result<NFA, BuildError>
+        ensures built { IfOk result (IsBuiltAtFirst patterns.now) }
+        ensures refused { IfErr result (IsRefusedAtFirst patterns.now) }
+    {
+        Builder::new().build(alloc, patterns)
+    }
+
+    /// A builder with the settings that it has at first.
+    pub fn builder() -> Builder
+        ensures { AreFirst result }
+    {
+        Builder::new()
+    }
+
+    /// The words, one state after another. See [the module](crate::contiguous) for how they are laid out.
+    pub fn words(&self) -> &[u32]
+        ensures { result.now ≡ words_in self.now }
+    {
+        &self.table.words
+    }
 }

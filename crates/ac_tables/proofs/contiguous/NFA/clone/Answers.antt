@@ -1,0 +1,19 @@
+-- A copy of the table has the same states.
+use Rattle.std.proofs.Common.{◌≡◌, List, ℕ, sym, subst, ap, ◌∙◌}
+use Rattle.ac_input.specs.Dictionary.{dictionary_of}
+use Rattle.ac_input.specs.Limits.{IsWithinLimits}
+use Rattle.ac_tables.specs.ContiguousTable.{AreSomeStates}
+use Rattle.ac_tables.specs.ContiguousReads.{dictionary}
+use Rattle.ac_tables.proofs.TableLemmas.{states-copied}
+use Rattle.ac_tables.proofs.contiguous.NFA.clone.Goals as goal
+
+pub from_parts-requires : goal.from_parts-requires
+from_parts-requires c =
+    let a = c.args.self.now in
+    let same = sym c.in_ok-lens.ensures in
+    record {
+      within = subst (λ (patterns : List (List ℕ)). ∥ IsWithinLimits (dictionary_of patterns a.pairing a.kind) ∥₁) same a.within;
+      stands = subst (λ (patterns : List (List ℕ)). AreSomeStates (dictionary_of patterns a.pairing a.kind) c.in_ok-table.table) same (states-copied (dictionary a) a.table c.in_ok-table.table c.in_ok-table.ensures a.stands);
+      held = λ f is. a.held f (sym c.in_ok-prefilter.ensures ∙ is) ∙ ap (λ (patterns : List (List ℕ)). dictionary_of patterns a.pairing a.kind) same;
+      paired = a.paired;
+    }

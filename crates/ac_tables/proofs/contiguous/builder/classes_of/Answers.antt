@@ -1,0 +1,14 @@
+-- Either classes serve the dictionary.
+use Rattle.std.proofs.Common.{◌≡◌, List, ℕ, rules}
+use Rattle.ac_noncontiguous.specs.Reads.{dictionary}
+use Rattle.ac_noncontiguous.specs.ReadCalls.{classes_in}
+use Rattle.ac_tables.proofs.TableLemmas.{own-serve, singles-serve}
+use Rattle.ac_tables.proofs.contiguous.builder.classes_of.Goals as goal
+
+pub returns-in_ok-clone-clause-serve : goal.returns-in_ok-clone-clause-serve
+returns-in_ok-clone-clause-serve c =
+    let same : c.in_ok-clone.field-0 ≡ classes_in c.args.nfa.now = search rules in
+    own-serve c.args.nfa.now c.in_ok-clone.field-0 c.byte_classes.ensures.classes c.byte_classes.ensures.alike same
+
+pub returns-else-byte_classes-clause-serve : goal.returns-else-byte_classes-clause-serve
+returns-else-byte_classes-clause-serve c = singles-serve (dictionary c.args.nfa.now) c.singletons.result c.singletons.ensures

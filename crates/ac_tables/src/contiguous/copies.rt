@@ -1,0 +1,45 @@
+//! Copies of a contiguous automaton.
+ghost use Rattle.std.specs.Prelude.{◌≡◌, IfOk};
+ghost use Rattle.ac_tables.specs.ContiguousBuild.{IsSameTable};
+ghost use Rattle.ac_tables.specs.ContiguousBuilder.{IsCopy};
+
+use crate::contiguous::NFA;
+use crate::contiguous::table::Table;
+use ac_literal::prefilter::Prefilter;
+use std::alloc::{AllocError, Global};
+
+/// The table once more.
+fn clone_table(alloc: Global, table: &Table) -> Result<Table, AllocError>
+    ensures { IfOk result (IsSameTable table.now) }
+{
+    Ok(Table {
+        words: Vec::from_slice(alloc, &table.words)?,
+        classes: table.classes.clone()?,
+        alphabet_len: table.alphabet_len,
+        start: table.start,
+        start_anchored: table.start_anchored,
+        max_match: table.max_match,
+    })
+}
+
+impl NFA {
+    /// The prefilter once more, if one is held.
+    fn clone_prefilter(&self, alloc: Global) -> Result<Option<Prefilter>, AllocError>
+        ensures { IfOk result (λ copy. copy ≡ self.now.prefilter) }
+    {
+        match &self.prefilter {
+            Some(prefilter) => Ok(Some(prefilter.clone(alloc)?)),
+            None => Ok(None),
+        }
+    }
+
+    /// The same automaton once more, in memory from `alloc`.
+    pub fn clone(&self, alloc: Global) -> Result<NFA, AllocError>
+        ensures { IfOk result (IsCopy self.now) }
+    {
+        let prefilter = self.clone_prefilter(alloc)?;
+        let lens = self.lens.clone(alloc)?;
+        let table = clone_table(alloc, &self.table)?;
+        Ok(NFA::from_parts(table, lens, prefilter, self.pairing, self.kind))
+    }
+}

@@ -3,7 +3,7 @@ ghost use Rattle.std.specs.Prelude.{◌<◌, IfSome};
 ghost use Rattle.ac_noncontiguous.specs.ReadCalls.{state_len};
 
 use crate::answers::same;
-use crate::engines::{Asked, Letters, Setting, noncontiguous};
+use crate::engines::{Asked, Letters, Prefiltering, noncontiguous};
 use ac_input::primitives::StateID;
 use ac_input::search::MatchKind;
 use ac_noncontiguous::{Automaton, ByteClasses, NFA};
@@ -49,7 +49,7 @@ pub struct Kept {
     pub kind: MatchKind,
     pub letters: Letters,
     /// Whether a prefilter is wanted, and whether there is one.
-    pub prefilter: (bool, bool),
+    pub prefilter: (Prefiltering, bool),
     pub bounds: Bounds,
     pub states: &'static [State],
     /// The classes of some bytes.
@@ -217,11 +217,7 @@ fn holds<T: Abort>(rt: &T, alloc: Global, kept: &Kept) -> Result<(), Fail> {
         kind: kept.kind,
         letters: kept.letters,
     };
-    let setting = Setting {
-        prefilter: kept.prefilter.0,
-        dense_depth: 3,
-    };
-    let nfa = noncontiguous(alloc, asked, setting)?;
+    let nfa = noncontiguous(alloc, asked, kept.prefilter.0, 3)?;
     keeps(rt, alloc, &nfa, kept)
 }
 

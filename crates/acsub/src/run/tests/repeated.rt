@@ -244,6 +244,29 @@ const OCCURRENCES: &[Row] = &[
         },
         ..LISTED
     },
+    // Bytes that begin an occurrence at each place, one of which comes to its end: both sides of what a byte can count.
+    Row {
+        told: Told {
+            mode: Overlap,
+            ..FOLDED
+        },
+        by: &[STANDARD],
+        rules: Rules::File(&[Times(254, "61"), Times(1, "7a\t\n")]),
+        input: LATE,
+        writes: Writes::Text(&[Times(1, "0 46 301\n")]),
+        ..LISTED
+    },
+    Row {
+        told: Told {
+            mode: Overlap,
+            ..FOLDED
+        },
+        by: &[STANDARD],
+        rules: Rules::File(&[Times(255, "61"), Times(1, "7a\t\n")]),
+        input: LATE,
+        writes: Writes::Text(&[Times(1, "0 45 301\n")]),
+        ..LISTED
+    },
     Row {
         told: Told {
             mode: Overlap,

@@ -1,0 +1,21 @@
+-- What is built has the patterns that were added.
+use Rattle.std.proofs.Common.{◌≡◌, Option, map, sym, subst}
+use Rattle.std.specs.Prelude.{IfSome}
+use Rattle.ac_literal.specs.Packed.{Packed}
+use Rattle.ac_literal.specs.declared.packed.api.MatchKind.TheVariants.{LeftmostLongest}
+use Rattle.ac_literal.proofs.PatternLemmas.{built-fresh}
+use Rattle.uses.proofs.PackedLemmas.{packed-first}
+use Rattle.uses.proofs.callers.packed.longest_by_hash.Goals as goal
+
+pub unwrap-searcher-requires : goal.unwrap-searcher-requires
+unwrap-searcher-requires c =
+    let texts = map (λ pattern. pattern.now) c.args.patterns.now in
+    let value = rw (c.in_ok-extend.ensures.value, c.builder-builder.ensures, c.only_rabin_karp.ensures.value, c.match_kind.ensures.value) at c.in_ok-build.ensures.value in
+    rw value ((built-fresh LeftmostLongest texts).0.1 c.requires)
+
+pub returns : goal.returns
+returns c =
+    let texts = map (λ pattern. pattern.now) c.args.patterns.now in
+    let value = rw (c.in_ok-extend.ensures.value, c.builder-builder.ensures, c.only_rabin_karp.ensures.value, c.match_kind.ensures.value) at c.in_ok-build.ensures.value in
+    let is = subst (λ (made : Option Packed). IfSome made (λ s. s ≡ record { kind = LeftmostLongest; patterns = texts })) (sym value) (built-fresh LeftmostLongest texts).1 in
+    packed-first LeftmostLongest texts c.args.text.now _ _ _ is c.unwrap-searcher.ensures c.find.ensures.best

@@ -1,5 +1,5 @@
 -- Where a search of the noncontiguous automaton begins.
-use Rattle.std.proofs.Common.{◌≡◌, ℕ, ◌+◌, arith}
+use Rattle.std.proofs.Common.{arith}
 use Rattle.std.proofs.Math.Logic.{∥∥₁_elim}
 use Rattle.std.specs.Coded.{le_prop}
 use Rattle.ac_input.specs.declared.search.Anchored.TheVariants.{No, Yes}

@@ -1,8 +1,9 @@
 //! What the noncontiguous automaton keeps of its states: their order, their transitions, their failure links and their patterns.
-ghost use Rattle.std.specs.Prelude.{◌<◌, IfSome};
+ghost use Rattle.std.specs.Prelude.{◌<◌};
 ghost use Rattle.ac_noncontiguous.specs.ReadCalls.{state_len};
 
 use crate::answers::same;
+use crate::callers::nfa::numbered;
 use crate::engines::{Asked, Letters, Prefiltering, noncontiguous};
 use ac_input::primitives::StateID;
 use ac_input::search::MatchKind;
@@ -142,18 +143,6 @@ fn state_lists<T: Abort>(
         .collect(alloc)?;
     same(rt, &given, want, shows);
     Ok(())
-}
-
-/// The state of this number, if there is one.
-fn numbered(nfa: &NFA, number: usize) -> Option<StateID>
-    ensures { IfSome result (λ sid. sid < state_len nfa.now) }
-{
-    let sid = StateID::new(number).ok()?;
-    if sid.as_usize() < nfa.state_len() {
-        Some(sid)
-    } else {
-        None
-    }
 }
 
 /// Asserts what is kept of a state.

@@ -6,7 +6,7 @@ use crate::answers::Text::{self, Bound, BoundEarliest, BoundPart, Earliest, Part
 use crate::answers::{by_plain, input};
 use crate::engines::{Asked, ENGINES, Letters, Pick, each, pick};
 use crate::prefilters::built;
-use crate::rows::{Row, Table, packed_table_holds};
+use crate::rows::{Row, packed_table_holds, table_of};
 use ac_input::search::{Candidate, MatchKind, Span};
 use ac_literal::prefilter::Prefilter;
 use std::alloc::{AllocError, Global};
@@ -110,21 +110,10 @@ fn searches_are_alike<T: Abort>(
     drawn: Drawn<'_>,
     asks: Asks,
 ) -> Result<(), Fail> {
-    let Asked {
-        patterns,
-        kind,
-        letters,
-    } = drawn.asked;
     let texts = searches(drawn.text);
     let answers = answers(alloc, drawn.asked, asks, &texts)?;
     let rows = rows(alloc, asks, &texts, &answers)?;
-    let table = Table {
-        patterns,
-        kind,
-        letters,
-        rows: &rows,
-    };
-    each(rt, alloc, &table, ENGINES)
+    each(rt, alloc, &table_of(drawn.asked, &rows), ENGINES)
 }
 
 /// Asserts that no match begins before the candidate of a prefilter, and that a match that it found is the one.
@@ -243,11 +232,10 @@ fn packed_is_alike<T: Abort>(
     kind: MatchKind,
     text: Text<'_>,
 ) -> Result<(), Fail> {
-    let letters = Letters::Cased;
     let asked = Asked {
         patterns,
         kind,
-        letters,
+        letters: Letters::Cased,
     };
     let gives = by_plain(alloc, asked, Walk, &input(&text)?)?;
     let rows = [Row {
@@ -256,13 +244,7 @@ fn packed_is_alike<T: Abort>(
         text,
         gives: &gives,
     }];
-    let table = Table {
-        patterns,
-        kind,
-        letters,
-        rows: &rows,
-    };
-    packed_table_holds(rt, alloc, &table)
+    packed_table_holds(rt, alloc, &table_of(asked, &rows))
 }
 
 /// Compares packed search of these patterns, for both kinds.

@@ -5,7 +5,7 @@ use crate::answers::Asks::{self, List, Walk};
 use crate::answers::Text::{self, Bound, Whole};
 use crate::engines::Letters::{self, Cased, Folded};
 use crate::engines::{Asked, Case, ENGINES, Engine, FEW, FIRST, Pick, each};
-use crate::rows::{Row, Table, hold};
+use crate::rows::{Row, hold, table_of};
 use ac_input::search::{Input, MatchKind, StartKind};
 use ac_noncontiguous::Automaton;
 use std::alloc::{AllocError, Global};
@@ -108,17 +108,7 @@ fn rows_hold<T: Abort>(
     rows: &[Row<'_>],
     engines: &[Engine],
 ) -> Result<(), Fail> {
-    let Asked {
-        patterns,
-        kind,
-        letters,
-    } = asked;
-    let table = Table {
-        patterns,
-        kind,
-        letters,
-        rows,
-    };
+    let table = table_of(asked, rows);
     match asks {
         Walk => hold(rt, alloc, &[table], engines),
         List => each(rt, alloc, &table, engines),

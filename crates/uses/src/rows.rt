@@ -103,6 +103,16 @@ pub fn row_holds_of_each<T: Abort, A: Automaton>(
     row_holds(rt, alloc, &automaton, row)
 }
 
+/// The table of these rows for what automata are built of.
+pub fn table_of<'a>(asked: Asked<'a>, rows: &'a [Row<'a>]) -> Table<'a> {
+    Table {
+        patterns: asked.patterns,
+        kind: asked.kind,
+        letters: asked.letters,
+        rows,
+    }
+}
+
 impl Case for Table<'_> {
     fn asked(&self) -> Asked<'_> {
         Asked {

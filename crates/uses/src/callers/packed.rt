@@ -7,7 +7,7 @@ ghost use Rattle.ac_input.specs.Pairing.{IsFolded};
 ghost use Rattle.ac_input.specs.Same.{IsUnpaired};
 ghost use Rattle.ac_input.specs.Steps.{scanned_of};
 ghost use Rattle.ac_input.specs.Work.{shortest};
-ghost use Rattle.ac_literal.specs.Packed.{AreServed, added, bytes_of, in_whole, leftmost_first, matches_of, search_kind};
+ghost use Rattle.ac_literal.specs.Packed.{AreServed, added, added_all, bytes_of, in_whole, leftmost_first, matches_of, search_kind};
 ghost use Rattle.uses.specs.Callers.{IsSkip, LiesIn};
 
 use ac_automaton::automaton::Automaton;
@@ -68,23 +68,15 @@ pub fn of_one(alloc: Global, pattern: &[u8]) -> Result<Option<Searcher>, AllocEr
     builder.build()
 }
 
-/// The leftmost-longest match, by a builder of the rolling hash alone: that changes nothing.
-pub fn longest_by_hash(
-    alloc: Global,
-    patterns: &[&[u8]],
-    text: &[u8],
-) -> Result<Option<Match>, AllocError>
-    requires { AreServed (bytes_of patterns.now) }
-    ensures { IfOk result (λ found. found
-        ≡ best_of LeftmostLongest (in_whole (bytes_of patterns.now) text.now)) }
+/// Settings for leftmost-longest matches. The rolling hash alone finds the same.
+pub fn longest_config() -> Config
+    ensures { search_kind result ≡ LeftmostLongest }
 {
     let mut config = Searcher::config();
-    let mut builder = config
+    config
         .match_kind(packed::MatchKind::LeftmostLongest)
-        .only_rabin_karp(true)
-        .builder(alloc);
-    let searcher = builder.extend(patterns)?.build()?.unwrap();
-    Ok(searcher.find(text))
+        .only_rabin_karp(true);
+    config
 }
 
 /// The builder with one pattern more. The one that is lent stays as it is.
@@ -93,6 +85,15 @@ pub fn and(builder: &Builder, pattern: &[u8]) -> Result<Builder, AllocError>
 {
     let mut more = builder.clone()?;
     more.try_add(pattern)?;
+    Ok(more)
+}
+
+/// The builder with these patterns more.
+pub fn and_all(builder: &Builder, patterns: &[&[u8]]) -> Result<Builder, AllocError>
+    ensures { IfOk result (λ more. more ≡ added_all builder.now (bytes_of patterns.now)) }
+{
+    let mut more = builder.clone()?;
+    more.extend(patterns)?;
     Ok(more)
 }
 

@@ -1,6 +1,4 @@
 -- Both starts may be met, each by its own searches.
-use Rattle.ac_noncontiguous.specs.ReadCalls.{SpecialIn, special_in}
-use Rattle.std.proofs.Common.{sym, subst}
 use Rattle.uses.proofs.NfaLemmas.{anchored-met, unanchored-met}
 use Rattle.uses.proofs.callers.nfa.start_of.Goals as goal
 

@@ -1,6 +1,5 @@
 -- The prefilter was made for the automaton's own patterns.
-use Rattle.std.proofs.Common.{◌≡◌, Option, Some, false, ap, sym, ◌∙◌, subst}
-use Rattle.std.specs.Prelude.{option_map}
+use Rattle.std.proofs.Common.{false, sym, subst}
 use Rattle.ac_input.specs.Dictionary.{Dictionary, whole}
 use Rattle.uses.specs.Callers.{IsSkip}
 use Rattle.uses.proofs.callers.packed.own_skip.Goals as goal

@@ -1,5 +1,5 @@
 -- Reading on stops early at a special state alone.
-use Rattle.std.proofs.Common.{◌≡◌, ℕ, length, inl, inr, ap, sym, ◌∙◌, subst, arith}
+use Rattle.std.proofs.Common.{◌≡◌, ℕ, length, inl, inr, sym, ◌∙◌, subst, arith}
 use Rattle.std.proofs.Math.Logic.{∥∥₁_map}
 use Rattle.std.proofs.lemmas.Bool.{cases_lt, false≢true}
 use Rattle.ac_automaton.specs.Automaton.{PassesPlain}

@@ -1,5 +1,5 @@
 -- No match of what was read is left, and nothing was read.
-use Rattle.std.proofs.Common.{List, ℕ, ap, length, sym, ◌∙◌, refl, arith}
+use Rattle.std.proofs.Common.{ap, length, ◌∙◌, refl, arith}
 use Rattle.std.specs.List.{concat}
 use Rattle.uses.proofs.callers.stream.pass_held.Goals as goal
 

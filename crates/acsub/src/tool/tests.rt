@@ -127,6 +127,18 @@ const ROWS: &[Row] = &[
         told: "",
         ..REPLACED
     },
+    // The bytes of a pair are taken for the same.
+    Row {
+        words: &["replace", PATH, "--pairs", "3031"],
+        rules: "3061\t78\n",
+        input: b"1a0a",
+        status: 0,
+        told: "",
+        text: "xx",
+        fewest: 2,
+        most: 2,
+        ..REPLACED
+    },
     // Words that are no command line.
     Row {
         words: &["list"],

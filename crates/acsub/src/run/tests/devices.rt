@@ -2,6 +2,7 @@
 //!
 //! Reads, writes and flushes are counted: nothing is read after a failed or an empty read, also not inside one call, nothing is
 //! written after a failed write, and a run flushes nothing.
+use super::refusals::reads_where_there_is_memory;
 use super::*;
 use crate::scripted::PLAIN;
 use crate::settings::Mode::{List, Overlap, Replace};
@@ -444,6 +445,7 @@ fn in_memory_that_may_end(rt: HostRuntime) -> Result<(), Fail> {
         };
         writes_where_there_is_memory(&rt, rt.alloc(), &told.settings()?, text, pieces);
     }
+    reads_where_there_is_memory(&rt, rt.alloc());
     let settings = PLAIN.settings()?;
     let (source, sink) = (whole(FOX, 3), expecting(b""));
     let did = try_run(rt.alloc(), &settings, "7a7\t\n", source, sink);

@@ -103,6 +103,20 @@ fn has_sides(rt: &impl Abort, rules: &rules::Rules, sides: &[(&[u8], &[u8])]) {
     }
 }
 
+/// Asserts that a bad line is reported whatever memory does, and that rules are read or there was no memory.
+pub fn reads_where_there_is_memory(rt: &impl Abort, alloc: Global) {
+    for Bad(file, line) in BAD {
+        let refused = read_rules(alloc, file.as_bytes()).err();
+        assert_eq!(rt; refused, Some(RuleError::Line(*line)), "by {file:?}");
+    }
+    for Good(file, sides) in GOOD {
+        match &read_rules(alloc, file.as_bytes()) {
+            Ok(rules) => has_sides(rt, rules, sides),
+            Err(error) => assert_eq!(rt; *error, RuleError::Memory, "by {file:?}"),
+        }
+    }
+}
+
 /// Rules are read in the order of their lines.
 #[test]
 fn reads_rules(rt: HostRuntime) -> Result<(), Fail> {

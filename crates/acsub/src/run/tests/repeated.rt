@@ -219,43 +219,59 @@ const MATCHES: &[Row] = &[
     },
 ];
 
+/// A list of all that overlap in a thousand letters.
+const OVERLAPPING: Row = Row {
+    told: Told {
+        mode: Overlap,
+        ..PLAIN
+    },
+    by: &[STANDARD],
+    ..LISTED
+};
+
+/// The same of letters, in either case, that another one ends.
+const LATE_OVERLAPPING: Row = Row {
+    told: Told {
+        mode: Overlap,
+        ..FOLDED
+    },
+    input: LATE,
+    ..OVERLAPPING
+};
+
 const OCCURRENCES: &[Row] = &[
     // Each of up to 129 that end at one place has its line.
     Row {
-        told: Told {
-            mode: Overlap,
-            ..PLAIN
-        },
-        by: &[STANDARD],
         rules: Rules::Rising(1),
         writes: EACH_LETTER,
-        ..LISTED
+        ..OVERLAPPING
     },
     Row {
-        told: Told {
-            mode: Overlap,
-            ..PLAIN
-        },
-        by: &[STANDARD],
         rules: Rules::Rising(128),
         writes: Writes::Occurrences {
             patterns: 128,
             lines: 119872,
         },
-        ..LISTED
+        ..OVERLAPPING
     },
     Row {
-        told: Told {
-            mode: Overlap,
-            ..PLAIN
-        },
-        by: &[STANDARD],
         rules: Rules::Rising(129),
         writes: Writes::Occurrences {
             patterns: 129,
             lines: 120744,
         },
-        ..LISTED
+        ..OVERLAPPING
+    },
+    // An occurrence may begin at each place, and one of them ends: 254 or 255 bytes before the byte that decides.
+    Row {
+        rules: Rules::File(&[Times(254, "61"), Times(1, "7a\t\n")]),
+        writes: Writes::Text(&[Times(1, "0 46 301\n")]),
+        ..LATE_OVERLAPPING
+    },
+    Row {
+        rules: Rules::File(&[Times(255, "61"), Times(1, "7a\t\n")]),
+        writes: Writes::Text(&[Times(1, "0 45 301\n")]),
+        ..LATE_OVERLAPPING
     },
 ];
 

@@ -1,10 +1,8 @@
 -- The table that is made of an automaton.
-use Rattle.std.proofs.Common.{◌≡◌, ◌≢◌, ◌⊎◌, ℕ, ◌+◌, ◌<◌, ◌≤◌, false, true, List, ◌++◌, ◌∷◌, [], get_or, slice_index, Option, Some, sym, ap, subst, ◌∙◌, ⊎_elim, arith}
+use Rattle.std.proofs.Common.{◌≡◌, ℕ, ◌+◌, ◌<◌, List, ◌++◌, ◌∷◌, [], sym, ap, subst, ◌∙◌, ⊎_elim, arith}
 use Rattle.std.specs.Coded.{le_prop, Coded-set, coded_ℕ}
 use Rattle.std.proofs.Math.Logic.{∥∥₁_elim, ∥∥₁_map}
-use Rattle.ac_input.specs.declared.primitives.number.TheConstants.{GREATEST}
 use Rattle.ac_input.specs.Alphabet.{class}
-use Rattle.ac_input.specs.Classes.{IsByteOf, IsAlone, ClassesLeadAlike}
 use Rattle.ac_input.specs.declared.search.MatchKind.{MatchKind}
 use Rattle.ac_input.specs.Dictionary.{Dictionary, dictionary_of}
 use Rattle.ac_input.specs.Pairing.{IsPairing}
@@ -12,7 +10,6 @@ use Rattle.ac_input.specs.States.{LeadsTo}
 use Rattle.ac_input.proofs.ClassLemmas.{byte-alone}
 use Rattle.ac_input.proofs.SameLemmas.{own_inverse-pairing}
 use Rattle.ac_noncontiguous.specs.declared.nfa.NFA.{NFA}
-use Rattle.ac_noncontiguous.specs.declared.nfa.read.Special.{Special}
 use Rattle.ac_noncontiguous.specs.Reads.{dictionary}
 use Rattle.ac_noncontiguous.specs.ReadCalls.{state_len, classes_in, special_in, StandForSome, TextsBegin, SpecialIn, ClassesAreThose, AlikeIn}
 use Rattle.ac_tables.specs.declared.contiguous.table.Table.{Table}
@@ -48,13 +45,13 @@ pub specials-within : (nfa : NFA) → StandForSome nfa → SpecialIn nfa (specia
 specials-within nfa some bounds = (
   ∥∥₁_elim some le_prop (λ w. (bounds w.0 w.1).within),
   ∥∥₁_elim some le_prop (λ w.
-  let b = bounds w.0 w.1 in
-  let within = b.within in
-  let next = b.next in
-  ⊎_elim
-  (λ (a : (special_in nfa).max_match_id + 1 ≡ (special_in nfa).start_unanchored_id). omega (arith, a, within, next))
-  (λ (e : (special_in nfa).max_match_id ≡ (special_in nfa).start_anchored_id). omega (arith, e, within))
-  b.last_match),
+      let b = bounds w.0 w.1 in
+      let within = b.within in
+      let next = b.next in
+      ⊎_elim
+      (λ (a : (special_in nfa).max_match_id + 1 ≡ (special_in nfa).start_unanchored_id). omega (arith, a, within, next))
+      (λ (e : (special_in nfa).max_match_id ≡ (special_in nfa).start_anchored_id). omega (arith, e, within))
+      b.last_match),
 )
 
 -- no place is too great where each is a number
@@ -63,6 +60,7 @@ places-small nfa dense_depth classes places h great = let fits = h.fits great.0 
 
 -- ---- the states
 
+-- whatever texts the states stand for, the table holds them
 pub some-states : (nfa : NFA) (dense_depth : ℕ) (table : Table) (places : List ℕ) → StandForSome nfa → TextsBegin nfa → AreKnown nfa (state_len nfa) → SpecialIn nfa (special_in nfa) → IsPairing (dictionary nfa).pairing → AreServing (dictionary nfa) table.classes → ArePlaces nfa dense_depth table.classes places → IsTableOf nfa dense_depth table → AreSomeStates (dictionary nfa) table
 some-states nfa dense_depth table places some begin known bounds paired serving h made =
     ∥∥₁_map some (λ w.

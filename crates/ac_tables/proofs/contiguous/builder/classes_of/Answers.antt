@@ -1,5 +1,5 @@
 -- Either classes serve the dictionary.
-use Rattle.std.proofs.Common.{◌≡◌, List, ℕ, rules}
+use Rattle.std.proofs.Common.{◌≡◌, rules}
 use Rattle.ac_noncontiguous.specs.Reads.{dictionary}
 use Rattle.ac_noncontiguous.specs.ReadCalls.{classes_in}
 use Rattle.ac_tables.proofs.TableLemmas.{own-serve, singles-serve}

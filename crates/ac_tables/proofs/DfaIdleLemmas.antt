@@ -1,10 +1,9 @@
 -- What a search by a DFA passes over that stands in the start; and at which states it stops between two numbers.
-use Rattle.std.proofs.Common.{◌≡◌, ℕ, ◌+◌, ◌<◌, ◌≤◌, Bool, true, false, IsTrue, List, [], ◌∷◌, length, drop, refl, sym, ap, subst, ◌∙◌, arith}
+use Rattle.std.proofs.Common.{◌≡◌, ℕ, ◌+◌, ◌<◌, ◌≤◌, Bool, true, false, IsTrue, List, [], ◌∷◌, length, drop, refl, sym, subst, ◌∙◌, arith}
 use Rattle.std.specs.Prelude.{slice_index}
 use Rattle.std.specs.Coded.{le_prop}
 use Rattle.std.proofs.Math.Logic.{∥∥₁_elim, ∥∥₁_map}
 use Rattle.std.proofs.lemmas.Bool.{leb-true, le-leb, false≢true}
-use Rattle.std.proofs.lemmas.List.{get_or-drop}
 use Rattle.ac_input.specs.declared.search.Anchored.{Anchored}
 use Rattle.ac_input.specs.declared.search.Anchored.TheVariants.{No}
 use Rattle.ac_input.specs.declared.steps.Steps.{Steps}
@@ -15,8 +14,7 @@ use Rattle.ac_automaton.specs.declared.automaton.Advance.{Advance}
 use Rattle.ac_automaton.specs.Named.{Naming, IsStep, IsIdleBy}
 use Rattle.ac_automaton.specs.Starters.{SkipsIdle, PassesIdle}
 use Rattle.ac_automaton.proofs.CursorLemmas.{HasAdvanced, reached-state}
-use Rattle.ac_automaton.proofs.IdleLemmas.{pass-advanced}
-use Rattle.ac_automaton.proofs.IdleLemmas.{advances-alike}
+use Rattle.ac_automaton.proofs.IdleLemmas.{pass-advanced, advances-alike}
 use Rattle.ac_automaton.proofs.PassLemmas.{matching-some, some-matching}
 use Rattle.ac_noncontiguous.specs.Reads.{is_between}
 use Rattle.ac_noncontiguous.proofs.IdleLemmas.{between}
@@ -69,7 +67,7 @@ pub passed-on : (dfa : DFA) (anchored : Anchored) (stops : ℕ → Bool) (sid cu
     → (n + passed ≤ length bytes) × HasAdvanced (built_as dfa) (IsRead dfa) anchored stops sid bytes (n + passed) current s u
 passed-on dfa anchored stops sid current bytes rest n passed s t u apart small is within passes has =
     pass-advanced (built_as dfa) (IsNamingFor dfa) (matches_at dfa) (is_start_at dfa) (is_special_at dfa) stops dfa.table.start dfa.starters anchored sid current bytes rest n passed s t u (all-names dfa anchored) (skips-by dfa anchored) apart
-    (λ k. subst (λ (b : ℕ). b < 256) (sym (ap (λ (l : List ℕ). slice_index l k) is ∙ get_or-drop n bytes k 0)) (small (n + k))) is within passes has
+    small is within passes has
 
 -- ---- where it stops
 

@@ -22,3 +22,6 @@ pub mod FilledLemmas
 pub mod BuildLemmas
 pub mod DfaListLemmas
 pub mod TableLemmas
+pub mod DfaBuildLemmas
+pub mod DfaCopyLemmas
+pub mod WordTableLemmas

@@ -2,7 +2,12 @@
 use Rattle.std.specs.Prelude.{◌≡◌, ℕ, ◌+◌, ◌<◌, ◌≤◌, Bool, true, false, List}
 use Rattle.ac_input.specs.declared.search.StartKind.{StartKind}
 use Rattle.ac_input.specs.Alphabet.{class, alphabet_len, IsLeastExponent}
+use Rattle.ac_input.specs.declared.primitives.number.TheConstants.{GREATEST}
+use Rattle.ac_input.specs.Dfa.{IsDfaTooLarge}
+use Rattle.ac_noncontiguous.specs.declared.error.BuildErrorKind.{BuildErrorKind}
+use Rattle.ac_noncontiguous.specs.declared.error.BuildErrorKind.TheVariants.{StateIDOverflow, PatternIDOverflow, PatternTooLong, Memory}
 use Rattle.ac_noncontiguous.specs.declared.nfa.NFA.{NFA}
+use Rattle.ac_noncontiguous.specs.Reads.{dictionary}
 use Rattle.ac_noncontiguous.specs.ReadCalls.{state_len, special_in, classes_in}
 use Rattle.ac_tables.specs.declared.dfa.table.Table.{Table}
 use Rattle.ac_tables.specs.DfaLists.{AreListsOf}
@@ -42,3 +47,10 @@ pub record IsTableFor (nfa : NFA) (start_kind : StartKind) (classed : Bool) (tab
   pub made : IsTableOf nfa table
   pub kind : table.kind ≡ start_kind
   pub classes : AreChosen classed nfa table.classes
+
+-- why there is no such table: it would be too large, or memory has ended
+abbrev pub IsTableRefused : NFA → StartKind → Bool → BuildErrorKind → Type 0
+IsTableRefused nfa kind classed (StateIDOverflow max requested) = (max ≡ GREATEST) × (max < requested) × ∥ IsDfaTooLarge (dictionary nfa) kind classed ∥₁
+IsTableRefused nfa kind classed (PatternIDOverflow max requested) = ⊥
+IsTableRefused nfa kind classed (PatternTooLong pattern len) = ⊥
+IsTableRefused nfa kind classed Memory = Unit {0}

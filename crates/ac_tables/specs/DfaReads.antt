@@ -1,7 +1,6 @@
 -- What a DFA is built as, and what is known of a number that a search has come to.
-use Rattle.std.specs.Prelude.{◌≡◌, ℕ, ◌/◌, ◌==◌, ◌||◌, nat_le, Bool, true, List, length, take, Option}
+use Rattle.std.specs.Prelude.{◌≡◌, ℕ, ◌==◌, ◌||◌, nat_le, Bool, true, List, take, Option}
 use Rattle.ac_input.specs.declared.search.Anchored.{Anchored}
-use Rattle.ac_input.specs.declared.search.StartKind.{StartKind}
 use Rattle.ac_input.specs.declared.steps.Steps.{Steps}
 use Rattle.ac_input.specs.Candidate.{Filter}
 use Rattle.ac_input.specs.Dfa.{Serves}
@@ -12,7 +11,7 @@ use Rattle.ac_automaton.specs.Named.{Naming, IsReadBy}
 use Rattle.ac_noncontiguous.specs.Reads.{is_between}
 use Rattle.ac_tables.specs.declared.dfa.DFA.{DFA}
 use Rattle.ac_tables.specs.declared.dfa.table.Table.{Table}
-use Rattle.ac_tables.specs.DfaTable.{AreRows, stride_of, matches_by}
+use Rattle.ac_tables.specs.DfaTable.{AreRows, matches_by}
 
 -- what the automaton is made from
 abbrev pub dictionary : DFA → Dictionary
@@ -60,21 +59,3 @@ pub record IsMadeOf (m : Dictionary) (from : Table) (held : Option Filter) (dfa 
   pub dictionary : dictionary dfa ≡ m
   pub table : dfa.table ≡ from
   pub prefilter : dfa.prefilter ≡ held
-
--- ---- the layout
-
--- the transitions, a row for each state, one after another
-abbrev pub transitions_in : DFA → List ℕ
-transitions_in dfa = dfa.table.trans.items
-
--- how long a row is
-abbrev pub stride_in : DFA → ℕ
-stride_in dfa = stride_of dfa.table
-
--- how many rows there are
-abbrev pub state_len_in : DFA → ℕ
-state_len_in dfa = length (transitions_in dfa) / stride_in dfa
-
--- for which searches there is a start
-abbrev pub start_kind_in : DFA → StartKind
-start_kind_in dfa = dfa.table.kind

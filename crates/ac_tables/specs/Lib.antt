@@ -32,3 +32,5 @@ pub mod Filler
 pub mod DfaLists
 pub mod DfaMade
 pub mod ContiguousBuilder
+pub mod DfaBuild
+pub mod DfaCopy

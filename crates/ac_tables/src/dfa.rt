@@ -1,9 +1,10 @@
 //! The DFA.
 mod automaton;
+pub mod builder;
 mod fill;
 mod lists;
 mod numbers;
-mod reads;
+mod read;
 mod table;
 
 ghost use Rattle.std.specs.Prelude.{◌≡◌, if◌then◌else◌};

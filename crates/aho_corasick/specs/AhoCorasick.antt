@@ -1,8 +1,5 @@
 -- What an automaton of the front was built as, and what its searches answer where they can't be refused.
-use Rattle.std.specs.Prelude.{◌≡◌, ℕ, Bool, List, map, String}
-use Rattle.std.specs.Global.{Global, Vec}
-use Rattle.std.specs.String.{string_bytes}
-use denote.Ref.{Bor}
+use Rattle.std.specs.Prelude.{◌≡◌, ℕ, Bool, List}
 use Rattle.ac_input.specs.declared.search.Anchored.{Anchored}
 use Rattle.ac_input.specs.Dfa.{Serves}
 use Rattle.ac_input.specs.Input.{Asked}
@@ -10,7 +7,6 @@ use Rattle.ac_input.specs.Occurrence.{Search, Occurrence, Occurs}
 use Rattle.ac_automaton.specs.Automaton.{Built, walk_in, listing_in}
 use Rattle.ac_automaton.specs.Iter.{Walk, fresh_walk, left_of}
 use Rattle.ac_automaton.specs.OverlappingIter.{Run, fresh_run, rest_of}
-use Rattle.ac_automaton.specs.Replace.{matches_in, text_matches_in, with_replaced}
 use Rattle.aho_corasick.specs.declared.ahocorasick.AhoCorasick.{AhoCorasick}
 use Rattle.aho_corasick.specs.declared.engine.Engine.{Engine}
 use Rattle.aho_corasick.specs.Engine as engines
@@ -59,11 +55,3 @@ IsWalkOver b asked walk = (walk ≡ fresh_walk b asked) × (left_of walk ≡ wal
 -- a run through all occurrences of an input, which has not begun
 abbrev pub IsRunOver : Built → Asked → Run → Type 0
 IsRunOver b asked run = (run ≡ fresh_run b asked) × (rest_of run ≡ listing_in b asked)
-
--- a text with each of its matches that cut no character exchanged for its pattern's replacement
-abbrev pub IsReplacedText : Built → List ℕ → List (Bor (List ℕ)) → String Global → Type 0
-IsReplacedText b haystack replacements text = string_bytes text ≡ with_replaced haystack (map (λ r. r.now) replacements) (text_matches_in b haystack)
-
--- bytes with each of their matches exchanged so
-abbrev pub AreReplacedBytes : Built → List ℕ → List (Bor (List ℕ)) → Vec ℕ → Type 0
-AreReplacedBytes b haystack replacements bytes = bytes.items ≡ with_replaced haystack (map (λ r. r.now) replacements) (matches_in b haystack)

@@ -1,3 +1,6 @@
 pub mod Engine
 pub mod EngineLaws
 pub mod AhoCorasick
+pub mod Replaced
+pub mod Streamed
+pub mod Builder

@@ -1,10 +1,15 @@
 //! The automaton that most callers need, and which one serves it.
 mod automaton;
+mod builder;
+mod replace;
 mod search;
+mod stream;
 
 ghost use Rattle.std.specs.Prelude.{◌≡◌, ◌↔◌, IfOk, IsTrue, length};
 ghost use Rattle.ac_input.specs.Work.{longest, shortest};
 ghost use Rattle.aho_corasick.specs.Engine.{HasStarts, kind_of};
+
+pub use builder::AhoCorasickBuilder;
 
 use crate::engine::Engine;
 use ac_automaton::automaton::Automaton;

@@ -15,6 +15,7 @@ use ac_input::alphabet::ByteClasses;
 use ac_input::primitives::StateID;
 use ac_input::search::{Anchored, StartKind};
 use ac_noncontiguous::nfa::NFA;
+use std::alloc::{AllocError, Global};
 
 /// The number of the fail state of the noncontiguous automaton, which stands where a byte leads nowhere.
 const FAIL: usize = 1;
@@ -30,7 +31,7 @@ pub(super) struct Filler<'a> {
 }
 
 impl<'a> Filler<'a> {
-    ghost use Rattle.std.specs.Prelude.{◌≢◌, ◌⊎◌, ◌+◌, ◌*◌, ◌<◌, ◌≤◌, length};
+    ghost use Rattle.std.specs.Prelude.{IfOk, ◌≢◌, ◌⊎◌, ◌+◌, ◌*◌, ◌<◌, ◌≤◌, length};
     ghost use Rattle.ac_input.specs.declared.search.Anchored.TheVariants.{No, Yes};
     ghost use Rattle.ac_input.specs.Dfa.{Serves, dfa_states};
     ghost use Rattle.ac_noncontiguous.specs.ReadCalls.{state_len, fail_in, edges_in, MayBeMet};
@@ -157,5 +158,16 @@ impl<'a> Filler<'a> {
                 high += 1;
             }
         }
+    }
+
+    /// A table of so many rows, filled.
+    pub(super) fn filled(&self, alloc: Global, rows: usize) -> Result<Vec<StateID>, AllocError>
+        requires { rows ≡ dfa_states self.now.numbers.kind (state_len self.now.nfa.now) }
+        ensures { IfOk result (λ trans. AreRowsUpTo (plan_of self.now)
+            (state_len self.now.nfa.now) (state_len self.now.nfa.now) trans.items) }
+    {
+        let mut trans = vec![in alloc; StateID::ZERO; rows * self.numbers.stride]?;
+        self.fill_all(&mut trans);
+        Ok(trans)
     }
 }

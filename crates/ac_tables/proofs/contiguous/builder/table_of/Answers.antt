@@ -5,7 +5,7 @@ use Rattle.ac_noncontiguous.specs.declared.nfa.read.Special.{Special}
 use Rattle.ac_noncontiguous.specs.ReadCalls.{state_len, special_in, SpecialIn}
 use Rattle.ac_tables.specs.declared.contiguous.table.Table.{Table}
 use Rattle.ac_tables.specs.ContiguousBuild.{IsTableOf}
-use Rattle.ac_tables.proofs.TableLemmas.{specials-within, places-small, some-states}
+use Rattle.ac_tables.proofs.WordTableLemmas.{specials-within, places-small, some-states}
 use Rattle.ac_tables.proofs.contiguous.builder.table_of.Goals as goal
 
 pub returns-clause-made : goal.returns-clause-made

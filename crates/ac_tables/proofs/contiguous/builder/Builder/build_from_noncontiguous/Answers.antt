@@ -7,7 +7,7 @@ use Rattle.ac_noncontiguous.specs.Reads as reads
 use Rattle.ac_tables.specs.declared.contiguous.table.Table.{Table}
 use Rattle.ac_tables.specs.ContiguousTable.{AreWordsOf, AreSomeStates}
 use Rattle.ac_tables.specs.ContiguousBuilder.{Settings, IsMadeFrom}
-use Rattle.ac_tables.proofs.TableLemmas.{same-dictionary}
+use Rattle.ac_tables.proofs.WordTableLemmas.{same-dictionary}
 use Rattle.ac_tables.proofs.contiguous.builder.Builder.build_from_noncontiguous.Goals as goal
 
 pub from_parts-requires : goal.from_parts-requires

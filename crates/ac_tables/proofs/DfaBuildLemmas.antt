@@ -1,0 +1,205 @@
+-- How large the table of an automaton is, and what is built of it.
+use Rattle.std.proofs.Common.{◌≡◌, ◌≢◌, ◌⊎◌, ℕ, zero, suc, ◌+◌, ◌-◌, ◌*◌, ◌^◌, ◌<◌, ◌≤◌, Bool, true, false, List, length, Option, inl, inr, ⊎_elim, refl, sym, ap, ap₂, subst, ◌∙◌, arith}
+use Rattle.std.specs.Prelude.{slice_index, ◌/◌}
+use Rattle.std.specs.Coded.{le_prop}
+use Rattle.std.proofs.Math.Logic.{∥∥₁_elim, ∥∥₁_map, ∥∥₁_prop}
+use Rattle.std.proofs.lemmas.Nat.{mul-le}
+use Rattle.ac_input.specs.declared.primitives.number.TheConstants.{GREATEST}
+use Rattle.ac_input.specs.declared.search.Anchored.{Anchored}
+use Rattle.ac_input.specs.declared.search.StartKind.{StartKind}
+use Rattle.ac_input.specs.declared.search.StartKind.TheVariants as starts
+use Rattle.ac_input.specs.Alphabet.{class, alphabet_len, AreClassesOf, IsLeastExponent, IsLeastPowerOfTwo}
+use Rattle.ac_input.specs.Candidate.{Filter}
+use Rattle.ac_input.specs.Classes.{AreByteClasses}
+use Rattle.ac_input.specs.Dfa.{Serves, dfa_states, IsDfaSize, IsDfaTooLarge}
+use Rattle.ac_input.specs.Dictionary.{Dictionary, dictionary_of}
+use Rattle.ac_input.specs.Input.{is_anchored}
+use Rattle.ac_input.proofs.DfaLemmas.{dfa-one}
+use Rattle.ac_noncontiguous.specs.declared.error.BuildErrorKind.{BuildErrorKind}
+use Rattle.ac_noncontiguous.specs.declared.error.BuildErrorKind.TheVariants.{StateIDOverflow, PatternIDOverflow, PatternTooLong, Memory}
+use Rattle.ac_noncontiguous.specs.declared.nfa.NFA.{NFA}
+use Rattle.ac_noncontiguous.specs.Reads.{dictionary}
+use Rattle.ac_noncontiguous.specs.Standing.{IsBuildRefused}
+use Rattle.ac_noncontiguous.specs.ReadCalls.{state_len, special_in, classes_in, MayBeMet}
+use Rattle.ac_noncontiguous.proofs.ReadCallLemmas.{counts-in}
+use Rattle.ac_tables.specs.declared.dfa.table.Table.{Table}
+use Rattle.ac_tables.specs.declared.dfa.DFA.{DFA}
+use Rattle.ac_tables.specs.DfaBuild.{Settings, IsDfaOf, IsDfaRefused, IsTooLargeOr}
+use Rattle.ac_tables.specs.DfaLists.{AreListsOf}
+use Rattle.ac_tables.specs.DfaReads.{IsMadeOf}
+use Rattle.ac_tables.specs.DfaMade.{AreChosen, plan_by, start_of, number_by, IsTableOf, IsTableFor, IsTableRefused}
+use Rattle.ac_tables.specs.DfaTable.{number_of, stride_of, AreTransitionsOf, AreSomeRows, AreParts}
+use Rattle.ac_tables.specs.Filling.{Plan, IsFit, IsOverflow, AreRowsUpTo}
+use Rattle.ac_tables.proofs.CellLemmas.{starts-of}
+use Rattle.ac_tables.proofs.FilledLemmas.{number-small}
+use Rattle.ac_tables.proofs.RowLemmas.{number-row}
+use Rattle.ac_tables.proofs.TableLemmas.{table-rows, stride-some}
+
+-- ---- the size
+
+-- there are some rows
+pub rows-some : (nfa : NFA) (kind : StartKind) → 1 ≤ dfa_states kind (state_len nfa)
+rows-some nfa starts.Unanchored = let s = starts-of nfa in omega (arith, s.0, s.1)
+rows-some nfa starts.Anchored = let s = starts-of nfa in omega (arith, s.0, s.1)
+rows-some nfa starts.Both = let s = starts-of nfa in omega (arith, s.0, s.1)
+
+-- the table's size is that of the dictionary's
+pub size-some : (nfa : NFA) (kind : StartKind) (classed : Bool) (classes : List ℕ) (stride : ℕ) → AreChosen classed nfa classes → IsLeastPowerOfTwo (alphabet_len classes) stride → ∥ IsDfaSize (dictionary nfa) kind classed ((dfa_states kind (state_len nfa) - 1) * stride) ∥₁
+size-some nfa kind true classes stride chosen least =
+    ∥∥₁_elim (counts-in nfa (state_len nfa) refl).counted ∥∥₁_prop (λ states.
+    ∥∥₁_map nfa.classed (λ (are : AreByteClasses (dictionary nfa) (classes_in nfa)).
+    (state_len nfa, alphabet_len classes, stride, states, (classes_in nfa, are, ap alphabet_len chosen), least, refl)))
+size-some nfa kind false classes stride chosen least =
+    ∥∥₁_map (counts-in nfa (state_len nfa) refl).counted (λ states.
+    (state_len nfa, alphabet_len classes, stride, states, (let last = chosen 255 (omega arith) in omega (arith, last)), least, refl))
+
+-- where the last row has no number it is too large
+pub size-refused : (nfa : NFA) (kind : StartKind) (classed : Bool) (classes : List ℕ) (stride : ℕ) (error : BuildErrorKind) → AreChosen classed nfa classes → IsLeastPowerOfTwo (alphabet_len classes) stride → IsOverflow ((dfa_states kind (state_len nfa) - 1) * stride) error → IsTableRefused nfa kind classed error
+size-refused nfa kind classed classes stride (StateIDOverflow max requested) chosen least over = (over.0, over.1, ∥∥₁_map (size-some nfa kind classed classes stride chosen least) (λ size. ((dfa_states kind (state_len nfa) - 1) * stride, size, over.2)))
+size-refused nfa kind classed classes stride (PatternIDOverflow max requested) chosen least over = over
+size-refused nfa kind classed classes stride (PatternTooLong pattern len) chosen least over = over
+size-refused nfa kind classed classes stride Memory chosen least over = absurd over
+
+-- and where it has one it isn't
+pub size-within : (nfa : NFA) (kind : StartKind) (classed : Bool) (classes : List ℕ) (stride : ℕ) → AreChosen classed nfa classes → IsLeastPowerOfTwo (alphabet_len classes) stride → (dfa_states kind (state_len nfa) - 1) * stride ≤ GREATEST → ¬ IsDfaTooLarge (dictionary nfa) kind classed
+size-within nfa kind classed classes stride chosen least fits large =
+    ∥∥₁_elim (size-some nfa kind classed classes stride chosen least) (λ x y. absurd x) (λ mine.
+    let same : large.0 ≡ (dfa_states kind (state_len nfa) - 1) * stride = dfa-one (dictionary nfa) kind classed large.0 ((dfa_states kind (state_len nfa) - 1) * stride) large.1 mine in
+    let over = large.2 in
+    omega (arith, over, same, fits))
+
+-- the stride is two to the exponent
+pub stride-is : (n stride exponent : ℕ) → IsLeastPowerOfTwo n stride → IsLeastExponent n exponent → stride ≡ 2 ^ exponent
+stride-is n stride exponent g h =
+    let low = g.1.least exponent h.enough in
+    let high = h.least g.0 g.1.enough in
+    let same : g.0 ≡ exponent = omega (arith, low, high) in
+    g.2 ∙ ap (λ (e : ℕ). 2 ^ e) same
+
+-- ---- classes
+
+-- bytes of one chosen class are in one class of the automaton's
+chosen-finer : (classed : Bool) (nfa : NFA) (classes : List ℕ) → AreChosen classed nfa classes → (b c : ℕ) → b < 256 → c < 256 → class classes b ≡ class classes c → class (classes_in nfa) b ≡ class (classes_in nfa) c
+chosen-finer true nfa classes chosen b c b_in c_in same = ap (λ (xs : List ℕ). class xs b) (sym chosen) ∙ (same ∙ ap (λ (xs : List ℕ). class xs c) chosen)
+chosen-finer false nfa classes chosen b c b_in c_in same = ap (class (classes_in nfa)) (sym (chosen b b_in) ∙ (same ∙ chosen c c_in))
+
+-- classes rise with their bytes
+class-up : (boundaries : List Bool) (classes : List ℕ) (b n : ℕ) → AreClassesOf boundaries classes → b + n ≤ 255 → class classes b ≤ class classes (b + n)
+class-up boundaries classes b zero are le = let e : b + 0 ≡ b = omega arith in let f = ap (class classes) e in omega (arith, f)
+class-up boundaries classes b (suc n) are le =
+    let e : b + suc n ≡ (b + n) + 1 = omega arith in
+    let next = are.next (b + n) (omega (arith, le)) in
+    let before = class-up boundaries classes b n are (omega (arith, le)) in
+    let f = ap (class classes) e in
+    omega (arith, f, next, before)
+
+-- the class of a byte is one of those that are chosen
+chosen-within : (classed : Bool) (nfa : NFA) (classes : List ℕ) → AreChosen classed nfa classes → (byte : ℕ) → byte < 256 → class classes byte < alphabet_len classes
+chosen-within true nfa classes chosen byte small =
+    let le : class (classes_in nfa) byte ≤ class (classes_in nfa) 255 = ∥∥₁_elim nfa.classed le_prop (λ (are : AreByteClasses (dictionary nfa) (classes_in nfa)).
+    let e : byte + (255 - byte) ≡ 255 = omega (arith, small) in
+    subst (λ (n : ℕ). class (classes_in nfa) byte ≤ class (classes_in nfa) n) e (class-up are.0 (classes_in nfa) byte (255 - byte) are.1 (omega (arith, small)))) in
+    let b = ap (λ (xs : List ℕ). class xs byte) chosen in
+    let l = ap (λ (xs : List ℕ). class xs 255) chosen in
+    omega (arith, le, b, l)
+chosen-within false nfa classes chosen byte small =
+    let b = chosen byte small in
+    let l = chosen 255 (omega arith) in
+    omega (arith, b, l, small)
+
+-- so rows may be filled by them
+pub chosen-fit : (classed : Bool) (nfa : NFA) (kind : StartKind) (classes : List ℕ) (stride : ℕ) → AreChosen classed nfa classes → IsLeastPowerOfTwo (alphabet_len classes) stride → stride ≤ 256 → (dfa_states kind (state_len nfa) - 1) * stride ≤ GREATEST → IsFit (record { nfa = nfa; kind = kind; classes = classes; stride = stride })
+chosen-fit classed nfa kind classes stride chosen least wide fits =
+    let enough = least.1.enough in
+    let is = least.2 in
+    record {
+      wide = wide;
+      letters = λ byte small. let low = chosen-within classed nfa classes chosen byte small in omega (arith, low, enough, is);
+      finer = chosen-finer classed nfa classes chosen;
+      few = fits;
+    }
+
+-- ---- the table
+
+-- what is made of an automaton
+pub table-for : (nfa : NFA) (table : Table) (classed : Bool) (stride : ℕ) → AreChosen classed nfa table.classes → stride ≡ stride_of table → table.stride2 ≤ 8 → IsLeastExponent (alphabet_len table.classes) table.stride2 → IsFit (record { nfa = nfa; kind = table.kind; classes = table.classes; stride = stride }) → AreRowsUpTo (record { nfa = nfa; kind = table.kind; classes = table.classes; stride = stride }) (state_len nfa) (state_len nfa) table.trans.items → AreListsOf nfa table.lists → table.start ≡ number_of table.kind (start_of nfa) stride false (start_of nfa) → table.start_anchored ≡ number_of table.kind (start_of nfa) stride true (start_of nfa + 1) → table.max_match ≡ number_of table.kind (start_of nfa) stride true (special_in nfa).max_match_id → IsTableFor nfa table.kind classed table
+table-for nfa table classed stride chosen is wide least fit rows lists first second last = record {
+  made = record {
+    fit = subst (λ (s : ℕ). IsFit (record { nfa = nfa; kind = table.kind; classes = table.classes; stride = s })) is fit;
+    wide = wide;
+    least = least;
+    rows = subst (λ (s : ℕ). AreRowsUpTo (record { nfa = nfa; kind = table.kind; classes = table.classes; stride = s }) (state_len nfa) (state_len nfa) table.trans.items) is rows;
+    lists = lists;
+    start = subst (λ (s : ℕ). table.start ≡ number_of table.kind (start_of nfa) s false (start_of nfa)) is first;
+    start_anchored = subst (λ (s : ℕ). table.start_anchored ≡ number_of table.kind (start_of nfa) s true (start_of nfa + 1)) is second;
+    max_match = subst (λ (s : ℕ). table.max_match ≡ number_of table.kind (start_of nfa) s true (special_in nfa).max_match_id) is last;
+  };
+  kind = refl;
+  classes = chosen;
+}
+
+-- the dictionary of the automaton has it
+pub made-some : (nfa : NFA) (table : Table) → IsTableOf nfa table → AreSomeRows (dictionary nfa) table
+made-some nfa table h = ∥∥₁_map nfa.stands (λ w. (_, table-rows nfa table w.0 h w.1))
+
+-- its transitions are laid out as is said
+pub made-laid : (nfa : NFA) (table : Table) → IsTableOf nfa table → AreTransitionsOf nfa table.kind table.classes (stride_of table) table.trans.items
+made-laid nfa table h = record {
+  least = (table.stride2, h.least, refl);
+  len = h.rows.len;
+  cells = λ anchored sid byte serves met small. ∣ h.rows.right anchored sid serves met (inl met.within) byte small ∣₁;
+}
+
+-- so many rows there are
+pub made-states : (nfa : NFA) (table : Table) → IsTableOf nfa table → length table.trans.items / stride_of table ≡ dfa_states table.kind (state_len nfa)
+made-states nfa table h = ap (λ (n : ℕ). n / stride_of table) h.rows.len ∙ number-row (dfa_states table.kind (state_len nfa)) (stride_of table) (stride-some nfa table h)
+
+-- the number of each state fits
+pub number-kept : (p : Plan) (anchored : Anchored) (start sid : ℕ) → IsFit p → start ≡ start_of p.nfa → sid < state_len p.nfa → number_of p.kind start p.stride (is_anchored anchored) sid ≤ GREATEST
+number-kept p anchored start sid fit is within = subst (λ (n : ℕ). number_of p.kind n p.stride (is_anchored anchored) sid ≤ GREATEST) (sym is) (number-small p anchored sid fit within)
+
+-- ---- the automaton
+
+-- what is made of such a table is made by the settings
+pub dfa-of : (s : Settings) (nfa : NFA) (table : Table) (dfa : DFA) → IsTableFor nfa s.start_kind s.byte_classes table → IsMadeOf (dictionary nfa) table nfa.prefilter dfa → IsDfaOf s nfa dfa
+dfa-of s nfa table dfa h made =
+    let back = sym made.table in
+    record {
+      built = ap₂ (λ (m : Dictionary) (f : Option Filter). record { dictionary = m; deterministic = true; prefilter = f }) made.dictionary made.prefilter;
+      starts = ap (λ (t : Table). t.kind) made.table ∙ h.kind;
+      classes = subst (λ (t : Table). AreChosen s.byte_classes nfa t.classes) back h.classes;
+      states = subst (λ (t : Table). length t.trans.items / stride_of t ≡ dfa_states s.start_kind (state_len nfa)) back (subst (λ (k : StartKind). length table.trans.items / stride_of table ≡ dfa_states k (state_len nfa)) h.kind (made-states nfa table h.made));
+      laid = subst (λ (t : Table). AreTransitionsOf nfa s.start_kind t.classes (stride_of t) t.trans.items) back (subst (λ (k : StartKind). AreTransitionsOf nfa k table.classes (stride_of table) table.trans.items) h.kind (made-laid nfa table h.made));
+      within = size-within nfa s.start_kind s.byte_classes table.classes (stride_of table) h.classes (table.stride2, h.made.least, refl) (subst (λ (k : StartKind). (dfa_states k (state_len nfa) - 1) * stride_of table ≤ GREATEST) h.kind h.made.fit.few);
+    }
+
+-- and why there is none
+pub refused-of : (s : Settings) (nfa : NFA) (error : BuildErrorKind) → IsTableRefused nfa s.start_kind s.byte_classes error → IsDfaRefused s nfa error
+refused-of s nfa (StateIDOverflow max requested) h = inl h
+refused-of s nfa (PatternIDOverflow max requested) h = h
+refused-of s nfa (PatternTooLong pattern len) h = h
+refused-of s nfa Memory h = h
+
+-- of patterns there is none for the same reasons
+pub refused-from : (s : Settings) (m : Dictionary) (nfa : NFA) (error : BuildErrorKind) (other : BuildErrorKind → Type 0) → dictionary nfa ≡ m → IsDfaRefused s nfa error → IsTooLargeOr s m other error
+refused-from s m nfa (StateIDOverflow max requested) other is h = ⊎_elim (λ (large : (max ≡ GREATEST) × (max < requested) × ∥ IsDfaTooLarge (dictionary nfa) s.start_kind s.byte_classes ∥₁). inl (large.0, large.1, subst (λ (d : Dictionary). ∥ IsDfaTooLarge d s.start_kind s.byte_classes ∥₁) is large.2)) (λ (never : ⊥). absurd never) h
+refused-from s m nfa (PatternIDOverflow max requested) other is h = absurd h
+refused-from s m nfa (PatternTooLong pattern len) other is h = absurd h
+refused-from s m nfa Memory other is h = h
+
+-- nor where the automaton is refused
+pub refused-parts : (s : Settings) (m : Dictionary) (error : BuildErrorKind) → IsBuildRefused m error → IsTooLargeOr s m (IsBuildRefused m) error
+refused-parts s m (StateIDOverflow max requested) h = inr h
+refused-parts s m (PatternIDOverflow max requested) h = h
+refused-parts s m (PatternTooLong pattern len) h = h
+refused-parts s m Memory h = h
+
+-- the table, the prefilter and the pairing go together
+pub parts-of : (nfa : NFA) (table : Table) (prefilter : Option Filter) (m : Dictionary) → m ≡ dictionary nfa → IsTableOf nfa table → prefilter ≡ nfa.prefilter → AreParts m table prefilter
+parts-of nfa table prefilter m is h same =
+    subst (λ (d : Dictionary). AreParts d table prefilter) (sym is)
+    (record {
+      stands = made-some nfa table h;
+      held = λ f held. nfa.held f (sym same ∙ held);
+      paired = nfa.paired;
+    })

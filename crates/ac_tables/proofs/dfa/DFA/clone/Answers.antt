@@ -1,0 +1,34 @@
+-- The table once more, with what the automaton is built as.
+use Rattle.std.proofs.Common.{◌≡◌, ◌^◌, ℕ, true, List, Option, sym, ap, ap₂, subst, ◌∙◌}
+use Rattle.ac_input.specs.Candidate.{Filter}
+use Rattle.ac_input.specs.Dictionary.{Dictionary, dictionary_of}
+use Rattle.ac_tables.specs.declared.dfa.table.Table.{Table}
+use Rattle.ac_tables.specs.DfaReads.{dictionary}
+use Rattle.ac_tables.specs.DfaTable.{AreParts}
+use Rattle.ac_tables.proofs.DfaCopyLemmas.{copy-rows}
+use Rattle.ac_tables.proofs.dfa.DFA.clone.Goals as goal
+
+pub from_parts-requires : goal.from_parts-requires
+from_parts-requires c =
+    let a = c.args.self.now in
+    let same : dictionary_of c.in_ok-lens.lens a.pairing a.kind ≡ dictionary a = ap (λ (patterns : List (List ℕ)). dictionary_of patterns a.pairing a.kind) c.in_ok-lens.ensures in
+    subst (λ (m : Dictionary). AreParts m c.in_ok-table.table c.in_ok-prefilter.prefilter) (sym same)
+    (record {
+      stands = copy-rows (dictionary a) a.table c.in_ok-table.table c.in_ok-table.ensures a.stands;
+      held = λ f is. a.held f (sym c.in_ok-prefilter.ensures ∙ is);
+      paired = a.paired;
+    })
+
+pub returns : goal.returns
+returns c =
+    let a = c.args.self.now in
+    let made = c.from_parts.ensures in
+    let table = c.in_ok-table.ensures in
+    let same : dictionary_of c.in_ok-lens.lens a.pairing a.kind ≡ dictionary a = ap (λ (patterns : List (List ℕ)). dictionary_of patterns a.pairing a.kind) c.in_ok-lens.ensures in
+    record {
+      built = ap₂ (λ (m : Dictionary) (f : Option Filter). record { dictionary = m; deterministic = true; prefilter = f }) (made.dictionary ∙ same) (made.prefilter ∙ c.in_ok-prefilter.ensures);
+      starts = ap (λ (t : Table). t.kind) made.table ∙ table.kind;
+      classes = ap (λ (t : Table). t.classes) made.table ∙ table.classes;
+      stride = ap (λ (t : Table). 2 ^ t.stride2) made.table ∙ ap (λ (e : ℕ). 2 ^ e) table.stride2;
+      transitions = ap (λ (t : Table). t.trans.items) made.table ∙ table.trans;
+    }

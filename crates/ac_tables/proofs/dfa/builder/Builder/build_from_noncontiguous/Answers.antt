@@ -1,0 +1,40 @@
+-- The table, and what the automaton is built as.
+use Rattle.std.proofs.Common.{◌≡◌, ℕ, List, sym, ap, subst, ◌∙◌}
+use Rattle.std.proofs.lemmas.Result.{err_from_is_err_and}
+use Rattle.ac_input.specs.declared.search.MatchKind.{MatchKind}
+use Rattle.ac_input.specs.Dictionary.{Dictionary, dictionary_of}
+use Rattle.ac_noncontiguous.specs.Reads.{dictionary}
+use Rattle.ac_tables.specs.DfaBuild.{Settings}
+use Rattle.ac_tables.specs.DfaMade.{IsTableFor, IsTableRefused}
+use Rattle.ac_tables.specs.DfaReads.{IsMadeOf}
+use Rattle.ac_tables.specs.DfaTable.{AreSomeRows, AreParts}
+use Rattle.ac_tables.proofs.DfaBuildLemmas.{made-some, dfa-of, refused-of, parts-of}
+use Rattle.ac_tables.proofs.dfa.builder.Builder.build_from_noncontiguous.Goals as goal
+
+pub returns-in_err-table-clause-refused : goal.returns-in_err-table-clause-refused
+returns-in_err-table-clause-refused c =
+    let p = err_from_is_err_and c.from_residual.result c.from_residual.ensures.1 in
+    let h = subst (λ (s : Settings). IsTableRefused c.args.nfa.now s.start_kind s.byte_classes c.in_err-table.field-0.0) c.self.view_is c.in_err-table.ensures.refused in
+    rw (p.1, p.2) (refused-of c.args.self.now c.args.nfa.now c.in_err-table.field-0.0 h)
+
+pub from_parts-requires : goal.from_parts-requires
+from_parts-requires c =
+    let nfa = c.args.nfa.now in
+    let same : dictionary_of c.in_ok-lens.lens c.pairing.result.now c.match_kind.result ≡ dictionary nfa =
+    ap (λ (q : List (List ℕ)). dictionary_of q c.pairing.result.now c.match_kind.result) (c.in_ok-lens.ensures ∙ c.pattern_lens.ensures)
+    ∙ (ap (λ (q : List ℕ). dictionary_of nfa.lens q c.match_kind.result) c.pairing.ensures.value ∙ ap (λ (k : MatchKind). dictionary_of nfa.lens nfa.pairing k) c.match_kind.ensures) in
+    parts-of nfa c.in_ok-table.table c.in_ok-prefilter.prefilter _ same c.in_ok-table.ensures.made.made c.in_ok-prefilter.ensures
+
+pub returns-clause-built : goal.returns-clause-built
+returns-clause-built c =
+    let nfa = c.args.nfa.now in
+    let same : dictionary_of c.in_ok-lens.lens c.pairing.result.now c.match_kind.result ≡ dictionary nfa =
+    ap (λ (q : List (List ℕ)). dictionary_of q c.pairing.result.now c.match_kind.result) (c.in_ok-lens.ensures ∙ c.pattern_lens.ensures)
+    ∙ (ap (λ (q : List ℕ). dictionary_of nfa.lens q c.match_kind.result) c.pairing.ensures.value ∙ ap (λ (k : MatchKind). dictionary_of nfa.lens nfa.pairing k) c.match_kind.ensures) in
+    let h = subst (λ (s : Settings). IsTableFor nfa s.start_kind s.byte_classes c.in_ok-table.table) c.self.view_is c.in_ok-table.ensures.made in
+    let made : IsMadeOf (dictionary nfa) c.in_ok-table.table nfa.prefilter c.from_parts.result = record {
+      dictionary = c.from_parts.ensures.dictionary ∙ same;
+      table = c.from_parts.ensures.table;
+      prefilter = c.from_parts.ensures.prefilter ∙ c.in_ok-prefilter.ensures;
+    } in
+    dfa-of c.args.self.now nfa c.in_ok-table.table c.from_parts.result h made

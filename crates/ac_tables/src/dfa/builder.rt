@@ -1,0 +1,263 @@
+//! How a DFA is built: the settings, and the build.
+//!
+//! A DFA is made of a noncontiguous automaton, state by state. Besides what that is told, a builder is told for which searches
+//! there is a start, and whether bytes that lead alike share an entry of a row. It takes time and memory in proportion to the
+//! table: the number of states times the stride, twice that where there are both starts.
+ghost use Rattle.std.specs.Prelude.{◌≡◌, IfOk, IfErr};
+ghost use Rattle.ac_input.specs.Pairing.{IsFolded};
+ghost use Rattle.ac_noncontiguous.specs.Reads.{built_as};
+ghost use Rattle.ac_tables.specs.DfaBuild.{AreFirst, IsDfaOf, IsDfaRefused, IsBuiltFrom, IsRefusedFrom, IsBuiltAtFirst, IsRefusedAtFirst, parts_by};
+ghost use Rattle.ac_tables.specs.DfaMade.{AreChosen, IsTableFor, IsTableRefused};
+
+use crate::dfa::DFA;
+use crate::dfa::fill::Filler;
+use crate::dfa::lists::Lists;
+use crate::dfa::numbers::{Numbers, check_size, rows};
+use crate::dfa::table::Table;
+use ac_automaton::automaton::Automaton;
+use ac_input::alphabet::ByteClasses;
+use ac_input::pairing::Pairing;
+use ac_input::search::{Anchored, MatchKind, StartKind};
+use ac_literal::prefilter::Prefilter;
+use ac_noncontiguous::builder;
+use ac_noncontiguous::error::BuildError;
+use ac_noncontiguous::nfa::NFA;
+use std::alloc::{AllocError, Global};
+use std::marker::Model;
+
+/// The settings of a DFA. A builder may build several times.
+///
+/// ```text
+/// let mut builder = Builder::new();
+/// builder.match_kind(MatchKind::LeftmostFirst).start_kind(StartKind::Both);
+/// let dfa = builder.build(alloc, &[b"fox", b"dog"])?;
+/// ```
+#[derive(Clone, Drop)]
+pub struct Builder {
+    kind: MatchKind,
+    pairing: Pairing,
+    prefilter: bool,
+    start_kind: StartKind,
+    byte_classes: bool,
+}
+
+impl Model for Builder {
+    ghost use Rattle.ac_tables.specs.DfaBuild.{Settings};
+
+    ghost Value = { Settings };
+
+    ghost view = { λ b. record {
+      kind = b.kind;
+      pairing = b.pairing;
+      prefilter = b.prefilter;
+      start_kind = b.start_kind;
+      byte_classes = b.byte_classes;
+    } };
+
+    ghost inverse = { λ s. record {
+      kind = s.kind;
+      pairing = s.pairing;
+      prefilter = s.prefilter;
+      start_kind = s.start_kind;
+      byte_classes = s.byte_classes;
+    } };
+}
+
+impl Default for Builder {
+    ghost use Rattle.ac_tables.specs.DfaBuild.{AreFirst};
+
+    ghost is_default = { AreFirst };
+
+    fn default() -> Builder {
+        Builder::new()
+    }
+}
+
+/// The classes of the automaton's bytes, or each byte a class alone.
+fn chosen_classes(nfa: &NFA, classed: bool) -> Result<ByteClasses, AllocError>
+    ensures { IfOk result (AreChosen classed nfa.now) }
+{
+    if classed {
+        nfa.byte_classes().clone()
+    } else {
+        Ok(ByteClasses::singletons())
+    }
+}
+
+/// The prefilter of the automaton once more, if it holds one.
+fn clone_prefilter(alloc: Global, nfa: &NFA) -> Result<Option<Prefilter>, AllocError>
+    ensures { IfOk result (λ copy. copy ≡ (built_as nfa.now).prefilter) }
+{
+    match nfa.prefilter() {
+        Some(prefilter) => Ok(Some(prefilter.clone(alloc)?)),
+        None => Ok(None),
+    }
+}
+
+impl Table {
+    /// The table of an automaton, for these searches, with its classes of bytes or without.
+    fn of(alloc: Global, nfa: &NFA, kind: StartKind, classed: bool) -> Result<Table, BuildError>
+        ensures made { IfOk result (IsTableFor nfa.now kind classed) }
+        ensures refused { IfErr result (IsTableRefused nfa.now kind classed) }
+    {
+        let classes = chosen_classes(nfa, classed)?;
+        let stride = classes.stride();
+        let rows = rows(kind, nfa.state_len());
+        check_size(rows, stride)?;
+        let special = nfa.special();
+        let numbers = Numbers {
+            kind,
+            start: special.start_unanchored_id,
+            stride,
+        };
+        let filler = Filler {
+            nfa,
+            classes: &classes,
+            numbers,
+        };
+        let trans = filler.filled(alloc, rows)?;
+        let lists = Lists::of(alloc, nfa)?;
+        Ok(Table {
+            trans,
+            lists,
+            stride2: classes.stride2(),
+            start: numbers.number(Anchored::No, special.start_unanchored_id),
+            start_anchored: numbers.number(Anchored::Yes, special.start_anchored_id),
+            max_match: numbers.number(Anchored::Yes, special.max_match_id),
+            kind,
+            classes,
+        })
+    }
+}
+
+impl Builder {
+    /// Standard matches, no byte paired, a prefilter wanted, a start for unanchored searches alone, and bytes in classes.
+    pub fn new() -> Builder
+        ensures { AreFirst result }
+    {
+        Builder {
+            kind: MatchKind::Standard,
+            pairing: Pairing::none(),
+            prefilter: true,
+            start_kind: StartKind::Unanchored,
+            byte_classes: true,
+        }
+    }
+
+    /// Sets which of several overlapping occurrences is the match.
+    pub fn match_kind(&mut self, kind: MatchKind) -> &mut Builder
+        ensures same { result.ghost_name ≡ self.entry.ghost_name }
+        ensures value { result.now ≡ record self.old { kind = kind } }
+    {
+        self.kind = kind;
+        self
+    }
+
+    /// Sets whether ASCII letters count as the same in their two cases. It sets the whole pairing: of this call and
+    /// [`Builder::pairing`] the last one decides.
+    pub fn ascii_case_insensitive(&mut self, yes: bool) -> &mut Builder
+        ensures same { result.ghost_name ≡ self.entry.ghost_name }
+        ensures rest { result.now ≡ record self.old { pairing = result.now.pairing } }
+        ensures pairing { IsFolded yes result.now.pairing }
+    {
+        let pairing = if yes {
+            Pairing::ascii()
+        } else {
+            Pairing::none()
+        };
+        self.pairing(pairing)
+    }
+
+    /// Sets which bytes stand for one another. At first none does.
+    pub fn pairing(&mut self, pairing: Pairing) -> &mut Builder
+        ensures same { result.ghost_name ≡ self.entry.ghost_name }
+        ensures value { result.now ≡ record self.old { pairing = pairing } }
+    {
+        self.pairing = pairing;
+        self
+    }
+
+    /// Sets whether searches have a prefilter, where one serves. It changes no answer.
+    pub fn prefilter(&mut self, yes: bool) -> &mut Builder
+        ensures same { result.ghost_name ≡ self.entry.ghost_name }
+        ensures value { result.now ≡ record self.old { prefilter = yes } }
+    {
+        self.prefilter = yes;
+        self
+    }
+
+    /// Sets for which searches there is a start. With both the table is about twice as large.
+    pub fn start_kind(&mut self, kind: StartKind) -> &mut Builder
+        ensures same { result.ghost_name ≡ self.entry.ghost_name }
+        ensures value { result.now ≡ record self.old { start_kind = kind } }
+    {
+        self.start_kind = kind;
+        self
+    }
+
+    /// Sets whether bytes that lead alike share an entry of each row. Without, a row has 256 entries, and a look-up doesn't load
+    /// the byte's class. It changes no answer.
+    pub fn byte_classes(&mut self, yes: bool) -> &mut Builder
+        ensures same { result.ghost_name ≡ self.entry.ghost_name }
+        ensures value { result.now ≡ record self.old { byte_classes = yes } }
+    {
+        self.byte_classes = yes;
+        self
+    }
+
+    /// The DFA of a noncontiguous automaton. Of the settings only [`Builder::start_kind`] and [`Builder::byte_classes`] count; kind,
+    /// pairing and prefilter are those of the automaton.
+    ///
+    /// It is refused where the last row would begin past [`GREATEST`](ac_input::primitives::GREATEST), before it takes any memory,
+    /// and where memory ends; and only then.
+    pub fn build_from_noncontiguous(&self, alloc: Global, nfa: &NFA) -> Result<DFA, BuildError>
+        ensures built { IfOk result (IsDfaOf self.now nfa.now) }
+        ensures refused { IfErr result (IsDfaRefused self.now nfa.now) }
+    {
+        let table = Table::of(alloc, nfa, self.start_kind, self.byte_classes)?;
+        let lens = nfa.pattern_lens().clone(alloc)?;
+        let prefilter = clone_prefilter(alloc, nfa)?;
+        Ok(DFA::from_parts(table, lens, prefilter, *nfa.pairing(), nfa.match_kind()))
+    }
+
+    /// The builder of the automaton of which the DFA is made.
+    fn noncontiguous(&self) -> builder::Builder
+        ensures { result ≡ parts_by self.now }
+    {
+        let mut builder = builder::Builder::new();
+        builder
+            .match_kind(self.kind)
+            .pairing(self.pairing)
+            .prefilter(self.prefilter)
+            .dense_depth(0);
+        builder
+    }
+
+    /// The DFA of the patterns, which are numbered from 0 in this order.
+    ///
+    /// It is refused where the noncontiguous automaton is, and where the table would be too large.
+    pub fn build(&self, alloc: Global, patterns: &[&[u8]]) -> Result<DFA, BuildError>
+        ensures built { IfOk result (IsBuiltFrom self.now patterns.now) }
+        ensures refused { IfErr result (IsRefusedFrom self.now patterns.now) }
+    {
+        let nfa = self.noncontiguous().build(alloc, patterns)?;
+        self.build_from_noncontiguous(alloc, &nfa)
+    }
+}
+
+impl DFA {
+    /// The DFA of the patterns by the settings that a builder has at first: standard matches, no byte paired, unanchored searches.
+    pub fn new(alloc: Global, patterns: &[&[u8]]) -> Result<DFA, BuildError>
+        ensures built { IfOk result (IsBuiltAtFirst patterns.now) }
+        ensures refused { IfErr result (IsRefusedAtFirst patterns.now) }
+    {
+        Builder::new().build(alloc, patterns)
+    }
+
+    /// A builder with the settings that it has at first.
+    pub fn builder() -> Builder
+        ensures { AreFirst result }
+    {
+        Builder::new()
+    }
+}

@@ -1,0 +1,92 @@
+//! Reading a DFA: its table, entry by entry, and a copy of it.
+ghost use Rattle.std.specs.Prelude.{◌≡◌, IfOk};
+ghost use Rattle.ac_tables.specs.DfaBuild.{transitions_in, stride_in, states_in, start_kind_in, IsCopy};
+ghost use Rattle.ac_tables.specs.DfaCopy.{AreSameLists, IsSameTable};
+
+use crate::dfa::DFA;
+use crate::dfa::lists::Lists;
+use crate::dfa::table::Table;
+use ac_input::primitives::StateID;
+use ac_input::search::StartKind;
+use ac_literal::prefilter::Prefilter;
+use std::alloc::{AllocError, Global};
+
+impl Lists {
+    /// The same once more, in memory from `alloc`.
+    fn clone(&self, alloc: Global) -> Result<Lists, AllocError>
+        ensures { IfOk result (AreSameLists self.now) }
+    {
+        Ok(Lists {
+            patterns: Vec::from_slice(alloc, &self.patterns)?,
+            ends: Vec::from_slice(alloc, &self.ends)?,
+        })
+    }
+}
+
+impl Table {
+    /// The same once more, in memory from `alloc`.
+    fn clone(&self, alloc: Global) -> Result<Table, AllocError>
+        ensures { IfOk result (IsSameTable self.now) }
+    {
+        Ok(Table {
+            trans: Vec::from_slice(alloc, &self.trans)?,
+            classes: self.classes.clone()?,
+            lists: self.lists.clone(alloc)?,
+            stride2: self.stride2,
+            start: self.start,
+            start_anchored: self.start_anchored,
+            max_match: self.max_match,
+            kind: self.kind,
+        })
+    }
+}
+
+impl DFA {
+    /// The next states, a row for each state, and in it an entry for each class of bytes.
+    pub fn transitions(&self) -> &[StateID]
+        ensures { result.now ≡ transitions_in self.now }
+    {
+        &self.table.trans
+    }
+
+    /// How many entries a row has: the least power of two that is enough for the classes.
+    pub fn stride(&self) -> usize
+        ensures { result ≡ stride_in self.now }
+    {
+        1 << self.table.stride2
+    }
+
+    /// How many rows there are.
+    pub fn state_len(&self) -> usize
+        ensures { result ≡ states_in self.now }
+    {
+        self.table.trans.len() >> self.table.stride2
+    }
+
+    /// For which searches there is a start.
+    pub fn start_kind(&self) -> StartKind
+        ensures { result ≡ start_kind_in self.now }
+    {
+        self.table.kind
+    }
+
+    /// The prefilter once more, if one is held.
+    fn clone_prefilter(&self, alloc: Global) -> Result<Option<Prefilter>, AllocError>
+        ensures { IfOk result (λ copy. copy ≡ self.now.prefilter) }
+    {
+        match &self.prefilter {
+            Some(prefilter) => Ok(Some(prefilter.clone(alloc)?)),
+            None => Ok(None),
+        }
+    }
+
+    /// The same automaton once more, in memory from `alloc`.
+    pub fn clone(&self, alloc: Global) -> Result<DFA, AllocError>
+        ensures { IfOk result (IsCopy self.now) }
+    {
+        let table = self.table.clone(alloc)?;
+        let lens = self.lens.clone(alloc)?;
+        let prefilter = self.clone_prefilter(alloc)?;
+        Ok(DFA::from_parts(table, lens, prefilter, self.pairing, self.kind))
+    }
+}

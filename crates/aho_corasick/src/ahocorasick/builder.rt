@@ -1,0 +1,189 @@
+//! How an automaton is built: the settings, and the build.
+//!
+//! The settings say which of several overlapping occurrences is the match, which searches are served, and which bytes stand for one
+//! another. The others change no answer: which automaton serves, whether it has a prefilter, how its states are laid out.
+ghost use Rattle.std.specs.Prelude.{◌≡◌, Some};
+ghost use Rattle.ac_input.specs.Pairing.{IsFolded};
+ghost use Rattle.aho_corasick.specs.Builder.{AreFirst, noncontiguous_by};
+
+use super::{AhoCorasick, AhoCorasickKind};
+use ac_input::pairing::Pairing;
+use ac_input::search::{MatchKind, StartKind};
+use ac_noncontiguous::builder::Builder;
+use std::marker::Model;
+
+/// The settings of an automaton. A builder may build several times.
+///
+/// ```text
+/// let mut builder = AhoCorasick::builder();
+/// builder.match_kind(MatchKind::LeftmostFirst).ascii_case_insensitive(true);
+/// let ac = builder.build(alloc, &[b"samwise", b"sam"])?;
+/// ```
+#[derive(Clone, Drop)]
+pub struct AhoCorasickBuilder {
+    match_kind: MatchKind,
+    start_kind: StartKind,
+    pairing: Pairing,
+    kind: Option<AhoCorasickKind>,
+    prefilter: bool,
+    dense_depth: Option<usize>,
+    byte_classes: bool,
+}
+
+impl Model for AhoCorasickBuilder {
+    ghost use Rattle.aho_corasick.specs.Builder.{Settings};
+
+    ghost Value = { Settings };
+
+    ghost view = { λ b. record {
+      match_kind = b.match_kind;
+      start_kind = b.start_kind;
+      pairing = b.pairing;
+      kind = b.kind;
+      prefilter = b.prefilter;
+      dense_depth = b.dense_depth;
+      byte_classes = b.byte_classes;
+    } };
+
+    ghost inverse = { λ s. record {
+      match_kind = s.match_kind;
+      start_kind = s.start_kind;
+      pairing = s.pairing;
+      kind = s.kind;
+      prefilter = s.prefilter;
+      dense_depth = s.dense_depth;
+      byte_classes = s.byte_classes;
+    } };
+}
+
+impl Default for AhoCorasickBuilder {
+    ghost is_default = { AreFirst };
+
+    fn default() -> AhoCorasickBuilder {
+        AhoCorasickBuilder::new()
+    }
+}
+
+impl AhoCorasickBuilder {
+    /// Standard matches, unanchored searches, no byte paired, the automaton left to the builder, a prefilter wanted, and classes of
+    /// bytes.
+    pub fn new() -> AhoCorasickBuilder
+        ensures { AreFirst result }
+    {
+        AhoCorasickBuilder {
+            match_kind: MatchKind::Standard,
+            start_kind: StartKind::Unanchored,
+            pairing: Pairing::none(),
+            kind: None,
+            prefilter: true,
+            dense_depth: None,
+            byte_classes: true,
+        }
+    }
+
+    /// Sets which of several overlapping occurrences is the match. Streams and overlapping matches need the standard kind.
+    pub fn match_kind(&mut self, kind: MatchKind) -> &mut AhoCorasickBuilder
+        ensures same { result.ghost_name ≡ self.entry.ghost_name }
+        ensures value { result.now ≡ record self.old { match_kind = kind } }
+    {
+        self.match_kind = kind;
+        self
+    }
+
+    /// Sets which searches are served; others are refused, whichever automaton serves. A DFA for both kinds takes about twice the
+    /// memory and time to build. Replacement and streams are unanchored.
+    pub fn start_kind(&mut self, kind: StartKind) -> &mut AhoCorasickBuilder
+        ensures same { result.ghost_name ≡ self.entry.ghost_name }
+        ensures value { result.now ≡ record self.old { start_kind = kind } }
+    {
+        self.start_kind = kind;
+        self
+    }
+
+    /// Sets whether ASCII letters count as the same in their two cases. It sets the whole pairing: of this call and
+    /// [`AhoCorasickBuilder::pairing`] the last one decides.
+    pub fn ascii_case_insensitive(&mut self, yes: bool) -> &mut AhoCorasickBuilder
+        ensures same { result.ghost_name ≡ self.entry.ghost_name }
+        ensures rest { result.now ≡ record self.old { pairing = result.now.pairing } }
+        ensures pairing { IsFolded yes result.now.pairing }
+    {
+        let pairing = if yes {
+            Pairing::ascii()
+        } else {
+            Pairing::none()
+        };
+        self.pairing(pairing)
+    }
+
+    /// Sets which bytes stand for one another. At first none does.
+    pub fn pairing(&mut self, pairing: Pairing) -> &mut AhoCorasickBuilder
+        ensures same { result.ghost_name ≡ self.entry.ghost_name }
+        ensures value { result.now ≡ record self.old { pairing = pairing } }
+    {
+        self.pairing = pairing;
+        self
+    }
+
+    /// Sets which automaton serves. With none, which is so at first, the builder takes a DFA for up to 100 patterns and one start
+    /// kind, else a contiguous NFA, where it isn't too large. It changes no answer.
+    pub fn kind(&mut self, kind: Option<AhoCorasickKind>) -> &mut AhoCorasickBuilder
+        ensures same { result.ghost_name ≡ self.entry.ghost_name }
+        ensures value { result.now ≡ record self.old { kind = kind } }
+    {
+        self.kind = kind;
+        self
+    }
+
+    /// Sets whether searches have a prefilter, where one serves. It changes no answer.
+    pub fn prefilter(&mut self, yes: bool) -> &mut AhoCorasickBuilder
+        ensures same { result.ghost_name ≡ self.entry.ghost_name }
+        ensures value { result.now ≡ record self.old { prefilter = yes } }
+    {
+        self.prefilter = yes;
+        self
+    }
+
+    /// Sets to which depth the states of either NFA keep a row: those to which fewer bytes lead. Where it isn't set, it is 3 for the
+    /// noncontiguous one and 2 for the contiguous one. A row makes a look-up fast, and takes four bytes for each class of bytes. It
+    /// changes no answer.
+    pub fn dense_depth(&mut self, depth: usize) -> &mut AhoCorasickBuilder
+        ensures same { result.ghost_name ≡ self.entry.ghost_name }
+        ensures value { result.now ≡ record self.old { dense_depth = Some depth } }
+    {
+        self.dense_depth = Some(depth);
+        self
+    }
+
+    /// Sets whether bytes that lead alike from every state are one class, in the contiguous NFA and the DFA. Without classes a state
+    /// takes more memory, and a look-up one load less. It changes no answer.
+    pub fn byte_classes(&mut self, yes: bool) -> &mut AhoCorasickBuilder
+        ensures same { result.ghost_name ≡ self.entry.ghost_name }
+        ensures value { result.now ≡ record self.old { byte_classes = yes } }
+    {
+        self.byte_classes = yes;
+        self
+    }
+
+    /// The builder of the noncontiguous NFA.
+    fn noncontiguous(&self) -> Builder
+        ensures { result ≡ noncontiguous_by self.now }
+    {
+        let mut builder = Builder::new();
+        builder.match_kind(self.match_kind);
+        builder.pairing(self.pairing);
+        builder.prefilter(self.prefilter);
+        if let Some(depth) = self.dense_depth {
+            builder.dense_depth(depth);
+        }
+        builder
+    }
+}
+
+impl AhoCorasick {
+    /// A builder with the settings that it has at first.
+    pub fn builder() -> AhoCorasickBuilder
+        ensures { AreFirst result }
+    {
+        AhoCorasickBuilder::new()
+    }
+}

@@ -77,6 +77,10 @@ transition_words Dense alphabet edges = map (next_by edges) (range_with_len 0 al
 transition_words One alphabet edges = nexts_of edges
 transition_words Sparse alphabet edges = packed (classes_of edges) ++ nexts_of edges
 
+-- an entry for each class was put after the words
+abbrev pub AppendsRow : List (ℕ × ℕ) → ℕ → List ℕ → List ℕ → Type 0
+AppendsRow edges alphabet before after = after ≡ before ++ transition_words Dense alphabet edges
+
 -- bit 31 of a word: it is a list of one pattern
 abbrev pub one_pattern : ℕ
 one_pattern = 2147483648

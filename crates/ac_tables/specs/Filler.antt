@@ -2,7 +2,7 @@
 use Rattle.std.specs.Prelude.{◌≡◌, ℕ, ◌+◌, ◌*◌, ◌<◌, ◌≤◌, List, length}
 use Rattle.ac_input.specs.declared.search.Anchored.{Anchored}
 use Rattle.ac_input.specs.declared.search.Anchored.TheVariants.{No, Yes}
-use Rattle.ac_input.specs.Dfa.{Serves, dfa_states}
+use Rattle.ac_input.specs.Dfa.{dfa_states}
 use Rattle.ac_noncontiguous.specs.ReadCalls.{state_len, fail_in, edges_in, MayBeMet}
 use Rattle.ac_tables.specs.declared.dfa.fill.Filler.{Filler}
 use Rattle.ac_tables.specs.Filling.{Plan, number_in, IsRowRight, IsBlank, IsChangedIn, AreWritten, AreRowsUpTo}

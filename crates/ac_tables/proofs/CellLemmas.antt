@@ -1,6 +1,6 @@
 -- The entries of a row: where a byte leads from a state, by a transition of its own or by its failure.
-use Rattle.std.proofs.Common.{◌≡◌, ◌≢◌, ◌⊎◌, ℕ, ◌+◌, ◌-◌, ◌*◌, ◌<◌, ◌≤◌, Bool, true, false, List, [], ◌∷◌, ◌++◌, length, slice_get, Option, Some, None, inl, inr, ⊎_elim, refl, sym, ap, subst, ◌∙◌, arith}
-use Rattle.std.specs.Prelude.{slice_index, ◌==◌, if◌then◌else◌}
+use Rattle.std.proofs.Common.{◌≡◌, ◌≢◌, ◌⊎◌, ℕ, ◌+◌, ◌*◌, ◌<◌, ◌≤◌, true, false, List, [], ◌∷◌, ◌++◌, slice_get, Some, None, inl, inr, ⊎_elim, refl, sym, ap, subst, ◌∙◌, arith}
+use Rattle.std.specs.Prelude.{slice_index, ◌==◌}
 use Rattle.std.specs.Coded.{le_prop, Coded-set, coded_ℕ}
 use Rattle.std.proofs.Math.Logic.{∥∥₁_elim}
 use Rattle.std.proofs.lemmas.Bool.{cases_lt, cases_eq, cond-true, cond-false}
@@ -9,7 +9,6 @@ use Rattle.ac_input.specs.declared.search.Anchored.{Anchored}
 use Rattle.ac_input.specs.declared.search.Anchored.TheVariants.{No, Yes}
 use Rattle.ac_input.specs.Alphabet.{class}
 use Rattle.ac_input.specs.Classes.{BytesLeadAlike}
-use Rattle.ac_input.specs.Dictionary.{Dictionary, BeginsEntered}
 use Rattle.ac_input.specs.Input.{is_anchored}
 use Rattle.ac_input.specs.LiveLaws.{IsOwnInverse}
 use Rattle.ac_input.specs.States.{LeadsTo, FailsTo}
@@ -19,10 +18,10 @@ use Rattle.ac_noncontiguous.specs.declared.nfa.NFA.{NFA}
 use Rattle.ac_noncontiguous.specs.Lookups.{other_start}
 use Rattle.ac_noncontiguous.specs.Nfa.{state_of, AreTexts}
 use Rattle.ac_noncontiguous.specs.Reads.{dictionary}
-use Rattle.ac_noncontiguous.specs.ReadCalls.{state_len, fail_in, edges_in, special_in, StandFor, IsFull, IsEdgeIn, MayBeMet, LeadsIn, FailsIn}
+use Rattle.ac_noncontiguous.specs.ReadCalls.{state_len, fail_in, edges_in, special_in, StandFor, IsEdgeIn, MayBeMet, LeadsIn}
 use Rattle.ac_noncontiguous.proofs.NextLemmas.{state-some, state-none, straight, stuck, stuck-dead}
 use Rattle.ac_noncontiguous.proofs.ReadCallLemmas.{edges-lead, fails-in, alike-in, special-in}
-use Rattle.ac_tables.specs.DfaTable.{row_of, number_of, IsCell}
+use Rattle.ac_tables.specs.DfaTable.{IsCell}
 use Rattle.ac_tables.specs.Filling.{Plan, number_in, cell_in, IsFit, IsRowRight, IsBlank, entry_in, HasClass, IsEntry, Written, Kept}
 use Rattle.ac_tables.proofs.RowLemmas.{row-first}
 

@@ -1,9 +1,8 @@
 -- How large the table of an automaton is, and what is built of it.
-use Rattle.std.proofs.Common.{◌≡◌, ◌≢◌, ◌⊎◌, ℕ, zero, suc, ◌+◌, ◌-◌, ◌*◌, ◌^◌, ◌<◌, ◌≤◌, Bool, true, false, List, length, Option, inl, inr, ⊎_elim, refl, sym, ap, ap₂, subst, ◌∙◌, arith}
-use Rattle.std.specs.Prelude.{slice_index, ◌/◌}
+use Rattle.std.proofs.Common.{◌≡◌, ℕ, zero, suc, ◌+◌, ◌-◌, ◌*◌, ◌^◌, ◌<◌, ◌≤◌, Bool, true, false, List, length, Option, inl, inr, ⊎_elim, refl, sym, ap, ap₂, subst, ◌∙◌, arith}
+use Rattle.std.specs.Prelude.{◌/◌}
 use Rattle.std.specs.Coded.{le_prop}
 use Rattle.std.proofs.Math.Logic.{∥∥₁_elim, ∥∥₁_map, ∥∥₁_prop}
-use Rattle.std.proofs.lemmas.Nat.{mul-le}
 use Rattle.ac_input.specs.declared.primitives.number.TheConstants.{GREATEST}
 use Rattle.ac_input.specs.declared.search.Anchored.{Anchored}
 use Rattle.ac_input.specs.declared.search.StartKind.{StartKind}
@@ -11,8 +10,8 @@ use Rattle.ac_input.specs.declared.search.StartKind.TheVariants as starts
 use Rattle.ac_input.specs.Alphabet.{class, alphabet_len, AreClassesOf, IsLeastExponent, IsLeastPowerOfTwo}
 use Rattle.ac_input.specs.Candidate.{Filter}
 use Rattle.ac_input.specs.Classes.{AreByteClasses}
-use Rattle.ac_input.specs.Dfa.{Serves, dfa_states, IsDfaSize, IsDfaTooLarge}
-use Rattle.ac_input.specs.Dictionary.{Dictionary, dictionary_of}
+use Rattle.ac_input.specs.Dfa.{dfa_states, IsDfaSize, IsDfaTooLarge}
+use Rattle.ac_input.specs.Dictionary.{Dictionary}
 use Rattle.ac_input.specs.Input.{is_anchored}
 use Rattle.ac_input.proofs.DfaLemmas.{dfa-one}
 use Rattle.ac_noncontiguous.specs.declared.error.BuildErrorKind.{BuildErrorKind}
@@ -20,14 +19,14 @@ use Rattle.ac_noncontiguous.specs.declared.error.BuildErrorKind.TheVariants.{Sta
 use Rattle.ac_noncontiguous.specs.declared.nfa.NFA.{NFA}
 use Rattle.ac_noncontiguous.specs.Reads.{dictionary}
 use Rattle.ac_noncontiguous.specs.Standing.{IsBuildRefused}
-use Rattle.ac_noncontiguous.specs.ReadCalls.{state_len, special_in, classes_in, MayBeMet}
+use Rattle.ac_noncontiguous.specs.ReadCalls.{state_len, special_in, classes_in}
 use Rattle.ac_noncontiguous.proofs.ReadCallLemmas.{counts-in}
 use Rattle.ac_tables.specs.declared.dfa.table.Table.{Table}
 use Rattle.ac_tables.specs.declared.dfa.DFA.{DFA}
 use Rattle.ac_tables.specs.DfaBuild.{Settings, IsDfaOf, IsDfaRefused, IsTooLargeOr}
 use Rattle.ac_tables.specs.DfaLists.{AreListsOf}
 use Rattle.ac_tables.specs.DfaReads.{IsMadeOf}
-use Rattle.ac_tables.specs.DfaMade.{AreChosen, plan_by, start_of, number_by, IsTableOf, IsTableFor, IsTableRefused}
+use Rattle.ac_tables.specs.DfaMade.{AreChosen, start_of, IsTableOf, IsTableFor, IsTableRefused}
 use Rattle.ac_tables.specs.DfaTable.{number_of, stride_of, AreTransitionsOf, AreSomeRows, AreParts}
 use Rattle.ac_tables.specs.Filling.{Plan, IsFit, IsOverflow, AreRowsUpTo}
 use Rattle.ac_tables.proofs.CellLemmas.{starts-of}

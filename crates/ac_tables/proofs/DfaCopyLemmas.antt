@@ -1,8 +1,7 @@
 -- A copy of a table is that of the same dictionary.
-use Rattle.std.proofs.Common.{◌≡◌, ℕ, zero, suc, ◌+◌, ◌-◌, ◌<◌, ◌≤◌, ◌≢◌, ◌↔◌, Bool, IsTrue, List, [], length, take, drop, Option, refl, sym, ap, ap₂, subst, ◌∙◌, arith}
+use Rattle.std.proofs.Common.{◌≡◌, ℕ, zero, suc, ◌+◌, ◌-◌, ◌<◌, ◌≤◌, ◌≢◌, ◌↔◌, List, [], length, take, drop, refl, sym, ap, ap₂, subst, ◌∙◌, arith}
 use Rattle.std.specs.Prelude.{slice_index, ◌==◌, ◌&&◌, ◌/◌, not, nat_le, if◌then◌else◌}
 use Rattle.std.proofs.Math.Logic.{∥∥₁_map}
-use Rattle.ac_input.specs.declared.search.Anchored.{Anchored}
 use Rattle.ac_input.specs.declared.search.StartKind.{StartKind}
 use Rattle.ac_input.specs.Alphabet.{class}
 use Rattle.ac_input.specs.Dictionary.{Dictionary}
@@ -12,7 +11,7 @@ use Rattle.ac_automaton.specs.Named.{Naming, IsStep}
 use Rattle.ac_tables.specs.declared.dfa.lists.Lists.{Lists}
 use Rattle.ac_tables.specs.declared.dfa.table.Table.{Table}
 use Rattle.ac_tables.specs.DfaCopy.{AreSameLists, IsSameTable}
-use Rattle.ac_tables.specs.DfaTable.{list_start, list_end, list_of, list_index, stride_of, matches_by, AreRanges, AreRows, AreSomeRows}
+use Rattle.ac_tables.specs.DfaTable.{list_start, list_end, list_of, list_index, stride_of, matches_by, AreRows, AreSomeRows}
 
 -- ---- lists
 

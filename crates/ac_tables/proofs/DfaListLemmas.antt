@@ -1,15 +1,15 @@
 -- The lists of a DFA, one after another.
-use Rattle.std.proofs.Common.{◌≡◌, ℕ, zero, suc, ◌+◌, ◌-◌, ◌<◌, ◌≤◌, List, [], ◌∷◌, ◌++◌, length, take, drop, inl, inr, ⊎_elim, refl, sym, ap, ap₂, subst, ◌∙◌, arith, length-append, length-drop}
+use Rattle.std.proofs.Common.{◌≡◌, ℕ, zero, suc, ◌+◌, ◌-◌, ◌<◌, ◌≤◌, List, [], ◌∷◌, ◌++◌, length, take, drop, ⊎_elim, refl, sym, ap, ap₂, subst, ◌∙◌, arith, length-append, length-drop}
 use Rattle.std.specs.Prelude.{slice_index, Contains}
 use Rattle.std.proofs.Math.Seq.{drop-append_seam}
-use Rattle.std.proofs.lemmas.Bool.{cases_lt, cases_eq}
+use Rattle.std.proofs.lemmas.Bool.{cases_lt}
 use Rattle.std.proofs.lemmas.List.{get_or_append_left, get_or-append_right, take-append-le, take_all, drop-append-le}
 use Rattle.std.proofs.lemmas.List.Elements.{Contains-get_or}
 use Rattle.ac_noncontiguous.specs.declared.nfa.NFA.{NFA}
 use Rattle.ac_noncontiguous.specs.Reads.{dictionary, matches_at}
 use Rattle.ac_noncontiguous.proofs.OrderLemmas.{index-kept, index-last}
 use Rattle.ac_tables.specs.declared.dfa.lists.Lists.{Lists}
-use Rattle.ac_tables.specs.DfaTable.{list_start, list_end, list_of, AreRanges}
+use Rattle.ac_tables.specs.DfaTable.{list_start, list_end, list_of}
 use Rattle.ac_tables.specs.DfaLists.{IsListAdded, AreFirstLists}
 
 -- where the lists end that were there before

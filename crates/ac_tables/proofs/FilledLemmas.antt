@@ -1,7 +1,7 @@
 -- The rows that are filled, state by state: no row is written over another, and a failure's row is filled before its state's.
-use Rattle.std.proofs.Common.{◌≡◌, ◌≢◌, ◌⊎◌, ℕ, ◌+◌, ◌-◌, ◌*◌, ◌<◌, ◌≤◌, Bool, true, false, List, [], length, inl, inr, ⊎_elim, refl, sym, ap, subst, ◌∙◌, arith}
+use Rattle.std.proofs.Common.{◌≡◌, ◌≢◌, ◌⊎◌, ℕ, ◌+◌, ◌-◌, ◌*◌, ◌<◌, ◌≤◌, List, length, inl, inr, ⊎_elim, refl, sym, ap, subst, ◌∙◌, arith}
 use Rattle.std.specs.Prelude.{slice_index}
-use Rattle.std.specs.Coded.{le_prop, Coded-set, coded_ℕ}
+use Rattle.std.specs.Coded.{le_prop}
 use Rattle.std.proofs.Math.Logic.{∥∥₁_elim}
 use Rattle.std.proofs.lemmas.Bool.{cases_lt, cases_eq}
 use Rattle.std.proofs.lemmas.Nat.{mul-le, mul-add-lt}
@@ -14,9 +14,9 @@ use Rattle.ac_input.specs.Input.{is_anchored}
 use Rattle.ac_noncontiguous.specs.declared.nfa.NFA.{NFA}
 use Rattle.ac_noncontiguous.specs.ReadCalls.{state_len, fail_in, depth_in, special_in, MayBeMet}
 use Rattle.ac_noncontiguous.proofs.ReadCallLemmas.{fails-in, ordered-in}
-use Rattle.ac_tables.specs.DfaTable.{row_of, number_of}
-use Rattle.ac_tables.specs.Filling.{Plan, number_in, cell_in, IsFit, IsRowRight, IsBlank, IsChangedIn, AreFilled, IsDone, AreRowsUpTo, IsMerged}
-use Rattle.ac_tables.proofs.RowLemmas.{row-below, row-room, place-below, number-fits, row-apart}
+use Rattle.ac_tables.specs.DfaTable.{row_of}
+use Rattle.ac_tables.specs.Filling.{Plan, number_in, IsFit, IsRowRight, IsBlank, IsChangedIn, AreFilled, IsDone, AreRowsUpTo}
+use Rattle.ac_tables.proofs.RowLemmas.{row-below, row-room, number-fits, row-apart}
 use Rattle.ac_tables.proofs.CellLemmas.{starts-of, texts-of, met-dead, dead-right}
 
 -- ---- places

@@ -1,7 +1,7 @@
 -- A table that is made of an automaton is that of its dictionary: its numbers stand for what the states do.
-use Rattle.std.proofs.Common.{◌≡◌, ◌≢◌, ◌⊎◌, ◌↔◌, ℕ, zero, suc, ◌+◌, ◌-◌, ◌*◌, ◌<◌, ◌≤◌, Bool, true, false, IsTrue, List, [], ◌∷◌, ◌++◌, length, Option, Some, None, inl, inr, ⊎_elim, refl, sym, ap, ap₂, subst, ◌∙◌, arith}
-use Rattle.std.specs.Prelude.{slice_index, nat_le, ◌==◌, ◌&&◌, ◌/◌, ◌^◌, not, if◌then◌else◌}
-use Rattle.std.proofs.lemmas.Bool.{cases_lt, cases_eq, cases_Bool, cond-true, cond-false, false≢true}
+use Rattle.std.proofs.Common.{◌≡◌, ◌≢◌, ◌⊎◌, ◌↔◌, ℕ, ◌+◌, ◌*◌, ◌<◌, ◌≤◌, Bool, true, false, IsTrue, List, [], ◌∷◌, ◌++◌, length, Some, None, inl, inr, ⊎_elim, refl, sym, ap, subst, ◌∙◌, arith}
+use Rattle.std.specs.Prelude.{slice_index, nat_le, ◌==◌, ◌&&◌, ◌/◌, not}
+use Rattle.std.proofs.lemmas.Bool.{cases_lt, cases_Bool, cond-true, cond-false}
 use Rattle.std.proofs.lemmas.Bool.Decides.{nat_tests}
 use Rattle.std.proofs.lemmas.Nat.{mul-le}
 use Rattle.std.proofs.lemmas.List.{nil_from_length}
@@ -9,7 +9,6 @@ use Rattle.ac_input.specs.declared.search.Anchored.{Anchored}
 use Rattle.ac_input.specs.declared.search.Anchored.TheVariants.{No, Yes}
 use Rattle.ac_input.specs.Alphabet.{class}
 use Rattle.ac_input.specs.Dfa.{Serves, dfa_states}
-use Rattle.ac_input.specs.Dictionary.{Dictionary}
 use Rattle.ac_input.specs.Failure.{IsList}
 use Rattle.ac_input.specs.Input.{is_anchored}
 use Rattle.ac_input.specs.States.{LeadsTo}
@@ -22,12 +21,12 @@ use Rattle.ac_noncontiguous.specs.ReadCalls.{state_len, special_in, StandFor, Ma
 use Rattle.ac_noncontiguous.proofs.NextLemmas.{state-some, state-none}
 use Rattle.ac_noncontiguous.proofs.ReadCallLemmas.{lists-in, special-in}
 use Rattle.ac_tables.specs.declared.dfa.table.Table.{Table}
-use Rattle.ac_tables.specs.DfaMade.{plan_by, start_of, number_by, IsTableOf}
+use Rattle.ac_tables.specs.DfaMade.{start_of, number_by, IsTableOf}
 use Rattle.ac_tables.specs.DfaTable.{row_of, stride_of, list_index, list_of, matches_by, start_by, AreRows}
 use Rattle.ac_tables.specs.Places.{is_met, named_by, AreApart}
 use Rattle.ac_tables.proofs.PlacesLemmas.{named-met, named-state, named-text, met-stands, met-unanchored, met-anchored, met-start, met-start_anchored}
 use Rattle.ac_tables.proofs.RowLemmas.{row-first, row-below, row-past, row-room, row-one, row-le, row-starts, row-before_starts, scale-one, scale-le, number-row, index-is}
-use Rattle.ac_tables.proofs.CellLemmas.{texts-of, starts-of, last-match_is, last-match_past}
+use Rattle.ac_tables.proofs.CellLemmas.{texts-of, starts-of, last-match_is}
 
 -- ---- which states are met
 

@@ -1,5 +1,5 @@
 -- How the words of a contiguous automaton are made, state by state.
-use Rattle.std.specs.Prelude.{◌≡◌, ◌≢◌, ℕ, ◌+◌, ◌<◌, ◌≤◌, Bool, List, ◌++◌, map, take, drop, length, slice_index}
+use Rattle.std.specs.Prelude.{◌≡◌, ◌≢◌, ℕ, ◌<◌, ◌≤◌, Bool, List, ◌++◌, map, take, drop, length, slice_index, ◌==◌, if◌then◌else◌}
 use Rattle.ac_input.specs.declared.primitives.number.TheConstants.{GREATEST}
 use Rattle.ac_input.specs.Alphabet.{alphabet_len, IsClasses}
 use Rattle.ac_input.specs.Classes.{IsByteOf, IsAlone, ClassesLeadAlike}
@@ -7,7 +7,7 @@ use Rattle.ac_input.specs.Dictionary.{Dictionary}
 use Rattle.ac_noncontiguous.specs.declared.error.BuildErrorKind.{BuildErrorKind}
 use Rattle.ac_noncontiguous.specs.declared.error.BuildErrorKind.TheVariants.{StateIDOverflow, PatternIDOverflow, PatternTooLong, Memory}
 use Rattle.ac_noncontiguous.specs.declared.nfa.NFA.{NFA}
-use Rattle.ac_noncontiguous.specs.ReadCalls.{state_len, fail_in, special_in, FailsIn, EdgesLeadIn, ListsIn}
+use Rattle.ac_noncontiguous.specs.ReadCalls.{state_len, fail_in, special_in, FailsIn, EdgesLeadIn, ListsIn, edges_in}
 use Rattle.ac_noncontiguous.specs.Reads.{matches_at}
 use Rattle.ac_tables.specs.Words.{StateParts, words_of}
 use Rattle.ac_tables.specs.ContiguousTable.{placed, place_in, words_at, AreWordsOf, ArePlacesTooGreat}
@@ -26,6 +26,14 @@ pub record ArePlacesOf (nfa : NFA) (dense_depth : ℕ) (classes : List ℕ) (n :
   pub counted : length places ≡ n
   pub at : (sid : ℕ) → sid < n → slice_index places sid ≡ place_in nfa dense_depth classes sid
   pub fits : (sid : ℕ) → sid < n → place_in nfa dense_depth classes sid ≤ GREATEST
+
+-- the place of a state, where the words of the states before it are so many
+abbrev pub IsPlaceAfter : ℕ → ℕ → ℕ → Type 0
+IsPlaceAfter sid before place = (place ≤ GREATEST) × (place ≡ (if sid == 1 then 1 else before))
+
+-- such a place is too great
+abbrev pub IsPlaceTooGreat : ℕ → ℕ → BuildErrorKind → Type 0
+IsPlaceTooGreat sid before error = (sid ≢ 1) × (GREATEST < before) × (error ≡ StateIDOverflow GREATEST before)
 
 -- The places of the states are such.
 abbrev pub ArePlaces : NFA → ℕ → List ℕ → List ℕ → Type 0
@@ -74,6 +82,10 @@ pub record IsStateWritten (nfa : NFA) (dense_depth : ℕ) (classes : List ℕ) (
   pub words : after ≡ before ++ words_at nfa dense_depth classes sid
   pub known : sid ≢ 1 → IsKnown nfa sid
 
+-- all of them were
+abbrev pub AreReadBy : NFA → List ℕ → List ℕ → ℕ → List (ℕ × ℕ) → Type 0
+AreReadBy nfa classes places sid edges = edges ≡ map (placed classes (slice_index places)) (edges_in nfa sid)
+
 -- The first so many transitions of a state were read, and these are left.
 pub record AreReadTo (classes : List ℕ) (place : ℕ → ℕ) (edges : List (ℕ × ℕ)) (n : ℕ) (done left : List (ℕ × ℕ)) : Type 0 where
   pub read : done ≡ map (placed classes place) (take n edges)
@@ -88,3 +100,7 @@ pub record IsSameTable (old new : Table) : Type 0 where
   pub start : new.start ≡ old.start
   pub start_anchored : new.start_anchored ≡ old.start_anchored
   pub max_match : new.max_match ≡ old.max_match
+
+-- the words are those of all states, and all of these are known
+abbrev pub AreAllWritten : NFA → ℕ → List ℕ → List ℕ → Type 0
+AreAllWritten nfa dense_depth classes words = AreWordsOf nfa dense_depth classes words × AreKnown nfa (state_len nfa)

@@ -2,7 +2,7 @@
 --
 -- A state is a few 32-bit words: its kind, its failure, the classes of its transitions where these are sparse, the transitions, and
 -- its patterns where it has some.
-use Rattle.std.specs.Prelude.{◌≡◌, ℕ, zero, suc, ◌+◌, ◌*◌, ◌<◌, ◌≤◌, nat_lt, ◌==◌, ◌&&◌, ◌||◌, Bool, true, false, if◌then◌else◌, map, List, [], ◌∷◌, ◌++◌, length, take, drop}
+use Rattle.std.specs.Prelude.{◌≡◌, ℕ, zero, suc, ◌+◌, ◌*◌, ◌<◌, ◌≤◌, nat_lt, ◌==◌, ◌&&◌, ◌||◌, Bool, if◌then◌else◌, map, List, [], ◌∷◌, ◌++◌, length, take, drop}
 use Rattle.std.specs.List.{All, range_with_len}
 use Rattle.ac_input.specs.declared.primitives.number.TheConstants.{GREATEST}
 
@@ -76,6 +76,10 @@ abbrev pub transition_words : Form → ℕ → List (ℕ × ℕ) → List ℕ
 transition_words Dense alphabet edges = map (next_by edges) (range_with_len 0 alphabet)
 transition_words One alphabet edges = nexts_of edges
 transition_words Sparse alphabet edges = packed (classes_of edges) ++ nexts_of edges
+
+-- an entry for each class was put after the words
+abbrev pub AppendsRow : List (ℕ × ℕ) → ℕ → List ℕ → List ℕ → Type 0
+AppendsRow edges alphabet before after = after ≡ before ++ transition_words Dense alphabet edges
 
 -- bit 31 of a word: it is a list of one pattern
 abbrev pub one_pattern : ℕ

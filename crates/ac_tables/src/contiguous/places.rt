@@ -4,10 +4,9 @@
 //! need too great a number is refused before memory for the words is taken.
 ghost use Rattle.std.specs.Prelude.{◌≡◌, ◌≢◌, ℕ, ◌+◌, ◌<◌, ◌≤◌, ◌==◌, ◌++◌, ◌∷◌, [], if◌then◌else◌, length, IfOk, IfErr};
 ghost use Rattle.ac_input.specs.declared.primitives.number.TheConstants.{GREATEST};
-ghost use Rattle.ac_noncontiguous.specs.declared.error.BuildErrorKind.TheVariants.{StateIDOverflow};
 ghost use Rattle.ac_noncontiguous.specs.ReadCalls.{state_len, edges_in};
 ghost use Rattle.ac_tables.specs.ContiguousTable.{len_at};
-ghost use Rattle.ac_tables.specs.ContiguousBuild.{IsLen, ArePlaces, IsRefusedFor};
+ghost use Rattle.ac_tables.specs.ContiguousBuild.{IsLen, ArePlaces, IsPlaceAfter, IsPlaceTooGreat, IsRefusedFor};
 
 use crate::contiguous::layout::MOST_SPARSE;
 use ac_input::alphabet::ByteClasses;
@@ -63,9 +62,8 @@ fn len_of(nfa: &NFA, sid: StateID, dense_depth: usize, classes: &ByteClasses) ->
 
 /// The place of a state, where the words of the states before it take so many. It fails where that is past the greatest number.
 fn place_of(state: usize, before: usize) -> Result<StateID, BuildError>
-    ensures placed { IfOk result (λ place. (place ≤ GREATEST) × (place ≡ (if state == 1 then 1 else before))) }
-    ensures refused { IfErr result (λ error. (state ≢ 1) × (GREATEST < before)
-        × (error ≡ StateIDOverflow GREATEST before)) }
+    ensures placed { IfOk result (IsPlaceAfter state before) }
+    ensures refused { IfErr result (IsPlaceTooGreat state before) }
 {
     if state == FAIL {
         return Ok(StateID::must(FAIL));
@@ -101,7 +99,7 @@ pub(super) fn lay_out(
     classes: &ByteClasses,
 ) -> Result<Layout, BuildError>
     ensures made { IfOk result
-        (λ layout. ArePlaces nfa.now dense_depth classes.now layout.places.items) }
+        (λ it. ArePlaces nfa.now dense_depth classes.now it.places.items) }
     ensures refused { IfErr result (IsRefusedFor nfa.now dense_depth classes.now) }
 {
     let states = nfa.state_len();

@@ -1,8 +1,7 @@
 //! The words of all states, one state after another.
-ghost use Rattle.std.specs.Prelude.{◌≡◌, ◌<◌, map, length, slice_index, IfOk};
-ghost use Rattle.ac_noncontiguous.specs.ReadCalls.{state_len, edges_in, EdgesLeadIn};
-ghost use Rattle.ac_tables.specs.ContiguousTable.{placed, AreWordsOf};
-ghost use Rattle.ac_tables.specs.ContiguousBuild.{ArePlaces, IsStateWritten, AreKnown};
+ghost use Rattle.std.specs.Prelude.{◌≡◌, ◌<◌, length, IfOk};
+ghost use Rattle.ac_noncontiguous.specs.ReadCalls.{state_len, EdgesLeadIn};
+ghost use Rattle.ac_tables.specs.ContiguousBuild.{ArePlaces, AreReadBy, IsStateWritten, AreAllWritten};
 
 use crate::contiguous::places::FAIL;
 use crate::contiguous::words::{Parts, push_state};
@@ -22,8 +21,8 @@ fn read_edges(
     requires within { sid < state_len nfa.now }
     requires places { length places.now ≡ state_len nfa.now }
     ensures lead { EdgesLeadIn nfa.now sid }
-    ensures read { IfOk result (λ _.
-        edges.new.items ≡ map (placed classes.now (slice_index places.now)) (edges_in nfa.now sid)) }
+    ensures read { IfOk result
+        (λ _. AreReadBy nfa.now classes.now places.now sid edges.new.items) }
 {
     edges.clear();
     for (byte, next) in nfa.iter_trans(sid) {
@@ -60,7 +59,7 @@ fn push_words(
     push_state(&parts, classes.alphabet_len(), words)
 }
 
-/// The words of the states, one state after another. There are so many.
+/// The words of the states, one state after another: `words_len` of them.
 pub(super) fn words(
     alloc: Global,
     nfa: &NFA,
@@ -70,14 +69,22 @@ pub(super) fn words(
     words_len: usize,
 ) -> Result<Vec<u32>, AllocError>
     requires { ArePlaces nfa.now dense_depth classes.now places.now }
-    ensures { IfOk result (λ words. AreWordsOf nfa.now dense_depth classes.now words.items
-        × AreKnown nfa.now (state_len nfa.now)) }
+    ensures { IfOk result
+        (λ words. AreAllWritten nfa.now dense_depth classes.now words.items) }
 {
     let mut edges = Vec::new(alloc);
     let mut words = Vec::with_capacity(alloc, words_len)?;
     for state in 0..nfa.state_len() {
         let sid = StateID::must(state);
-        push_words(nfa, sid, dense_depth, classes, places, &mut edges, &mut words)?;
+        push_words(
+            nfa,
+            sid,
+            dense_depth,
+            classes,
+            places,
+            &mut edges,
+            &mut words,
+        )?;
     }
     Ok(words)
 }

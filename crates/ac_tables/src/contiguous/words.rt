@@ -2,10 +2,10 @@
 //!
 //! Each state is written at once, with its final numbers: first its kind and its failure, then its transitions, then its patterns.
 //! Nothing is changed afterwards.
-ghost use Rattle.std.specs.Prelude.{◌≡◌, ℕ, ◌+◌, ◌<◌, ◌≤◌, ◌++◌, ◌∷◌, [], length, map, IfOk};
-ghost use Rattle.std.specs.List.{All, range_with_len};
+ghost use Rattle.std.specs.Prelude.{◌≡◌, ℕ, ◌+◌, ◌<◌, ◌≤◌, ◌++◌, ◌∷◌, [], length, IfOk};
+ghost use Rattle.std.specs.List.{All};
 ghost use Rattle.ac_input.specs.declared.primitives.number.TheConstants.{GREATEST};
-ghost use Rattle.ac_tables.specs.Words.{StateParts, next_by, packed, near, classes_of, nexts_of, match_words, words_of, leading_words, CanBeWritten};
+ghost use Rattle.ac_tables.specs.Words.{AppendsRow, packed, near, classes_of, nexts_of, match_words, words_of, leading_words, CanBeWritten};
 
 use crate::contiguous::layout::{DENSE, MOST_SPARSE, NOWHERE, ONE, ONE_PATTERN};
 use ac_input::primitives::{PatternID, StateID};
@@ -40,8 +40,8 @@ impl<'a> Model for Parts<'a> {
 
 /// Puts an entry for each class after the words, which leads nowhere.
 fn push_blank(alphabet_len: usize, words: &mut Vec<u32>) -> Result<(), AllocError>
-    ensures { IfOk result (λ _. words.new.items
-        ≡ words.old.items ++ map (next_by []) (range_with_len 0 alphabet_len)) }
+    ensures { IfOk result
+        (λ _. AppendsRow [] alphabet_len words.old.items words.new.items) }
 {
     for _ in 0..alphabet_len {
         words.push(NOWHERE)?;
@@ -56,8 +56,8 @@ fn push_row(
     words: &mut Vec<u32>,
 ) -> Result<(), AllocError>
     requires { All (λ edge. edge.0 < alphabet_len) edges.now }
-    ensures { IfOk result (λ _. words.new.items
-        ≡ words.old.items ++ map (next_by edges.now) (range_with_len 0 alphabet_len)) }
+    ensures { IfOk result
+        (λ _. AppendsRow edges.now alphabet_len words.old.items words.new.items) }
 {
     let row = words.len();
     push_blank(alphabet_len, words)?;

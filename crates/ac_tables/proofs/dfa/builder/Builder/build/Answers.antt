@@ -1,5 +1,5 @@
 -- The noncontiguous automaton first, then its table.
-use Rattle.std.proofs.Common.{◌≡◌, subst}
+use Rattle.std.proofs.Common.{subst}
 use Rattle.std.proofs.lemmas.Result.{IfOk-weaker, IfErr-weaker}
 use Rattle.ac_noncontiguous.specs.Builder as noncontiguous
 use Rattle.ac_noncontiguous.specs.Reads as reads

@@ -1,14 +1,13 @@
 -- The table, and what the automaton is built as.
-use Rattle.std.proofs.Common.{◌≡◌, ℕ, List, sym, ap, subst, ◌∙◌}
+use Rattle.std.proofs.Common.{◌≡◌, ℕ, List, ap, subst, ◌∙◌}
 use Rattle.std.proofs.lemmas.Result.{err_from_is_err_and}
 use Rattle.ac_input.specs.declared.search.MatchKind.{MatchKind}
-use Rattle.ac_input.specs.Dictionary.{Dictionary, dictionary_of}
+use Rattle.ac_input.specs.Dictionary.{dictionary_of}
 use Rattle.ac_noncontiguous.specs.Reads.{dictionary}
 use Rattle.ac_tables.specs.DfaBuild.{Settings}
 use Rattle.ac_tables.specs.DfaMade.{IsTableFor, IsTableRefused}
 use Rattle.ac_tables.specs.DfaReads.{IsMadeOf}
-use Rattle.ac_tables.specs.DfaTable.{AreSomeRows, AreParts}
-use Rattle.ac_tables.proofs.DfaBuildLemmas.{made-some, dfa-of, refused-of, parts-of}
+use Rattle.ac_tables.proofs.DfaBuildLemmas.{dfa-of, refused-of, parts-of}
 use Rattle.ac_tables.proofs.dfa.builder.Builder.build_from_noncontiguous.Goals as goal
 
 pub returns-in_err-table-clause-refused : goal.returns-in_err-table-clause-refused

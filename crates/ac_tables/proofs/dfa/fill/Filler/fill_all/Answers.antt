@@ -1,13 +1,12 @@
 -- The starts first, then the two runs of states by depth.
-use Rattle.std.proofs.Common.{◌≡◌, ◌⊎◌, ◌<◌, ◌≤◌, ◌+◌, ℕ, inl, inr, ⊎_elim, sym, ap, subst, ◌∙◌, arith}
+use Rattle.std.proofs.Common.{◌≡◌, ◌<◌, ◌≤◌, ◌+◌, ℕ, inl, inr, ⊎_elim, sym, ap, subst, ◌∙◌, arith}
 use Rattle.ac_input.specs.declared.search.Anchored.TheVariants.{No, Yes}
-use Rattle.ac_input.specs.Dfa.{Serves}
 use Rattle.ac_noncontiguous.specs.declared.nfa.read.Special.{Special}
-use Rattle.ac_noncontiguous.specs.ReadCalls.{state_len, special_in, fail_in, MayBeMet}
+use Rattle.ac_noncontiguous.specs.ReadCalls.{special_in, fail_in}
 use Rattle.ac_tables.specs.Filling.{number_in, IsRowRight, IsBlank, AreFilled, AreRowsUpTo, IsDone}
 use Rattle.ac_tables.specs.Filler.{plan_of}
 use Rattle.ac_tables.proofs.CellLemmas.{starts-of}
-use Rattle.ac_tables.proofs.FilledLemmas.{rows-none, rows-starts, rows-low, rows-high, rows-all, fresh-low, fresh-high, failure-right_start, failure-right_low, failure-right_high, met-both, met-start_plain, met-start_own}
+use Rattle.ac_tables.proofs.FilledLemmas.{rows-none, rows-starts, rows-low, rows-high, rows-all, fresh-low, fresh-high, failure-right_start, failure-right_low, failure-right_high, met-both, met-start_own}
 use Rattle.ac_tables.proofs.dfa.fill.Filler.fill_all.Goals as goal
 
 pub fill-requires-clause-failure : goal.fill-requires-clause-failure

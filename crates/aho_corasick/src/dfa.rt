@@ -1,0 +1,2 @@
+//! The DFA, used directly.
+pub use ac_tables::dfa::DFA;

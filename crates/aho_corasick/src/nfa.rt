@@ -1,0 +1,2 @@
+//! The two automata with failures, used directly.
+pub mod noncontiguous;

@@ -79,6 +79,7 @@ pub trait Automaton {
         ensures { AnswersStart (supports self.now) (Reaches self.now) anchored result };
 
     /// The state after one more byte, where the search began with this anchoring; and counts the states that it looks at.
+    /// A caller: `uses::callers::states::next_by_one_look`.
     fn next_state_counted(
         &self,
         anchored: Anchored,
@@ -95,6 +96,7 @@ pub trait Automaton {
     /// there is one; and counts the states that it looks at, as many as `next_state_counted` would.
     ///
     /// This one makes a call of `next_state_counted` and one of `is_special` for each byte. An automaton with a faster way has its own.
+    /// A caller: `uses::callers::states::next_special`.
     fn advance(&self, anchored: Anchored, sid: StateID, bytes: &[u8], steps: &mut Steps) -> Advance
         requires { IsReached (Reaches self.now anchored) sid }
         ensures goes { Advances (Reaches self.now anchored) (special self.now) sid bytes.now result }
@@ -152,11 +154,13 @@ pub trait Automaton {
 
     /// Whether a search has more to do here than to read on: the state is dead, or matches, or is a start and there is a
     /// prefilter to ask.
+    /// A caller: `uses::callers::states::next_special`.
     fn is_special(&self, sid: StateID) -> bool
         requires { IsState (Reaches self.now) sid }
         ensures { result ≡ special self.now sid };
 
     /// Whether nothing more can be found from here on.
+    /// A caller: `uses::callers::states::is_over`.
     fn is_dead(&self, sid: StateID) -> bool
         requires { IsState (Reaches self.now) sid }
         ensures { AtEach (Reaches self.now) sid (TellsDead (built self.now) result) };
@@ -168,12 +172,14 @@ pub trait Automaton {
         ensures { IsTrue result ↔ (matches self.now sid ≢ []) };
 
     /// Whether it is a start. Then no byte that was read is live any more, unless the state matches.
+    /// A caller: `uses::callers::states::may_forget`.
     fn is_start(&self, sid: StateID) -> bool
         requires { IsState (Reaches self.now) sid }
         ensures value { result ≡ starts self.now sid }
         ensures tells { TellsStart (built self.now) (Reaches self.now) (matches self.now) sid result };
 
     /// The kind that it was made for.
+    /// A caller: `uses::callers::overlap::can_list`.
     fn match_kind(&self) -> MatchKind
         ensures { result ≡ (built self.now).dictionary.kind };
 
@@ -193,6 +199,7 @@ pub trait Automaton {
         ensures known { result < length (built self.now).dictionary.patterns };
 
     /// How many patterns it was made from.
+    /// A caller: `uses::callers::find::numbered`.
     fn patterns_len(&self) -> usize
         ensures { result ≡ length (built self.now).dictionary.patterns };
 
@@ -208,6 +215,7 @@ pub trait Automaton {
         ensures { result ≡ shortest (built self.now).dictionary.patterns };
 
     /// How many bytes the longest pattern has; 0 where there is none.
+    /// A caller: `uses::callers::find::most_bytes`.
     fn max_pattern_len(&self) -> usize
         ensures { result ≡ longest (built self.now).dictionary.patterns };
 
@@ -215,6 +223,7 @@ pub trait Automaton {
     fn memory_usage(&self) -> usize;
 
     /// The prefilter that it holds, if it holds one.
+    /// A caller: `uses::callers::packed::own_skip`.
     fn prefilter(&self) -> Option<&Prefilter>
         ensures value { option_map (λ p. p.now) result ≡ (built self.now).prefilter }
         ensures made { OwnsPrefilter (built self.now) };

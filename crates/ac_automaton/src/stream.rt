@@ -55,6 +55,7 @@ enum Turn {
 /// [`try_stream_find_iter`](crate::automaton::Automaton::try_stream_find_iter), with the reader first. A caller whose own contract
 /// speaks of the reader calls this one: it says of the reader what it is where the search is refused, and only of a first parameter
 /// can a contract say what becomes of what was lent.
+/// A caller: `uses::callers::stream::first_match`.
 pub fn stream_find_iter<'a, A: Automaton, R>(
     reader: &'a mut Watched<R>,
     automaton: &'a A,
@@ -96,6 +97,7 @@ impl<'a, A: Automaton, R: Read> StreamFindIter<'a, A, R> {
     ///
     /// A caller whose own contract speaks of the reader ends the search so. Where the search is dropped, the reader is the same, but
     /// no contract says so.
+    /// A caller: `uses::callers::stream::first_match`.
     pub fn into_reader(self) -> &'a mut Watched<R>
         ensures reader { result.now ≡ reader_of self.entry }
         ensures same_reference { result.ghost_name ≡ reader_name self.entry }
@@ -105,6 +107,7 @@ impl<'a, A: Automaton, R: Read> StreamFindIter<'a, A, R> {
 
     /// The next match among the bytes that were read, without a read; and counts what it does. None says that all of them were
     /// given.
+    /// A caller: `uses::callers::stream::pass_held`.
     pub fn next_held_counted(&mut self, steps: &mut Steps) -> Option<Match>
         ensures finds { FindsHeld (progress_of self.old) result (progress_of self.new) }
         ensures reader { KeepsReader self.old self.new }

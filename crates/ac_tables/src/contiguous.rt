@@ -59,6 +59,8 @@ use ac_input::search::MatchKind;
 use ac_literal::prefilter::Prefilter;
 use ac_noncontiguous::nfa::pattern_lens::PatternLens;
 
+pub use builder::Builder;
+
 /// A contiguous automaton.
 #[derive(Drop)]
 pub struct NFA {

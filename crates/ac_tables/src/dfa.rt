@@ -57,6 +57,8 @@ use ac_input::search::MatchKind;
 use ac_literal::prefilter::Prefilter;
 use ac_noncontiguous::nfa::pattern_lens::PatternLens;
 
+pub use builder::Builder;
+
 /// A deterministic automaton.
 #[derive(Drop)]
 pub struct DFA {

@@ -3,14 +3,16 @@
 //! A [`Case`] is a row of a table: it says what an automaton is built of, and checks an automaton that was built. [`ENGINES`] lists
 //! the automata and their settings, a line each, and [`all`] runs cases by each of them. A function that owns an automaton is slow
 //! to prove, so there is one such function for each automaton, and all others are handed a reference.
-use crate::engines::Engine::{Noncontiguous, OneStart};
+use crate::engines::Alphabet::{Bytes, Classes};
+use crate::engines::Engine::{Contiguous, Dfa, Noncontiguous};
 use crate::engines::Prefiltering::{Off, On};
-use crate::one_start;
 use ac_input::pairing::Pairing;
+use ac_input::search::StartKind::{Both, Unanchored};
 use ac_input::search::{Anchored, Match, MatchKind, StartKind};
 use ac_noncontiguous::builder::Builder;
 use ac_noncontiguous::nfa::NFA;
 use ac_noncontiguous::{Automaton, BuildError, BuildErrorKind};
+use ac_tables::{contiguous, dfa};
 use std::alloc::Global;
 use std::process::Abort;
 use std::test::Fail;
@@ -41,13 +43,22 @@ pub enum Prefiltering {
     On,
 }
 
+/// Whether a table has an entry for each class of bytes, or for each byte.
+#[derive(Clone, Copy, Debug, PartialEq, Eq)]
+pub enum Alphabet {
+    Classes,
+    Bytes,
+}
+
 /// An automaton, and how it is built.
 #[derive(Clone, Copy, Debug)]
 pub enum Engine {
     /// The noncontiguous NFA, whose states have rows to this depth.
     Noncontiguous(Prefiltering, usize),
-    /// The same with a start for one anchoring alone.
-    OneStart(Prefiltering, Anchored),
+    /// The contiguous NFA, whose states are dense to this depth.
+    Contiguous(Prefiltering, usize, Alphabet),
+    /// The DFA, with these starts.
+    Dfa(Prefiltering, Alphabet, StartKind),
 }
 
 /// The automata and their settings, none of which changes an answer.
@@ -57,15 +68,34 @@ pub const ENGINES: &[Engine] = &[
     Noncontiguous(Off, 0),
     Noncontiguous(On, 1),
     Noncontiguous(Off, 100),
-    OneStart(On, Anchored::No),
-    OneStart(Off, Anchored::Yes),
+    Contiguous(On, 2, Classes),
+    Contiguous(Off, 2, Classes),
+    Contiguous(Off, 0, Classes),
+    Contiguous(On, 1, Bytes),
+    Contiguous(Off, 100, Bytes),
+    Dfa(On, Classes, Unanchored),
+    Dfa(Off, Bytes, Unanchored),
+    Dfa(Off, Classes, Both),
+    Dfa(On, Bytes, Both),
+    Dfa(Off, Classes, StartKind::Anchored),
 ];
 
 /// Those that run a row which takes long.
-pub const FEW: &[Engine] = &[Noncontiguous(On, 3), Noncontiguous(Off, 0)];
+pub const FEW: &[Engine] = &[
+    Noncontiguous(On, 3),
+    Noncontiguous(Off, 0),
+    Contiguous(On, 2, Classes),
+    Contiguous(Off, 0, Bytes),
+    Dfa(On, Classes, Unanchored),
+    Dfa(Off, Bytes, Both),
+];
 
 /// Those that run a row which takes very long: each automaton as it is built at first.
-pub const FIRST: &[Engine] = &[Noncontiguous(On, 3)];
+pub const FIRST: &[Engine] = &[
+    Noncontiguous(On, 3),
+    Contiguous(On, 2, Classes),
+    Dfa(On, Classes, Unanchored),
+];
 
 /// A row of a table, which any automaton built of what it asks must pass.
 pub trait Case {
@@ -153,36 +183,85 @@ fn by_noncontiguous<T: Abort, C: Case>(
 ) -> Result<(), Fail> {
     let asked = case.asked();
     match builder(asked, prefilter, depth)?.build(alloc, asked.patterns) {
-        Ok(nfa) => case.check(rt, alloc, &nfa, StartKind::Both),
+        Ok(nfa) => case.check(rt, alloc, &nfa, Both),
         Err(error) => unbuilt(case, error),
     }
 }
 
-/// Checks the case by an automaton with one start, over the noncontiguous one.
-fn by_one_start<T: Abort, C: Case>(
+/// What builds the contiguous NFA.
+fn contiguous_builder(
+    asked: Asked<'_>,
+    prefilter: Prefiltering,
+    depth: usize,
+    alphabet: Alphabet,
+) -> Result<contiguous::builder::Builder, Fail> {
+    let mut builder = contiguous::builder::Builder::new();
+    builder
+        .match_kind(asked.kind)
+        .pairing(pairing(asked.letters)?)
+        .prefilter(prefilter == On)
+        .dense_depth(depth)
+        .byte_classes(alphabet == Classes);
+    Ok(builder)
+}
+
+/// Checks the case by the contiguous NFA.
+fn by_contiguous<T: Abort, C: Case>(
     rt: &T,
     alloc: Global,
     case: &C,
     prefilter: Prefiltering,
-    anchored: Anchored,
+    depth: usize,
+    alphabet: Alphabet,
 ) -> Result<(), Fail> {
-    let automaton = &noncontiguous(alloc, case.asked(), prefilter, 3)?;
-    let starts = match anchored {
-        Anchored::No => StartKind::Unanchored,
-        Anchored::Yes => StartKind::Anchored,
-    };
-    let one_start = one_start::OneStart {
-        automaton,
-        anchored,
-    };
-    case.check(rt, alloc, &one_start, starts)
+    let asked = case.asked();
+    match contiguous_builder(asked, prefilter, depth, alphabet)?.build(alloc, asked.patterns) {
+        Ok(nfa) => case.check(rt, alloc, &nfa, Both),
+        Err(error) => unbuilt(case, error),
+    }
+}
+
+/// What builds the DFA.
+fn dfa_builder(
+    asked: Asked<'_>,
+    prefilter: Prefiltering,
+    alphabet: Alphabet,
+    starts: StartKind,
+) -> Result<dfa::builder::Builder, Fail> {
+    let mut builder = dfa::builder::Builder::new();
+    builder
+        .match_kind(asked.kind)
+        .pairing(pairing(asked.letters)?)
+        .prefilter(prefilter == On)
+        .byte_classes(alphabet == Classes)
+        .start_kind(starts);
+    Ok(builder)
+}
+
+/// Checks the case by the DFA.
+fn by_dfa<T: Abort, C: Case>(
+    rt: &T,
+    alloc: Global,
+    case: &C,
+    prefilter: Prefiltering,
+    alphabet: Alphabet,
+    starts: StartKind,
+) -> Result<(), Fail> {
+    let asked = case.asked();
+    match dfa_builder(asked, prefilter, alphabet, starts)?.build(alloc, asked.patterns) {
+        Ok(dfa) => case.check(rt, alloc, &dfa, starts),
+        Err(error) => unbuilt(case, error),
+    }
 }
 
 /// Checks the case by this automaton.
 fn by<T: Abort, C: Case>(rt: &T, alloc: Global, case: &C, engine: Engine) -> Result<(), Fail> {
     match engine {
         Noncontiguous(prefilter, depth) => by_noncontiguous(rt, alloc, case, prefilter, depth),
-        OneStart(prefilter, anchored) => by_one_start(rt, alloc, case, prefilter, anchored),
+        Contiguous(prefilter, depth, alphabet) => {
+            by_contiguous(rt, alloc, case, prefilter, depth, alphabet)
+        }
+        Dfa(prefilter, alphabet, starts) => by_dfa(rt, alloc, case, prefilter, alphabet, starts),
     }
 }
 

@@ -20,8 +20,6 @@ mod engines;
 #[cfg(test)]
 mod memory;
 #[cfg(test)]
-mod one_start;
-#[cfg(test)]
 mod packed;
 #[cfg(test)]
 mod prefilters;

@@ -8,14 +8,15 @@ use ac_input::search::{Input, MatchKind, Span};
 use ac_literal::packed::{self, Builder, Searcher};
 use ac_literal::prefilter::Prefilter;
 use ac_noncontiguous::{Automaton, BuildErrorKind, NFA};
+use ac_tables::{contiguous, dfa};
 use std::alloc::Global;
 use std::process::Abort;
 
 const PATTERNS: &[&[u8]] = &[b"b", b"abc", b"abcd"];
 
 /// Asserts what the automaton of the patterns finds.
-fn is_whole<T: Abort>(rt: &T, nfa: &NFA) {
-    let found = nfa.try_find(&Input::new(b"xabcd"));
+fn is_whole<T: Abort, A: Automaton>(rt: &T, automaton: &A) {
+    let found = automaton.try_find(&Input::new(b"xabcd"));
     assert_eq!(rt; pick(found.ok().flatten()), Some((0, 2, 3)));
 }
 
@@ -24,6 +25,34 @@ fn is_whole_in_copies<T: Abort>(rt: &T, alloc: Global, nfa: &NFA) {
     is_whole(rt, nfa);
     if let Ok(copy) = &nfa.clone(alloc) {
         is_whole(rt, copy);
+    }
+}
+
+/// The same of the contiguous NFA.
+fn contiguous_is_whole_in_copies<T: Abort>(rt: &T, alloc: Global, nfa: &contiguous::NFA) {
+    is_whole(rt, nfa);
+    if let Ok(copy) = &nfa.clone(alloc) {
+        is_whole(rt, copy);
+    }
+}
+
+/// The same of the DFA.
+fn dfa_is_whole_in_copies<T: Abort>(rt: &T, alloc: Global, dfa: &dfa::DFA) {
+    is_whole(rt, dfa);
+    if let Ok(copy) = &dfa.clone(alloc) {
+        is_whole(rt, copy);
+    }
+}
+
+#[test]
+fn in_memory_that_may_end_tables(rt: HostRuntime) {
+    match &contiguous::NFA::new(rt.alloc(), PATTERNS) {
+        Ok(nfa) => contiguous_is_whole_in_copies(&rt, rt.alloc(), nfa),
+        Err(error) => assert_eq!(rt; *error.kind(), BuildErrorKind::Memory),
+    }
+    match &dfa::DFA::new(rt.alloc(), PATTERNS) {
+        Ok(dfa) => dfa_is_whole_in_copies(&rt, rt.alloc(), dfa),
+        Err(error) => assert_eq!(rt; *error.kind(), BuildErrorKind::Memory),
     }
 }
 

@@ -16,6 +16,7 @@ use std::test::Fail;
 mod bytes;
 mod empty;
 mod inside;
+mod layouts;
 mod several;
 mod words;
 

@@ -6,32 +6,39 @@ use crate::rows::{Row, row_holds_of_each};
 use ac_input::pairing::Pairing;
 use ac_input::search::{MatchKind, StartKind};
 use ac_noncontiguous::{Automaton, Builder, NFA};
+use ac_tables::{contiguous, dfa};
 use std::alloc::Global;
 use std::process::Abort;
 use std::test::Fail;
 
 /// Asserts what a walk by the automaton of `a0` and `a` gives over `A0 a1`.
-fn gives<T: Abort>(rt: &T, alloc: Global, nfa: &NFA, want: &[Pick]) -> Result<(), Fail> {
+fn gives<T: Abort, A: Automaton>(
+    rt: &T,
+    alloc: Global,
+    automaton: &A,
+    want: &[Pick],
+) -> Result<(), Fail> {
     let row = Row {
         shows: "the last setting decides",
         asks: Asks::Walk,
         text: Whole(b"A0 a1"),
         gives: want,
     };
-    row_holds_of_each(rt, alloc, nfa, StartKind::Both, &row)
+    row_holds_of_each(rt, alloc, automaton, StartKind::Unanchored, &row)
 }
 
 /// Asserts of what kind the automaton is, whether it holds a prefilter, and what it gives.
-fn is_built<T: Abort>(
+fn is_built<T: Abort, A: Automaton>(
     rt: &T,
     alloc: Global,
-    nfa: &NFA,
+    automaton: &A,
     kind: MatchKind,
     held: bool,
     want: &[Pick],
 ) -> Result<(), Fail> {
-    assert_eq!(rt; (nfa.match_kind(), nfa.prefilter().is_some()), (kind, held));
-    gives(rt, alloc, nfa, want)
+    let facts = (automaton.match_kind(), automaton.prefilter().is_some());
+    assert_eq!(rt; facts, (kind, held));
+    gives(rt, alloc, automaton, want)
 }
 
 /// Asserts the same of what the builder builds.
@@ -80,4 +87,104 @@ fn the_last_setting_decides(rt: HostRuntime) -> Result<(), Fail> {
     builds(&rt, alloc, &NFA::builder(), MatchKind::Standard, true, &[])?;
     let nfa = NFA::new(alloc, &[b"A0"])?;
     is_built(&rt, alloc, &nfa, MatchKind::Standard, true, &[(0, 0, 2)])
+}
+
+/// A match of the pattern `a0` in the text `A0 a1`, where it is taken as it stands, by its other case, and by the other digit.
+const FOLDED: &[Pick] = &[(0, 0, 2)];
+
+const PAIRED: &[Pick] = &[(0, 3, 5)];
+
+/// Asserts how many words the contiguous NFA has, of what kind it is, whether it holds a prefilter, and what it gives.
+fn contiguous_builds<T: Abort>(
+    rt: &T,
+    alloc: Global,
+    builder: &contiguous::builder::Builder,
+    words: usize,
+    kind: MatchKind,
+    held: bool,
+    want: &[Pick],
+) -> Result<(), Fail> {
+    let nfa = &builder.build(alloc, &[b"a0"])?;
+    assert_eq!(rt; nfa.words().len(), words);
+    is_built(rt, alloc, nfa, kind, held, want)
+}
+
+/// The same of the contiguous NFA. How many words it has shows which bytes have classes of their own, and whether the state of `a` is
+/// dense: the dead state and the starts are, and the state that matches has three words.
+#[test]
+fn the_last_setting_decides_of_contiguous(rt: HostRuntime) -> Result<(), Fail> {
+    let alloc = rt.alloc();
+    let standard = MatchKind::Standard;
+    let first = MatchKind::LeftmostFirst;
+    let mut builder = contiguous::builder::Builder::default();
+    contiguous_builds(&rt, alloc, &builder, 31, standard, true, &[])?;
+    builder.ascii_case_insensitive(true);
+    builder.pairing(Pairing::new(&[(b'0', b'1')])?);
+    contiguous_builds(&rt, alloc, &builder, 35, standard, true, PAIRED)?;
+    builder.ascii_case_insensitive(true).prefilter(false);
+    builder.match_kind(first).dense_depth(0);
+    let copy = builder.clone()?;
+    builder.ascii_case_insensitive(false).prefilter(true);
+    builder.match_kind(standard).byte_classes(false);
+    contiguous_builds(&rt, alloc, &builder, 780, standard, true, &[])?;
+    contiguous_builds(&rt, alloc, &copy, 33, first, false, FOLDED)?;
+    contiguous_builds(
+        &rt,
+        alloc,
+        &contiguous::NFA::builder(),
+        31,
+        standard,
+        true,
+        &[],
+    )?;
+    let nfa = &contiguous::NFA::new(alloc, &[b"A0"])?;
+    is_built(&rt, alloc, nfa, standard, true, FOLDED)?;
+    is_built(&rt, alloc, &nfa.clone(alloc)?, standard, true, FOLDED)
+}
+
+/// Asserts the sizes of the DFA, of what kind it is, whether it holds a prefilter, and what it gives.
+fn dfa_builds<T: Abort>(
+    rt: &T,
+    alloc: Global,
+    builder: &dfa::builder::Builder,
+    sizes: [usize; 2],
+    kind: MatchKind,
+    held: bool,
+    want: &[Pick],
+) -> Result<(), Fail> {
+    let dfa = &builder.build(alloc, &[b"a0"])?;
+    assert_eq!(rt; [dfa.state_len(), dfa.stride()], sizes);
+    is_built(rt, alloc, dfa, kind, held, want)
+}
+
+/// The same of the DFA. How many states it has says which starts, and its stride whether bytes have classes.
+#[test]
+fn the_last_setting_decides_of_dfa(rt: HostRuntime) -> Result<(), Fail> {
+    let alloc = rt.alloc();
+    let standard = MatchKind::Standard;
+    let first = MatchKind::LeftmostFirst;
+    let mut builder = dfa::builder::Builder::default();
+    dfa_builds(&rt, alloc, &builder, [6, 8], standard, true, &[])?;
+    builder.ascii_case_insensitive(true);
+    builder.pairing(Pairing::new(&[(b'0', b'1')])?);
+    dfa_builds(&rt, alloc, &builder, [6, 8], standard, true, PAIRED)?;
+    builder.ascii_case_insensitive(true).prefilter(false);
+    builder.match_kind(first).start_kind(StartKind::Both);
+    let copy = builder.clone()?;
+    builder.ascii_case_insensitive(false).prefilter(true);
+    builder.match_kind(standard).byte_classes(false);
+    dfa_builds(&rt, alloc, &builder, [8, 256], standard, true, &[])?;
+    dfa_builds(&rt, alloc, &copy, [8, 8], first, false, FOLDED)?;
+    dfa_builds(
+        &rt,
+        alloc,
+        &dfa::DFA::builder(),
+        [6, 8],
+        standard,
+        true,
+        &[],
+    )?;
+    let dfa = &dfa::DFA::new(alloc, &[b"A0"])?;
+    is_built(&rt, alloc, dfa, standard, true, FOLDED)?;
+    is_built(&rt, alloc, &dfa.clone(alloc)?, standard, true, FOLDED)
 }

@@ -90,6 +90,7 @@ impl Config {
     }
 
     /// Asks for the rolling hash alone. Marks and hash are one search, and no answer depends on how it goes, so it changes nothing.
+    /// A caller: `uses::callers::packed::longest_config`.
     pub fn only_rabin_karp(&mut self, _yes: bool) -> &mut Config
         ensures same { result.ghost_name ≡ self.entry.ghost_name }
         ensures value { result.now ≡ self.old }
@@ -143,6 +144,7 @@ impl Builder {
     }
 
     /// Adds a pattern. Where memory ends, the builder is as it was.
+    /// A caller: `uses::callers::packed::of_one`.
     pub fn add(&mut self, pattern: &[u8]) -> Result<&mut Builder, AllocError>
         ensures same { IfOk result (λ builder. builder.ghost_name ≡ self.entry.ghost_name) }
         ensures value { IfOk result (λ builder. builder.now ≡ added self.old pattern.now) }
@@ -152,6 +154,7 @@ impl Builder {
     }
 
     /// Adds patterns in their order. Where memory ends, those before stay added.
+    /// A caller: `uses::callers::packed::and_all`.
     pub fn extend(&mut self, patterns: &[&[u8]]) -> Result<&mut Builder, AllocError>
         ensures same { IfOk result (λ builder. builder.ghost_name ≡ self.entry.ghost_name) }
         ensures value { IfOk result (λ b. b.now ≡ added_all self.old (bytes_of patterns.now)) }
@@ -161,6 +164,7 @@ impl Builder {
     }
 
     /// The same as [`Builder::add`], for a caller that goes on where memory ended.
+    /// A caller: `uses::callers::packed::and`.
     pub fn try_add(&mut self, pattern: &[u8]) -> Result<(), AllocError>
         ensures ok { OnOk result (self.new ≡ added self.old pattern.now) }
         ensures err { OnErr result (self.new ≡ self.old) }
@@ -189,6 +193,7 @@ impl Builder {
     }
 
     /// How many patterns it has.
+    /// A caller: `uses::callers::packed::holds_some`.
     pub fn len(&self) -> usize
         ensures { result ≡ length self.now.patterns }
     {
@@ -251,6 +256,7 @@ impl Searcher {
     }
 
     /// The settings of a searcher, to be changed and then built from.
+    /// A caller: `uses::callers::packed::longest_config`.
     pub fn config() -> Config
         ensures { result ≡ MatchKind.LeftmostFirst }
     {

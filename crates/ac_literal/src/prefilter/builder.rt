@@ -115,6 +115,7 @@ impl Builders {
     }
 
     /// With one more pattern. Where memory ends, nothing changes.
+    /// A caller: `uses::callers::packed::folded_prefilter`.
     fn add(&mut self, alloc: Global, pairing: &Pairing, pattern: &[u8]) -> Result<(), AllocError>
         requires { 0 < length pattern.now }
         ensures ok { OnOk result (AddsPattern pairing.now self.old pattern.now self.new) }
@@ -308,6 +309,7 @@ impl PrefilterBuilder {
 
     /// Whether ASCII letters count as the same in their two cases. It sets the whole pairing: of this call and
     /// [`PrefilterBuilder::pairing`] the last one decides.
+    /// A caller: `uses::callers::packed::folded_prefilter`.
     pub fn ascii_case_insensitive(&mut self, yes: bool) -> &mut PrefilterBuilder
         requires { self.old.patterns ≡ [] }
         ensures same { result.ghost_name ≡ self.entry.ghost_name }
@@ -324,6 +326,7 @@ impl PrefilterBuilder {
     }
 
     /// Which bytes stand for one another. At first none does.
+    /// A caller: `uses::callers::packed::paired_prefilter`.
     pub fn pairing(&mut self, pairing: Pairing) -> &mut PrefilterBuilder
         requires { self.old.patterns ≡ [] }
         ensures same { result.ghost_name ≡ self.entry.ghost_name }

@@ -83,6 +83,7 @@ impl PatternLens {
     }
 
     /// How many patterns there are.
+    /// A caller: `uses::callers::nfa::room_for_all`.
     pub fn len(&self) -> usize
         ensures { result ≡ length self.now }
     {
@@ -90,6 +91,7 @@ impl PatternLens {
     }
 
     /// How many bytes the pattern has.
+    /// A caller: `uses::callers::nfa::len_past_shortest`.
     pub fn pattern_len(&self, pattern: PatternID) -> usize
         requires { pattern < length self.now }
         ensures { result ≡ length (get_or self.now pattern []) }
@@ -98,6 +100,7 @@ impl PatternLens {
     }
 
     /// How many bytes the shortest pattern has; `usize::MAX` where there is none.
+    /// A caller: `uses::callers::nfa::len_past_shortest`.
     pub fn shortest(&self) -> usize
         ensures { result ≡ shortest self.now }
     {
@@ -105,6 +108,7 @@ impl PatternLens {
     }
 
     /// How many bytes the longest pattern has; 0 where there is none.
+    /// A caller: `uses::callers::nfa::room_for_all`.
     pub fn longest(&self) -> usize
         ensures { result ≡ longest self.now }
     {

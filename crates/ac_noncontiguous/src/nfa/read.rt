@@ -101,6 +101,7 @@ impl NFA {
     ghost use Rattle.ac_noncontiguous.specs.ReadCalls.{AlikeIn, state_len, fail_in, depth_in, edges_in, classes_in, special_in, ClassesAreThose, CountsIn, IsWithin, FailsIn, IsDeepIn, ListsIn, EdgesLeadIn, MayBeMet, LeadsIn, SpecialIn, StandForSome, TextsBegin, AreRead, OrderedIn, IsCopy};
 
     /// How many states there are.
+    /// A caller: `uses::callers::nfa::numbered`.
     pub fn state_len(&self) -> usize
         ensures value { result ≡ state_len self.now }
         ensures counted { CountsIn self.now result }
@@ -109,6 +110,7 @@ impl NFA {
     }
 
     /// The state that is asked where a byte leads to none.
+    /// A caller: `uses::callers::nfa::fails_upward`.
     pub fn fail(&self, sid: StateID) -> StateID
         requires { sid < state_len self.now }
         ensures value { result ≡ fail_in self.now sid }
@@ -118,6 +120,7 @@ impl NFA {
     }
 
     /// How many bytes lead to the state from a start.
+    /// A caller: `uses::callers::nfa::fails_upward`.
     pub fn depth(&self, sid: StateID) -> usize
         requires { sid < state_len self.now }
         ensures value { result ≡ depth_in self.now sid }
@@ -170,6 +173,7 @@ impl NFA {
 
     /// The classes of the bytes: each byte of an entered pattern, and its partner, is one alone; other bytes share one with their
     /// neighbours.
+    /// A caller: `uses::callers::nfa::are_alike`.
     pub fn byte_classes(&self) -> &ByteClasses
         ensures value { result.now ≡ classes_in self.now }
         ensures classes { ClassesAreThose self.now }
@@ -179,6 +183,7 @@ impl NFA {
     }
 
     /// The numbers that stand between the parts of the states.
+    /// A caller: `uses::callers::nfa::start_of`.
     pub fn special(&self) -> Special
         ensures value { result ≡ special_in self.now }
         ensures order { SpecialIn self.now result }
@@ -194,6 +199,7 @@ impl NFA {
     /// The state to which a byte leads from a state, where the search began with this anchoring: all failures are followed.
     ///
     /// It answers as a search goes, from any state to which a search may come, the dead one included. It counts nothing.
+    /// A caller: `uses::callers::nfa::lead_over`.
     pub fn lead(&self, anchored: Anchored, sid: StateID, byte: u8) -> StateID
         requires { MayBeMet self.now anchored sid }
         ensures { LeadsIn self.now anchored sid byte result }
@@ -220,6 +226,7 @@ impl NFA {
     {}
 
     /// How long the patterns are.
+    /// A caller: `uses::callers::nfa::len_past_shortest`.
     pub fn pattern_lens(&self) -> &PatternLens
         ensures { result.now ≡ (built_as self.now).dictionary.patterns }
     {

@@ -13,4 +13,20 @@
 #![tactic(auto)]
 
 pub mod ahocorasick;
+pub mod automaton;
+pub mod dfa;
 mod engine;
+pub mod nfa;
+pub mod packed;
+
+pub use ac_automaton::error::{MatchError, MatchErrorKind, ReplaceError, StreamError};
+pub use ac_automaton::overlapping::OverlappingState;
+pub use ac_automaton::watched::{Watched, write_whole};
+pub use ac_input::pairing::{Pairing, PairingError};
+pub use ac_input::primitives::{PatternID, PatternIDError};
+pub use ac_input::search::{Anchored, Input, Match, MatchKind, Span, StartKind};
+pub use ac_input::steps::Steps;
+pub use ac_noncontiguous::error::{BuildError, BuildErrorKind};
+pub use ahocorasick::{
+    AhoCorasick, AhoCorasickBuilder, AhoCorasickKind, FindIter, FindOverlappingIter, StreamFindIter,
+};

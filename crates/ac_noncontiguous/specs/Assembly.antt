@@ -7,7 +7,7 @@ use Rattle.ac_input.specs.Dictionary.{Dictionary}
 use Rattle.ac_noncontiguous.specs.declared.links.Links.{Links}
 use Rattle.ac_noncontiguous.specs.declared.links.Range.{Range}
 use Rattle.ac_noncontiguous.specs.declared.trie.Trie.{Trie}
-use Rattle.ac_noncontiguous.specs.declared.trie.own.OwnPatterns.{OwnPatterns}
+use Rattle.ac_noncontiguous.specs.declared.links.own.OwnPatterns.{OwnPatterns}
 use Rattle.ac_noncontiguous.specs.declared.compiler.numbering.Numbering.{Numbering}
 use Rattle.ac_noncontiguous.specs.declared.nfa.tables.State.{State}
 use Rattle.ac_noncontiguous.specs.declared.nfa.tables.Tables.{Tables}

@@ -2,7 +2,7 @@
 use Rattle.std.specs.Prelude.{◌≡◌, ℕ, ◌+◌, ◌<◌, ◌≤◌, ◌++◌, map, List, length, slice_index}
 use Rattle.std.specs.List.{Contains}
 use Rattle.ac_noncontiguous.specs.declared.trie.State.{State}
-use Rattle.ac_noncontiguous.specs.declared.trie.children.Children.{Children}
+use Rattle.ac_noncontiguous.specs.declared.links.children.Children.{Children}
 use Rattle.ac_noncontiguous.specs.Tree.{parent, byte}
 
 -- the children of a state

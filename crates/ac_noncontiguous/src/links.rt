@@ -3,6 +3,9 @@
 //! The patterns of a state are its own, and then those of the state to which it fails. They are a range of one list: a state
 //! without patterns of its own shares the range of its failure, and another one has a copy after its own. No pattern stands
 //! twice in a range.
+//!
+//! The links are given breadth first ([`order`]), since a state fails to one of lesser depth: first where each state fails
+//! ([`failures`], over [`children`] put side by side), then its patterns ([`own`], and those of its failure).
 ghost use Rattle.std.specs.Prelude.{◌≡◌, ℕ, ◌+◌, ◌<◌, length, slice_get, Some, IfOk};
 ghost use Rattle.ac_input.specs.Dictionary.{Dictionary};
 ghost use Rattle.ac_noncontiguous.specs.Tree.{depth};
@@ -13,8 +16,13 @@ ghost use Rattle.ac_noncontiguous.specs.Links.{AreFails, AreLinks, in_range};
 ghost use Rattle.ac_noncontiguous.specs.Lists.{IsRangeOf, EndAbove, IsRest, IsListed};
 ghost use Rattle.ac_noncontiguous.specs.Failures.{AreShallower};
 
+mod children;
+mod failures;
+mod order;
+pub(crate) mod own;
+
+use crate::links::own::OwnPatterns;
 use crate::trie::Trie;
-use crate::trie::own::OwnPatterns;
 use ac_input::primitives::{PatternID, StateID};
 use std::alloc::{AllocError, Global};
 

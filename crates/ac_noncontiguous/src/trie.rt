@@ -24,11 +24,7 @@ ghost use Rattle.ac_noncontiguous.specs.Tree.{IsTree, IsChildPlace, IsAdded, sta
 ghost use Rattle.ac_noncontiguous.specs.Entering.{IsMarked, IsChildStep, IsChildRefused, IsEnd, IsStuck};
 ghost use Rattle.ac_noncontiguous.specs.Standing.{IsPatternRefused, IsBuildRefused};
 
-mod children;
-mod failures;
 mod hints;
-mod order;
-pub(crate) mod own;
 
 use crate::error::{BuildError, BuildErrorKind};
 use crate::trie::hints::Hints;
@@ -67,9 +63,9 @@ struct ChildSlot {
 /// The beginnings of the patterns that were entered, as the states of a tree.
 #[derive(Drop)]
 pub(crate) struct Trie {
-    states: Vec<State>,
+    pub(crate) states: Vec<State>,
     /// For each pattern the state in which it ends, if it is entered.
-    ends: Vec<Option<StateID>>,
+    pub(crate) ends: Vec<Option<StateID>>,
     hints: Hints,
     /// For each byte its partner.
     pairing: [u8; 256],

@@ -1,5 +1,5 @@
 -- Reading the states of an automaton, and writing their words.
-use Rattle.std.proofs.Common.{◌≡◌, ◌≢◌, ◌⊎◌, ℕ, zero, suc, ◌+◌, ◌<◌, ◌≤◌, Bool, map, List, [], ◌∷◌, ◌++◌, length, take, drop, get_or, slice_get, slice_index, Some, None, refl, sym, ap, subst, ◌∙◌, ⊎_elim, arith, length-append, length-drop}
+use Rattle.std.proofs.Common.{◌≡◌, ◌≢◌, ℕ, suc, ◌+◌, ◌<◌, ◌≤◌, Bool, map, List, [], ◌∷◌, ◌++◌, length, take, drop, get_or, slice_get, slice_index, Some, refl, sym, ap, subst, ◌∙◌, ⊎_elim, arith, length-append, length-drop}
 use Rattle.std.specs.Prelude.{◌==◌, nat_lt}
 use Rattle.std.specs.List.{All}
 use Rattle.std.proofs.lemmas.Bool.{cases_lt, cond-true, cond-false, eq-eqb}
@@ -9,7 +9,7 @@ use Rattle.std.proofs.lemmas.Option.{slice_get-get_or}
 use Rattle.ac_input.specs.Alphabet.{class, alphabet_len, IsClasses}
 use Rattle.ac_noncontiguous.specs.declared.nfa.NFA.{NFA}
 use Rattle.ac_noncontiguous.specs.Reads.{matches_at}
-use Rattle.ac_noncontiguous.specs.ReadCalls.{state_len, fail_in, depth_in, edges_in, EdgesLeadIn}
+use Rattle.ac_noncontiguous.specs.ReadCalls.{fail_in, depth_in, edges_in, EdgesLeadIn}
 use Rattle.ac_tables.specs.Words.{StateParts, words_of}
 use Rattle.ac_tables.specs.ContiguousTable.{placed, parts_of, place_in, words_at, words_before}
 use Rattle.ac_tables.specs.ContiguousBuild.{ArePlaces, AreReadTo, IsKnown, AreKnown, IsStateWritten}
@@ -38,9 +38,9 @@ read-more classes place edges done old new byte next own at h is is_own is_at =
     let long : length (done ++ (own, at) ∷ []) ≡ n + 1 = length-append done ((own, at) ∷ []) in
     let one : (own, at) ≡ placed classes place (byte, next) = ap (λ (c : ℕ). (c, at)) is_own ∙ ap (λ (p : ℕ). (class classes byte, p)) is_at in
     let both : done ++ (own, at) ∷ [] ≡ map (placed classes place) (take (n + 1) edges) =
-        ap (λ (es : List (ℕ × ℕ)). es ++ (own, at) ∷ []) h.read
-        ∙ ap (λ (e : ℕ × ℕ). map (placed classes place) (take n edges) ++ e ∷ []) one
-        ∙ sym (ap (map (placed classes place)) first.3 ∙ map-append (placed classes place) (take n edges) ((byte, next) ∷ [])) in
+    ap (λ (es : List (ℕ × ℕ)). es ++ (own, at) ∷ []) h.read
+    ∙ ap (λ (e : ℕ × ℕ). map (placed classes place) (take n edges) ++ e ∷ []) one
+    ∙ sym (ap (map (placed classes place)) first.3 ∙ map-append (placed classes place) (take n edges) ((byte, next) ∷ [])) in
     subst (λ (k : ℕ). AreReadTo classes place edges k (done ++ (own, at) ∷ []) new) (sym long)
     (record { read = both; rest = first.2; within = let lt = first.0 in omega (arith, lt) })
 
@@ -67,6 +67,7 @@ map-same classes f g (edge ∷ edges) h =
     ap (λ (p : ℕ). (class classes edge.0, p) ∷ map (placed classes f) edges) (h 0 edge.0 edge.1 refl)
     ∙ ap (λ (es : List (ℕ × ℕ)). placed classes g edge ∷ es) (map-same classes f g edges (λ k b n is. h (suc k) b n is))
 
+-- what is known of a state, part by part
 abbrev parts_by : Bool → ℕ → List (ℕ × ℕ) → List ℕ → StateParts
 parts_by shallow fail edges matches = record { shallow = shallow; fail = fail; edges = edges; matches = matches }
 
@@ -78,14 +79,14 @@ state-written nfa dense_depth sid alphabet fail classes places before after matc
     let own_edges : edges ≡ map (placed classes place) (edges_in nfa sid) = is_edges ∙ map-same classes (slice_index places) place (edges_in nfa sid) (λ k b n e. h.at n (known.edges.within k b n e).1) in
     let own = parts_of nfa dense_depth classes place sid in
     let same : parts_by shallow fail edges matches ≡ own =
-        ap (λ (b : Bool). parts_by b fail edges matches) is_shallow
-        ∙ ap (λ (f : ℕ). parts_by (nat_lt (depth_in nfa sid) dense_depth) f edges matches) own_fail
-        ∙ ap (λ (es : List (ℕ × ℕ)). parts_by (nat_lt (depth_in nfa sid) dense_depth) (place (fail_in nfa sid)) es matches) own_edges
-        ∙ ap (λ (ns : List ℕ). parts_by (nat_lt (depth_in nfa sid) dense_depth) (place (fail_in nfa sid)) (map (placed classes place) (edges_in nfa sid)) ns) is_matches in
+    ap (λ (b : Bool). parts_by b fail edges matches) is_shallow
+    ∙ ap (λ (f : ℕ). parts_by (nat_lt (depth_in nfa sid) dense_depth) f edges matches) own_fail
+    ∙ ap (λ (es : List (ℕ × ℕ)). parts_by (nat_lt (depth_in nfa sid) dense_depth) (place (fail_in nfa sid)) es matches) own_edges
+    ∙ ap (λ (ns : List ℕ). parts_by (nat_lt (depth_in nfa sid) dense_depth) (place (fail_in nfa sid)) (map (placed classes place) (edges_in nfa sid)) ns) is_matches in
     let words : words_of alphabet (parts_by shallow fail edges matches) ≡ words_at nfa dense_depth classes sid =
-        ap (λ (a : ℕ). words_of a (parts_by shallow fail edges matches)) is_alphabet
-        ∙ ap (words_of (alphabet_len classes)) same
-        ∙ sym (cond-false (sid == 1) [] (words_of (alphabet_len classes) own) (not-equal sid 1 stands)) in
+    ap (λ (a : ℕ). words_of a (parts_by shallow fail edges matches)) is_alphabet
+    ∙ ap (words_of (alphabet_len classes)) same
+    ∙ sym (cond-false (sid == 1) [] (words_of (alphabet_len classes) own) (not-equal sid 1 stands)) in
     record { words = is ∙ ap (λ (ws : List ℕ). before ++ ws) words; known = λ _. known }
 
 -- the fail state has none
@@ -113,6 +114,7 @@ words-more nfa dense_depth n classes before after is h =
     let next : suc n ≡ n + 1 = omega arith in
     h.words ∙ (ap (λ (ws : List ℕ). ws ++ words_at nfa dense_depth classes n) is ∙ ap (words_before nfa dense_depth classes) next)
 
+-- and known
 pub known-more : (nfa : NFA) (dense_depth n : ℕ) (classes before after : List ℕ) → AreKnown nfa n → IsStateWritten nfa dense_depth classes n before after → AreKnown nfa (n + 1)
 known-more nfa dense_depth n classes before after all h sid lt stands =
     ⊎_elim

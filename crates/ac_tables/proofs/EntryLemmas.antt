@@ -1,11 +1,11 @@
 -- Where the transitions of a state lead, by classes of bytes.
-use Rattle.std.proofs.Common.{◌≡◌, ◌≢◌, ◌⊎◌, ℕ, zero, suc, ◌+◌, ◌-◌, ◌<◌, ◌≤◌, false, true, IsTrue, map, List, [], ◌∷◌, ◌++◌, length, take, Option, Some, None, slice_get, inl, inr, refl, sym, ap, subst, ◌∙◌, ⊎_elim, arith}
-use Rattle.std.specs.Prelude.{◌==◌, if◌then◌else◌}
+use Rattle.std.proofs.Common.{◌≡◌, ◌≢◌, ◌⊎◌, ℕ, zero, suc, ◌+◌, ◌-◌, ◌<◌, ◌≤◌, false, IsTrue, map, List, [], ◌∷◌, ◌++◌, length, take, Some, slice_get, inl, inr, refl, sym, ap, subst, ◌∙◌, ⊎_elim, arith}
+use Rattle.std.specs.Prelude.{◌==◌}
 use Rattle.std.specs.List.{Contains}
 use Rattle.std.proofs.lemmas.Bool.{and_parts, cases_eq, cond-true, cond-false, eq-eqb, false≢true}
 use Rattle.std.proofs.lemmas.Option.{slice_get_within, same_Some}
 use Rattle.ac_input.specs.Alphabet.{class, IsClasses, alphabet_len}
-use Rattle.ac_input.specs.Classes.{IsByteOf, IsAlone, ClassesLeadAlike}
+use Rattle.ac_input.specs.Classes.{IsByteOf}
 use Rattle.ac_input.specs.Dictionary.{Dictionary, BeginsEntered}
 use Rattle.ac_input.specs.LiveLaws.{IsOwnInverse}
 use Rattle.ac_input.specs.Same.{same, same_text}
@@ -96,6 +96,7 @@ edge-alike m classes len start text i b c j inverse h b_small c_small same ne ed
 abbrev FirstOf : List (ℕ × ℕ) → List ℕ → (ℕ → ℕ) → ℕ → Type 0
 FirstOf edges classes place wanted = ((k b n : ℕ) × (slice_get edges k ≡ Some (b, n)) × (class classes b ≡ wanted) × (next_by (map (placed classes place) edges) wanted ≡ place n)) ⊎ (((k b n : ℕ) → slice_get edges k ≡ Some (b, n) → class classes b ≢ wanted) × (next_by (map (placed classes place) edges) wanted ≡ 1))
 
+-- so they do
 first-of : (edges : List (ℕ × ℕ)) (classes : List ℕ) (place : ℕ → ℕ) (wanted : ℕ) → FirstOf edges classes place wanted
 first-of [] classes place wanted = inr (λ k b n is. absurd (omega (arith, slice_get_within [] k (b, n) is)), refl)
 first-of (edge ∷ edges) classes place wanted =

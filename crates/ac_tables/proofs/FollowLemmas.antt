@@ -15,7 +15,7 @@ use Rattle.ac_tables.specs.declared.contiguous.NFA.{NFA}
 use Rattle.ac_tables.specs.declared.contiguous.table.Table.{Table}
 use Rattle.ac_tables.specs.ContiguousTable.{AreStates}
 use Rattle.ac_tables.specs.ContiguousReads.{dictionary, IsLaidOut, IsMet, LeadsNext}
-use Rattle.ac_tables.specs.WordReads.{IsStateAt, IsPlace, StepsTo, FailsTo}
+use Rattle.ac_tables.specs.WordReads.{IsStateAt, HoldsState, StepsTo, IsFailOf}
 use Rattle.ac_tables.specs.Words.{StateParts, next_by}
 
 -- ---- a state that is met
@@ -46,7 +46,7 @@ met-state m table names parts anchored sid a met = record {
   nexts = λ byte small. edge-small m names table.start sid byte (next_by (parts sid).edges (class table.classes byte)) a.small a.linked.numbers (a.linked.edges anchored sid byte met small);
 }
 
-pub met-place : (nfa : NFA) (anchored : Bool) (sid : ℕ) → IsMet nfa anchored sid → IsPlace nfa.table sid
+pub met-place : (nfa : NFA) (anchored : Bool) (sid : ℕ) → IsMet nfa anchored sid → HoldsState nfa.table sid
 met-place nfa anchored sid h = ∥∥₁_map h (λ w. (w.1.0 sid, met-state (dictionary nfa) nfa.table w.0 w.1.0 anchored sid w.1.1 w.2))
 
 -- ---- what look-ups say of names
@@ -61,17 +61,17 @@ laid-edge nfa anchored sid byte next small steps names fits met =
     subst (IsEdgeBy (dictionary nfa) names nfa.table.start sid byte) (sym (steps (fits.0 sid) s)) (fits.1.linked.edges anchored sid byte met small)
 
 -- and a failure is one of them
-pub laid-failure : (nfa : NFA) (sid fail : ℕ) → FailsTo nfa.table sid fail → OfNames (IsLaidOut nfa) false sid (λ names. IsFailureBy (dictionary nfa) names sid fail)
+pub laid-failure : (nfa : NFA) (sid fail : ℕ) → IsFailOf nfa.table sid fail → OfNames (IsLaidOut nfa) false sid (λ names. IsFailureBy (dictionary nfa) names sid fail)
 laid-failure nfa sid fail fails names fits met =
     let s = met-state (dictionary nfa) nfa.table names fits.0 false sid fits.1 met in
     subst (IsFailureBy (dictionary nfa) names sid) (sym (fails (fits.0 sid) s)) (fits.1.linked.failures sid met)
 
 -- unanchored searches may come to the failure of a state
-pub met-fail : (nfa : NFA) (sid fail : ℕ) → IsMet nfa false sid → FailsTo nfa.table sid fail → IsMet nfa false fail
+pub met-fail : (nfa : NFA) (sid fail : ℕ) → IsMet nfa false sid → IsFailOf nfa.table sid fail → IsMet nfa false fail
 met-fail nfa sid fail h fails = ∥∥₁_map h (λ w. (w.0, w.1, (laid-failure nfa sid fail fails w.0 w.1 w.2).met))
 
 -- and its number fits
-pub fail-small : (nfa : NFA) (sid fail : ℕ) → IsMet nfa false sid → FailsTo nfa.table sid fail → fail ≤ GREATEST
+pub fail-small : (nfa : NFA) (sid fail : ℕ) → IsMet nfa false sid → IsFailOf nfa.table sid fail → fail ≤ GREATEST
 fail-small nfa sid fail h fails = ∥∥₁_elim h le_prop (λ w. w.1.1.small false fail (laid-failure nfa sid fail fails w.0 w.1 w.2).met)
 
 -- ---- one look-up

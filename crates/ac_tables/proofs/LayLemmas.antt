@@ -1,28 +1,25 @@
 -- The words of an automaton are those of its dictionary: each place names a state, and its words are those of the state.
-use Rattle.std.proofs.Common.{◌≡◌, ◌≢◌, ◌⊎◌, ◌↔◌, ℕ, zero, suc, ◌+◌, ◌<◌, ◌≤◌, Bool, false, true, IsTrue, map, List, [], ◌∷◌, ◌++◌, length, Option, Some, None, slice_get, inl, inr, refl, sym, ap, subst, ◌∙◌, ⊎_elim, arith, length-append}
-use Rattle.std.specs.Prelude.{◌==◌, ◌&&◌, not, option_map, if◌then◌else◌}
-use Rattle.std.proofs.lemmas.Bool.{cases_Bool, cases_eq, cases_lt}
+use Rattle.std.proofs.Common.{◌≡◌, ◌≢◌, ◌⊎◌, ℕ, zero, suc, ◌+◌, ◌<◌, ◌≤◌, Bool, false, true, IsTrue, map, List, [], ◌∷◌, ◌++◌, length, Option, Some, None, inl, inr, refl, sym, ap, subst, ◌∙◌, ⊎_elim, arith, length-append}
+use Rattle.std.proofs.lemmas.Bool.{cases_Bool, cases_eq}
 use Rattle.std.proofs.lemmas.Bool.Decides.{nat_tests}
-use Rattle.std.proofs.lemmas.Option.{slice_get-map, same_Some}
+use Rattle.std.proofs.lemmas.Option.{same_Some}
 use Rattle.ac_input.specs.declared.primitives.number.TheConstants.{GREATEST}
-use Rattle.ac_input.specs.Alphabet.{class, alphabet_len}
+use Rattle.ac_input.specs.Alphabet.{class}
 use Rattle.ac_input.specs.Dictionary.{BeginsEntered}
-use Rattle.ac_input.specs.Failure.{IsList}
 use Rattle.ac_input.specs.LiveLaws.{IsOwnInverse, canonical}
 use Rattle.ac_input.specs.States.{FailsTo, LeadsTo}
 use Rattle.ac_automaton.specs.Named.{Naming, nowhere, text_len, IsEdgeBy, IsFailureBy, AreNumbers, AreLinked}
 use Rattle.ac_noncontiguous.specs.declared.nfa.NFA.{NFA}
 use Rattle.ac_noncontiguous.specs.Nfa.{state_of}
-use Rattle.ac_noncontiguous.specs.Reads.{dictionary, matches_at}
-use Rattle.ac_noncontiguous.specs.ReadCalls.{state_len, fail_in, edges_in, special_in, StandFor, TextsBegin, SpecialIn, AreBounds, IsEdgeIn}
-use Rattle.ac_tables.specs.declared.contiguous.table.Table.{Table}
+use Rattle.ac_noncontiguous.specs.Reads.{dictionary}
+use Rattle.ac_noncontiguous.specs.ReadCalls.{state_len, fail_in, special_in, StandFor, TextsBegin, SpecialIn, AreBounds, IsEdgeIn}
 use Rattle.ac_tables.specs.Places.{is_met, state_at, named_by, AreApart}
-use Rattle.ac_tables.specs.Words.{StateParts, next_by, words_of, StandsAt}
-use Rattle.ac_tables.specs.ContiguousTable.{placed, parts_of, place_in, AreStates}
-use Rattle.ac_tables.specs.ContiguousBuild.{IsKnown, AreKnown, AreServing, IsTableOf}
-use Rattle.ac_tables.proofs.PlacesLemmas.{at-some, at-found, named-met, named-state, named-text, met-stands, met-unanchored, met-anchored, met-other, met-start, met-start_anchored}
-use Rattle.ac_tables.proofs.StandLemmas.{stands, place-rises, place-one, place-later}
-use Rattle.ac_tables.proofs.EntryLemmas.{class-fits, entry}
+use Rattle.ac_tables.specs.Words.{StateParts, next_by}
+use Rattle.ac_tables.specs.ContiguousTable.{parts_of, place_in}
+use Rattle.ac_tables.specs.ContiguousBuild.{AreKnown, AreServing}
+use Rattle.ac_tables.proofs.PlacesLemmas.{at-some, at-found, named-met, named-state, named-text, met-stands, met-unanchored, met-anchored, met-other}
+use Rattle.ac_tables.proofs.StandLemmas.{stands, place-one}
+use Rattle.ac_tables.proofs.EntryLemmas.{entry}
 
 -- ---- what is known
 
@@ -49,6 +46,7 @@ abbrev pub known_at : NFA → ℕ → List ℕ → Option ℕ → StateParts
 known_at nfa dense_depth classes None = parts_of nfa dense_depth classes (place_in nfa dense_depth classes) 0
 known_at nfa dense_depth classes (Some i) = parts_of nfa dense_depth classes (place_in nfa dense_depth classes) i
 
+-- and so at each number
 abbrev pub parts_in : NFA → ℕ → List ℕ → ℕ → StateParts
 parts_in nfa dense_depth classes sid = known_at nfa dense_depth classes (state_at (λ _. true) (place_in nfa dense_depth classes) (state_len nfa) sid)
 
@@ -60,11 +58,13 @@ text-past text zero past = absurd (omega (arith, past))
 text-past text (suc zero) past = absurd (omega (arith, past))
 text-past text (suc (suc i)) past = refl
 
+-- what stands for a text is past 1
 pub text-some : (text : ℕ → List ℕ) (i : ℕ) (t : List ℕ) → state_of text i ≡ Some t → (1 < i) × (text i ≡ t)
 text-some text zero t is = absurd (let e : None ≡ Some t = is in cc)
 text-some text (suc zero) t is = absurd (let e : None ≡ Some t = is in cc)
 text-some text (suc (suc i)) t is = (omega arith, same_Some (text (suc (suc i))) t is)
 
+-- what stands for none, but for the fail state, is the dead one
 pub text-none : (text : ℕ → List ℕ) (i : ℕ) → i ≢ 1 → state_of text i ≡ None → i ≡ 0
 text-none text zero stands is = refl
 text-none text (suc zero) stands is = refl'
@@ -95,10 +95,11 @@ at-met nfa dense_depth classes text anchored Holds each sid met =
     let s = named-state (state_of text) (state_len nfa) (start_in nfa) (λ _ i. place_in nfa dense_depth classes i) anchored sid met in
     subst Holds s.3 (each s.0 s.1 s.2)
 
--- a state that is met is met at its place, and names what it stands for
+-- a state that is met is met at its place,
 pub met-at : (nfa : NFA) (dense_depth : ℕ) (classes : List ℕ) (text : ℕ → List ℕ) (anchored : Bool) (i : ℕ) → i < state_len nfa → IsTrue (is_met (start_in nfa) anchored i) → IsTrue ((names_in nfa dense_depth classes text).met anchored (place_in nfa dense_depth classes i))
 met-at nfa dense_depth classes text anchored i within met = named-met (state_of text) (state_len nfa) (start_in nfa) (λ _ j. place_in nfa dense_depth classes j) anchored i within met
 
+-- and names what it stands for
 pub text-at : (nfa : NFA) (dense_depth : ℕ) (classes : List ℕ) (text : ℕ → List ℕ) (anchored : Bool) (i : ℕ) → i < state_len nfa → IsTrue (is_met (start_in nfa) anchored i) → (names_in nfa dense_depth classes text).text (place_in nfa dense_depth classes i) ≡ state_of text i
 text-at nfa dense_depth classes text anchored i within met = named-text (state_of text) (state_len nfa) (start_in nfa) (λ _ j. place_in nfa dense_depth classes j) anchored i (apart nfa dense_depth classes) within met
 
@@ -119,13 +120,13 @@ edge-named nfa dense_depth classes text anchored i byte j next h i_in i_met j_in
     let stands_i = met-stands start anchored i i_met in
     let not_fail : j ≢ 1 → next ≢ nowhere = λ ne e. ne (place-one nfa dense_depth classes j 1 (sym is ∙ e)) in
     let both : j ≢ 1 → j ≢ start → j ≢ start + 1 → IsTrue (names.met true next) × IsTrue (names.met false next) × (next ≢ nowhere) × (names.text next ≡ state_of text j) = λ ne a b.
-        let t = met-other start true j ne a b in
-        let f = met-other start false j ne a b in (
-          subst (λ (n : ℕ). IsTrue (names.met true n)) (sym is) (met-at nfa dense_depth classes text true j j_in t),
-          subst (λ (n : ℕ). IsTrue (names.met false n)) (sym is) (met-at nfa dense_depth classes text false j j_in f),
-          not_fail ne,
-          ap (λ (n : ℕ). names.text n) is ∙ text-at nfa dense_depth classes text true j j_in t,
-        ) in
+    let t = met-other start true j ne a b in
+    let f = met-other start false j ne a b in (
+      subst (λ (n : ℕ). IsTrue (names.met true n)) (sym is) (met-at nfa dense_depth classes text true j j_in t),
+      subst (λ (n : ℕ). IsTrue (names.met false n)) (sym is) (met-at nfa dense_depth classes text false j j_in f),
+      not_fail ne,
+      ap (λ (n : ℕ). names.text n) is ∙ text-at nfa dense_depth classes text true j j_in t,
+    ) in
     let past : (t : List ℕ) → names.text (place i) ≡ Some t → (1 < i) × (text i ≡ t) = λ t e. text-some text i t (sym named ∙ e) in
     record {
       dead = λ e.
@@ -157,12 +158,12 @@ edge-named nfa dense_depth classes text anchored i byte j next h i_in i_met j_in
           let f = met-but start j not_one not_next in
           let to : names.text next ≡ state_of text j = ap (λ (n : ℕ). names.text n) is ∙ text-at nfa dense_depth classes text false j j_in f in
           let short : text_len (state_of text j) ≡ 0 =
-              ⊎_elim
-              (λ (z : j ≡ 0). ap (λ (k : ℕ). text_len (state_of text k)) z)
-              (λ (s : j ≡ start).
-              let past_j : 1 < j = omega (arith, s, past_start) in
-              ap text_len (text-past text j past_j) ∙ ap (λ (v : List ℕ). length v) ((bounds.empty j past_j j_in).1 (inl s)))
-              back.0 in (
+          ⊎_elim
+          (λ (z : j ≡ 0). ap (λ (k : ℕ). text_len (state_of text k)) z)
+          (λ (s : j ≡ start).
+          let past_j : 1 < j = omega (arith, s, past_start) in
+          ap text_len (text-past text j past_j) ∙ ap (λ (v : List ℕ). length v) ((bounds.empty j past_j j_in).1 (inl s)))
+          back.0 in (
             subst (λ (n : ℕ). IsTrue (names.met false n)) (sym is) (met-at nfa dense_depth classes text false j j_in f),
             not_fail not_one,
             ap text_len to ∙ short,

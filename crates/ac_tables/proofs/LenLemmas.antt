@@ -1,7 +1,6 @@
 -- How many words a state has.
-use Rattle.std.proofs.Common.{◌≡◌, ◌≢◌, ◌⊎◌, ℕ, zero, suc, ◌+◌, ◌<◌, ◌≤◌, ◌/◌, Bool, true, false, map, List, [], ◌∷◌, ◌++◌, length, refl, sym, ap, ◌∙◌, ⊎_elim, arith, length-append}
-use Rattle.std.specs.Prelude.{◌||◌, ◌&&◌, ◌==◌, nat_lt, if◌then◌else◌}
-use Rattle.std.specs.List.{range_with_len}
+use Rattle.std.proofs.Common.{◌≡◌, ◌≢◌, ◌⊎◌, ℕ, suc, ◌+◌, ◌<◌, ◌≤◌, ◌/◌, true, false, List, [], ◌∷◌, ◌++◌, length, refl, sym, ap, ◌∙◌, ⊎_elim, arith, length-append}
+use Rattle.std.specs.Prelude.{◌||◌, ◌==◌, nat_lt, if◌then◌else◌}
 use Rattle.std.proofs.lemmas.Bool.{cases_lt, or_left, or_right, cond-true, cond-false}
 use Rattle.std.proofs.lemmas.Bool.Decides.{nat_tests}
 use Rattle.std.proofs.lemmas.List.{length-map, get_or_append_left, get_or_push}
@@ -46,23 +45,25 @@ packed-long (a ∷ b ∷ c ∷ d ∷ rest) =
 
 -- ---- by the form of a state
 
+-- a shallow state is dense, and one with many transitions
 form-dense : (s : StateParts) → (s.shallow ≡ true) ⊎ (most_sparse < length s.edges) → form_of s ≡ Dense
 form-dense s h =
     let test : (s.shallow || nat_lt most_sparse (length s.edges)) ≡ true =
-        ⊎_elim
-        (λ (a : s.shallow ≡ true). or_left s.shallow (nat_lt most_sparse (length s.edges)) a)
-        (λ (b : most_sparse < length s.edges). or_right s.shallow (nat_lt most_sparse (length s.edges)) (grind (arith, nat_tests)))
-        h in
+    ⊎_elim
+    (λ (a : s.shallow ≡ true). or_left s.shallow (nat_lt most_sparse (length s.edges)) a)
+    (λ (b : most_sparse < length s.edges). or_right s.shallow (nat_lt most_sparse (length s.edges)) (grind (arith, nat_tests)))
+    h in
     cond-true (s.shallow || nat_lt most_sparse (length s.edges)) Dense (if is_single s then One else Sparse) test
 
+-- one with few is sparse, but for a single one without patterns
 form-sparse : (s : StateParts) → s.shallow ≡ false → length s.edges ≤ most_sparse → (length s.edges ≢ 1) ⊎ (length s.matches ≢ 0) → form_of s ≡ Sparse
 form-sparse s deep few h =
     let test : (s.shallow || nat_lt most_sparse (length s.edges)) ≡ false = grind (arith, nat_tests) in
     let single : is_single s ≡ false =
-        ⊎_elim
-        (λ (a : length s.edges ≢ 1). grind (arith, nat_tests))
-        (λ (b : length s.matches ≢ 0). grind (arith, nat_tests))
-        h in
+    ⊎_elim
+    (λ (a : length s.edges ≢ 1). grind (arith, nat_tests))
+    (λ (b : length s.matches ≢ 0). grind (arith, nat_tests))
+    h in
     cond-false (s.shallow || nat_lt most_sparse (length s.edges)) Dense (if is_single s then One else Sparse) test ∙ cond-false (is_single s) One Sparse single
 
 -- kind and failure, the transitions, and the patterns

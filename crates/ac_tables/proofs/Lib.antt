@@ -24,3 +24,4 @@ pub mod DfaListLemmas
 pub mod TableLemmas
 pub mod DfaBuildLemmas
 pub mod DfaCopyLemmas
+pub mod WordTableLemmas

@@ -42,14 +42,6 @@ list-within table sid some le =
     cond-true (not (sid == 0) && nat_le sid table.max_match) (listed_at table sid) []
     (and_from (not (sid == 0)) (nat_le sid table.max_match) (ap not (ne_eqb sid 0 some)) (le-leb sid table.max_match le))
 
--- a number with patterns is at most the last that matches
-pub listed-within : (table : Table) (sid : ℕ) → matches_by table sid ≢ [] → sid ≤ table.max_match
-listed-within table sid some =
-    ⊎_elim
-    (λ (past : table.max_match < sid). absurd (some (list-past table sid past)))
-    (λ (le : sid ≤ table.max_match). le)
-    (cases_lt table.max_match sid)
-
 -- a list that isn't other than the empty one is it
 none-of : (ns : List ℕ) → ¬ (ns ≢ []) → ns ≡ []
 none-of [] h = refl
@@ -185,6 +177,10 @@ read-is_met nfa anchored sid h =
 -- what holds of each number that is met holds of any state
 of-state : (P : Type 0) (nfa : NFA) (sid : ℕ) → ((x y : P) → x ≡ y) → ((anchored : Bool) → OfNames (IsLaidOut nfa) anchored sid (λ names. P)) → IsState (IsRead nfa) sid → P
 of-state P nfa sid prop follows h = state-met P (built_as nfa) (IsLaidOut nfa) (matches_at nfa) (is_start_at nfa) (is_special_at nfa) sid prop follows h
+
+-- no state is that of nowhere
+pub state-apart : (nfa : NFA) (sid : ℕ) → IsState (IsRead nfa) sid → sid ≢ 1
+state-apart nfa sid h e = of-state ⊥ nfa sid (λ x y. absurd x) (λ anchored names fits met. fits.1.linked.numbers.apart anchored sid met e) h
 
 -- a state that matches is past 1 and at most the last that does,
 pub state-matches : (nfa : NFA) (sid : ℕ) → IsState (IsRead nfa) sid → matches_at nfa sid ≢ [] → (1 < sid) × (sid ≤ nfa.table.max_match)

@@ -1,27 +1,32 @@
--- What a search by a contiguous automaton passes over that stands in the start.
-use Rattle.std.proofs.Common.{◌≡◌, ℕ, ◌+◌, ◌<◌, ◌≤◌, Bool, true, false, IsTrue, List, [], length, drop, sym, ap, subst, ◌∙◌, arith}
+-- What a search by a contiguous automaton passes over that stands in the start; and at which states it stops between two numbers.
+use Rattle.std.proofs.Common.{◌≡◌, ℕ, ◌+◌, ◌<◌, ◌≤◌, Bool, true, false, IsTrue, List, [], length, drop, sym, ◌∙◌, arith}
 use Rattle.std.specs.Prelude.{slice_index}
 use Rattle.std.proofs.Math.Logic.{∥∥₁_map}
 use Rattle.std.proofs.lemmas.Bool.{false≢true}
-use Rattle.std.proofs.lemmas.List.{get_or-drop}
 use Rattle.ac_input.specs.declared.search.Anchored.{Anchored}
 use Rattle.ac_input.specs.declared.steps.Steps.{Steps}
 use Rattle.ac_input.specs.Dictionary.{Dictionary}
+use Rattle.ac_automaton.specs.declared.automaton.Advance.{Advance}
+use Rattle.ac_automaton.specs.Automaton.{IsReached, Advances, is_matching}
 use Rattle.ac_automaton.specs.Named.{Naming, IsStep, IsIdleBy}
 use Rattle.ac_automaton.specs.Starters.{SkipsIdle, PassesIdle}
-use Rattle.ac_automaton.proofs.CursorLemmas.{HasAdvanced}
-use Rattle.ac_automaton.proofs.IdleLemmas.{pass-advanced}
+use Rattle.ac_automaton.proofs.CursorLemmas.{HasAdvanced, reached-state}
+use Rattle.ac_automaton.proofs.IdleLemmas.{pass-advanced, advances-alike}
 use Rattle.ac_automaton.proofs.LinkedLemmas.{straight}
+use Rattle.ac_automaton.proofs.PassLemmas.{matching-some, some-matching}
+use Rattle.ac_noncontiguous.specs.Reads.{is_between}
+use Rattle.ac_noncontiguous.proofs.IdleLemmas.{between}
 use Rattle.ac_tables.specs.declared.contiguous.NFA.{NFA}
 use Rattle.ac_tables.specs.declared.contiguous.table.Table.{Table}
 use Rattle.ac_tables.specs.ContiguousTable.{AreSomeStates}
 use Rattle.ac_tables.specs.ContiguousReads.{dictionary, built_as, matches_at, is_start_at, is_special_at, IsLaidOut, IsRead}
-use Rattle.ac_tables.specs.WordReads.{IsPlace, IsIdleAt}
+use Rattle.ac_tables.specs.WordReads.{HoldsState, IsIdleAt}
 use Rattle.ac_tables.proofs.FollowLemmas.{met-state, laid-numbers, laid-edge}
-use Rattle.ac_tables.proofs.NameLemmas.{list-past, names-are}
+use Rattle.ac_tables.proofs.NameLemmas.{list-past, names-are, state-apart, state-matches, state-many}
+use Rattle.ac_tables.proofs.TestLemmas.{test-le}
 
 -- the unanchored start has its words
-pub start-place : (m : Dictionary) (table : Table) → AreSomeStates m table → IsPlace table table.start
+pub start-place : (m : Dictionary) (table : Table) → AreSomeStates m table → HoldsState table table.start
 start-place m table h = ∥∥₁_map h (λ w. (w.1 table.start, met-state m table w.0 w.1 false table.start w.2 (w.2.first false).met))
 
 -- an idle byte of the words is one by their names
@@ -50,5 +55,28 @@ pub passed-on : (nfa : NFA) (anchored : Anchored) (stops : ℕ → Bool) (sid cu
     → HasAdvanced (built_as nfa) (IsRead nfa) anchored stops sid bytes n current s t
     → (n + passed ≤ length bytes) × HasAdvanced (built_as nfa) (IsRead nfa) anchored stops sid bytes (n + passed) current s u
 passed-on nfa anchored stops sid current bytes rest n passed s t u apart small is within passes has =
-    pass-advanced (built_as nfa) (λ (a : Anchored). IsLaidOut nfa) (matches_at nfa) (is_start_at nfa) (is_special_at nfa) stops nfa.table.start nfa.starters anchored sid current bytes rest n passed s t u (names-are nfa) (skips-by nfa) apart
-    (λ k. subst (λ (b : ℕ). b < 256) (sym (ap (λ (l : List ℕ). slice_index l k) is ∙ get_or-drop n bytes k 0)) (small (n + k))) is within passes has
+    pass-advanced (built_as nfa) (λ (a : Anchored). IsLaidOut nfa) (matches_at nfa) (is_start_at nfa) (is_special_at nfa) stops nfa.table.start nfa.starters anchored sid current bytes rest n passed s t u (names-are nfa) (skips-by nfa) apart small is within passes has
+
+-- ---- where it stops
+
+-- the start is past the last of them
+pub start-plain : (first last start : ℕ) → last < start → ¬ IsTrue (is_between first last start)
+start-plain first last start past e = let w = (between first last start).0 e in omega (arith, w.1, past)
+
+-- the states that match are those from 1 on, up to the greatest that matches;
+pub between-matching : (nfa : NFA) (first last : ℕ) (anchored : Anchored) (sid : ℕ) (bytes : List ℕ) (stop : Advance) → first ≡ 1 → last ≡ nfa.table.max_match → IsReached (IsRead nfa anchored) sid → Advances (IsRead nfa anchored) (is_between first last) sid bytes stop → Advances (IsRead nfa anchored) (is_matching (matches_at nfa)) sid bytes stop
+between-matching nfa first last anchored sid bytes stop from to reached =
+    advances-alike (IsRead nfa anchored) (is_between first last) (is_matching (matches_at nfa)) sid bytes stop reached (λ i there.
+    let state = reached-state (IsRead nfa) anchored i there in
+    let apart = state-apart nfa i state in (
+      (λ e. let w = (between first last i).0 e in matching-some (matches_at nfa i) (state-many nfa i state (omega (arith, w.0, from, apart)) (omega (arith, w.1, to)))),
+      (λ e. let m = state-matches nfa i state (some-matching (matches_at nfa i) e) in let past = m.0 in (between first last i).1 (omega (arith, past, from), omega (arith, m.1, to))),
+    ))
+
+-- and those that are special are all up to the last special one
+pub between-special : (nfa : NFA) (first last : ℕ) (anchored : Anchored) (sid : ℕ) (bytes : List ℕ) (stop : Advance) → first ≡ 0 → last ≡ nfa.max_special → IsReached (IsRead nfa anchored) sid → Advances (IsRead nfa anchored) (is_between first last) sid bytes stop → Advances (IsRead nfa anchored) (is_special_at nfa) sid bytes stop
+between-special nfa first last anchored sid bytes stop from to reached =
+    advances-alike (IsRead nfa anchored) (is_between first last) (is_special_at nfa) sid bytes stop reached (λ i there. (
+      (λ e. let w = (between first last i).0 e in (test-le i nfa.max_special).1 (omega (arith, w.1, to))),
+      (λ e. let le = (test-le i nfa.max_special).0 e in (between first last i).1 (omega (arith, from), omega (arith, le, to))),
+    ))

@@ -1,5 +1,5 @@
 -- The words of each state stand at its place, and the places rise.
-use Rattle.std.proofs.Common.{◌≡◌, ◌≢◌, ◌⊎◌, ℕ, zero, suc, ◌+◌, ◌-◌, ◌/◌, ◌<◌, ◌≤◌, Bool, map, List, [], ◌∷◌, ◌++◌, length, take, drop, refl, sym, ap, subst, ◌∙◌, ⊎_elim, arith, append_assoc, length-append}
+use Rattle.std.proofs.Common.{◌≡◌, ◌≢◌, ℕ, zero, suc, ◌+◌, ◌-◌, ◌/◌, ◌<◌, ◌≤◌, Bool, List, [], ◌++◌, length, take, drop, refl, sym, ap, subst, ◌∙◌, ⊎_elim, arith, append_assoc, length-append}
 use Rattle.std.specs.Prelude.{◌||◌, ◌&&◌, ◌==◌, nat_lt, if◌then◌else◌}
 use Rattle.std.proofs.lemmas.Bool.{cases_lt, cases_eq, cond-true, cond-false, eq-eqb}
 use Rattle.std.proofs.lemmas.List.{append-nil, length-map, drop_at, take_at}
@@ -33,9 +33,9 @@ transitions-alike Sparse alphabet es fs same =
 long-alike : (alphabet : ℕ) (s t : StateParts) → s.shallow ≡ t.shallow → length s.edges ≡ length t.edges → s.matches ≡ t.matches → length (words_of alphabet s) ≡ length (words_of alphabet t)
 long-alike alphabet s t shallow edges matches =
     let form : form_of s ≡ form_of t =
-        ap (λ (b : Bool). form_by b (length s.edges) (length s.matches)) shallow
-        ∙ ap (λ (n : ℕ). form_by t.shallow n (length s.matches)) edges
-        ∙ ap (λ (ns : List ℕ). form_by t.shallow (length t.edges) (length ns)) matches in
+    ap (λ (b : Bool). form_by b (length s.edges) (length s.matches)) shallow
+    ∙ ap (λ (n : ℕ). form_by t.shallow n (length s.matches)) edges
+    ∙ ap (λ (ns : List ℕ). form_by t.shallow (length t.edges) (length ns)) matches in
     let a = form-long alphabet s (form_of t) form in
     let b = form-long alphabet t (form_of t) refl in
     let words = transitions-alike (form_of t) alphabet s.edges t.edges edges in
@@ -79,7 +79,7 @@ words-split nfa dense_depth classes sid (suc n) lt =
     let own = words_at nfa dense_depth classes sid in
     let last = words_at nfa dense_depth classes n in
     let all : words_before nfa dense_depth classes n ++ last ≡ front ++ (own ++ (inner.0 ++ last)) =
-        ap (λ (xs : List ℕ). xs ++ last) inner.1 ∙ (append_assoc front (own ++ inner.0) last ∙ ap (λ (xs : List ℕ). front ++ xs) (append_assoc own inner.0 last)) in
+    ap (λ (xs : List ℕ). xs ++ last) inner.1 ∙ (append_assoc front (own ++ inner.0) last ∙ ap (λ (xs : List ℕ). front ++ xs) (append_assoc own inner.0 last)) in
     (inner.0 ++ last, all))
     (λ (after : n ≤ sid).
     let here : sid ≡ n = omega (arith, lt, after) in
@@ -126,6 +126,7 @@ before-more nfa dense_depth classes i (suc more) =
     let inner = before-more nfa dense_depth classes i more in
     omega (arith, same, inner)
 
+-- so it is from any number of states to a greater one
 before-up : (nfa : NFA) (dense_depth : ℕ) (classes : List ℕ) (i j : ℕ) → i ≤ j → len_before nfa dense_depth classes i ≤ len_before nfa dense_depth classes j
 before-up nfa dense_depth classes i j le =
     let e : i + (j - i) ≡ j = omega (arith, le) in

@@ -11,14 +11,14 @@ use Rattle.ac_input.specs.declared.primitives.number.TheConstants.{GREATEST}
 use Rattle.ac_input.specs.Alphabet.{alphabet_len}
 use Rattle.ac_tables.specs.declared.contiguous.table.Table.{Table}
 use Rattle.ac_tables.specs.Words.{StateParts, form_of, next_by, packed, classes_of, nexts_of, kind_word, first_class}
-use Rattle.ac_tables.specs.WordReads.{unpacked, IsFirstPlace, IsStateAt, IsPlace, IsSparseAt, StepsTo, FailsTo}
+use Rattle.ac_tables.specs.WordReads.{unpacked, IsFirstPlace, IsStateAt, HoldsState, IsSparseAt, StepsTo, IsFailOf}
 use Rattle.ac_tables.proofs.DecodeLemmas.{state-kind, state-fail, form-dense, form-one, form-sparse, kind-one, dense-next, one-next, sparse-classes, sparse-nexts, stands-item}
 use Rattle.ac_tables.proofs.PackedLemmas.{AreBytes, unpack-packed, unpack-long, first-hit, no-hit}
 
 -- ---- a place
 
 -- a state begins within the words,
-pub place-within : (table : Table) (sid : ℕ) → IsPlace table sid → sid < length table.words.items
+pub place-within : (table : Table) (sid : ℕ) → HoldsState table sid → sid < length table.words.items
 place-within table sid h = ∥∥₁_elim h le_prop (λ w. (state-kind table.words.items sid table.alphabet_len w.0 w.1.stands).0)
 
 -- what was read at the state's place is its first word
@@ -119,7 +119,7 @@ sparse-miss words sid len wanted edges h miss =
     no-hit edges wanted (λ k lt e. miss k (omega (arith, lt, all, filled, long)) (ap (λ (xs : List ℕ). get_or xs k 0) is ∙ (get_or_append_left (classes_of edges) _ 0 k (omega (arith, lt, long)) ∙ e)))
 
 -- the packed classes stand among the words
-pub sparse-within : (table : Table) (sid len : ℕ) → IsPlace table sid → IsSparseAt table sid len → sid + 2 + (len + 3) / 4 + len ≤ length table.words.items
+pub sparse-within : (table : Table) (sid len : ℕ) → HoldsState table sid → IsSparseAt table sid len → sid + 2 + (len + 3) / 4 + len ≤ length table.words.items
 sparse-within table sid len h sparse = ∥∥₁_elim h le_prop (λ w.
     let a = sparse-at table sid len w.0 w.1 sparse in
     ⊎_elim
@@ -149,35 +149,35 @@ module _ (table : Table) (sid len wanted : ℕ) (part : List ℕ) (s : StatePart
   sparse-nowhere found = sparse-miss table.words.items sid len wanted s.edges (sparse-at table sid len s h sparse) (sparse-part None found)
 
 -- the same place, whatever state stands there
-pub sparse-some_place : (table : Table) (sid len wanted i : ℕ) (part : List ℕ) → IsPlace table sid → IsSparseAt table sid len → part ≡ take ((len + 3) / 4) (drop (sid + 2) table.words.items) → IsFirstPlace (unpacked part) wanted (Some i) → i < len
+pub sparse-some_place : (table : Table) (sid len wanted i : ℕ) (part : List ℕ) → HoldsState table sid → IsSparseAt table sid len → part ≡ take ((len + 3) / 4) (drop (sid + 2) table.words.items) → IsFirstPlace (unpacked part) wanted (Some i) → i < len
 sparse-some_place table sid len wanted i part h sparse is found = ∥∥₁_elim h le_prop (λ w. sparse-at_place table sid len wanted part w.0 w.1 sparse is i found)
 
 -- ---- where it leads at all
 
 -- a byte leads to a number that fits, also to that of nowhere
-pub step-small : (table : Table) (sid byte next : ℕ) → IsPlace table sid → byte < 256 → StepsTo table sid byte next → next ≤ GREATEST
+pub step-small : (table : Table) (sid byte next : ℕ) → HoldsState table sid → byte < 256 → StepsTo table sid byte next → next ≤ GREATEST
 step-small table sid byte next h small leads = ∥∥₁_elim h le_prop (λ w. let fits = w.1.nexts byte small in omega (arith, leads w.0 w.1, fits))
 
 -- the class of a byte is one of the alphabet
-pub place-alphabet : (table : Table) (sid : ℕ) → IsPlace table sid → table.alphabet_len ≡ alphabet_len table.classes
+pub place-alphabet : (table : Table) (sid : ℕ) → HoldsState table sid → table.alphabet_len ≡ alphabet_len table.classes
 place-alphabet table sid h = ∥∥₁_elim h (Coded-set coded_ℕ _ _) (λ w. w.1.alphabet)
 
 -- the place of a class in a state with an entry for each
-pub dense-place : (table : Table) (sid c : ℕ) → IsPlace table sid → slice_index table.words.items sid % 256 ≡ 255 → c < table.alphabet_len → sid + 2 + c < length table.words.items
+pub dense-place : (table : Table) (sid c : ℕ) → HoldsState table sid → slice_index table.words.items sid % 256 ≡ 255 → c < table.alphabet_len → sid + 2 + c < length table.words.items
 dense-place table sid c h kind within = ∥∥₁_elim h le_prop (λ w. (dense-at table sid c (sid + 2 + c) w.0 w.1 kind within refl).0)
 
 -- and that of the only transition
-pub one-place : (table : Table) (sid : ℕ) → IsPlace table sid → slice_index table.words.items sid % 256 ≡ 254 → sid + 2 < length table.words.items
+pub one-place : (table : Table) (sid : ℕ) → HoldsState table sid → slice_index table.words.items sid % 256 ≡ 254 → sid + 2 < length table.words.items
 one-place table sid h kind = ∥∥₁_elim h le_prop (λ w. (one-at table sid w.0 w.1 kind).0)
 
 -- ---- to which state it fails
 
 -- the second word is one of the words,
-pub fail-within : (table : Table) (sid : ℕ) → IsPlace table sid → sid + 1 < length table.words.items
+pub fail-within : (table : Table) (sid : ℕ) → HoldsState table sid → sid + 1 < length table.words.items
 fail-within table sid h = ∥∥₁_elim h le_prop (λ w. (state-fail table.words.items sid table.alphabet_len w.0 w.1.stands).0)
 
 -- and says to which
-pub fail-read : (table : Table) (sid place fail : ℕ) → place ≡ sid + 1 → fail ≡ get_or table.words.items place fail → FailsTo table sid fail
+pub fail-read : (table : Table) (sid place fail : ℕ) → place ≡ sid + 1 → fail ≡ get_or table.words.items place fail → IsFailOf table sid fail
 fail-read table sid place fail is read s h =
     let there = state-fail table.words.items sid table.alphabet_len s h.stands in
     let within = there.0 in

@@ -1,12 +1,12 @@
 -- The table of an automaton holds the states of its dictionary.
 use Rattle.std.proofs.Common.{◌≡◌, ◌≢◌, ◌⊎◌, ◌↔◌, ℕ, ◌+◌, ◌<◌, ◌≤◌, Bool, false, true, IsTrue, map, List, [], ◌∷◌, length, Option, Some, None, slice_get, inl, inr, refl, sym, ap, subst, ◌∙◌, ⊎_elim, arith}
 use Rattle.std.specs.Prelude.{option_map, if◌then◌else◌}
-use Rattle.std.proofs.lemmas.Bool.{cases_lt, cases_eq}
+use Rattle.std.proofs.lemmas.Bool.{cases_lt}
 use Rattle.std.proofs.lemmas.Option.{slice_get-map, same_Some}
 use Rattle.ac_input.specs.declared.primitives.number.TheConstants.{GREATEST}
 use Rattle.ac_input.specs.Alphabet.{class, alphabet_len, IsClasses}
 use Rattle.ac_input.specs.Failure.{IsList}
-use Rattle.ac_automaton.specs.Named.{Naming, IsFirst, AreLinked}
+use Rattle.ac_automaton.specs.Named.{IsFirst, AreLinked}
 use Rattle.ac_noncontiguous.specs.declared.nfa.NFA.{NFA}
 use Rattle.ac_noncontiguous.specs.Nfa.{state_of}
 use Rattle.ac_noncontiguous.specs.Reads.{dictionary, matches_at}
@@ -14,9 +14,9 @@ use Rattle.ac_noncontiguous.specs.ReadCalls.{state_len, edges_in, special_in, Ar
 use Rattle.ac_tables.specs.declared.contiguous.table.Table.{Table}
 use Rattle.ac_tables.specs.Places.{is_met}
 use Rattle.ac_tables.specs.Words.{StateParts, next_by, words_of, StandsAt}
-use Rattle.ac_tables.specs.ContiguousTable.{placed, parts_of, place_in, AreStates, AreSomeStates}
+use Rattle.ac_tables.specs.ContiguousTable.{placed, parts_of, place_in, AreStates}
 use Rattle.ac_tables.specs.ContiguousBuild.{IsTableOf}
-use Rattle.ac_tables.proofs.PlacesLemmas.{met-stands, met-anchored, met-other, met-start, met-start_anchored}
+use Rattle.ac_tables.proofs.PlacesLemmas.{met-stands, met-other, met-start, met-start_anchored}
 use Rattle.ac_tables.proofs.StandLemmas.{stands, place-rises, place-one, place-later}
 use Rattle.ac_tables.proofs.EntryLemmas.{class-fits}
 use Rattle.ac_tables.proofs.LayLemmas.{Laid, start_in, names_in, parts_in, text-past, text-some, text-none, zero-or-past, parts-at, at-met, met-at, text-at, linked}
@@ -47,6 +47,7 @@ first-is nfa dense_depth classes text anchored i sid h i_in i_met past start is 
       empty = text-at nfa dense_depth classes text anchored i i_in i_met ∙ (text-past text i past ∙ ap Some ((bounds.empty i past i_in).1 start));
     })
 
+-- the table is that of the dictionary, by the names and the states at the places
 pub states : (nfa : NFA) (dense_depth : ℕ) (table : Table) (text : ℕ → List ℕ) → Laid nfa text dense_depth table.classes → IsTableOf nfa dense_depth table → AreStates (dictionary nfa) table (names_in nfa dense_depth table.classes text) (parts_in nfa dense_depth table.classes)
 states nfa dense_depth table text h t =
     let classes = table.classes in
@@ -89,15 +90,15 @@ states nfa dense_depth table text h t =
       starting = λ anchored. each anchored (λ sid. (names.text sid ≡ Some []) ↔ ((sid ≡ table.start) ⊎ (sid ≡ table.start_anchored))) (λ i i_in i_met.
           let named = text-at nfa dense_depth classes text anchored i i_in i_met in (
             λ e.
-            let p = text-some text i [] (sym named ∙ e) in
-            ⊎_elim
-            (λ (s : i ≡ start). inl (ap place s ∙ sym start_is))
-            (λ (n : i ≡ start + 1). inr (ap place n ∙ sym next_is))
-            ((bounds.empty i p.0 i_in).0 p.1),
+                let p = text-some text i [] (sym named ∙ e) in
+                ⊎_elim
+                (λ (s : i ≡ start). inl (ap place s ∙ sym start_is))
+                (λ (n : i ≡ start + 1). inr (ap place n ∙ sym next_is))
+                ((bounds.empty i p.0 i_in).0 p.1),
             λ e.
-            let which : (i ≡ start) ⊎ (i ≡ start + 1) = ⊎_elim (λ (a : place i ≡ table.start). inl (place-one nfa dense_depth classes i start (a ∙ start_is))) (λ (b : place i ≡ table.start_anchored). inr (place-one nfa dense_depth classes i (start + 1) (b ∙ next_is))) e in
-            let past_i : 1 < i = ⊎_elim (λ (s : i ≡ start). omega (arith, s, past)) (λ (n : i ≡ start + 1). omega (arith, n, past)) which in
-            named ∙ (text-past text i past_i ∙ ap Some ((bounds.empty i past_i i_in).1 which)),
+                let which : (i ≡ start) ⊎ (i ≡ start + 1) = ⊎_elim (λ (a : place i ≡ table.start). inl (place-one nfa dense_depth classes i start (a ∙ start_is))) (λ (b : place i ≡ table.start_anchored). inr (place-one nfa dense_depth classes i (start + 1) (b ∙ next_is))) e in
+                let past_i : 1 < i = ⊎_elim (λ (s : i ≡ start). omega (arith, s, past)) (λ (n : i ≡ start + 1). omega (arith, n, past)) which in
+                named ∙ (text-past text i past_i ∙ ap Some ((bounds.empty i past_i i_in).1 which)),
           ));
       lists = λ anchored sid u met. each anchored (λ n. names.text n ≡ Some u → IsList (dictionary nfa) u (parts n).matches) (λ i i_in i_met e.
           let p = text-some text i u (sym (text-at nfa dense_depth classes text anchored i i_in i_met) ∙ e) in
@@ -118,15 +119,15 @@ states nfa dense_depth table text h t =
           let match = bounds.matching i past_i i_in in
           let list = some-long (matches_at nfa i) in (
             λ some.
-            let le = match.0 (list.0 (λ e. some (same ∙ e))) in
-            ⊎_elim
-            (λ (lt : i < max). omega (arith, rises i max lt, max_is))
-            (λ (ge : max ≤ i). let e : i ≡ max = omega (arith, le, ge) in let one = ap place e in omega (arith, one, max_is))
-            (cases_lt i max),
+                let le = match.0 (list.0 (λ e. some (same ∙ e))) in
+                ⊎_elim
+                (λ (lt : i < max). omega (arith, rises i max lt, max_is))
+                (λ (ge : max ≤ i). let e : i ≡ max = omega (arith, le, ge) in let one = ap place e in omega (arith, one, max_is))
+                (cases_lt i max),
             λ le e.
-            let none : matches_at nfa i ≡ [] = sym same ∙ e in
-            let low : i ≤ max = ⊎_elim (λ (gt : max < i). absurd (omega (arith, rises max i gt, le, max_is))) (λ (ok : i ≤ max). ok) (cases_lt max i) in
-            list.1 (match.1 low) none,
+                let none : matches_at nfa i ≡ [] = sym same ∙ e in
+                let low : i ≤ max = ⊎_elim (λ (gt : max < i). absurd (omega (arith, rises max i gt, le, max_is))) (λ (ok : i ≤ max). ok) (cases_lt max i) in
+                list.1 (match.1 low) none,
           ));
       greatest =
           ⊎_elim

@@ -1,6 +1,6 @@
 -- Writing the words of a state, one after another.
 use Rattle.std.proofs.Common.{◌≡◌, ◌≢◌, ℕ, zero, suc, ◌+◌, ◌-◌, ◌<◌, ◌≤◌, map, List, [], ◌∷◌, ◌++◌, length, take, drop, get_or, slice_set, refl, sym, ap, ◌∙◌, ⊎_elim, arith, append_assoc, length-drop, length-set, get_or-set_same, get_or-set_other}
-use Rattle.std.specs.Prelude.{◌==◌, if◌then◌else◌, true, false}
+use Rattle.std.specs.Prelude.{◌==◌, if◌then◌else◌, false}
 use Rattle.std.specs.List.{range_with_len}
 use Rattle.std.proofs.lemmas.Bool.{cases_eq, eq-eqb}
 use Rattle.std.proofs.lemmas.List.{ext_get_or, set-append_right, take_more, map-append, get_or-map, length-map, drop-drop, drop_more, get_or_default}

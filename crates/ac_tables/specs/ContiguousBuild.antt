@@ -1,5 +1,5 @@
 -- How the words of a contiguous automaton are made, state by state.
-use Rattle.std.specs.Prelude.{◌≡◌, ◌≢◌, ℕ, ◌+◌, ◌<◌, ◌≤◌, Bool, List, ◌++◌, map, take, drop, length, slice_index}
+use Rattle.std.specs.Prelude.{◌≡◌, ◌≢◌, ℕ, ◌<◌, ◌≤◌, Bool, List, ◌++◌, map, take, drop, length, slice_index}
 use Rattle.ac_input.specs.declared.primitives.number.TheConstants.{GREATEST}
 use Rattle.ac_input.specs.Alphabet.{alphabet_len, IsClasses}
 use Rattle.ac_input.specs.Classes.{IsByteOf, IsAlone, ClassesLeadAlike}

@@ -34,3 +34,4 @@ pub mod DfaMade
 pub mod ContiguousBuilder
 pub mod DfaBuild
 pub mod DfaCopy
+pub mod DfaNumbers

@@ -29,8 +29,8 @@ pub record IsStateAt (table : Table) (sid : ℕ) (s : StateParts) : Type 0 where
   pub nexts : (byte : ℕ) → byte < 256 → next_by s.edges (class table.classes byte) ≤ GREATEST
 
 -- some state stands there
-abbrev pub IsPlace : Table → ℕ → Type 0
-IsPlace table sid = ∥ ((s : StateParts) × IsStateAt table sid s) ∥₁
+abbrev pub HoldsState : Table → ℕ → Type 0
+HoldsState table sid = ∥ ((s : StateParts) × IsStateAt table sid s) ∥₁
 
 -- the state there keeps so many transitions, with their classes packed: its kind says how many
 pub record IsSparseAt (table : Table) (sid len : ℕ) : Type 0 where
@@ -52,8 +52,8 @@ pub record IsIdleAt (table : Table) (byte : ℕ) : Type 0 where
   pub stays : StepsTo table table.start byte table.start
 
 -- to which state one fails
-abbrev pub FailsTo : Table → ℕ → ℕ → Type 0
-FailsTo table sid fail = (s : StateParts) → IsStateAt table sid s → fail ≡ s.fail
+abbrev pub IsFailOf : Table → ℕ → ℕ → Type 0
+IsFailOf table sid fail = (s : StateParts) → IsStateAt table sid s → fail ≡ s.fail
 
 -- how many words the transitions of a state have, by its kind
 abbrev pub transitions_len : ℕ → ℕ → ℕ

@@ -2,7 +2,7 @@
 --
 -- A state is a few 32-bit words: its kind, its failure, the classes of its transitions where these are sparse, the transitions, and
 -- its patterns where it has some.
-use Rattle.std.specs.Prelude.{◌≡◌, ℕ, zero, suc, ◌+◌, ◌*◌, ◌<◌, ◌≤◌, nat_lt, ◌==◌, ◌&&◌, ◌||◌, Bool, true, false, if◌then◌else◌, map, List, [], ◌∷◌, ◌++◌, length, take, drop}
+use Rattle.std.specs.Prelude.{◌≡◌, ℕ, zero, suc, ◌+◌, ◌*◌, ◌<◌, ◌≤◌, nat_lt, ◌==◌, ◌&&◌, ◌||◌, Bool, if◌then◌else◌, map, List, [], ◌∷◌, ◌++◌, length, take, drop}
 use Rattle.std.specs.List.{All, range_with_len}
 use Rattle.ac_input.specs.declared.primitives.number.TheConstants.{GREATEST}
 

@@ -1,4 +1,37 @@
 //! The DFA.
+//!
+//! It is the noncontiguous automaton with all failures followed beforehand: for each state and each class of bytes a table has the
+//! next state. So a search looks at one state for a byte, and a look-up is the byte's class, one addition and one load. It is the
+//! fastest automaton, takes the most memory, and takes longest to build.
+//!
+//! The rows stand in one vector, one after another. Each is as long as the least power of two that is enough for the classes, the
+//! stride. The number of a state is where its row begins. The rows come in the order of the noncontiguous automaton: the dead
+//! state, the fail state, the states that match, the unanchored start, the anchored start, the others. So one comparison of
+//! numbers tells whether a search has more to do at a state than to read on.
+//!
+//! Of the patterns `b`, `abc` and `abcd` there are 9 states and 6 classes: one for each of `a`, `b`, `c` and `d`, one for the bytes
+//! before them and one for those after them. The stride is 8, and the table has 72 entries. Of each row the last two are never
+//! read, and no search comes to the fail state or to the start of the other anchoring:
+//!
+//! ```text
+//! number  state             before   a   b   c   d  after
+//!      0  dead                   0   0   0   0   0      0
+//!      8  fail
+//!     16  b                     48  64  16  48  48     48  matches b
+//!     24  ab                    48  64  16  32  48     48  matches b
+//!     32  abc                   48  64  16  48  40     48  matches abc
+//!     40  abcd                  48  64  16  48  48     48  matches abcd
+//!     48  unanchored start      48  64  16  48  48     48
+//!     56  anchored start
+//!     64  a                     48  64  24  48  48     48
+//! ```
+//!
+//! With both start kinds each state has two rows, one after the other, but for the first two states and the starts: 14 rows, 112
+//! entries. The second is for anchored searches; there a byte that leads to no longer state leads to the dead one. Where bytes
+//! aren't put into classes a row has 256 entries, and the 9 states have 2304.
+//!
+//! A build takes time and memory in proportion to the table. It is refused, before it takes any, where the last row would begin past
+//! the greatest number of a state.
 mod automaton;
 pub mod builder;
 mod fill;

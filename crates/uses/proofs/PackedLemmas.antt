@@ -1,6 +1,7 @@
 -- What packed search and prefilters say of a whole text.
-use Rattle.std.proofs.Common.{◌≡◌, ◌≢◌, ℕ, ◌+◌, ◌≤◌, false, List, [], Option, Some, inl, inr, refl, sym, subst, arith}
-use Rattle.std.specs.Prelude.{IfSome}
+use Rattle.std.proofs.Common.{◌≡◌, ◌≢◌, ℕ, zero, suc, ◌+◌, ◌≤◌, ◌<◌, false, List, [], ◌∷◌, length, Option, None, Some, inl, inr, refl, ap, sym, subst, arith}
+use Rattle.std.specs.Prelude.{IfSome, IsSome}
+use Rattle.std.proofs.lemmas.Bool.{false≢true}
 use Rattle.ac_input.specs.declared.search.MatchKind.{MatchKind}
 use Rattle.ac_input.specs.declared.search.MatchKind.TheVariants.{Standard, LeftmostFirst}
 use Rattle.ac_input.specs.declared.search.candidate.Candidate.TheVariants as candidates
@@ -17,8 +18,10 @@ use Rattle.ac_input.specs.Same.{IsUnpaired}
 use Rattle.ac_input.proofs.BestLemmas.{best-computed, best-unique}
 use Rattle.ac_input.proofs.LiveLemmas.{kind_cases, leftmost-no_later}
 use Rattle.ac_input.proofs.UnpairedLemmas.{best-unpaired}
-use Rattle.ac_literal.specs.Packed.{IsBestOf, Packed, in_whole, search_kind}
+use Rattle.ac_literal.specs.Packed.{AreServed, IsBestOf, Packed, added, built, fresh, in_whole, leftmost_first, pattern_at, search_kind}
+use Rattle.ac_literal.proofs.PatternLemmas.{built-fresh}
 use Rattle.ac_literal.specs.declared.packed.api.MatchKind as packed
+use Rattle.ac_literal.specs.declared.packed.api.MatchKind.TheVariants as packed_kinds
 use Rattle.uses.specs.Callers.{IsSkip}
 
 -- the match of a searcher that was made so
@@ -26,6 +29,25 @@ pub packed-first : (kind : packed.MatchKind) (patterns : List (List ℕ)) (text 
 packed-first kind patterns text made s r value is best =
     let same = subst (λ (m : Option Packed). IfSome m (λ t. t ≡ record { kind = kind; patterns = patterns })) is value in
     best-computed (search_kind kind) (in_whole patterns text) (omega arith) r (subst (λ (t : Packed). IsBestOf t text r) same best)
+
+-- one pattern is served, where it is not empty
+one-served : (pattern : List ℕ) → 0 < length pattern → AreServed (pattern ∷ [])
+one-served pattern long = record { some = omega arith; few = omega arith; full = full }
+  where
+    full : (number : ℕ) → number < length (pattern ∷ []) → 0 < length (pattern_at (pattern ∷ []) number)
+    full zero h = long
+    full (suc n) h = absurd (omega arith)
+
+-- what is there, and is this where it is there
+some-known : (made : Option Packed) (s : Packed) → IsSome made → IfSome made (λ t. t ≡ s) → made ≡ Some s
+some-known None s is same = absurd (false≢true is)
+some-known (Some t) s is same = ap Some same
+
+-- what is built of one pattern that is not empty
+pub of-one : (pattern : List ℕ) → 0 < length pattern → built (added (fresh packed_kinds.LeftmostFirst) pattern).kind (added (fresh packed_kinds.LeftmostFirst) pattern).patterns ≡ Some (leftmost_first (pattern ∷ []))
+of-one pattern long =
+    let made = built-fresh packed_kinds.LeftmostFirst (pattern ∷ []) in
+    some-known (built (added (fresh packed_kinds.LeftmostFirst) pattern).kind (added (fresh packed_kinds.LeftmostFirst) pattern).patterns) (leftmost_first (pattern ∷ [])) (made.0.1 (one-served pattern long)) made.1
 
 -- the match of a searcher is that of a dictionary of its patterns and kind in which nothing is paired
 pub packed-alike : (s : Packed) (m : Dictionary) (text : List ℕ) (one another : Option Occurrence) → search_kind s.kind ≡ m.kind → s.patterns ≡ m.patterns → IsUnpaired m.pairing → IsBestOf s text one → IsBest m.kind (whole m text false) another → one ≡ another

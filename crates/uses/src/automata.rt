@@ -1,9 +1,10 @@
 //! What the noncontiguous automaton keeps of its states: their order, their transitions, their failure links and their patterns.
-ghost use Rattle.std.specs.Prelude.{◌<◌, IfSome};
+ghost use Rattle.std.specs.Prelude.{◌<◌};
 ghost use Rattle.ac_noncontiguous.specs.ReadCalls.{state_len};
 
 use crate::answers::same;
-use crate::engines::{Asked, Letters, Setting, noncontiguous};
+use crate::callers::nfa::numbered;
+use crate::engines::{Asked, Letters, Prefiltering, noncontiguous};
 use ac_input::primitives::StateID;
 use ac_input::search::MatchKind;
 use ac_noncontiguous::{Automaton, ByteClasses, NFA};
@@ -49,7 +50,7 @@ pub struct Kept {
     pub kind: MatchKind,
     pub letters: Letters,
     /// Whether a prefilter is wanted, and whether there is one.
-    pub prefilter: (bool, bool),
+    pub prefilter: (Prefiltering, bool),
     pub bounds: Bounds,
     pub states: &'static [State],
     /// The classes of some bytes.
@@ -144,18 +145,6 @@ fn state_lists<T: Abort>(
     Ok(())
 }
 
-/// The state of this number, if there is one.
-fn numbered(nfa: &NFA, number: usize) -> Option<StateID>
-    ensures { IfSome result (λ sid. sid < state_len nfa.now) }
-{
-    let sid = StateID::new(number).ok()?;
-    if sid.as_usize() < nfa.state_len() {
-        Some(sid)
-    } else {
-        None
-    }
-}
-
 /// Asserts what is kept of a state.
 fn state_is<T: Abort>(
     rt: &T,
@@ -217,11 +206,7 @@ fn holds<T: Abort>(rt: &T, alloc: Global, kept: &Kept) -> Result<(), Fail> {
         kind: kept.kind,
         letters: kept.letters,
     };
-    let setting = Setting {
-        prefilter: kept.prefilter.0,
-        dense_depth: 3,
-    };
-    let nfa = noncontiguous(alloc, asked, setting)?;
+    let nfa = noncontiguous(alloc, asked, kept.prefilter.0, 3)?;
     keeps(rt, alloc, &nfa, kept)
 }
 

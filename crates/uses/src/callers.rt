@@ -5,6 +5,7 @@
 pub mod build;
 pub mod find;
 pub mod iterate;
+pub mod nfa;
 pub mod overlap;
 pub mod packed;
 pub mod replace;

@@ -3,9 +3,9 @@ ghost use Rattle.std.specs.Prelude.{IfSome};
 ghost use Rattle.ac_automaton.specs.Automaton.{IsState};
 
 use crate::answers::same;
-use crate::engines::{Asked, Case, Letters, all};
+use crate::engines::{Asked, Case, Letters, all, serves};
 use ac_input::primitives::{PatternID, StateID};
-use ac_input::search::{Anchored, MatchKind};
+use ac_input::search::{Anchored, MatchKind, StartKind};
 use ac_noncontiguous::Automaton;
 use std::alloc::{AllocError, Global};
 use std::process::Abort;
@@ -85,7 +85,11 @@ impl Case for Row {
         rt: &T,
         alloc: Global,
         automaton: &A,
+        starts: StartKind,
     ) -> Result<(), Fail> {
+        if !serves(starts, self.anchored) {
+            return Ok(());
+        }
         let sid = reached(automaton, self.anchored, self.text).ok_or("no start")?;
         says(rt, automaton, sid, self);
         let matches = matches_at(alloc, automaton, sid)?;
@@ -251,6 +255,7 @@ impl Case for Lengths {
         rt: &T,
         alloc: Global,
         automaton: &A,
+        _starts: StartKind,
     ) -> Result<(), Fail> {
         let found = [
             automaton.patterns_len(),

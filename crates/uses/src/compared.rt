@@ -4,12 +4,11 @@
 use crate::answers::Asks::{self, List, Walk};
 use crate::answers::Text::{self, Bound, BoundEarliest, BoundPart, Earliest, Part, Whole};
 use crate::answers::{by_plain, input};
-use crate::engines::{Asked, Case, Letters, each, pick};
+use crate::engines::{Asked, ENGINES, Letters, Pick, each, pick};
 use crate::prefilters::built;
-use crate::rows::{Row, Table, packed_table_holds, row_holds_of_each};
+use crate::rows::{Row, packed_table_holds, table_of};
 use ac_input::search::{Candidate, MatchKind, Span};
 use ac_literal::prefilter::Prefilter;
-use ac_noncontiguous::Automaton;
 use std::alloc::{AllocError, Global};
 use std::process::Abort;
 use std::test::Fail;
@@ -58,53 +57,63 @@ struct Drawn<'a> {
     text: &'a [u8],
 }
 
-/// Asserts that a search gives what the plain program does.
-fn is_alike<T: Abort, A: Automaton>(
-    rt: &T,
-    alloc: Global,
-    automaton: &A,
-    asked: Asked<'_>,
-    asks: Asks,
-    text: Text<'_>,
-) -> Result<(), Fail> {
-    let gives = by_plain(alloc, asked, asks, &input(&text)?)?;
-    let row = Row {
-        shows: "as the plain program",
-        asks,
-        text,
-        gives: &gives,
-    };
-    row_holds_of_each(rt, alloc, automaton, &row)
+/// What is searched of a text.
+fn searches(text: &[u8]) -> [Text<'_>; 6] {
+    let end = text.len();
+    [
+        Whole(text),
+        Part(text, 2, end),
+        Earliest(text),
+        Bound(text),
+        BoundPart(text, 3, end),
+        BoundEarliest(text),
+    ]
 }
 
-impl Case for Drawn<'_> {
-    fn asked(&self) -> Asked<'_> {
-        self.asked
+/// What the plain program gives for each of these.
+fn answers(
+    alloc: Global,
+    asked: Asked<'_>,
+    asks: Asks,
+    texts: &[Text<'_>],
+) -> Result<Vec<Vec<Pick>>, Fail> {
+    let mut answers = Vec::new(alloc);
+    for text in texts {
+        answers.push(by_plain(alloc, asked, asks, &input(text)?)?)?;
     }
+    Ok(answers)
+}
 
-    fn check<T: Abort, A: Automaton>(
-        &self,
-        rt: &T,
-        alloc: Global,
-        automaton: &A,
-    ) -> Result<(), Fail> {
-        let text = self.text;
-        let end = text.len();
-        for text in [
-            Whole(text),
-            Part(text, 2, end),
-            Earliest(text),
-            Bound(text),
-            BoundPart(text, 3, end),
-            BoundEarliest(text),
-        ] {
-            is_alike(rt, alloc, automaton, self.asked, Walk, text)?;
-            if let MatchKind::Standard = self.asked.kind {
-                is_alike(rt, alloc, automaton, self.asked, List, text)?;
-            }
-        }
-        Ok(())
-    }
+/// The rows of these texts and answers.
+fn rows<'a>(
+    alloc: Global,
+    asks: Asks,
+    texts: &[Text<'a>],
+    answers: &'a [Vec<Pick>],
+) -> Result<Vec<Row<'a>>, AllocError> {
+    texts
+        .iter()
+        .zip(answers)
+        .map(|(text, gives)| Row {
+            shows: "as the plain program",
+            asks,
+            text: *text,
+            gives,
+        })
+        .collect(alloc)
+}
+
+/// Compares searches by each automaton with the plain program.
+fn searches_are_alike<T: Abort>(
+    rt: &T,
+    alloc: Global,
+    drawn: Drawn<'_>,
+    asks: Asks,
+) -> Result<(), Fail> {
+    let texts = searches(drawn.text);
+    let answers = answers(alloc, drawn.asked, asks, &texts)?;
+    let rows = rows(alloc, asks, &texts, &answers)?;
+    each(rt, alloc, &table_of(drawn.asked, &rows), ENGINES)
 }
 
 /// Asserts that no match begins before the candidate of a prefilter, and that a match that it found is the one.
@@ -157,7 +166,10 @@ fn each_is_alike<'a, T: Abort>(
             };
             let drawn = Drawn { asked, text };
             prefilter_is_lawful(rt, alloc, drawn)?;
-            each(rt, alloc, &drawn)?;
+            searches_are_alike(rt, alloc, drawn, Walk)?;
+            if kind == MatchKind::Standard {
+                searches_are_alike(rt, alloc, drawn, List)?;
+            }
         }
     }
     Ok(())
@@ -220,11 +232,10 @@ fn packed_is_alike<T: Abort>(
     kind: MatchKind,
     text: Text<'_>,
 ) -> Result<(), Fail> {
-    let letters = Letters::Cased;
     let asked = Asked {
         patterns,
         kind,
-        letters,
+        letters: Letters::Cased,
     };
     let gives = by_plain(alloc, asked, Walk, &input(&text)?)?;
     let rows = [Row {
@@ -233,13 +244,7 @@ fn packed_is_alike<T: Abort>(
         text,
         gives: &gives,
     }];
-    let table = Table {
-        patterns,
-        kind,
-        letters,
-        rows: &rows,
-    };
-    packed_table_holds(rt, alloc, &table)
+    packed_table_holds(rt, alloc, &table_of(asked, &rows))
 }
 
 /// Compares packed search of these patterns, for both kinds.

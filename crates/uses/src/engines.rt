@@ -1,13 +1,16 @@
 //! Each automaton that there is, in each setting that changes no answer.
 //!
-//! A [`Case`] is a row of a table: it says what an automaton is built of, and checks an automaton that was built. [`each`] runs
-//! a case by all of them, so one more automaton is one more line there. A function that owns an automaton is slow to prove, so
-//! there is one such function for each automaton, and all others are handed a reference.
+//! A [`Case`] is a row of a table: it says what an automaton is built of, and checks an automaton that was built. [`ENGINES`] lists
+//! the automata and their settings, a line each, and [`all`] runs cases by each of them. A function that owns an automaton is slow
+//! to prove, so there is one such function for each automaton, and all others are handed a reference.
+use crate::engines::Engine::{Noncontiguous, OneStart};
+use crate::engines::Prefiltering::{Off, On};
+use crate::one_start;
 use ac_input::pairing::Pairing;
-use ac_input::search::{Match, MatchKind};
-use ac_noncontiguous::Automaton;
+use ac_input::search::{Anchored, Match, MatchKind, StartKind};
 use ac_noncontiguous::builder::Builder;
 use ac_noncontiguous::nfa::NFA;
+use ac_noncontiguous::{Automaton, BuildError, BuildErrorKind};
 use std::alloc::Global;
 use std::process::Abort;
 use std::test::Fail;
@@ -31,49 +34,66 @@ pub struct Asked<'a> {
     pub letters: Letters,
 }
 
-/// How an automaton is built: whether it may hold a prefilter, and to which depth its states have rows.
-#[derive(Clone, Copy, Debug)]
-pub struct Setting {
-    pub prefilter: bool,
-    pub dense_depth: usize,
+/// Whether an automaton may hold a prefilter.
+#[derive(Clone, Copy, Debug, PartialEq, Eq)]
+pub enum Prefiltering {
+    Off,
+    On,
 }
 
-/// The settings that change no answer.
-pub const SETTINGS: [Setting; 5] = [
-    Setting {
-        prefilter: true,
-        dense_depth: 3,
-    },
-    Setting {
-        prefilter: false,
-        dense_depth: 3,
-    },
-    Setting {
-        prefilter: false,
-        dense_depth: 0,
-    },
-    Setting {
-        prefilter: true,
-        dense_depth: 1,
-    },
-    Setting {
-        prefilter: false,
-        dense_depth: 100,
-    },
+/// An automaton, and how it is built.
+#[derive(Clone, Copy, Debug)]
+pub enum Engine {
+    /// The noncontiguous NFA, whose states have rows to this depth.
+    Noncontiguous(Prefiltering, usize),
+    /// The same with a start for one anchoring alone.
+    OneStart(Prefiltering, Anchored),
+}
+
+/// The automata and their settings, none of which changes an answer.
+pub const ENGINES: &[Engine] = &[
+    Noncontiguous(On, 3),
+    Noncontiguous(Off, 3),
+    Noncontiguous(Off, 0),
+    Noncontiguous(On, 1),
+    Noncontiguous(Off, 100),
+    OneStart(On, Anchored::No),
+    OneStart(Off, Anchored::Yes),
 ];
+
+/// Those that run a row which takes long.
+pub const FEW: &[Engine] = &[Noncontiguous(On, 3), Noncontiguous(Off, 0)];
+
+/// Those that run a row which takes very long: each automaton as it is built at first.
+pub const FIRST: &[Engine] = &[Noncontiguous(On, 3)];
 
 /// A row of a table, which any automaton built of what it asks must pass.
 pub trait Case {
     /// What the automaton is built of.
     fn asked(&self) -> Asked<'_>;
 
-    /// Asserts what the row says.
+    /// Whether there may be no memory to build it.
+    fn in_little_memory(&self) -> bool {
+        false
+    }
+
+    /// Asserts what the row says of an automaton that has these starts.
     fn check<T: Abort, A: Automaton>(
         &self,
         rt: &T,
         alloc: Global,
         automaton: &A,
+        starts: StartKind,
     ) -> Result<(), Fail>;
+}
+
+/// Whether there is a start for this anchoring among these.
+pub fn serves(starts: StartKind, anchored: Anchored) -> bool {
+    match starts {
+        StartKind::Both => true,
+        StartKind::Unanchored => !anchored.is_anchored(),
+        StartKind::Anchored => anchored.is_anchored(),
+    }
 }
 
 /// An occurrence: the number of the pattern, the start and the end.
@@ -95,19 +115,32 @@ pub fn pairing(letters: Letters) -> Result<Pairing, Fail> {
 }
 
 /// What builds the noncontiguous automaton.
-fn builder(asked: Asked<'_>, setting: Setting) -> Result<Builder, Fail> {
+fn builder(asked: Asked<'_>, prefilter: Prefiltering, depth: usize) -> Result<Builder, Fail> {
     let mut builder = Builder::new();
     builder
         .match_kind(asked.kind)
         .pairing(pairing(asked.letters)?)
-        .prefilter(setting.prefilter)
-        .dense_depth(setting.dense_depth);
+        .prefilter(prefilter == On)
+        .dense_depth(depth);
     Ok(builder)
 }
 
 /// The noncontiguous automaton.
-pub fn noncontiguous(alloc: Global, asked: Asked<'_>, setting: Setting) -> Result<NFA, Fail> {
-    Ok(builder(asked, setting)?.build(alloc, asked.patterns)?)
+pub fn noncontiguous(
+    alloc: Global,
+    asked: Asked<'_>,
+    prefilter: Prefiltering,
+    depth: usize,
+) -> Result<NFA, Fail> {
+    Ok(builder(asked, prefilter, depth)?.build(alloc, asked.patterns)?)
+}
+
+/// What becomes of a case whose automaton can't be built.
+fn unbuilt<C: Case>(case: &C, error: BuildError) -> Result<(), Fail> {
+    if case.in_little_memory() && *error.kind() == BuildErrorKind::Memory {
+        return Ok(());
+    }
+    Err(error.into())
 }
 
 /// Checks the case by the noncontiguous automaton.
@@ -115,16 +148,53 @@ fn by_noncontiguous<T: Abort, C: Case>(
     rt: &T,
     alloc: Global,
     case: &C,
-    setting: Setting,
+    prefilter: Prefiltering,
+    depth: usize,
 ) -> Result<(), Fail> {
-    let nfa = noncontiguous(alloc, case.asked(), setting)?;
-    case.check(rt, alloc, &nfa)
+    let asked = case.asked();
+    match builder(asked, prefilter, depth)?.build(alloc, asked.patterns) {
+        Ok(nfa) => case.check(rt, alloc, &nfa, StartKind::Both),
+        Err(error) => unbuilt(case, error),
+    }
 }
 
-/// Checks the case by each automaton, in each setting.
-pub fn each<T: Abort, C: Case>(rt: &T, alloc: Global, case: &C) -> Result<(), Fail> {
-    for setting in SETTINGS {
-        by_noncontiguous(rt, alloc, case, setting)?;
+/// Checks the case by an automaton with one start, over the noncontiguous one.
+fn by_one_start<T: Abort, C: Case>(
+    rt: &T,
+    alloc: Global,
+    case: &C,
+    prefilter: Prefiltering,
+    anchored: Anchored,
+) -> Result<(), Fail> {
+    let automaton = &noncontiguous(alloc, case.asked(), prefilter, 3)?;
+    let starts = match anchored {
+        Anchored::No => StartKind::Unanchored,
+        Anchored::Yes => StartKind::Anchored,
+    };
+    let one_start = one_start::OneStart {
+        automaton,
+        anchored,
+    };
+    case.check(rt, alloc, &one_start, starts)
+}
+
+/// Checks the case by this automaton.
+fn by<T: Abort, C: Case>(rt: &T, alloc: Global, case: &C, engine: Engine) -> Result<(), Fail> {
+    match engine {
+        Noncontiguous(prefilter, depth) => by_noncontiguous(rt, alloc, case, prefilter, depth),
+        OneStart(prefilter, anchored) => by_one_start(rt, alloc, case, prefilter, anchored),
+    }
+}
+
+/// Checks the case by each of these automata.
+pub fn each<T: Abort, C: Case>(
+    rt: &T,
+    alloc: Global,
+    case: &C,
+    engines: &[Engine],
+) -> Result<(), Fail> {
+    for engine in engines {
+        by(rt, alloc, case, *engine)?;
     }
     Ok(())
 }
@@ -132,21 +202,7 @@ pub fn each<T: Abort, C: Case>(rt: &T, alloc: Global, case: &C) -> Result<(), Fa
 /// Checks each case of a table by each automaton, in each setting.
 pub fn all<T: Abort, C: Case>(rt: &T, alloc: Global, cases: &[C]) -> Result<(), Fail> {
     for case in cases {
-        each(rt, alloc, case)?;
-    }
-    Ok(())
-}
-
-/// Checks a case that takes long by each automaton, in the usual setting.
-pub fn once<T: Abort, C: Case>(rt: &T, alloc: Global, case: &C) -> Result<(), Fail> {
-    by_noncontiguous(rt, alloc, case, SETTINGS[0])
-}
-
-/// Checks the case by the noncontiguous automaton, if there is memory to build it.
-pub fn where_built<T: Abort, C: Case>(rt: &T, alloc: Global, case: &C) -> Result<(), Fail> {
-    let asked = case.asked();
-    if let Ok(nfa) = builder(asked, SETTINGS[0])?.build(alloc, asked.patterns) {
-        case.check(rt, alloc, &nfa)?;
+        each(rt, alloc, case, ENGINES)?;
     }
     Ok(())
 }

@@ -35,9 +35,10 @@ fn in_memory_that_may_end_automata(rt: HostRuntime) {
     }
 }
 
-/// Asserts that a builder that was refused an extension keeps the patterns before the refused one, and may be extended further on.
-fn extends<T: Abort>(rt: &T, builder: &mut Builder) {
-    if builder.try_extend(PATTERNS).is_err() {
+/// Asserts that a builder has all patterns; or that it was refused an extension, keeps the patterns before the refused one, and may be
+/// extended further on.
+fn extends<T: Abort>(rt: &T, builder: &mut Builder, refused: bool) {
+    if refused {
         let kept = builder.len();
         assert!(rt; kept < 3);
         for pattern in PATTERNS.iter().skip(kept) {
@@ -77,7 +78,12 @@ fn prefilter_finds_in_copies<T: Abort>(rt: &T, alloc: Global, prefilter: &Prefil
 /// An `Err` says that memory ended: there is no other. What was built is there, since packed search and a prefilter serve the patterns.
 #[test]
 fn in_memory_that_may_end_literals(rt: HostRuntime) {
-    extends(&rt, &mut Builder::new(rt.alloc()));
+    let mut builder = Builder::new(rt.alloc());
+    let refused = builder.try_extend(PATTERNS).is_err();
+    extends(&rt, &mut builder, refused);
+    let mut builder = Builder::new(rt.alloc());
+    let refused = builder.extend(PATTERNS).is_err();
+    extends(&rt, &mut builder, refused);
     if let Ok(built) = &searcher(rt.alloc(), PATTERNS, packed::MatchKind::LeftmostLongest) {
         assert!(rt; built.is_some());
         if let Some(searcher) = built {

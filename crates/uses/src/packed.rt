@@ -17,6 +17,16 @@ fn add_bytes<T: Abort>(rt: &T, builder: &mut Builder, count: u8) {
     }
 }
 
+/// Patterns of which one is empty.
+const ONE_EMPTY: &[&[u8]] = &[b"foo", b"", b"bar"];
+
+/// Adds patterns, one call for each.
+fn add_each<T: Abort>(rt: &T, builder: &mut Builder, patterns: &[&[u8]]) {
+    for pattern in patterns {
+        assert!(rt; builder.add(*pattern).is_ok());
+    }
+}
+
 /// 1 to 128 patterns are served, none of them empty. What is not served drops all patterns, and those that come later.
 #[test]
 fn what_packed_search_serves(rt: HostRuntime) {
@@ -29,10 +39,15 @@ fn what_packed_search_serves(rt: HostRuntime) {
     add_bytes(&rt, &mut builder, 1);
     holds(&rt, &builder, 0, false);
     let mut builder = Builder::new(rt.alloc());
-    let added = builder.extend(&[b"foo", b"", b"bar"]).is_ok();
+    let added = builder.extend(ONE_EMPTY).is_ok();
     assert!(rt; added);
     holds(&rt, &builder, 0, false);
+    let mut builder = Builder::new(rt.alloc());
+    add_each(&rt, &mut builder, ONE_EMPTY);
+    holds(&rt, &builder, 0, false);
 }
+
+const A: &[u8] = b"a";
 
 /// Asserts whether there is a searcher of these patterns.
 fn is_made<T: Abort>(rt: &T, alloc: Global, patterns: &[&[u8]], serves: bool) {
@@ -62,7 +77,7 @@ fn builds_longest<T: Abort>(rt: &T, alloc: Global, builder: &Builder) {
 
 /// Adds the three patterns.
 fn fill<T: Abort>(rt: &T, builder: &mut Builder) {
-    assert!(rt; builder.add(b"abc").is_ok());
+    add_each(rt, builder, &[b"abc"]);
     assert!(rt; builder.try_extend(&[b"de", b"fghi"]).is_ok());
     assert_eq!(rt; (builder.len(), builder.minimum_len()), (3, 2));
 }
@@ -85,4 +100,6 @@ fn what_is_copied(rt: HostRuntime) {
     is_made(&rt, rt.alloc(), &[], false);
     is_made(&rt, rt.alloc(), &[b"a", b""], false);
     is_made(&rt, rt.alloc(), &[b"a", b"b"], true);
+    is_made(&rt, rt.alloc(), &[A; 128], true);
+    is_made(&rt, rt.alloc(), &[A; 129], false);
 }

@@ -1,7 +1,6 @@
 //! Searches that are refused, in which order the reasons count, and that nothing else is refused.
 use crate::answers::same;
 use crate::engines::{Asked, Case, Letters, all};
-use crate::one_start::OneStart;
 use ac_input::search::{Anchored, Input, MatchKind, StartKind};
 use ac_noncontiguous::{Automaton, MatchError, MatchErrorKind, OverlappingState, ReplaceError};
 use std::alloc::Global;
@@ -89,21 +88,12 @@ impl Case for Row {
         rt: &T,
         alloc: Global,
         automaton: &A,
+        starts: StartKind,
     ) -> Result<(), Fail> {
-        let anchored = match self.starts {
-            StartKind::Both => return is_refused(rt, alloc, automaton, self),
-            StartKind::Unanchored => Anchored::No,
-            StartKind::Anchored => Anchored::Yes,
-        };
-        is_refused(
-            rt,
-            alloc,
-            &OneStart {
-                automaton,
-                anchored,
-            },
-            self,
-        )
+        if starts != self.starts {
+            return Ok(());
+        }
+        is_refused(rt, alloc, automaton, self)
     }
 }
 

@@ -4,9 +4,9 @@
 use crate::answers::Asks::{self, List, Walk};
 use crate::answers::Text::{self, Bound, Whole};
 use crate::engines::Letters::{self, Cased, Folded};
-use crate::engines::{Asked, Case, Pick, each, once};
-use crate::rows::{Row, Table, hold};
-use ac_input::search::{Input, MatchKind};
+use crate::engines::{Asked, Case, ENGINES, Engine, FEW, FIRST, Pick, each};
+use crate::rows::{Row, hold, table_of};
+use ac_input::search::{Input, MatchKind, StartKind};
 use ac_noncontiguous::Automaton;
 use std::alloc::{AllocError, Global};
 use std::process::Abort;
@@ -21,7 +21,7 @@ const KINDS: [MatchKind; 3] = [
 /// A letter, and how often it stands in a row.
 type Run = (u8, usize);
 
-/// Patterns and a text, as runs of letters, and what a walk gives for each kind.
+/// Patterns and a text, as runs of letters, and what a walk gives for each kind, and the listing for the standard one.
 struct Long {
     shows: &'static str,
     patterns: &'static [&'static [Run]],
@@ -106,21 +106,12 @@ fn rows_hold<T: Abort>(
     asked: Asked<'_>,
     asks: Asks,
     rows: &[Row<'_>],
+    engines: &[Engine],
 ) -> Result<(), Fail> {
-    let Asked {
-        patterns,
-        kind,
-        letters,
-    } = asked;
-    let table = Table {
-        patterns,
-        kind,
-        letters,
-        rows,
-    };
+    let table = table_of(asked, rows);
     match asks {
-        Walk => hold(rt, alloc, &[table]),
-        List => each(rt, alloc, &table),
+        Walk => hold(rt, alloc, &[table], engines),
+        List => each(rt, alloc, &table, engines),
     }
 }
 
@@ -132,6 +123,7 @@ fn text_holds<'a, T: Abort>(
     asks: Asks,
     text: Text<'a>,
     gives: &'a [Pick],
+    engines: &[Engine],
 ) -> Result<(), Fail> {
     let rows = [Row {
         shows: "in a long run of letters",
@@ -139,7 +131,7 @@ fn text_holds<'a, T: Abort>(
         text,
         gives,
     }];
-    rows_hold(rt, alloc, asked, asks, &rows)
+    rows_hold(rt, alloc, asked, asks, &rows, engines)
 }
 
 /// Asserts what a walk over the text gives, for each kind.
@@ -150,6 +142,7 @@ fn each_kind_holds<'p, 'a, T: Abort>(
     letters: Letters,
     text: Text<'a>,
     gives: &'a [Pick],
+    engines: &[Engine],
 ) -> Result<(), Fail> {
     for kind in KINDS {
         let asked = Asked {
@@ -157,7 +150,7 @@ fn each_kind_holds<'p, 'a, T: Abort>(
             kind,
             letters,
         };
-        text_holds(rt, alloc, asked, Walk, text, gives)?;
+        text_holds(rt, alloc, asked, Walk, text, gives, engines)?;
     }
     Ok(())
 }
@@ -172,7 +165,13 @@ fn long_holds<T: Abort>(rt: &T, alloc: Global, long: &Long) -> Result<(), Fail> 
     } else {
         Whole(&text)
     };
-    each_kind_holds(rt, alloc, &lent, long.letters, text, long.gives)
+    let standard = Asked {
+        patterns: &lent,
+        kind: MatchKind::Standard,
+        letters: long.letters,
+    };
+    text_holds(rt, alloc, standard, List, text, long.gives, ENGINES)?;
+    each_kind_holds(rt, alloc, &lent, long.letters, text, long.gives, ENGINES)
 }
 
 #[test]
@@ -210,7 +209,7 @@ fn growing_hold<T: Abort>(
         kind,
         letters: Cased,
     };
-    text_holds(rt, alloc, asked, asks, Whole(&LETTERS), gives)
+    text_holds(rt, alloc, asked, asks, Whole(&LETTERS), gives, FEW)
 }
 
 /// One occurrence of the first pattern at each place.
@@ -256,7 +255,15 @@ const LONGEST_OF_129: &[Pick] = &[
 /// Asserts that a short pattern is found at each place beside a longer one that never comes to its end.
 fn short_one_holds<T: Abort>(rt: &T, alloc: Global, gives: &[Pick]) -> Result<(), Fail> {
     let longer = spelled(alloc, &[(b'a', 20), (b'b', 1)])?;
-    each_kind_holds(rt, alloc, &[b"a", &longer], Cased, Whole(&LETTERS), gives)
+    each_kind_holds(
+        rt,
+        alloc,
+        &[b"a", &longer],
+        Cased,
+        Whole(&LETTERS),
+        gives,
+        FEW,
+    )
 }
 
 #[test]
@@ -296,6 +303,7 @@ impl Case for Endless<'_> {
         rt: &T,
         _alloc: Global,
         automaton: &A,
+        _starts: StartKind,
     ) -> Result<(), Fail> {
         let found = automaton.try_find(&Input::new(self.text))?;
         assert!(rt; found.is_none());
@@ -311,7 +319,7 @@ fn never_ends<T: Abort>(rt: &T, alloc: Global, pattern: &[u8], text: &[u8]) -> R
             kind,
             text,
         };
-        once(rt, alloc, &endless)?;
+        each(rt, alloc, &endless, FIRST)?;
     }
     Ok(())
 }

@@ -2,10 +2,10 @@
 //!
 //! A match within a character of a text is passed over there, and replaced among bytes.
 use crate::engines::Letters::{Cased, Folded, Paired};
-use crate::engines::{Asked, Case, Letters, all};
+use crate::engines::{Asked, Case, Letters, all, serves};
 use ac_automaton::error::ReplaceError;
 use ac_input::search::MatchKind::{LeftmostFirst, LeftmostLongest, Standard};
-use ac_input::search::{Match, MatchKind};
+use ac_input::search::{Anchored, Match, MatchKind, StartKind};
 use ac_noncontiguous::Automaton;
 use std::alloc::{AllocError, Global};
 use std::process::Abort;
@@ -163,7 +163,11 @@ impl Case for Row {
         rt: &T,
         alloc: Global,
         automaton: &A,
+        starts: StartKind,
     ) -> Result<(), Fail> {
+        if !serves(starts, Anchored::No) {
+            return Ok(());
+        }
         if self.until.is_none() {
             self.is_made(rt, alloc, automaton)?;
         }

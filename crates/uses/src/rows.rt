@@ -1,14 +1,12 @@
 //! Searches of small texts, row by row, and what they give.
 //!
 //! The rows stand in tables, one for each list of patterns, by subject. Each row is run by the plain program, by packed search where
-//! that serves, and by each automaton: by its own calls, by a reference to it, and by an automaton over it that has a start for the row's
-//! search alone.
+//! that serves, and by each automaton that has a start for it: by its own calls, and by a reference to it.
 use crate::answers::{
     Asks, Text, by_plain, collected, input, same, searcher, shows_in_turn, walks_on,
 };
-use crate::engines::{Asked, Case, Letters, Pick, each, pick};
-use crate::one_start::OneStart;
-use ac_input::search::{Input, MatchKind, Span};
+use crate::engines::{Asked, Case, ENGINES, Engine, Letters, Pick, each, pick, serves};
+use ac_input::search::{Input, MatchKind, Span, StartKind};
 use ac_literal::packed::{self, Searcher};
 use ac_noncontiguous::{Automaton, OverlappingState};
 use std::alloc::Global;
@@ -90,20 +88,29 @@ fn row_holds<T: Abort, A: Automaton>(
     }
 }
 
-/// Asserts what the row says of an automaton, of a reference to it, and of one with the start of the row's search alone.
+/// Asserts what the row says of an automaton, and of a reference to it, if there is a start for it among these.
 pub fn row_holds_of_each<T: Abort, A: Automaton>(
     rt: &T,
     alloc: Global,
     automaton: &A,
+    starts: StartKind,
     row: &Row<'_>,
 ) -> Result<(), Fail> {
-    let one_start = OneStart {
-        automaton,
-        anchored: input(&row.text)?.get_anchored(),
-    };
+    if !serves(starts, input(&row.text)?.get_anchored()) {
+        return Ok(());
+    }
     row_holds(rt, alloc, automaton, row)?;
-    row_holds(rt, alloc, &automaton, row)?;
-    row_holds(rt, alloc, &one_start, row)
+    row_holds(rt, alloc, &automaton, row)
+}
+
+/// The table of these rows for what automata are built of.
+pub fn table_of<'a>(asked: Asked<'a>, rows: &'a [Row<'a>]) -> Table<'a> {
+    Table {
+        patterns: asked.patterns,
+        kind: asked.kind,
+        letters: asked.letters,
+        rows,
+    }
 }
 
 impl Case for Table<'_> {
@@ -120,9 +127,10 @@ impl Case for Table<'_> {
         rt: &T,
         alloc: Global,
         automaton: &A,
+        starts: StartKind,
     ) -> Result<(), Fail> {
         for row in self.rows {
-            row_holds_of_each(rt, alloc, automaton, row)?;
+            row_holds_of_each(rt, alloc, automaton, starts, row)?;
         }
         Ok(())
     }
@@ -194,35 +202,40 @@ pub fn packed_table_holds<T: Abort>(rt: &T, alloc: Global, table: &Table<'_>) ->
     Ok(())
 }
 
-/// Asserts what each table says: of the plain program, of packed search, and of each automaton.
-pub fn hold<T: Abort>(rt: &T, alloc: Global, tables: &[Table<'_>]) -> Result<(), Fail> {
+/// Asserts what each table says: of the plain program, of packed search, and of each of these automata.
+pub fn hold<T: Abort>(
+    rt: &T,
+    alloc: Global,
+    tables: &[Table<'_>],
+    engines: &[Engine],
+) -> Result<(), Fail> {
     for table in tables {
         for row in table.rows {
             plain_holds(rt, alloc, table.asked(), row)?;
         }
         packed_table_holds(rt, alloc, table)?;
-        each(rt, alloc, table)?;
+        each(rt, alloc, table, engines)?;
     }
     Ok(())
 }
 
 #[test]
 fn one_inside_another(rt: HostRuntime) -> Result<(), Fail> {
-    hold(&rt, rt.alloc(), inside::TABLES)
+    hold(&rt, rt.alloc(), inside::TABLES, ENGINES)
 }
 
 #[test]
 fn which_of_several(rt: HostRuntime) -> Result<(), Fail> {
-    hold(&rt, rt.alloc(), several::TABLES)?;
-    hold(&rt, rt.alloc(), words::TABLES)
+    hold(&rt, rt.alloc(), several::TABLES, ENGINES)?;
+    hold(&rt, rt.alloc(), words::TABLES, ENGINES)
 }
 
 #[test]
 fn empty_patterns_and_none(rt: HostRuntime) -> Result<(), Fail> {
-    hold(&rt, rt.alloc(), empty::TABLES)
+    hold(&rt, rt.alloc(), empty::TABLES, ENGINES)
 }
 
 #[test]
 fn bytes_taken_for_the_same(rt: HostRuntime) -> Result<(), Fail> {
-    hold(&rt, rt.alloc(), bytes::TABLES)
+    hold(&rt, rt.alloc(), bytes::TABLES, ENGINES)
 }

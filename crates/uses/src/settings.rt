@@ -4,7 +4,7 @@ use crate::answers::Text::Whole;
 use crate::engines::Pick;
 use crate::rows::{Row, row_holds_of_each};
 use ac_input::pairing::Pairing;
-use ac_input::search::MatchKind;
+use ac_input::search::{MatchKind, StartKind};
 use ac_noncontiguous::{Automaton, Builder, NFA};
 use std::alloc::Global;
 use std::process::Abort;
@@ -18,7 +18,7 @@ fn gives<T: Abort>(rt: &T, alloc: Global, nfa: &NFA, want: &[Pick]) -> Result<()
         text: Whole(b"A0 a1"),
         gives: want,
     };
-    row_holds_of_each(rt, alloc, nfa, &row)
+    row_holds_of_each(rt, alloc, nfa, StartKind::Both, &row)
 }
 
 /// Asserts of what kind the automaton is, whether it holds a prefilter, and what it gives.

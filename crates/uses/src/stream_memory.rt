@@ -3,12 +3,12 @@
 //! `rt try --test --fail-alloc N` refuses the Nth allocation. Where a call is refused memory, nothing was read or written by then; what
 //! was appended to a text stays.
 use crate::devices::{AMPLE, Given, Outcome, Sink, Source, Tally};
-use crate::engines::{Asked, Case, Letters, where_built};
+use crate::engines::{Asked, Case, FIRST, Letters, each};
 use crate::replacement::append;
 use crate::streams::search_outcome;
 use ac_automaton::error::ReplaceError;
 use ac_automaton::watched::Watched;
-use ac_input::search::MatchKind;
+use ac_input::search::{MatchKind, StartKind};
 use ac_input::steps::Steps;
 use ac_noncontiguous::Automaton;
 use std::alloc::{AllocError, Global};
@@ -76,11 +76,16 @@ impl Case for InMemory {
         }
     }
 
+    fn in_little_memory(&self) -> bool {
+        true
+    }
+
     fn check<T: Abort, A: Automaton>(
         &self,
         rt: &T,
         alloc: Global,
         automaton: &A,
+        _starts: StartKind,
     ) -> Result<(), Fail> {
         let tally = Tally::new();
         let outcome = search_outcome(alloc, automaton, &tally);
@@ -97,5 +102,5 @@ impl Case for InMemory {
 
 #[test]
 fn in_memory_that_may_end(rt: HostRuntime) -> Result<(), Fail> {
-    where_built(&rt, rt.alloc(), &InMemory)
+    each(&rt, rt.alloc(), &InMemory, FIRST)
 }

@@ -8,11 +8,11 @@ ghost use Rattle.ac_automaton.specs.Watched.{has_ended};
 
 use crate::devices::{AMPLE, Given, Outcome, Room, Sink, Source, Tally};
 use crate::engines::Letters::{Cased, Folded, Paired};
-use crate::engines::{Asked, Case, Letters, all, once};
+use crate::engines::{Asked, Case, FIRST, Letters, all, each, serves};
 use ac_automaton::error::{MatchErrorKind, StreamError};
 use ac_automaton::watched::{Watched, write_whole};
-use ac_input::search::Match;
 use ac_input::search::MatchKind::Standard;
+use ac_input::search::{Anchored, Match, StartKind};
 use ac_noncontiguous::Automaton;
 use std::alloc::Global;
 use std::io::{ErrorKind, Read, Write};
@@ -169,7 +169,11 @@ impl Case for Row {
         rt: &T,
         alloc: Global,
         automaton: &A,
+        starts: StartKind,
     ) -> Result<(), Fail> {
+        if !serves(starts, Anchored::No) {
+            return Ok(());
+        }
         for by in self.by {
             self.writes(rt, alloc, automaton, *by, self.room, self.written)?;
         }
@@ -454,7 +458,11 @@ impl Case for Fronts {
         rt: &T,
         alloc: Global,
         automaton: &A,
+        starts: StartKind,
     ) -> Result<(), Fail> {
+        if !serves(starts, Anchored::No) {
+            return Ok(());
+        }
         let whole = self.0.written.first().ok_or("a text")?;
         for (bytes, by) in self.0.by.iter().enumerate() {
             let front = whole.get(..bytes).ok_or("a front of the text")?;
@@ -522,7 +530,7 @@ const FRONTS: &[Fronts] = &[
 fn written(rt: HostRuntime) -> Result<(), Fail> {
     all(&rt, rt.alloc(), ROWS)?;
     for row in LONG {
-        once(&rt, rt.alloc(), row)?;
+        each(&rt, rt.alloc(), row, FIRST)?;
     }
     all(&rt, rt.alloc(), FRONTS)
 }

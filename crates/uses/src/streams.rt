@@ -7,12 +7,11 @@ ghost use Rattle.ac_automaton.specs.Watched.{has_ended};
 
 use crate::devices::{AMPLE, Given, Outcome, Sink, Source, Tally};
 use crate::engines::Letters::{Cased, Folded, Paired};
-use crate::engines::{Asked, Case, Letters, Pick, all, once, pick};
-use crate::one_start::OneStart;
+use crate::engines::{Asked, Case, FIRST, Letters, Pick, all, each, pick, serves};
 use ac_automaton::error::{MatchErrorKind, StreamError};
 use ac_automaton::stream::StreamFindIter;
 use ac_automaton::watched::Watched;
-use ac_input::search::{Anchored, MatchKind};
+use ac_input::search::{Anchored, MatchKind, StartKind};
 use ac_input::steps::Steps;
 use ac_noncontiguous::Automaton;
 use std::alloc::Global;
@@ -106,16 +105,15 @@ impl Case for Row {
         rt: &T,
         alloc: Global,
         automaton: &A,
+        starts: StartKind,
     ) -> Result<(), Fail> {
+        if !serves(starts, Anchored::No) {
+            return Ok(());
+        }
         let text = self.text.concat(alloc)?;
-        let free = OneStart {
-            automaton,
-            anchored: Anchored::No,
-        };
         for most in self.most {
             self.gives(rt, alloc, automaton, &text, *most, false)?;
             self.gives(rt, alloc, automaton, &text, *most, true)?;
-            self.gives(rt, alloc, &free, &text, *most, false)?;
         }
         Ok(())
     }
@@ -403,7 +401,7 @@ fn streams(rt: HostRuntime) -> Result<(), Fail> {
     all(&rt, rt.alloc(), ROWS)?;
     all(&rt, rt.alloc(), STARTS)?;
     all(&rt, rt.alloc(), SCRIPTED)?;
-    once(&rt, rt.alloc(), &LONG)
+    each(&rt, rt.alloc(), &LONG, FIRST)
 }
 
 /// Makes a search of a stream, and drops it.
@@ -484,14 +482,14 @@ impl Case for Refused {
         rt: &T,
         alloc: Global,
         automaton: &A,
+        starts: StartKind,
     ) -> Result<(), Fail> {
-        let bound = OneStart {
-            automaton,
-            anchored: Anchored::Yes,
+        let why = if serves(starts, Anchored::No) {
+            self.why
+        } else {
+            MatchErrorKind::InvalidInputUnanchored
         };
-        let unanchored = MatchErrorKind::InvalidInputUnanchored;
-        is_refused(rt, alloc, automaton, self.why, self.shows)?;
-        is_refused(rt, alloc, &bound, unanchored, self.shows)
+        is_refused(rt, alloc, automaton, why, self.shows)
     }
 }
 

@@ -93,7 +93,7 @@ impl Trie {
     }
 
     /// The child of the state for the byte, if it is the first one or a hint tells it.
-    pub(super) fn known(&self, of: StateID, byte: u8) -> Option<StateID>
+    pub(crate) fn known(&self, of: StateID, byte: u8) -> Option<StateID>
         requires { of < length self.now.states.items }
         ensures { (id : ℕ) → result ≡ Some id → IsChildFor self.now.states.items of byte id }
     {

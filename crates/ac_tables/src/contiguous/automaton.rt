@@ -1,9 +1,14 @@
-//! Searching with the automaton.
-ghost use Rattle.std.specs.Prelude.{◌<◌, false, take};
+//! Searching with the contiguous automaton.
+//!
+//! A look-up loads the kind of the state and the class of the byte, and then one word, or some more where the classes are packed.
+//! Where no transition has the byte, the failures are followed, out of the loop. One comparison tells all states at which there is more
+//! to do than to read on. Where few bytes lead out of the start, a search that stands there finds the next of them by `memchr`.
+ghost use Rattle.std.specs.Prelude.{◌≡◌, ◌<◌, false};
+ghost use Rattle.ac_automaton.specs.Automaton.{IsReached};
 ghost use Rattle.ac_input.specs.Input.{is_anchored};
-ghost use Rattle.ac_automaton.specs.Automaton.{IsReached, Advances, IsReadCost, is_matching};
-ghost use Rattle.ac_tables.specs.ContiguousReads.{built_as, matches_at, is_special_at, IsRead, IsMet, LeadsNext};
-ghost use Rattle.ac_tables.specs.WordReads.{StepsTo, FailsTo};
+ghost use Rattle.ac_noncontiguous.specs.Reads.{is_between};
+ghost use Rattle.ac_tables.specs.ContiguousReads.{IsRead, ReadsTo, IsMet, LeadsNext};
+ghost use Rattle.ac_tables.specs.WordReads.{StepsTo, IsFailOf};
 
 use crate::contiguous::NFA;
 use crate::contiguous::layout::NOWHERE;
@@ -14,12 +19,21 @@ use ac_input::search::{Anchored, MatchKind};
 use ac_input::steps::Steps;
 use ac_literal::prefilter::Prefilter;
 
+/// Whether the state is between two numbers, these included.
+#[inline(always)]
+fn is_between(first: u32, last: u32, sid: StateID) -> bool
+    ensures { result ≡ is_between first last sid }
+{
+    let at = sid.as_u32();
+    first <= at && at <= last
+}
+
 impl NFA {
     /// The state that is asked where no transition has the byte.
     #[inline]
     fn fail(&self, sid: StateID) -> StateID
         requires { IsMet self.now false sid }
-        ensures { FailsTo self.now.table sid result }
+        ensures { IsFailOf self.now.table sid result }
     {
         StateID::must(self.table.words[sid.as_usize() + 1] as usize)
     }
@@ -61,75 +75,66 @@ impl NFA {
         }
     }
 
-    /// Reads on as `advance`, and passes quickly over the bytes that leave it in the start, which is no special state.
-    ///
-    /// It stays out of `advance`, whose other loop is the slower for it.
-    #[inline(never)]
-    fn skip_to_special(
+    /// Reads on to the first state between two numbers, these included.
+    #[inline(always)]
+    fn read_on(
         &self,
         anchored: Anchored,
         sid: StateID,
         bytes: &[u8],
-        steps: &mut Steps,
-    ) -> Advance
-        requires reached { IsReached (IsRead self.now anchored) sid }
-        requires apart { self.now.max_special < self.now.table.start }
-        ensures goes { Advances (IsRead self.now anchored) (is_special_at self.now) sid bytes.now result }
-        ensures cost { IsReadCost (built_as self.now) (IsRead self.now) anchored sid
-            (take result.taken bytes.now) steps.old steps.new }
-    {
-        let last = self.max_special.as_u32();
-        let mut current = sid;
-        let mut read = self.starters.pass(self.table.start, current, bytes, steps);
-        while read < bytes.len() {
-            current = self.next_state_counted(anchored, current, bytes[read], steps);
-            read += 1;
-            if current.as_u32() <= last {
-                return Advance {
-                    sid: current,
-                    taken: read,
-                };
-            }
-            read += self
-                .starters
-                .pass(self.table.start, current, &bytes[read..], steps);
-        }
-        Advance {
-            sid: current,
-            taken: read,
-        }
-    }
-
-    /// Reads on as `advance_to_match`, and passes quickly over the bytes that leave it in the start.
-    #[inline(never)]
-    fn skip_to_match(
-        &self,
-        anchored: Anchored,
-        sid: StateID,
-        bytes: &[u8],
+        first: u32,
+        last: u32,
         steps: &mut Steps,
     ) -> Advance
         requires { IsReached (IsRead self.now anchored) sid }
-        ensures goes { Advances (IsRead self.now anchored) (is_matching (matches_at self.now)) sid
-            bytes.now result }
-        ensures cost { IsReadCost (built_as self.now) (IsRead self.now) anchored sid
-            (take result.taken bytes.now) steps.old steps.new }
+        ensures { ReadsTo self.now anchored first last sid bytes.now result steps.old steps.new }
     {
-        let last = self.table.max_match.as_u32();
         let mut current = sid;
-        let mut read = self.starters.pass(self.table.start, current, bytes, steps);
+        for (read, byte) in bytes.iter().enumerate() {
+            current = self.next_state_counted(anchored, current, *byte, steps);
+            if is_between(first, last, current) {
+                return Advance {
+                    sid: current,
+                    taken: read + 1,
+                };
+            }
+        }
+        Advance {
+            sid: current,
+            taken: bytes.len(),
+        }
+    }
+
+    /// The same, and passes quickly over the bytes that leave it in the start.
+    ///
+    /// It stays out of the calls that make it, whose other loops are the slower for it.
+    #[inline(never)]
+    fn skip(
+        &self,
+        anchored: Anchored,
+        sid: StateID,
+        bytes: &[u8],
+        first: u32,
+        last: u32,
+        steps: &mut Steps,
+    ) -> Advance
+        requires reached { IsReached (IsRead self.now anchored) sid }
+        requires past { last < self.now.table.start }
+        ensures { ReadsTo self.now anchored first last sid bytes.now result steps.old steps.new }
+    {
+        let start = self.table.start;
+        let mut current = sid;
+        let mut read = self.starters.pass(start, current, bytes, steps);
         while read < bytes.len() {
             current = self.next_state_counted(anchored, current, bytes[read], steps);
             read += 1;
-            if current.as_u32() <= last && self.is_match(current) {
+            if is_between(first, last, current) {
                 return Advance {
                     sid: current,
                     taken: read,
                 };
             }
-            read += self
-                .starters
-                .pass(self.table.start, current, &bytes[read..], steps);
+            read += self.starters.pass(start, current, &bytes[read..], steps);
         }
         Advance {
             sid: current,
@@ -186,24 +191,11 @@ impl Automaton for NFA {
         bytes: &[u8],
         steps: &mut Steps,
     ) -> Advance {
-        if self.starters.are_few() && self.max_special < self.table.start {
-            return self.skip_to_special(anchored, sid, bytes, steps);
-        }
         let last_special = self.max_special.as_u32();
-        let mut current = sid;
-        for (read, byte) in bytes.iter().enumerate() {
-            current = self.next_state_counted(anchored, current, *byte, steps);
-            if current.as_u32() <= last_special {
-                return Advance {
-                    sid: current,
-                    taken: read + 1,
-                };
-            }
+        if self.starters.are_few() && last_special < self.table.start.as_u32() {
+            return self.skip(anchored, sid, bytes, 0, last_special, steps);
         }
-        Advance {
-            sid: current,
-            taken: bytes.len(),
-        }
+        self.read_on(anchored, sid, bytes, 0, last_special, steps)
     }
 
     fn advance_to_match(
@@ -213,24 +205,11 @@ impl Automaton for NFA {
         bytes: &[u8],
         steps: &mut Steps,
     ) -> Advance {
-        if self.starters.are_few() {
-            return self.skip_to_match(anchored, sid, bytes, steps);
-        }
         let last_match = self.table.max_match.as_u32();
-        let mut current = sid;
-        for (read, byte) in bytes.iter().enumerate() {
-            current = self.next_state_counted(anchored, current, *byte, steps);
-            if current.as_u32() <= last_match && self.is_match(current) {
-                return Advance {
-                    sid: current,
-                    taken: read + 1,
-                };
-            }
+        if self.starters.are_few() && last_match < self.table.start.as_u32() {
+            return self.skip(anchored, sid, bytes, 1, last_match, steps);
         }
-        Advance {
-            sid: current,
-            taken: bytes.len(),
-        }
+        self.read_on(anchored, sid, bytes, 1, last_match, steps)
     }
 
     #[inline]

@@ -54,7 +54,14 @@ fn table_of(
     nfa.states_stand();
     let special = nfa.special();
     let layout = lay_out(alloc, nfa, dense_depth, &classes)?;
-    let words = words(alloc, nfa, dense_depth, &classes, &layout.places, layout.words_len)?;
+    let words = words(
+        alloc,
+        nfa,
+        dense_depth,
+        &classes,
+        &layout.places,
+        layout.words_len,
+    )?;
     Ok(Table {
         alphabet_len: classes.alphabet_len(),
         start: layout.places[special.start_unanchored_id.as_usize()],
@@ -204,11 +211,7 @@ impl Builder {
     ///
     /// Of the settings only [`Builder::dense_depth`] and [`Builder::byte_classes`] count here. It is refused where the first word
     /// of a state would stand past the greatest number, before memory for the words is taken, and where memory ends.
-    pub fn build_from_noncontiguous(
-        &self,
-        alloc: Global,
-        nfa: &nfa::NFA,
-    ) -> Result<NFA, BuildError>
+    pub fn build_from_noncontiguous(&self, alloc: Global, nfa: &nfa::NFA) -> Result<NFA, BuildError>
         ensures made { IfOk result (IsMadeFrom self.now nfa.now) }
         ensures refused { IfErr result (IsRefusedFrom self.now nfa.now) }
     {

@@ -2,7 +2,7 @@
 ghost use Rattle.std.specs.Prelude.{◌≡◌, ◌<◌, ◌≤◌, ℕ, ◌+◌, length, take, drop, slice_get, Some};
 ghost use Rattle.ac_input.specs.declared.primitives.number.TheConstants.{GREATEST};
 ghost use Rattle.ac_automaton.specs.Starters.{SkipsIdle};
-ghost use Rattle.ac_tables.specs.WordReads.{unpacked, IsFirstPlace, IsPlace, IsSparseAt, ClassLeadsTo, StepsTo, IsIdleAt, HasList, list_place, listed_at, transitions_len};
+ghost use Rattle.ac_tables.specs.WordReads.{unpacked, IsFirstPlace, HoldsState, IsSparseAt, ClassLeadsTo, StepsTo, IsIdleAt, HasList, list_place, listed_at, transitions_len};
 
 use crate::contiguous::layout::{DENSE, HEAD, KIND, NOWHERE, ONE, ONE_PATTERN};
 use crate::contiguous::table::Table;
@@ -46,7 +46,7 @@ impl Table {
     /// Where the class leads from a state that keeps so many transitions, with their classes packed.
     #[inline]
     fn step_sparse(&self, sid: StateID, len: usize, class: u8) -> u32
-        requires place { IsPlace self.now sid }
+        requires place { HoldsState self.now sid }
         requires sparse { IsSparseAt self.now sid len }
         ensures { ClassLeadsTo self.now sid class result }
     {
@@ -61,7 +61,7 @@ impl Table {
     /// The word that says where the byte leads from the state by its transitions; 1 where none has it.
     #[inline]
     fn next_word(&self, sid: StateID, byte: u8) -> u32
-        requires { IsPlace self.now sid }
+        requires { HoldsState self.now sid }
         ensures { StepsTo self.now sid byte result }
     {
         let at = sid.as_usize();
@@ -83,7 +83,7 @@ impl Table {
     /// Where the byte leads from the state by its transitions; 1 where none has it.
     #[inline]
     pub(super) fn step(&self, sid: StateID, byte: u8) -> StateID
-        requires { IsPlace self.now sid }
+        requires { HoldsState self.now sid }
         ensures { StepsTo self.now sid byte result }
     {
         StateID::must(self.next_word(sid, byte) as usize)
@@ -93,7 +93,7 @@ impl Table {
 impl Table {
     /// The bytes that lead from the unanchored start to another state. It makes one look-up for each byte.
     pub(super) fn starters(&self) -> Starters
-        requires { IsPlace self.now self.now.start }
+        requires { HoldsState self.now self.now.start }
         ensures { SkipsIdle (IsIdleAt self.now) result }
     {
         if self.start <= self.max_match {

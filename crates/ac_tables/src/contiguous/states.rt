@@ -60,7 +60,7 @@ fn push_words(
     push_state(&parts, classes.alphabet_len(), words)
 }
 
-/// The words of the states, one state after another. There are so many.
+/// The words of the states, one state after another: `words_len` of them.
 pub(super) fn words(
     alloc: Global,
     nfa: &NFA,
@@ -77,7 +77,15 @@ pub(super) fn words(
     let mut words = Vec::with_capacity(alloc, words_len)?;
     for state in 0..nfa.state_len() {
         let sid = StateID::must(state);
-        push_words(nfa, sid, dense_depth, classes, places, &mut edges, &mut words)?;
+        push_words(
+            nfa,
+            sid,
+            dense_depth,
+            classes,
+            places,
+            &mut edges,
+            &mut words,
+        )?;
     }
     Ok(words)
 }

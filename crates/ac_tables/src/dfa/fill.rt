@@ -31,12 +31,12 @@ pub(super) struct Filler<'a> {
 }
 
 impl<'a> Filler<'a> {
-    ghost use Rattle.std.specs.Prelude.{IfOk, ◌≢◌, ◌⊎◌, ◌+◌, ◌*◌, ◌<◌, ◌≤◌, length};
+    ghost use Rattle.std.specs.Prelude.{IfOk, ◌⊎◌, ◌<◌, ◌≤◌, length};
     ghost use Rattle.ac_input.specs.declared.search.Anchored.TheVariants.{No, Yes};
     ghost use Rattle.ac_input.specs.Dfa.{Serves, dfa_states};
-    ghost use Rattle.ac_noncontiguous.specs.ReadCalls.{state_len, fail_in, edges_in, MayBeMet};
-    ghost use Rattle.ac_tables.specs.Filling.{number_in, entry_in, IsRowRight, IsBlank, IsChangedIn, AreWritten, AreFilled, AreRowsUpTo, IsMerged};
-    ghost use Rattle.ac_tables.specs.Filler.{plan_of};
+    ghost use Rattle.ac_noncontiguous.specs.ReadCalls.{state_len, MayBeMet};
+    ghost use Rattle.ac_tables.specs.Filling.{number_in, entry_in, IsRowRight, IsBlank, AreFilled, IsMerged};
+    ghost use Rattle.ac_tables.specs.Filler.{plan_of, HasRows, HasRoom, IsWrittenOver, IsOnlyRow, IsFailureFilled, IsRowFree, ArePairMet, AreAllRows};
 
     /// Where the row of a state begins.
     #[inline]
@@ -62,9 +62,8 @@ impl<'a> Filler<'a> {
     /// Writes the transitions of a state over its row.
     fn write(&self, anchored: Anchored, sid: StateID, trans: &mut [StateID])
         requires kept { sid < state_len self.now.nfa.now }
-        requires room { number_in (plan_of self.now) anchored sid + self.now.numbers.stride ≤ length trans.old }
-        ensures { AreWritten (plan_of self.now) anchored (number_in (plan_of self.now) anchored sid)
-            (edges_in self.now.nfa.now sid) trans.old trans.new }
+        requires room { HasRoom self.now anchored sid trans.old }
+        ensures { IsWrittenOver self.now anchored sid trans.old trans.new }
     {
         let row = self.place(anchored, sid);
         for (byte, next) in self.nfa.iter_trans(sid) {
@@ -75,9 +74,9 @@ impl<'a> Filler<'a> {
     /// Fills the row of a state for unanchored searches, from that of its failure.
     fn fill_unanchored(&self, sid: StateID, trans: &mut [StateID])
         requires met { MayBeMet self.now.nfa.now No sid × (1 < sid) }
-        requires len { length trans.old ≡ dfa_states self.now.numbers.kind (state_len self.now.nfa.now) * self.now.numbers.stride }
-        requires failure { IsRowRight (plan_of self.now) No (fail_in self.now.nfa.now sid) trans.old }
-        ensures alone { IsChangedIn self.now.numbers.stride (number_in (plan_of self.now) No sid) trans.old trans.new }
+        requires len { HasRows self.now trans.old }
+        requires failure { IsFailureFilled self.now sid trans.old }
+        ensures alone { IsOnlyRow self.now No sid trans.old trans.new }
         ensures right { IsRowRight (plan_of self.now) No sid trans.new }
     {
         let row = self.place(Anchored::No, sid);
@@ -89,9 +88,9 @@ impl<'a> Filler<'a> {
     /// Fills the row of a state for anchored searches, which is blank.
     fn fill_anchored(&self, sid: StateID, trans: &mut [StateID])
         requires met { MayBeMet self.now.nfa.now Yes sid × (1 < sid) }
-        requires len { length trans.old ≡ dfa_states self.now.numbers.kind (state_len self.now.nfa.now) * self.now.numbers.stride }
-        requires blank { IsBlank self.now.numbers.stride (number_in (plan_of self.now) Yes sid) trans.old }
-        ensures alone { IsChangedIn self.now.numbers.stride (number_in (plan_of self.now) Yes sid) trans.old trans.new }
+        requires len { HasRows self.now trans.old }
+        requires blank { IsRowFree self.now sid trans.old }
+        ensures alone { IsOnlyRow self.now Yes sid trans.old trans.new }
         ensures right { IsRowRight (plan_of self.now) Yes sid trans.new }
     {
         self.write(Anchored::Yes, sid, trans);
@@ -99,10 +98,10 @@ impl<'a> Filler<'a> {
 
     /// Fills the row of one state for unanchored searches, and that of another for anchored ones, where such are served.
     fn fill(&self, plain: StateID, anchored: StateID, trans: &mut [StateID])
-        requires met { MayBeMet self.now.nfa.now No plain × (1 < plain) × MayBeMet self.now.nfa.now Yes anchored × (1 < anchored) }
-        requires len { length trans.old ≡ dfa_states self.now.numbers.kind (state_len self.now.nfa.now) * self.now.numbers.stride }
-        requires failure { Serves self.now.numbers.kind No → IsRowRight (plan_of self.now) No (fail_in self.now.nfa.now plain) trans.old }
-        requires blank { Serves self.now.numbers.kind Yes → IsBlank self.now.numbers.stride (number_in (plan_of self.now) Yes anchored) trans.old }
+        requires met { ArePairMet self.now plain anchored }
+        requires len { HasRows self.now trans.old }
+        requires failure { Serves self.now.numbers.kind No → IsFailureFilled self.now plain trans.old }
+        requires blank { Serves self.now.numbers.kind Yes → IsRowFree self.now anchored trans.old }
         ensures { AreFilled (plan_of self.now) plain anchored trans.old trans.new }
     {
         match self.numbers.kind {
@@ -133,9 +132,9 @@ impl<'a> Filler<'a> {
 
     /// Fills all rows of a table that is blank.
     pub(super) fn fill_all(&self, trans: &mut [StateID])
-        requires len { length trans.old ≡ dfa_states self.now.numbers.kind (state_len self.now.nfa.now) * self.now.numbers.stride }
+        requires len { HasRows self.now trans.old }
         requires blank { IsBlank (length trans.old) 0 trans.old }
-        ensures { AreRowsUpTo (plan_of self.now) (state_len self.now.nfa.now) (state_len self.now.nfa.now) trans.new }
+        ensures { AreAllRows self.now trans.new }
     {
         let states = self.nfa.state_len();
         let special = self.nfa.special();
@@ -163,8 +162,7 @@ impl<'a> Filler<'a> {
     /// A table of so many rows, filled.
     pub(super) fn filled(&self, alloc: Global, rows: usize) -> Result<Vec<StateID>, AllocError>
         requires { rows ≡ dfa_states self.now.numbers.kind (state_len self.now.nfa.now) }
-        ensures { IfOk result (λ trans. AreRowsUpTo (plan_of self.now)
-            (state_len self.now.nfa.now) (state_len self.now.nfa.now) trans.items) }
+        ensures { IfOk result (λ trans. AreAllRows self.now trans.items) }
     {
         let mut trans = vec![in alloc; StateID::ZERO; rows * self.numbers.stride]?;
         self.fill_all(&mut trans);

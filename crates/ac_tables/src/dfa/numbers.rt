@@ -7,7 +7,8 @@ ghost use Rattle.std.specs.Prelude.{◌≡◌, ◌+◌, ◌-◌, ◌*◌, ◌≤
 ghost use Rattle.ac_input.specs.declared.primitives.number.TheConstants.{GREATEST};
 ghost use Rattle.ac_input.specs.Dfa.{dfa_states};
 ghost use Rattle.ac_input.specs.Input.{is_anchored};
-ghost use Rattle.ac_tables.specs.DfaTable.{row_of, number_of};
+ghost use Rattle.ac_tables.specs.DfaNumbers.{number_at};
+ghost use Rattle.ac_tables.specs.DfaTable.{row_of};
 ghost use Rattle.ac_tables.specs.Filling.{IsOverflow};
 
 use ac_input::primitives::{GREATEST, StateID};
@@ -76,8 +77,8 @@ impl Numbers {
     /// Where the row of a state begins, which is its number.
     #[inline]
     pub(super) fn number(&self, anchored: Anchored, sid: StateID) -> StateID
-        requires { number_of self.now.kind self.now.start self.now.stride (is_anchored anchored) sid ≤ GREATEST }
-        ensures { result ≡ number_of self.now.kind self.now.start self.now.stride (is_anchored anchored) sid }
+        requires { number_at self.now anchored sid ≤ GREATEST }
+        ensures { result ≡ number_at self.now anchored sid }
     {
         StateID::must(self.row(anchored, sid) * self.stride)
     }

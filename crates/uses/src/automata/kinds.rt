@@ -2,6 +2,7 @@
 use super::Leads::{All, Only};
 use super::{Bounds, Kept, State};
 use crate::engines::Letters::Cased;
+use crate::engines::Prefiltering::{Off, On};
 use ac_input::search::MatchKind::{LeftmostFirst, LeftmostLongest, Standard};
 
 const INSIDE: &[&[u8]] = &[b"b", b"abc", b"abcd"];
@@ -12,7 +13,7 @@ pub const KEPT: &[Kept] = &[
         patterns: INSIDE,
         kind: LeftmostLongest,
         letters: Cased,
-        prefilter: (true, true),
+        prefilter: (On, true),
         bounds: Bounds {
             last_match: 5,
             last_special: 7,
@@ -64,7 +65,7 @@ pub const KEPT: &[Kept] = &[
         patterns: INSIDE,
         kind: LeftmostLongest,
         letters: Cased,
-        prefilter: (false, false),
+        prefilter: (Off, false),
         bounds: Bounds {
             last_match: 5,
             last_special: 5,
@@ -80,7 +81,7 @@ pub const KEPT: &[Kept] = &[
         patterns: &[b"", b"ab"],
         kind: Standard,
         letters: Cased,
-        prefilter: (true, false),
+        prefilter: (On, false),
         bounds: Bounds {
             last_match: 5,
             last_special: 5,
@@ -125,7 +126,7 @@ pub const KEPT: &[Kept] = &[
         patterns: &[b"ab", b""],
         kind: LeftmostLongest,
         letters: Cased,
-        prefilter: (true, false),
+        prefilter: (On, false),
         bounds: Bounds {
             last_match: 4,
             last_special: 4,
@@ -170,7 +171,7 @@ pub const KEPT: &[Kept] = &[
         patterns: &[b"", b"ab"],
         kind: LeftmostFirst,
         letters: Cased,
-        prefilter: (true, false),
+        prefilter: (On, false),
         bounds: Bounds {
             last_match: 3,
             last_special: 3,
@@ -192,7 +193,7 @@ pub const KEPT: &[Kept] = &[
         patterns: &[b"Sam", b"Samwise"],
         kind: LeftmostFirst,
         letters: Cased,
-        prefilter: (false, false),
+        prefilter: (Off, false),
         bounds: Bounds {
             last_match: 2,
             last_special: 2,
@@ -223,7 +224,7 @@ pub const KEPT: &[Kept] = &[
         patterns: &[b"a", b"a", b"aa"],
         kind: Standard,
         letters: Cased,
-        prefilter: (false, false),
+        prefilter: (Off, false),
         bounds: Bounds {
             last_match: 3,
             last_special: 3,
@@ -254,7 +255,7 @@ pub const KEPT: &[Kept] = &[
         patterns: &[b"a", b"a", b"aa"],
         kind: LeftmostLongest,
         letters: Cased,
-        prefilter: (false, false),
+        prefilter: (Off, false),
         bounds: Bounds {
             last_match: 3,
             last_special: 3,

@@ -2,6 +2,7 @@
 use super::Leads::{All, Only};
 use super::{Bounds, Kept, State};
 use crate::engines::Letters::Cased;
+use crate::engines::Prefiltering::{Off, On};
 use ac_input::search::MatchKind::Standard;
 
 const INSIDE: &[&[u8]] = &[b"b", b"abc", b"abcd"];
@@ -29,7 +30,7 @@ pub const KEPT: &[Kept] = &[
         patterns: INSIDE,
         kind: Standard,
         letters: Cased,
-        prefilter: (false, false),
+        prefilter: (Off, false),
         bounds: Bounds {
             last_match: 5,
             last_special: 5,
@@ -106,7 +107,7 @@ pub const KEPT: &[Kept] = &[
         patterns: &[b"he", b"she", b"his", b"hers"],
         kind: Standard,
         letters: Cased,
-        prefilter: (false, false),
+        prefilter: (Off, false),
         bounds: Bounds {
             last_match: 5,
             last_special: 5,
@@ -193,7 +194,7 @@ pub const KEPT: &[Kept] = &[
         patterns: &[],
         kind: Standard,
         letters: Cased,
-        prefilter: (true, false),
+        prefilter: (On, false),
         bounds: Bounds {
             last_match: 1,
             last_special: 1,

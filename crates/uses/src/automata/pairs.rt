@@ -2,6 +2,7 @@
 use super::Leads::{All, Only};
 use super::{Bounds, Kept, State};
 use crate::engines::Letters::{Cased, Folded, Paired};
+use crate::engines::Prefiltering::Off;
 use ac_input::search::MatchKind::{LeftmostFirst, Standard};
 
 pub const KEPT: &[Kept] = &[
@@ -10,7 +11,7 @@ pub const KEPT: &[Kept] = &[
         patterns: &[b"aB", b"bC", b"B"],
         kind: Standard,
         letters: Folded,
-        prefilter: (false, false),
+        prefilter: (Off, false),
         bounds: Bounds {
             last_match: 4,
             last_special: 4,
@@ -71,7 +72,7 @@ pub const KEPT: &[Kept] = &[
         patterns: &[b"abc", b"ab", b"abd", b"AB", b"x", b"xy"],
         kind: LeftmostFirst,
         letters: Folded,
-        prefilter: (false, false),
+        prefilter: (Off, false),
         bounds: Bounds {
             last_match: 4,
             last_special: 4,
@@ -109,7 +110,7 @@ pub const KEPT: &[Kept] = &[
         patterns: &[b"0a", b"1a"],
         kind: Standard,
         letters: Paired(&[(0x30, 0x31)]),
-        prefilter: (false, false),
+        prefilter: (Off, false),
         bounds: Bounds {
             last_match: 2,
             last_special: 2,
@@ -154,7 +155,7 @@ pub const KEPT: &[Kept] = &[
         patterns: &[b"b", b"d"],
         kind: Standard,
         letters: Cased,
-        prefilter: (false, false),
+        prefilter: (Off, false),
         bounds: Bounds {
             last_match: 3,
             last_special: 3,

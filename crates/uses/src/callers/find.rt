@@ -1,13 +1,15 @@
 //! Searches for one match.
-ghost use Rattle.std.specs.Prelude.{◌≡◌, ◌↔◌, ◌+◌, ◌-◌, ◌*◌, ◌≤◌, false, length, option_map, IfOk, IfSome, IsTrue};
+ghost use Rattle.std.specs.Prelude.{◌≡◌, ◌↔◌, ◌+◌, ◌-◌, ◌*◌, ◌<◌, ◌≤◌, ℕ, List, false, length, option_map, IfOk, IfSome, IsTrue};
 ghost use Rattle.ac_input.specs.declared.search.MatchKind.TheVariants.{Standard};
 ghost use Rattle.ac_input.specs.Dictionary.{whole};
 ghost use Rattle.ac_input.specs.Input.{IsSpanOf};
+ghost use Rattle.ac_input.specs.Occurrence.{Occurrence, Occurs};
 ghost use Rattle.ac_input.specs.Steps.{looked_of};
 ghost use Rattle.uses.specs.Callers.{BeginsWithPattern, HasOccurrence, IsFirstEnd, LiesIn, first_in};
 
 use ac_automaton::automaton::Automaton;
 use ac_automaton::error::MatchError;
+use ac_input::primitives::PatternID;
 use ac_input::search::{Anchored, Input, Match, Span};
 use ac_input::steps::Steps;
 
@@ -79,6 +81,26 @@ pub fn may_match<A: Automaton>(automaton: &A, text: &[u8]) -> bool
         → IsTrue result }
 {
     text.len() >= automaton.min_pattern_len()
+}
+
+/// How many bytes an occurrence has at most. Who cuts a text keeps so many bytes back, and loses none.
+pub fn most_bytes<A: Automaton>(automaton: &A) -> usize
+    ensures { (text : List ℕ) (o : Occurrence)
+        → Occurs (whole (A.built automaton.now).dictionary text false) o
+        → o.end ≤ o.start + result }
+{
+    automaton.max_pattern_len()
+}
+
+/// The pattern of this number, if there is one.
+pub fn numbered<A: Automaton>(automaton: &A, number: usize) -> Option<PatternID>
+    ensures { IfSome result (λ p. p < length (A.built automaton.now).dictionary.patterns) }
+{
+    if number < automaton.patterns_len() {
+        PatternID::new(number).ok()
+    } else {
+        None
+    }
 }
 
 /// How many bytes the first match has, as many as its pattern.

@@ -1,5 +1,5 @@
 //! Overlapping searches.
-ghost use Rattle.std.specs.Prelude.{◌≡◌, ◌+◌, ◌*◌, ◌≤◌, false, length, slice_get, IfOk};
+ghost use Rattle.std.specs.Prelude.{◌≡◌, ◌↔◌, ◌+◌, ◌*◌, ◌≤◌, false, length, slice_get, IfOk, IsTrue};
 ghost use Rattle.ac_input.specs.declared.search.MatchKind.TheVariants.{Standard};
 ghost use Rattle.ac_input.specs.Dictionary.{whole};
 ghost use Rattle.ac_input.specs.Input.{whole_of};
@@ -9,9 +9,16 @@ ghost use Rattle.ac_automaton.specs.Automaton.{listing_in};
 
 use ac_automaton::automaton::Automaton;
 use ac_automaton::overlapping::OverlappingState;
-use ac_input::search::{Anchored, Input, Match};
+use ac_input::search::{Anchored, Input, Match, MatchKind};
 use ac_input::steps::Steps;
 use std::alloc::{AllocError, Global};
+
+/// Whether the automaton is of the kind that can show all occurrences.
+pub fn can_list<A: Automaton>(automaton: &A) -> bool
+    ensures { IsTrue result ↔ ((A.built automaton.now).dictionary.kind ≡ Standard) }
+{
+    matches!(automaton.match_kind(), MatchKind::Standard)
+}
 
 /// All occurrences in the text, overlapping ones too, each once, by end, start and number.
 pub fn all_occurrences<A: Automaton>(

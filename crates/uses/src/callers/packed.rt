@@ -1,17 +1,20 @@
 //! Packed search and prefilters.
-ghost use Rattle.std.specs.Prelude.{◌≡◌, ◌↔◌, ◌+◌, ◌<◌, ◌≤◌, false, [], ◌∷◌, length, IfOk, IfSome, IsTrue};
+ghost use Rattle.std.specs.Prelude.{◌≡◌, ◌↔◌, ◌+◌, ◌<◌, ◌≤◌, true, false, [], ◌∷◌, length, IfOk, IfSome, IsTrue, Some};
 ghost use Rattle.ac_input.specs.declared.search.MatchKind.TheVariants.{LeftmostFirst, LeftmostLongest};
 ghost use Rattle.ac_input.specs.Computed.{best_of};
 ghost use Rattle.ac_input.specs.Dictionary.{whole};
+ghost use Rattle.ac_input.specs.Pairing.{IsFolded};
 ghost use Rattle.ac_input.specs.Same.{IsUnpaired};
 ghost use Rattle.ac_input.specs.Steps.{scanned_of};
-ghost use Rattle.ac_literal.specs.Packed.{AreServed, bytes_of, in_whole, matches_of, search_kind};
+ghost use Rattle.ac_input.specs.Work.{shortest};
+ghost use Rattle.ac_literal.specs.Packed.{AreServed, added, added_all, bytes_of, in_whole, leftmost_first, matches_of, search_kind};
 ghost use Rattle.uses.specs.Callers.{IsSkip, LiesIn};
 
 use ac_automaton::automaton::Automaton;
+use ac_input::pairing::Pairing;
 use ac_input::search::{Anchored, Input, Match, MatchKind, Span};
 use ac_input::steps::Steps;
-use ac_literal::packed::{self, Config, Searcher};
+use ac_literal::packed::{self, Builder, Config, Searcher};
 use ac_literal::prefilter::{Candidate, Prefilter, PrefilterBuilder};
 use std::alloc::{AllocError, Global};
 
@@ -53,6 +56,66 @@ pub fn longest_match(
     builder.try_extend(patterns)?;
     let searcher = builder.build()?.unwrap();
     Ok(searcher.find(text))
+}
+
+/// A searcher of one pattern: there is one, unless the pattern is empty.
+pub fn of_one(alloc: Global, pattern: &[u8]) -> Result<Option<Searcher>, AllocError>
+    requires { 0 < length pattern.now }
+    ensures { IfOk result (λ made. made ≡ Some (leftmost_first (pattern.now ∷ []))) }
+{
+    let mut builder = Searcher::builder(alloc);
+    builder.add(pattern)?;
+    builder.build()
+}
+
+/// Settings for leftmost-longest matches. The rolling hash alone finds the same.
+pub fn longest_config() -> Config
+    ensures { search_kind result ≡ LeftmostLongest }
+{
+    let mut config = Searcher::config();
+    config
+        .match_kind(packed::MatchKind::LeftmostLongest)
+        .only_rabin_karp(true);
+    config
+}
+
+/// The builder with one pattern more. The one that is lent stays as it is.
+pub fn and(builder: &Builder, pattern: &[u8]) -> Result<Builder, AllocError>
+    ensures { IfOk result (λ more. more ≡ added builder.now pattern.now) }
+{
+    let mut more = builder.clone()?;
+    more.try_add(pattern)?;
+    Ok(more)
+}
+
+/// The builder with these patterns more.
+pub fn and_all(builder: &Builder, patterns: &[&[u8]]) -> Result<Builder, AllocError>
+    ensures { IfOk result (λ more. more ≡ added_all builder.now (bytes_of patterns.now)) }
+{
+    let mut more = builder.clone()?;
+    more.extend(patterns)?;
+    Ok(more)
+}
+
+/// Whether the text is long enough for a match of one of the patterns so far.
+pub fn is_long_enough(builder: &Builder, text: &[u8]) -> bool
+    ensures { IsTrue result ↔ (shortest builder.now.patterns ≤ length text.now) }
+{
+    text.len() >= builder.minimum_len()
+}
+
+/// Whether the builder holds a pattern. One that holds none builds nothing.
+pub fn holds_some(builder: &Builder) -> bool
+    ensures { IsTrue result ↔ (0 < length builder.now.patterns) }
+{
+    builder.len() > 0
+}
+
+/// Whether the searcher prefers the longest match, as one of the leftmost-longest kind does.
+pub fn prefers_longest(searcher: &Searcher) -> bool
+    ensures { IsTrue result ↔ (search_kind searcher.now.kind ≡ LeftmostLongest) }
+{
+    matches!(searcher.match_kind(), packed::MatchKind::LeftmostLongest)
 }
 
 /// The match of a part of the text. It lies in that part.
@@ -106,6 +169,16 @@ pub fn skip(prefilter: &Prefilter, text: &[u8]) -> Option<usize>
     }
 }
 
+/// How many bytes a search may skip, by the prefilter that the automaton holds.
+pub fn own_skip<A: Automaton>(automaton: &A, text: &[u8]) -> Option<usize>
+    ensures { IsSkip (whole (A.built automaton.now).dictionary text.now false) result }
+{
+    match automaton.prefilter() {
+        Some(prefilter) => skip(prefilter, text),
+        None => Some(0),
+    }
+}
+
 /// Asks a prefilter, which scans for a byte at no place twice.
 pub fn ask_counted(prefilter: &Prefilter, text: &[u8], steps: &mut Steps) -> Candidate
     ensures { scanned_of steps.new ≤ scanned_of steps.old + length text.now }
@@ -126,4 +199,26 @@ pub fn prefilter_of(alloc: Global, pattern: &[u8]) -> Result<Prefilter, AllocErr
     builder.try_add(pattern)?;
     let made = builder.build()?;
     Ok(made.unwrap())
+}
+
+/// A prefilter for searches that take the two cases of an ASCII letter for the same, if there is one.
+pub fn folded_prefilter(alloc: Global, pattern: &[u8]) -> Result<Option<Prefilter>, AllocError>
+    ensures { IfOk result (λ made. IfSome made (λ p. IsFolded true p.dictionary.pairing)) }
+{
+    let mut builder = PrefilterBuilder::new(alloc, MatchKind::Standard);
+    builder.ascii_case_insensitive(true).add(pattern)?;
+    builder.build()
+}
+
+/// A prefilter for searches by this pairing, if there is one.
+pub fn paired_prefilter(
+    alloc: Global,
+    pairing: Pairing,
+    pattern: &[u8],
+) -> Result<Option<Prefilter>, AllocError>
+    ensures { IfOk result (λ made. IfSome made (λ p. p.dictionary.pairing ≡ pairing)) }
+{
+    let mut builder = PrefilterBuilder::new(alloc, MatchKind::Standard);
+    builder.pairing(pairing).add(pattern)?;
+    builder.build()
 }

@@ -1,8 +1,10 @@
 //! Searches of one's own, state by state.
-ghost use Rattle.std.specs.Prelude.{◌≡◌, ◌↔◌, ◌<◌, false, IfOk, IsTrue};
+ghost use Rattle.std.specs.Prelude.{◌≡◌, ◌↔◌, ◌+◌, ◌<◌, true, false, length, IfNone, IfOk, IfSome, IsTrue};
 ghost use Rattle.ac_input.specs.declared.search.MatchKind.TheVariants.{Standard};
 ghost use Rattle.ac_input.specs.Dictionary.{whole};
-ghost use Rattle.ac_automaton.specs.Automaton.{IsState};
+ghost use Rattle.ac_input.specs.Steps.{looked_of};
+ghost use Rattle.ac_automaton.specs.Automaton.{IsDead, IsReached, IsState, PassesPlain};
+ghost use Rattle.ac_automaton.specs.Stream.{NothingIsLive};
 ghost use Rattle.ac_noncontiguous.specs.ReadCalls.{EdgesLeadIn, edges_in, state_len};
 ghost use Rattle.uses.specs.Callers.{EndsWithPattern, IsFirstEnd};
 
@@ -39,6 +41,70 @@ pub fn first_end<A: Automaton>(automaton: &A, text: &[u8], steps: &mut Steps) ->
     let end = automaton.advance_to_match(Anchored::No, start, text, steps);
     if automaton.is_match(end.sid) {
         Some(end.taken)
+    } else {
+        None
+    }
+}
+
+/// Whether an anchored search is over after the text: no pattern can be found any more, whatever follows.
+pub fn is_over<A: Automaton>(automaton: &A, text: &[u8]) -> bool
+    requires { A.supports automaton.now Anchored.Yes }
+    ensures { IsTrue result ↔ IsDead (A.built automaton.now) Anchored.Yes text.now }
+{
+    let mut sid = automaton.start_state(Anchored::Yes).unwrap();
+    for byte in text {
+        sid = automaton.next_state(Anchored::Yes, sid, *byte);
+    }
+    automaton.is_dead(sid)
+}
+
+/// Whether a search may forget the text: it is back at its start, where nothing matches, so that no match begins in the text and
+/// ends after it.
+pub fn may_forget<A: Automaton>(automaton: &A, text: &[u8]) -> bool
+    requires { A.supports automaton.now Anchored.No }
+    ensures { IsTrue result → NothingIsLive (A.built automaton.now).dictionary text.now }
+{
+    let mut sid = automaton.start_state(Anchored::No).unwrap();
+    for byte in text {
+        sid = automaton.next_state(Anchored::No, sid, *byte);
+    }
+    if automaton.is_match(sid) {
+        return false;
+    }
+    automaton.is_start(sid)
+}
+
+/// The state after one more byte, by an automaton that has followed every failure beforehand: it looks at one state.
+pub fn next_by_one_look<A: Automaton>(
+    automaton: &A,
+    anchored: Anchored,
+    sid: StateID,
+    byte: u8,
+    steps: &mut Steps,
+) -> StateID
+    requires reached { IsReached (A.Reaches automaton.now anchored) sid }
+    requires deterministic { (A.built automaton.now).deterministic ≡ true }
+    ensures { looked_of steps.new ≡ looked_of steps.old + 1 }
+{
+    automaton.next_state_counted(anchored, sid, byte, steps)
+}
+
+/// The first state at which a search has more to do than to read on, where the text leads to one; none where it may be read to its end.
+pub fn next_special<A: Automaton>(
+    automaton: &A,
+    anchored: Anchored,
+    sid: StateID,
+    text: &[u8],
+    steps: &mut Steps,
+) -> Option<StateID>
+    requires { IsReached (A.Reaches automaton.now anchored) sid }
+    ensures some { IfSome result (λ to. IsTrue (A.special automaton.now to)) }
+    ensures none { IfNone result (PassesPlain (A.Reaches automaton.now anchored)
+        (A.special automaton.now) sid text.now (length text.now)) }
+{
+    let end = automaton.advance(anchored, sid, text, steps);
+    if automaton.is_special(end.sid) {
+        Some(end.sid)
     } else {
         None
     }

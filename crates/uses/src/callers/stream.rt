@@ -1,20 +1,23 @@
 //! Streams. Readers and writers here are slices and `Vec`s, whose bytes a contract can name.
-ghost use Rattle.std.specs.Prelude.{◌≡◌, ◌↔◌, ◌+◌, ◌*◌, ◌<◌, ◌≤◌, ◌++◌, length, map, take, IfOk, IsTrue, OnOk};
+ghost use Rattle.std.specs.Prelude.{◌≡◌, ◌↔◌, ◌+◌, ◌*◌, ◌<◌, ◌≤◌, ◌++◌, false, length, map, take, IfOk, IfSome, IsTrue, OnOk};
 ghost use Rattle.std.specs.List.{concat};
 ghost use Rattle.ac_input.specs.Steps.{looked_of};
 ghost use Rattle.ac_automaton.specs.Replace.{matches_in};
+ghost use Rattle.ac_automaton.specs.Stream.{AreAllGiven, CanBeCounted, read_by};
+ghost use Rattle.ac_automaton.specs.StreamIter.{progress_of, reader_name, reader_of};
 ghost use Rattle.ac_automaton.specs.StreamReplace.{replaced_in};
-ghost use Rattle.ac_automaton.specs.Watched.{failures_of, inner_of};
+ghost use Rattle.ac_automaton.specs.Watched.{failures_of, has_ended, inner_of};
 
 use ac_automaton::automaton::Automaton;
 use ac_automaton::error::StreamError;
 use ac_automaton::output::Output;
+use ac_automaton::stream::{StreamFindIter, stream_find_iter};
 use ac_automaton::watched::{Watched, write_whole};
 use ac_input::search::Match;
 use ac_input::steps::Steps;
 use std::alloc::{AllocError, Global};
 use std::io;
-use std::io::Write;
+use std::io::{Read, Write};
 
 /// All matches of what a reader gives, one after another.
 pub fn all_matches<A: Automaton>(
@@ -32,6 +35,46 @@ pub fn all_matches<A: Automaton>(
         found.push(next?).map_err(AllocError::from)?;
     }
     Ok(found)
+}
+
+/// The next match of a stream. Where there is one, the reader has not ended.
+pub fn next_match<A: Automaton, R: Read>(
+    matches: &mut StreamFindIter<'_, A, R>,
+) -> Result<Option<Match>, StreamError>
+    requires { has_ended (reader_of matches.old) ≡ false }
+    ensures open { IfOk result
+        (λ found. IfSome found (λ o. has_ended (reader_of matches.new) ≡ false)) }
+    ensures same_reference { reader_name matches.new ≡ reader_name matches.old }
+{
+    match matches.next_counted(&mut Steps::new()) {
+        Some(Ok(found)) => Ok(Some(found)),
+        Some(Err(error)) => Err(error),
+        None => Ok(None),
+    }
+}
+
+/// The first match of a stream. What comes after the read that gave it is left for others to read.
+pub fn first_match<A: Automaton, R: Read>(
+    reader: &mut Watched<R>,
+    automaton: &A,
+    alloc: Global,
+) -> Result<Option<Match>, StreamError>
+    requires { has_ended reader.old ≡ false }
+    ensures { IfOk result (λ found. IfSome found (λ o. has_ended reader.new ≡ false)) }
+{
+    let mut matches = stream_find_iter(reader, automaton, alloc)?;
+    let first = next_match(&mut matches);
+    let _reader = matches.into_reader();
+    first
+}
+
+/// Goes over the matches of what was read that were not given yet. It makes no read.
+pub fn pass_held<A: Automaton, R: Read>(matches: &mut StreamFindIter<'_, A, R>, steps: &mut Steps)
+    requires { CanBeCounted (read_by (progress_of matches.old)) }
+    ensures reader { reader_of matches.new ≡ reader_of matches.old }
+    ensures all { AreAllGiven (progress_of matches.new) }
+{
+    while let Some(_) = matches.next_held_counted(steps) {}
 }
 
 /// Reads the text and writes it with each match exchanged for its pattern's replacement.

@@ -102,6 +102,37 @@ pub const TABLES: &[Table<'static>] = &[
         }],
     },
     Table {
+        patterns: &[b"aZ", b"bcZ", b"cZ"],
+        kind: Standard,
+        letters: Cased,
+        rows: &[
+            Row {
+                shows: "all occurrences, each some bytes before the rare byte that is looked for",
+                asks: List,
+                text: Whole(b"abccZ bcZ"),
+                gives: &[(2, 3, 5), (1, 6, 9), (2, 7, 9)],
+            },
+            Row {
+                shows: "one occurrence, which begins nearer to the rare byte than another pattern would",
+                asks: List,
+                text: Whole(b"aaaZ"),
+                gives: &[(0, 2, 4)],
+            },
+            Row {
+                shows: "an occurrence lies in the span, however far the rare byte stands from where a pattern begins",
+                asks: List,
+                text: Part(b"abcZ", 2, 4),
+                gives: &[(2, 2, 4)],
+            },
+            Row {
+                shows: "matches some bytes before the rare byte",
+                asks: Walk,
+                text: Whole(b"abccZ bcZ"),
+                gives: &[(2, 3, 5), (1, 6, 9)],
+            },
+        ],
+    },
+    Table {
         patterns: &[b"ab", b"b"],
         kind: LeftmostFirst,
         letters: Cased,

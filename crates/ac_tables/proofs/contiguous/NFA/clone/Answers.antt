@@ -1,10 +1,10 @@
 -- A copy of the table has the same states.
-use Rattle.std.proofs.Common.{◌≡◌, List, ℕ, sym, subst, ap, ◌∙◌}
+use Rattle.std.proofs.Common.{List, ℕ, sym, subst, ap, ◌∙◌}
 use Rattle.ac_input.specs.Dictionary.{dictionary_of}
 use Rattle.ac_input.specs.Limits.{IsWithinLimits}
 use Rattle.ac_tables.specs.ContiguousTable.{AreSomeStates}
 use Rattle.ac_tables.specs.ContiguousReads.{dictionary}
-use Rattle.ac_tables.proofs.TableLemmas.{states-copied}
+use Rattle.ac_tables.proofs.WordTableLemmas.{states-copied}
 use Rattle.ac_tables.proofs.contiguous.NFA.clone.Goals as goal
 
 pub from_parts-requires : goal.from_parts-requires

@@ -1,8 +1,8 @@
 -- Either classes serve the dictionary.
-use Rattle.std.proofs.Common.{◌≡◌, List, ℕ, rules}
+use Rattle.std.proofs.Common.{◌≡◌, rules}
 use Rattle.ac_noncontiguous.specs.Reads.{dictionary}
 use Rattle.ac_noncontiguous.specs.ReadCalls.{classes_in}
-use Rattle.ac_tables.proofs.TableLemmas.{own-serve, singles-serve}
+use Rattle.ac_tables.proofs.WordTableLemmas.{own-serve, singles-serve}
 use Rattle.ac_tables.proofs.contiguous.builder.classes_of.Goals as goal
 
 pub returns-in_ok-clone-clause-serve : goal.returns-in_ok-clone-clause-serve

@@ -1,13 +1,11 @@
 -- The words and the places are those of the automaton, and so are the states.
-use Rattle.std.proofs.Common.{◌≡◌, ◌<◌, ◌+◌, ◌∙◌, List, ℕ, slice_index, ap, sym, subst, arith}
+use Rattle.std.proofs.Common.{◌≡◌, ◌<◌, ◌∙◌, slice_index, ap, subst, arith}
 use Rattle.std.proofs.lemmas.List.{get_or_read}
-use Rattle.ac_input.specs.declared.primitives.number.TheConstants.{GREATEST}
 use Rattle.ac_noncontiguous.specs.declared.nfa.read.Special.{Special}
 use Rattle.ac_noncontiguous.specs.ReadCalls.{state_len, special_in, SpecialIn}
 use Rattle.ac_tables.specs.declared.contiguous.table.Table.{Table}
-use Rattle.ac_tables.specs.ContiguousTable.{place_in}
 use Rattle.ac_tables.specs.ContiguousBuild.{IsTableOf}
-use Rattle.ac_tables.proofs.TableLemmas.{specials-within, places-small, some-states}
+use Rattle.ac_tables.proofs.WordTableLemmas.{specials-within, places-small, some-states}
 use Rattle.ac_tables.proofs.contiguous.builder.table_of.Goals as goal
 
 pub returns-clause-made : goal.returns-clause-made

@@ -1,5 +1,5 @@
 -- What was read of the state are its words.
-use Rattle.std.proofs.Common.{◌≡◌, ◌≢◌, ◌<◌, ◌∙◌, List, ℕ, map, length, slice_index, ap, sym, subst, arith}
+use Rattle.std.proofs.Common.{◌≡◌, ◌≢◌, ◌<◌, ◌∙◌, ℕ, map, slice_index, ap, sym, subst, arith}
 use Rattle.std.specs.Prelude.{nat_lt}
 use Rattle.std.specs.List.{All}
 use Rattle.std.proofs.lemmas.List.{get_or_default}
@@ -37,7 +37,7 @@ returns c =
     let fail_in_len = known.fails.within in
     let at = c.as_usize-2.ensures.value ∙ c.fail.ensures.value in
     let fail : c.index-places-as_usize.result ≡ slice_index places (fail_in nfa sid) =
-        c.index-places-as_usize.is ∙ (get_or_default places c.as_usize-2.result c.index-places-as_usize.result 0 (omega (arith, at, fail_in_len, c.requires.places.counted)) ∙ ap (slice_index places) at) in
+    c.index-places-as_usize.is ∙ (get_or_default places c.as_usize-2.result c.index-places-as_usize.result 0 (omega (arith, at, fail_in_len, c.requires.places.counted)) ∙ ap (slice_index places) at) in
     IfOk-weaker c.push_state.result _ _
     (λ _ h. state-written nfa c.args.dense_depth sid c.alphabet_len.result c.index-places-as_usize.result classes places c.args.words.now.items c.push_state.new.words.items c.match_list.result.now c.deref.result.now (nat_lt c.depth.result c.args.dense_depth) c.requires.places stands known c.alphabet_len.ensures.value (ap (λ (k : ℕ). nat_lt k c.args.dense_depth) c.depth.ensures.value) fail edges c.match_list.ensures.value h)
     c.push_state.ensures

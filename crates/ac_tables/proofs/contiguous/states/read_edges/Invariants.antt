@@ -1,4 +1,4 @@
-use Rattle.std.proofs.Common.{◌≡◌, ℕ, List, length, slice_index}
+use Rattle.std.proofs.Common.{length, slice_index}
 use Rattle.ac_noncontiguous.specs.ReadCalls.{edges_in}
 use Rattle.ac_tables.specs.ContiguousBuild.{AreReadTo}
 use Rattle.ac_tables.proofs.contiguous.states.read_edges.Given as goal

@@ -1,5 +1,5 @@
 -- The entries of the transitions, the last one first.
-use Rattle.std.proofs.Common.{◌≡◌, ◌<◌, ◌+◌, ◌-◌, ◌∙◌, ℕ, length, get_or, ap, sym, arith, length-append}
+use Rattle.std.proofs.Common.{◌<◌, ◌-◌, ℕ, length, ap, arith, length-append}
 use Rattle.std.specs.List.{range_with_len}
 use Rattle.std.specs.Prelude.{map, drop}
 use Rattle.std.proofs.lemmas.List.Elements.{All-get_or}

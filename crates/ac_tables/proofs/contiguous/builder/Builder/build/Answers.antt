@@ -1,7 +1,6 @@
 -- It is built from the noncontiguous automaton of the patterns, or refused as that is.
-use Rattle.std.proofs.Common.{◌≡◌, List, ℕ, ap, sym, subst, ◌∙◌, inr}
+use Rattle.std.proofs.Common.{ap, sym, subst, ◌∙◌, inr}
 use Rattle.std.proofs.lemmas.Result.{IfOk-weaker, IfErr-weaker}
-use Rattle.ac_automaton.specs.Automaton.{Built}
 use Rattle.ac_noncontiguous.specs.Builder as noncontiguous
 use Rattle.ac_noncontiguous.specs.Reads as reads
 use Rattle.ac_tables.specs.ContiguousBuilder.{noncontiguous_of}

@@ -1,15 +1,13 @@
 -- What is made keeps what the noncontiguous automaton was built as.
-use Rattle.std.proofs.Common.{◌≡◌, false, List, ℕ, Option, ap, sym, subst, ◌∙◌}
-use Rattle.ac_input.specs.declared.search.MatchKind.{MatchKind}
+use Rattle.std.proofs.Common.{◌≡◌, false, Option, ap, sym, subst, ◌∙◌}
 use Rattle.ac_input.specs.Candidate.{Filter}
-use Rattle.ac_input.specs.Dictionary.{Dictionary, dictionary_of}
+use Rattle.ac_input.specs.Dictionary.{Dictionary}
 use Rattle.ac_input.specs.Limits.{IsWithinLimits}
-use Rattle.ac_automaton.specs.Automaton.{Built}
 use Rattle.ac_noncontiguous.specs.Reads as reads
 use Rattle.ac_tables.specs.declared.contiguous.table.Table.{Table}
 use Rattle.ac_tables.specs.ContiguousTable.{AreWordsOf, AreSomeStates}
 use Rattle.ac_tables.specs.ContiguousBuilder.{Settings, IsMadeFrom}
-use Rattle.ac_tables.proofs.TableLemmas.{same-dictionary}
+use Rattle.ac_tables.proofs.WordTableLemmas.{same-dictionary}
 use Rattle.ac_tables.proofs.contiguous.builder.Builder.build_from_noncontiguous.Goals as goal
 
 pub from_parts-requires : goal.from_parts-requires

@@ -16,26 +16,13 @@ ghost use Rattle.ac_noncontiguous.specs.Order.{IsBreadthFirst};
 ghost use Rattle.ac_noncontiguous.specs.Children.{AreChildrenOfAll};
 ghost use Rattle.ac_noncontiguous.specs.Failures.{IsChildOf, IsToldBy, AreShallower, IsWithinDepth, IsNextByFails, IsFailureByFails, IsFinalIn};
 
-use super::Trie;
-use super::children::Children;
+use crate::links::children::Children;
+use crate::trie::Trie;
 use ac_input::primitives::StateID;
 use ac_input::search::MatchKind;
 use std::alloc::{AllocError, Global};
 
 impl Trie {
-    /// The child of the state for the byte.
-    pub(crate) fn child(&self, of: StateID, byte: u8) -> Option<StateID>
-        requires { of < length self.now.states.items }
-        ensures { IsChildOf self.now.states.items of byte result }
-    {
-        let at = self.place(of, byte).at;
-        if at != StateID::ZERO && self.state(at).byte == byte {
-            Some(at)
-        } else {
-            None
-        }
-    }
-
     /// Where the byte leads from the state, if its failure needn't be asked.
     fn told_by(&self, children: &Children, of: StateID, byte: u8) -> Option<StateID>
         requires within { of < length self.now.states.items }
@@ -80,7 +67,7 @@ impl Trie {
         requires { id < length self.now.states.items }
         ensures { IsFinalIn self.now.kind self.now.states.items id result }
     {
-        self.kind != MatchKind::Standard
+        self.kind() != MatchKind::Standard
             && (self.state(id).is_match || self.state(StateID::ZERO).is_match)
     }
 

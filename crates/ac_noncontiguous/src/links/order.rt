@@ -7,7 +7,7 @@
 ghost use Rattle.std.specs.Prelude.{◌+◌, ◌<◌, length, IfOk};
 ghost use Rattle.ac_noncontiguous.specs.Order.{AreLevels, AreInOrder, IsBreadthFirst};
 
-use super::Trie;
+use crate::trie::Trie;
 use ac_input::primitives::StateID;
 use std::alloc::{AllocError, Global};
 

@@ -7,7 +7,7 @@ ghost use Rattle.ac_noncontiguous.specs.Tree.{byte as byte_of};
 ghost use Rattle.ac_noncontiguous.specs.Children.{AppendsChildren, AreChildrenOfAll};
 ghost use Rattle.ac_noncontiguous.specs.Failures.{IsChildOf};
 
-use super::Trie;
+use crate::trie::Trie;
 use ac_input::primitives::StateID;
 use std::alloc::{AllocError, Global};
 

@@ -6,7 +6,7 @@ ghost use Rattle.std.specs.Prelude.{◌<◌, length, IfOk};
 ghost use Rattle.ac_noncontiguous.specs.Assembly.{AreOwnOf};
 ghost use Rattle.ac_noncontiguous.specs.Own.{AppendsOwn};
 
-use super::Trie;
+use crate::trie::Trie;
 use ac_input::primitives::{PatternID, StateID};
 use std::alloc::{AllocError, Global};
 

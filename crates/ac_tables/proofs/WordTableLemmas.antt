@@ -1,0 +1,122 @@
+-- The table that is made of an automaton.
+use Rattle.std.proofs.Common.{◌≡◌, ℕ, ◌+◌, ◌<◌, List, ◌++◌, ◌∷◌, [], sym, ap, subst, ◌∙◌, ⊎_elim, arith}
+use Rattle.std.specs.Coded.{le_prop, Coded-set, coded_ℕ}
+use Rattle.std.proofs.Math.Logic.{∥∥₁_elim, ∥∥₁_map}
+use Rattle.ac_input.specs.Alphabet.{class}
+use Rattle.ac_input.specs.declared.search.MatchKind.{MatchKind}
+use Rattle.ac_input.specs.Dictionary.{Dictionary, dictionary_of}
+use Rattle.ac_input.specs.Pairing.{IsPairing}
+use Rattle.ac_input.specs.States.{LeadsTo}
+use Rattle.ac_input.proofs.ClassLemmas.{byte-alone}
+use Rattle.ac_input.proofs.SameLemmas.{own_inverse-pairing}
+use Rattle.ac_noncontiguous.specs.declared.nfa.NFA.{NFA}
+use Rattle.ac_noncontiguous.specs.Reads.{dictionary}
+use Rattle.ac_noncontiguous.specs.ReadCalls.{state_len, classes_in, special_in, StandForSome, TextsBegin, SpecialIn, ClassesAreThose, AlikeIn}
+use Rattle.ac_tables.specs.declared.contiguous.table.Table.{Table}
+use Rattle.ac_automaton.specs.Named.{Naming}
+use Rattle.ac_tables.specs.Words.{StateParts, words_of, StandsAt}
+use Rattle.ac_tables.specs.ContiguousTable.{AreStates, AreSomeStates, ArePlacesTooGreat}
+use Rattle.ac_tables.specs.ContiguousBuild.{ArePlaces, AreKnown, AreServing, IsTableOf, IsSameTable}
+use Rattle.ac_tables.proofs.LayLemmas.{Laid, names_in, parts_in}
+use Rattle.ac_tables.proofs.StatesLemmas.{states}
+
+-- ---- classes that serve
+
+-- those of the automaton do
+pub own-serve : (nfa : NFA) (classes : List ℕ) → ClassesAreThose nfa → AlikeIn nfa → classes ≡ classes_in nfa → AreServing (dictionary nfa) classes
+own-serve nfa classes those alike is =
+    subst (AreServing (dictionary nfa)) (sym is)
+    (record {
+      alone = λ b small known c c_small same. ∥∥₁_elim those (Coded-set coded_ℕ c b) (λ are. byte-alone (dictionary nfa) (classes_in nfa) b are small known c c_small same);
+      alike = alike;
+    })
+
+-- and so does each byte alone
+pub singles-serve : (m : Dictionary) (classes : List ℕ) → ((b : ℕ) → b < 256 → class classes b ≡ b) → AreServing m classes
+singles-serve m classes h = record {
+  alone = λ b small _ c c_small same. sym (h c c_small) ∙ (same ∙ h b small);
+  alike = λ b c b_small c_small same anchored text r. subst (λ (x : ℕ). LeadsTo m anchored (text ++ x ∷ []) r) (sym (h b b_small) ∙ (same ∙ h c c_small));
+}
+
+-- ---- places that are read
+
+-- both starts are states, and so is the last one that matches
+pub specials-within : (nfa : NFA) → StandForSome nfa → SpecialIn nfa (special_in nfa) → ((special_in nfa).start_anchored_id < state_len nfa) × ((special_in nfa).max_match_id < state_len nfa)
+specials-within nfa some bounds = (
+  ∥∥₁_elim some le_prop (λ w. (bounds w.0 w.1).within),
+  ∥∥₁_elim some le_prop (λ w.
+      let b = bounds w.0 w.1 in
+      let within = b.within in
+      let next = b.next in
+      ⊎_elim
+      (λ (a : (special_in nfa).max_match_id + 1 ≡ (special_in nfa).start_unanchored_id). omega (arith, a, within, next))
+      (λ (e : (special_in nfa).max_match_id ≡ (special_in nfa).start_anchored_id). omega (arith, e, within))
+      b.last_match),
+)
+
+-- no place is too great where each is a number
+pub places-small : (nfa : NFA) (dense_depth : ℕ) (classes places : List ℕ) → ArePlaces nfa dense_depth classes places → ¬ ArePlacesTooGreat nfa dense_depth classes
+places-small nfa dense_depth classes places h great = let fits = h.fits great.0 great.1 in let past = great.2 in absurd (omega (arith, fits, past))
+
+-- ---- the states
+
+-- whatever texts the states stand for, the table holds them
+pub some-states : (nfa : NFA) (dense_depth : ℕ) (table : Table) (places : List ℕ) → StandForSome nfa → TextsBegin nfa → AreKnown nfa (state_len nfa) → SpecialIn nfa (special_in nfa) → IsPairing (dictionary nfa).pairing → AreServing (dictionary nfa) table.classes → ArePlaces nfa dense_depth table.classes places → IsTableOf nfa dense_depth table → AreSomeStates (dictionary nfa) table
+some-states nfa dense_depth table places some begin known bounds paired serving h made =
+    ∥∥₁_map some (λ w.
+    let laid : Laid nfa w.0 dense_depth table.classes = record {
+      stand = w.1;
+      begin = begin;
+      known = known;
+      bounds = bounds;
+      inverse = own_inverse-pairing (dictionary nfa).pairing paired;
+      serving = serving;
+      fits = h.fits;
+    } in
+    (names_in nfa dense_depth table.classes w.0, parts_in nfa dense_depth table.classes, states nfa dense_depth table w.0 laid made))
+
+-- ---- the dictionary
+
+-- of patterns, pairing and kind that are those of another
+pub same-dictionary : (m : Dictionary) (patterns : List (List ℕ)) (pairing : List ℕ) (kind : MatchKind) → patterns ≡ m.patterns → pairing ≡ m.pairing → kind ≡ m.kind → dictionary_of patterns pairing kind ≡ m
+same-dictionary m patterns pairing kind p q k =
+    ap (λ (x : List (List ℕ)). dictionary_of x pairing kind) p
+    ∙ ap (λ (x : List ℕ). dictionary_of m.patterns x kind) q
+    ∙ ap (λ (x : MatchKind). dictionary_of m.patterns m.pairing x) k
+
+-- ---- copies
+
+-- the states of a table are those of one that has the same words
+words-copied : (m : Dictionary) (old new : Table) (names : Naming) (parts : ℕ → StateParts) → new.words.items ≡ old.words.items → AreStates m old names parts → AreStates m (record old { words = new.words }) names parts
+words-copied m old new names parts same h = record {
+  alphabet = h.alphabet;
+  few_classes = h.few_classes;
+  small = h.small;
+  stand = λ anchored sid met. subst (λ (ws : List ℕ). StandsAt ws sid (words_of old.alphabet_len (parts sid))) (sym same) (h.stand anchored sid met);
+  fits = h.fits;
+  linked = h.linked;
+  dead = h.dead;
+  dead_met = h.dead_met;
+  first = h.first;
+  starting = h.starting;
+  lists = h.lists;
+  none = h.none;
+  few = h.few;
+  matching = h.matching;
+  greatest = h.greatest;
+  before = h.before;
+  between = h.between;
+  past = h.past;
+}
+
+-- and so are those of a copy
+pub states-copied : (m : Dictionary) (old new : Table) → IsSameTable old new → AreSomeStates m old → AreSomeStates m new
+states-copied m old new same some = ∥∥₁_map some (λ w.
+    let names = w.0 in
+    let parts = w.1 in
+    let words = words-copied m old new names parts same.words w.2 in
+    let classes = subst (λ (x : List ℕ). AreStates m (record old { words = new.words; classes = x }) names parts) (sym same.classes) words in
+    let alphabet = subst (λ (x : ℕ). AreStates m (record old { words = new.words; classes = new.classes; alphabet_len = x }) names parts) (sym same.alphabet_len) classes in
+    let start = subst (λ (x : ℕ). AreStates m (record old { words = new.words; classes = new.classes; alphabet_len = new.alphabet_len; start = x }) names parts) (sym same.start) alphabet in
+    let anchored = subst (λ (x : ℕ). AreStates m (record old { words = new.words; classes = new.classes; alphabet_len = new.alphabet_len; start = new.start; start_anchored = x }) names parts) (sym same.start_anchored) start in
+    (names, parts, subst (λ (x : ℕ). AreStates m (record old { words = new.words; classes = new.classes; alphabet_len = new.alphabet_len; start = new.start; start_anchored = new.start_anchored; max_match = x }) names parts) (sym same.max_match) anchored))

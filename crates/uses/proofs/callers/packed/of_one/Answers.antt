@@ -1,0 +1,7 @@
+-- What is built has the pattern that was added.
+use Rattle.std.proofs.Common.{rules}
+use Rattle.uses.proofs.PackedLemmas.{of-one}
+use Rattle.uses.proofs.callers.packed.of_one.Goals as goal
+
+pub returns : goal.returns
+returns c = let one = of-one c.args.pattern.now c.requires in search (rules, one)

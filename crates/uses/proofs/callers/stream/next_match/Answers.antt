@@ -1,0 +1,11 @@
+-- A read that gave some bytes hasn't ended the reader.
+use Rattle.std.proofs.Common.{◌∙◌}
+use Rattle.ac_automaton.specs.StreamIter.{reader_of}
+use Rattle.ac_automaton.specs.Watched.{has_ended}
+use Rattle.ac_automaton.proofs.MovedLemmas.{turns-filled}
+use Rattle.uses.proofs.callers.stream.next_match.Goals as goal
+
+pub returns-in-Some-Ok-clause-open : goal.returns-in-Some-Ok-clause-open
+returns-in-Some-Ok-clause-open g c =
+    let gives = rw c.in-Some-Ok.field-0-is at c.in-Some-Ok.ensures.gives.0 in
+    turns-filled (has_ended (reader_of c.args.matches.now)) _ gives.0 gives.1.read.turns gives.2 ∙ c.requires

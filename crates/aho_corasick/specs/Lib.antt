@@ -4,3 +4,4 @@ pub mod AhoCorasick
 pub mod Replaced
 pub mod Streamed
 pub mod Builder
+pub mod Served

@@ -9,12 +9,11 @@ ghost use Rattle.std.specs.Prelude.{◌≡◌, ◌↔◌, IfOk, IsTrue, length};
 ghost use Rattle.ac_input.specs.Work.{longest, shortest};
 ghost use Rattle.aho_corasick.specs.Engine.{HasStarts, kind_of};
 
-pub use builder::AhoCorasickBuilder;
-
 use crate::engine::Engine;
 use ac_automaton::automaton::Automaton;
 use ac_automaton::{iter, overlapping, stream as streams};
 use ac_input::search::{MatchKind, StartKind};
+pub use builder::AhoCorasickBuilder;
 use std::alloc::{AllocError, Global};
 use std::rc::Rc;
 
@@ -84,6 +83,7 @@ impl AhoCorasick {
     {
         match &*self.engine {
             Engine::Noncontiguous(_) => AhoCorasickKind::NoncontiguousNFA,
+            Engine::Contiguous(_) => AhoCorasickKind::ContiguousNFA,
             Engine::Dfa(_) => AhoCorasickKind::DFA,
         }
     }

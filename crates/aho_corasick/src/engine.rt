@@ -1,12 +1,15 @@
-//! Which automaton serves.
+//! The automaton that serves: one of three, which find the same.
 use ac_noncontiguous::nfa::NFA;
+use ac_tables::contiguous;
 use ac_tables::dfa::DFA;
 
 /// The automaton that serves.
 #[derive(Drop)]
 pub(crate) enum Engine {
-    /// The noncontiguous NFA: made first, and made soonest.
+    /// The noncontiguous NFA: it is built soonest.
     Noncontiguous(NFA),
-    /// The DFA: the fastest, and the one that takes the most memory.
+    /// The contiguous NFA: it takes the least memory.
+    Contiguous(contiguous::NFA),
+    /// The DFA: it searches fastest, and takes the most memory.
     Dfa(DFA),
 }

@@ -27,5 +27,6 @@ pub use ac_input::primitives::{PatternID, PatternIDError};
 pub use ac_input::search::{Anchored, Input, Match, MatchKind, Span, StartKind};
 pub use ac_input::steps::Steps;
 pub use ac_noncontiguous::error::{BuildError, BuildErrorKind};
-pub use ahocorasick::{AhoCorasick, AhoCorasickBuilder, AhoCorasickKind};
-pub use ahocorasick::{FindIter, FindOverlappingIter, StreamFindIter};
+pub use ahocorasick::{
+    AhoCorasick, AhoCorasickBuilder, AhoCorasickKind, FindIter, FindOverlappingIter, StreamFindIter,
+};

@@ -44,6 +44,7 @@ impl Automaton for AhoCorasick {
         enforce_anchored_consistency(self.start_kind, anchored)?;
         match &*self.engine {
             Engine::Noncontiguous(nfa) => nfa.start_state(anchored),
+            Engine::Contiguous(nfa) => nfa.start_state(anchored),
             Engine::Dfa(dfa) => dfa.start_state(anchored),
         }
     }
@@ -58,6 +59,7 @@ impl Automaton for AhoCorasick {
     ) -> StateID {
         match &*self.engine {
             Engine::Noncontiguous(nfa) => nfa.next_state_counted(anchored, sid, byte, steps),
+            Engine::Contiguous(nfa) => nfa.next_state_counted(anchored, sid, byte, steps),
             Engine::Dfa(dfa) => dfa.next_state_counted(anchored, sid, byte, steps),
         }
     }
@@ -72,6 +74,7 @@ impl Automaton for AhoCorasick {
     ) -> Advance {
         match &*self.engine {
             Engine::Noncontiguous(nfa) => nfa.advance(anchored, sid, bytes, steps),
+            Engine::Contiguous(nfa) => nfa.advance(anchored, sid, bytes, steps),
             Engine::Dfa(dfa) => dfa.advance(anchored, sid, bytes, steps),
         }
     }
@@ -86,6 +89,7 @@ impl Automaton for AhoCorasick {
     ) -> Advance {
         match &*self.engine {
             Engine::Noncontiguous(nfa) => nfa.advance_to_match(anchored, sid, bytes, steps),
+            Engine::Contiguous(nfa) => nfa.advance_to_match(anchored, sid, bytes, steps),
             Engine::Dfa(dfa) => dfa.advance_to_match(anchored, sid, bytes, steps),
         }
     }
@@ -94,6 +98,7 @@ impl Automaton for AhoCorasick {
     fn is_special(&self, sid: StateID) -> bool {
         match &*self.engine {
             Engine::Noncontiguous(nfa) => nfa.is_special(sid),
+            Engine::Contiguous(nfa) => nfa.is_special(sid),
             Engine::Dfa(dfa) => dfa.is_special(sid),
         }
     }
@@ -102,6 +107,7 @@ impl Automaton for AhoCorasick {
     fn is_dead(&self, sid: StateID) -> bool {
         match &*self.engine {
             Engine::Noncontiguous(nfa) => nfa.is_dead(sid),
+            Engine::Contiguous(nfa) => nfa.is_dead(sid),
             Engine::Dfa(dfa) => dfa.is_dead(sid),
         }
     }
@@ -110,6 +116,7 @@ impl Automaton for AhoCorasick {
     fn is_match(&self, sid: StateID) -> bool {
         match &*self.engine {
             Engine::Noncontiguous(nfa) => nfa.is_match(sid),
+            Engine::Contiguous(nfa) => nfa.is_match(sid),
             Engine::Dfa(dfa) => dfa.is_match(sid),
         }
     }
@@ -118,6 +125,7 @@ impl Automaton for AhoCorasick {
     fn is_start(&self, sid: StateID) -> bool {
         match &*self.engine {
             Engine::Noncontiguous(nfa) => nfa.is_start(sid),
+            Engine::Contiguous(nfa) => nfa.is_start(sid),
             Engine::Dfa(dfa) => dfa.is_start(sid),
         }
     }
@@ -125,6 +133,7 @@ impl Automaton for AhoCorasick {
     fn match_kind(&self) -> MatchKind {
         match &*self.engine {
             Engine::Noncontiguous(nfa) => nfa.match_kind(),
+            Engine::Contiguous(nfa) => nfa.match_kind(),
             Engine::Dfa(dfa) => dfa.match_kind(),
         }
     }
@@ -132,6 +141,7 @@ impl Automaton for AhoCorasick {
     fn match_len(&self, sid: StateID) -> usize {
         match &*self.engine {
             Engine::Noncontiguous(nfa) => nfa.match_len(sid),
+            Engine::Contiguous(nfa) => nfa.match_len(sid),
             Engine::Dfa(dfa) => dfa.match_len(sid),
         }
     }
@@ -139,6 +149,7 @@ impl Automaton for AhoCorasick {
     fn match_pattern(&self, sid: StateID, index: usize) -> PatternID {
         match &*self.engine {
             Engine::Noncontiguous(nfa) => nfa.match_pattern(sid, index),
+            Engine::Contiguous(nfa) => nfa.match_pattern(sid, index),
             Engine::Dfa(dfa) => dfa.match_pattern(sid, index),
         }
     }
@@ -146,6 +157,7 @@ impl Automaton for AhoCorasick {
     fn patterns_len(&self) -> usize {
         match &*self.engine {
             Engine::Noncontiguous(nfa) => nfa.patterns_len(),
+            Engine::Contiguous(nfa) => nfa.patterns_len(),
             Engine::Dfa(dfa) => dfa.patterns_len(),
         }
     }
@@ -153,6 +165,7 @@ impl Automaton for AhoCorasick {
     fn pattern_len(&self, pattern: PatternID) -> usize {
         match &*self.engine {
             Engine::Noncontiguous(nfa) => nfa.pattern_len(pattern),
+            Engine::Contiguous(nfa) => nfa.pattern_len(pattern),
             Engine::Dfa(dfa) => dfa.pattern_len(pattern),
         }
     }
@@ -160,6 +173,7 @@ impl Automaton for AhoCorasick {
     fn min_pattern_len(&self) -> usize {
         match &*self.engine {
             Engine::Noncontiguous(nfa) => nfa.min_pattern_len(),
+            Engine::Contiguous(nfa) => nfa.min_pattern_len(),
             Engine::Dfa(dfa) => dfa.min_pattern_len(),
         }
     }
@@ -167,6 +181,7 @@ impl Automaton for AhoCorasick {
     fn max_pattern_len(&self) -> usize {
         match &*self.engine {
             Engine::Noncontiguous(nfa) => nfa.max_pattern_len(),
+            Engine::Contiguous(nfa) => nfa.max_pattern_len(),
             Engine::Dfa(dfa) => dfa.max_pattern_len(),
         }
     }
@@ -174,6 +189,7 @@ impl Automaton for AhoCorasick {
     fn memory_usage(&self) -> usize {
         match &*self.engine {
             Engine::Noncontiguous(nfa) => nfa.memory_usage(),
+            Engine::Contiguous(nfa) => nfa.memory_usage(),
             Engine::Dfa(dfa) => dfa.memory_usage(),
         }
     }
@@ -181,6 +197,7 @@ impl Automaton for AhoCorasick {
     fn prefilter(&self) -> Option<&Prefilter> {
         match &*self.engine {
             Engine::Noncontiguous(nfa) => nfa.prefilter(),
+            Engine::Contiguous(nfa) => nfa.prefilter(),
             Engine::Dfa(dfa) => dfa.prefilter(),
         }
     }

@@ -2,15 +2,44 @@
 //!
 //! The settings say which of several overlapping occurrences is the match, which searches are served, and which bytes stand for one
 //! another. The others change no answer: which automaton serves, whether it has a prefilter, how its states are laid out.
-ghost use Rattle.std.specs.Prelude.{◌≡◌, Some};
+//!
+//! A build makes a noncontiguous NFA of the patterns, and from that the automaton that serves. Where none was named it makes a DFA
+//! for few patterns and one start kind; else a contiguous NFA; and it goes on to the next only where one would be too large.
+ghost use Rattle.std.specs.Prelude.{◌≡◌, Some, IfOk, IfErr};
 ghost use Rattle.ac_input.specs.Pairing.{IsFolded};
+ghost use Rattle.ac_noncontiguous.specs.declared.error.BuildErrorKind.TheVariants.{Memory};
 ghost use Rattle.aho_corasick.specs.Builder.{AreFirst, noncontiguous_by};
+ghost use Rattle.aho_corasick.specs.Served.{IsFitting, contiguous_by, dfa_by, IsTriedDfa, IsEngineTaken, IsEngineOf, IsNamedRefused, IsBuiltOf, IsRefusedOf, IsBuiltAtFirst, IsRefusedAtFirst};
 
 use super::{AhoCorasick, AhoCorasickKind};
+use crate::engine::Engine;
+use ac_automaton::automaton::Automaton;
 use ac_input::pairing::Pairing;
 use ac_input::search::{MatchKind, StartKind};
 use ac_noncontiguous::builder::Builder;
+use ac_noncontiguous::error::{BuildError, BuildErrorKind};
+use ac_noncontiguous::nfa::NFA;
+use ac_tables::dfa::DFA;
+use ac_tables::{contiguous, dfa};
+use std::alloc::Global;
 use std::marker::Model;
+use std::rc::Rc;
+
+/// For how many patterns a DFA is taken at most, where no automaton is named.
+const MOST_FOR_DFA: usize = 100;
+
+/// What was made, or none where it would be too large; any other error stays.
+fn fitting<T>(made: Result<T, BuildError>) -> Result<Option<T>, BuildError>
+    ensures { IsFitting made result }
+{
+    match made {
+        Ok(it) => Ok(Some(it)),
+        Err(error) => match error.kind() {
+            BuildErrorKind::StateIDOverflow { .. } => Ok(None),
+            _ => Err(error),
+        },
+    }
+}
 
 /// The settings of an automaton. A builder may build several times.
 ///
@@ -177,9 +206,110 @@ impl AhoCorasickBuilder {
         }
         builder
     }
+
+    /// The builder of the contiguous NFA.
+    fn contiguous(&self) -> contiguous::builder::Builder
+        ensures { result ≡ contiguous_by self.now }
+    {
+        let mut builder = contiguous::builder::Builder::new();
+        builder.match_kind(self.match_kind);
+        builder.pairing(self.pairing);
+        builder.prefilter(self.prefilter);
+        builder.byte_classes(self.byte_classes);
+        if let Some(depth) = self.dense_depth {
+            builder.dense_depth(depth);
+        }
+        builder
+    }
+
+    /// The builder of the DFA.
+    fn dfa(&self) -> dfa::builder::Builder
+        ensures { result ≡ dfa_by self.now }
+    {
+        let mut builder = dfa::builder::Builder::new();
+        builder.match_kind(self.match_kind);
+        builder.pairing(self.pairing);
+        builder.prefilter(self.prefilter);
+        builder.start_kind(self.start_kind);
+        builder.byte_classes(self.byte_classes);
+        builder
+    }
+
+    /// A DFA, where one is taken when none is named.
+    fn try_dfa(&self, alloc: Global, nfa: &NFA) -> Result<Option<DFA>, BuildError>
+        ensures tried { IfOk result (IsTriedDfa self.now nfa.now) }
+        ensures refused { IfErr result (λ error. error ≡ Memory) }
+    {
+        if self.start_kind == StartKind::Both || nfa.patterns_len() > MOST_FOR_DFA {
+            return Ok(None);
+        }
+        fitting(self.dfa().build_from_noncontiguous(alloc, nfa))
+    }
+
+    /// The automaton that serves where none is named.
+    fn take(&self, alloc: Global, nfa: NFA) -> Result<Engine, BuildError>
+        ensures taken { IfOk result (IsEngineTaken self.now nfa) }
+        ensures refused { IfErr result (λ error. error ≡ Memory) }
+    {
+        if let Some(dfa) = self.try_dfa(alloc, &nfa)? {
+            return Ok(Engine::Dfa(dfa));
+        }
+        let made = self.contiguous().build_from_noncontiguous(alloc, &nfa);
+        Ok(match fitting(made)? {
+            Some(made) => Engine::Contiguous(made),
+            None => Engine::Noncontiguous(nfa),
+        })
+    }
+
+    /// The automaton that serves: the one that was named, or the one that is taken.
+    fn serve(&self, alloc: Global, nfa: NFA) -> Result<Engine, BuildError>
+        ensures served { IfOk result (IsEngineOf self.now nfa) }
+        ensures refused { IfErr result (IsNamedRefused self.now.kind self.now nfa) }
+    {
+        match self.kind {
+            None => self.take(alloc, nfa),
+            Some(AhoCorasickKind::NoncontiguousNFA) => Ok(Engine::Noncontiguous(nfa)),
+            Some(AhoCorasickKind::ContiguousNFA) => {
+                let made = self.contiguous().build_from_noncontiguous(alloc, &nfa)?;
+                Ok(Engine::Contiguous(made))
+            }
+            Some(AhoCorasickKind::DFA) => {
+                let made = self.dfa().build_from_noncontiguous(alloc, &nfa)?;
+                Ok(Engine::Dfa(made))
+            }
+        }
+    }
+
+    /// The automaton of the patterns, which are numbered from 0 in this order.
+    ///
+    /// It is refused where the patterns pass a limit of the noncontiguous NFA, where the automaton that was named would be too large,
+    /// and where memory ends; and only then.
+    pub fn build(&self, alloc: Global, patterns: &[&[u8]]) -> Result<AhoCorasick, BuildError>
+        ensures built { IfOk result (IsBuiltOf self.now patterns.now) }
+        ensures refused { IfErr result (IsRefusedOf self.now patterns.now) }
+    {
+        let nfa = self.noncontiguous().build(alloc, patterns)?;
+        let engine = self.serve(alloc, nfa)?;
+        match Rc::new(alloc, engine) {
+            Ok(engine) => Ok(AhoCorasick {
+                engine,
+                start_kind: self.start_kind,
+            }),
+            Err(_) => Err(BuildError::from(BuildErrorKind::Memory)),
+        }
+    }
 }
 
 impl AhoCorasick {
+    /// The automaton of the patterns by the settings that a builder has at first: standard matches, unanchored searches, no byte
+    /// paired.
+    pub fn new(alloc: Global, patterns: &[&[u8]]) -> Result<AhoCorasick, BuildError>
+        ensures built { IfOk result (IsBuiltAtFirst patterns.now) }
+        ensures refused { IfErr result (IsRefusedAtFirst patterns.now) }
+    {
+        AhoCorasickBuilder::new().build(alloc, patterns)
+    }
+
     /// A builder with the settings that it has at first.
     pub fn builder() -> AhoCorasickBuilder
         ensures { AreFirst result }

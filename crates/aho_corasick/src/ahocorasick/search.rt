@@ -114,10 +114,7 @@ impl AhoCorasick {
     }
 
     /// All matches of the input, one after another: see [`FindIter`].
-    pub fn try_find_iter<'a, 'h>(
-        &'a self,
-        input: Input<'h>,
-    ) -> Result<FindIter<'a, 'h>, MatchError>
+    pub fn try_find_iter<'a, 'h>(&'a self, input: Input<'h>) -> Result<FindIter<'a, 'h>, MatchError>
         ensures { AnswersFindIter (built_as self.now) (supported_by self.now) input.entry result }
     {
         Automaton::try_find_iter(self, input)

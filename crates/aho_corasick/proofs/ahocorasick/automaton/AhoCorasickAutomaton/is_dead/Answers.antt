@@ -7,5 +7,8 @@ use Rattle.aho_corasick.proofs.ahocorasick.automaton.AhoCorasickAutomaton.is_dea
 pub is_dead-requires : goal.is_dead-requires
 is_dead-requires c = subst (λ (e : Engine). IsState (IsRead e) c.args.sid) (sym c.deref.ensures ∙ c.in-Noncontiguous.is) c.requires
 
+pub is_dead-requires-in-Contiguous : goal.is_dead-requires-in-Contiguous
+is_dead-requires-in-Contiguous c = subst (λ (e : Engine). IsState (IsRead e) c.args.sid) (sym c.deref.ensures ∙ c.in-Contiguous.is) c.requires
+
 pub is_dead-requires-in-Dfa : goal.is_dead-requires-in-Dfa
 is_dead-requires-in-Dfa c = subst (λ (e : Engine). IsState (IsRead e) c.args.sid) (sym c.deref.ensures ∙ c.in-Dfa.is) c.requires

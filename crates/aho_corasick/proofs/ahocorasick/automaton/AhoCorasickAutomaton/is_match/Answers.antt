@@ -7,5 +7,8 @@ use Rattle.aho_corasick.proofs.ahocorasick.automaton.AhoCorasickAutomaton.is_mat
 pub is_match-requires : goal.is_match-requires
 is_match-requires c = subst (λ (e : Engine). IsState (IsRead e) c.args.sid) (sym c.deref.ensures ∙ c.in-Noncontiguous.is) c.requires
 
+pub is_match-requires-in-Contiguous : goal.is_match-requires-in-Contiguous
+is_match-requires-in-Contiguous c = subst (λ (e : Engine). IsState (IsRead e) c.args.sid) (sym c.deref.ensures ∙ c.in-Contiguous.is) c.requires
+
 pub is_match-requires-in-Dfa : goal.is_match-requires-in-Dfa
 is_match-requires-in-Dfa c = subst (λ (e : Engine). IsState (IsRead e) c.args.sid) (sym c.deref.ensures ∙ c.in-Dfa.is) c.requires

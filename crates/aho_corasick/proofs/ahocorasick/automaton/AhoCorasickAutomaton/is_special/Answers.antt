@@ -7,5 +7,8 @@ use Rattle.aho_corasick.proofs.ahocorasick.automaton.AhoCorasickAutomaton.is_spe
 pub is_special-requires : goal.is_special-requires
 is_special-requires c = subst (λ (e : Engine). IsState (IsRead e) c.args.sid) (sym c.deref.ensures ∙ c.in-Noncontiguous.is) c.requires
 
+pub is_special-requires-in-Contiguous : goal.is_special-requires-in-Contiguous
+is_special-requires-in-Contiguous c = subst (λ (e : Engine). IsState (IsRead e) c.args.sid) (sym c.deref.ensures ∙ c.in-Contiguous.is) c.requires
+
 pub is_special-requires-in-Dfa : goal.is_special-requires-in-Dfa
 is_special-requires-in-Dfa c = subst (λ (e : Engine). IsState (IsRead e) c.args.sid) (sym c.deref.ensures ∙ c.in-Dfa.is) c.requires

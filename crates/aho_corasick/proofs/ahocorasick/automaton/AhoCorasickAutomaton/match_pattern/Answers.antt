@@ -7,5 +7,8 @@ use Rattle.aho_corasick.proofs.ahocorasick.automaton.AhoCorasickAutomaton.match_
 pub match_pattern-requires-clause-valid : goal.match_pattern-requires-clause-valid
 match_pattern-requires-clause-valid c = subst (λ (e : Engine). IsState (IsRead e) c.args.sid) (sym c.deref.ensures ∙ c.in-Noncontiguous.is) c.requires.valid
 
+pub match_pattern-requires-in-Contiguous-clause-valid : goal.match_pattern-requires-in-Contiguous-clause-valid
+match_pattern-requires-in-Contiguous-clause-valid c = subst (λ (e : Engine). IsState (IsRead e) c.args.sid) (sym c.deref.ensures ∙ c.in-Contiguous.is) c.requires.valid
+
 pub match_pattern-requires-in-Dfa-clause-valid : goal.match_pattern-requires-in-Dfa-clause-valid
 match_pattern-requires-in-Dfa-clause-valid c = subst (λ (e : Engine). IsState (IsRead e) c.args.sid) (sym c.deref.ensures ∙ c.in-Dfa.is) c.requires.valid

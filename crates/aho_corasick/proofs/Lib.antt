@@ -1,2 +1,0 @@
-pub mod EngineLemmas
-pub mod ServedLemmas

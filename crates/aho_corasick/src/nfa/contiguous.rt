@@ -1,3 +1,0 @@
-//! The contiguous NFA: it takes the least memory, and searches faster than the noncontiguous one.
-pub use ac_tables::contiguous::NFA;
-pub use ac_tables::contiguous::builder::Builder;

@@ -1,0 +1,17 @@
+-- The start of a search by whichever automaton serves.
+use Rattle.std.specs.Prelude.{ℕ, Result, Ok, Err}
+use Rattle.std.proofs.Math.Logic.{∥∥₁_elim}
+use Rattle.ac_input.specs.declared.search.Anchored.{Anchored}
+use Rattle.ac_input.specs.declared.search.StartKind.{StartKind}
+use Rattle.ac_input.specs.Dfa.{Serves}
+use Rattle.ac_automaton.specs.declared.error.MatchErrorKind.{MatchErrorKind}
+use Rattle.ac_automaton.specs.Automaton.{AnswersStart}
+use Rattle.aho_corasick.specs.declared.engine.Engine.{Engine}
+use Rattle.aho_corasick.specs.Engine.{IsRead, supported_by, HasStarts}
+
+-- where the start kind asks for this search, the automaton doesn't refuse it
+pub start-served : (engine : Engine) (kind : StartKind) (anchored : Anchored) (r : Result ℕ MatchErrorKind)
+    → HasStarts kind engine → Serves kind anchored
+    → AnswersStart (supported_by engine) (IsRead engine) anchored r → AnswersStart (Serves kind) (IsRead engine) anchored r
+start-served engine kind anchored (Ok sid) starts serves answered = (serves, answered.1)
+start-served engine kind anchored (Err error) starts serves answered = (λ _. ∥∥₁_elim (starts anchored serves) (λ (x y : ⊥). absurd x) answered.0, answered.1)

@@ -1,0 +1,2 @@
+pub mod EngineLemmas
+pub mod ServedLemmas

@@ -1,0 +1,23 @@
+-- The noncontiguous NFA of the patterns first, then the automaton that serves.
+use Rattle.std.proofs.Common.{ap, subst, ◌∙◌, inr}
+use Rattle.std.proofs.lemmas.Result.{IfOk-weaker, IfErr-weaker}
+use Rattle.ac_noncontiguous.specs.Builder as noncontiguous
+use Rattle.ac_noncontiguous.specs.Reads as reads
+use Rattle.aho_corasick.specs.Served.{IsMadeOf, IsBuiltOf, IsNamedRefused, IsRefusedOf}
+use Rattle.aho_corasick.proofs.ahocorasick.builder.AhoCorasickBuilder.build.Goals as goal
+
+pub returns-clause-built : goal.returns-clause-built
+returns-clause-built c =
+    let s = c.args.self.now in
+    let nfa = c.in_ok-nfa.nfa in
+    let patterns = c.args.patterns.now in
+    let own = subst (λ (t : noncontiguous.Settings). noncontiguous.IsBuiltOf t patterns (reads.built_as nfa)) c.noncontiguous.ensures c.in_ok-nfa.ensures.built in
+    IfOk-weaker c.share.result (IsMadeOf s nfa) (IsBuiltOf s patterns) (λ ac made. record { start_kind = made.0; served = (nfa, own, made.1) }) c.share.ensures.made
+
+pub returns-clause-refused : goal.returns-clause-refused
+returns-clause-refused c =
+    let s = c.args.self.now in
+    let nfa = c.in_ok-nfa.nfa in
+    let patterns = c.args.patterns.now in
+    let own = c.in_ok-nfa.ensures.built.dictionary ∙ ap (λ (t : noncontiguous.Settings). noncontiguous.dictionary_by t patterns) c.noncontiguous.ensures in
+    IfErr-weaker c.share.result (IsNamedRefused s.kind s nfa) (IsRefusedOf s patterns) (λ error refused. inr (nfa, own, refused)) c.share.ensures.refused

@@ -1,0 +1,57 @@
+-- What an automaton of the front was built as, and what its searches answer where they can't be refused.
+use Rattle.std.specs.Prelude.{◌≡◌, ℕ, Bool, List}
+use Rattle.ac_input.specs.declared.search.Anchored.{Anchored}
+use Rattle.ac_input.specs.Dfa.{Serves}
+use Rattle.ac_input.specs.Input.{Asked}
+use Rattle.ac_input.specs.Occurrence.{Search, Occurrence, Occurs}
+use Rattle.ac_automaton.specs.Automaton.{Built, walk_in, listing_in}
+use Rattle.ac_automaton.specs.Iter.{Walk, fresh_walk, left_of}
+use Rattle.ac_automaton.specs.OverlappingIter.{Run, fresh_run, rest_of}
+use Rattle.aho_corasick.specs.declared.ahocorasick.AhoCorasick.{AhoCorasick}
+use Rattle.aho_corasick.specs.declared.engine.Engine.{Engine}
+use Rattle.aho_corasick.specs.Engine as engines
+
+-- the automaton that serves
+abbrev pub engine_of : AhoCorasick → Engine
+engine_of ac = ac.engine.value
+
+-- what it was built as
+abbrev pub built_as : AhoCorasick → Built
+built_as ac = engines.built_as (engine_of ac)
+
+-- for which searches it has a start: those of the start kind that was asked for, whichever automaton serves
+abbrev pub supported_by : AhoCorasick → Anchored → Type 0
+supported_by ac anchored = Serves ac.start_kind anchored
+
+-- a number is read by a search
+abbrev pub IsRead : AhoCorasick → Anchored → List ℕ → ℕ → Type 0
+IsRead ac anchored text sid = engines.IsRead (engine_of ac) anchored text sid
+
+-- the patterns that match at a number
+abbrev pub matches_at : AhoCorasick → ℕ → List ℕ
+matches_at ac sid = engines.matches_at (engine_of ac) sid
+
+-- the starts
+abbrev pub is_start_at : AhoCorasick → ℕ → Bool
+is_start_at ac sid = engines.is_start_at (engine_of ac) sid
+
+-- the states at which a search has more to do than to read on
+abbrev pub is_special_at : AhoCorasick → ℕ → Bool
+is_special_at ac sid = engines.is_special_at (engine_of ac) sid
+
+-- one means the same as another: the same automaton serves both, for the same searches
+pub record MeansSame (ac other : AhoCorasick) : Type 0 where
+  pub engine : engine_of other ≡ engine_of ac
+  pub starts : other.start_kind ≡ ac.start_kind
+
+-- some pattern occurs in the search
+abbrev pub HasOccurrence : Search → Type 0
+HasOccurrence s = (o : Occurrence) × Occurs s o
+
+-- a walk over all matches of an input, which has not begun
+abbrev pub IsWalkOver : Built → Asked → Walk → Type 0
+IsWalkOver b asked walk = (walk ≡ fresh_walk b asked) × (left_of walk ≡ walk_in b asked)
+
+-- a run through all occurrences of an input, which has not begun
+abbrev pub IsRunOver : Built → Asked → Run → Type 0
+IsRunOver b asked run = (run ≡ fresh_run b asked) × (rest_of run ≡ listing_in b asked)

@@ -1,0 +1,134 @@
+-- Which automaton serves by the settings of a builder, and what is built or refused.
+use Rattle.std.specs.Prelude.{◌≡◌, ◌≢◌, ◌⊎◌, ℕ, ◌≤◌, length, List, Option, None, Some, Result, Ok, Err}
+use Rattle.std.specs.Borrow.{Bor}
+use Rattle.ac_input.specs.declared.search.StartKind.TheVariants.{Both}
+use Rattle.ac_input.specs.Dfa.{IsDfaTooLarge}
+use Rattle.ac_noncontiguous.specs.Builder as noncontiguous
+use Rattle.ac_noncontiguous.specs.Reads as reads
+use Rattle.ac_noncontiguous.specs.Standing.{IsBuildRefused}
+use Rattle.ac_noncontiguous.specs.declared.error.BuildErrorKind.{BuildErrorKind}
+use Rattle.ac_noncontiguous.specs.declared.error.BuildErrorKind.TheVariants.{StateIDOverflow, Memory}
+use Rattle.ac_noncontiguous.specs.declared.nfa.NFA.{NFA}
+use Rattle.ac_tables.specs.ContiguousBuilder as contiguous
+use Rattle.ac_tables.specs.ContiguousTable.{ArePlacesTooGreat}
+use Rattle.ac_tables.specs.DfaBuild as dfas
+use Rattle.ac_tables.specs.declared.contiguous.NFA.{NFA as Contiguous}
+use Rattle.ac_tables.specs.declared.dfa.DFA.{DFA as Deterministic}
+use Rattle.aho_corasick.specs.declared.ahocorasick.AhoCorasick.{AhoCorasick}
+use Rattle.aho_corasick.specs.declared.ahocorasick.AhoCorasickKind.{AhoCorasickKind}
+use Rattle.aho_corasick.specs.declared.ahocorasick.AhoCorasickKind.TheVariants.{NoncontiguousNFA, ContiguousNFA, DFA}
+use Rattle.aho_corasick.specs.declared.ahocorasick.builder.TheConstants.{MOST_FOR_DFA}
+use Rattle.aho_corasick.specs.declared.engine.Engine.{Engine}
+use Rattle.aho_corasick.specs.AhoCorasick.{engine_of}
+use Rattle.aho_corasick.specs.Builder.{Settings, AreFirst, dictionary_by, noncontiguous_by, depth_or}
+use Rattle.aho_corasick.specs.Engine.{built_as, kind_of, HasStarts}
+
+-- ---- the settings of each automaton
+
+abbrev pub contiguous_by : Settings → contiguous.Settings
+contiguous_by s = record { kind = s.match_kind; pairing = s.pairing; prefilter = s.prefilter; dense_depth = depth_or s.dense_depth 2; byte_classes = s.byte_classes }
+
+abbrev pub dfa_by : Settings → dfas.Settings
+dfa_by s = record { kind = s.match_kind; pairing = s.pairing; prefilter = s.prefilter; start_kind = s.start_kind; byte_classes = s.byte_classes }
+
+-- ---- which one serves
+
+-- the DFA of an automaton is too large for the settings
+abbrev pub IsDfaTooLargeFor : Settings → NFA → Type 0
+IsDfaTooLargeFor s from = IsDfaTooLarge (reads.dictionary from) s.start_kind s.byte_classes
+
+-- the contiguous NFA of an automaton is too large for the settings, or isn't
+abbrev pub IsContiguousTooLargeFor : Settings → NFA → Type 0
+IsContiguousTooLargeFor s from = (classes : List ℕ) × contiguous.AreClassesFor from s.byte_classes classes × ArePlacesTooGreat from (contiguous_by s).dense_depth classes
+
+abbrev pub IsContiguousWithinFor : Settings → NFA → Type 0
+IsContiguousWithinFor s from = (classes : List ℕ) × contiguous.AreClassesFor from s.byte_classes classes × ¬ ArePlacesTooGreat from (contiguous_by s).dense_depth classes
+
+-- a DFA is taken where none is named: for one start kind and few patterns, where it isn't too large
+abbrev pub TakesDfa : Settings → NFA → Type 0
+TakesDfa s from = (s.start_kind ≢ Both) × (length (reads.dictionary from).patterns ≤ MOST_FOR_DFA) × ¬ IsDfaTooLargeFor s from
+
+-- which automaton serves where none is named: the DFA where one is taken, else the contiguous NFA where it isn't too large, else the
+-- noncontiguous one
+abbrev pub IsTaken : Settings → NFA → AhoCorasickKind → Type 0
+IsTaken s from DFA = TakesDfa s from
+IsTaken s from ContiguousNFA = (¬ TakesDfa s from) × IsContiguousWithinFor s from
+IsTaken s from NoncontiguousNFA = (¬ TakesDfa s from) × IsContiguousTooLargeFor s from
+
+-- what a try of the DFA gives: one is taken, or none is
+abbrev pub IsTriedDfa : Settings → NFA → Option Deterministic → Type 0
+IsTriedDfa s from (Some dfa) = (s.start_kind ≢ Both) × (length (reads.dictionary from).patterns ≤ MOST_FOR_DFA) × dfas.IsDfaOf (dfa_by s) from dfa
+IsTriedDfa s from None = ¬ TakesDfa s from
+
+-- what a try of the contiguous NFA gives: one that is made of the automaton, or none where it is too large
+abbrev pub IsTriedContiguous : Settings → NFA → Option Contiguous → Type 0
+IsTriedContiguous s from (Some made) = contiguous.IsMadeFrom (contiguous_by s) from made
+IsTriedContiguous s from None = IsContiguousTooLargeFor s from
+
+-- the automaton is within its own limit
+abbrev pub IsWithinFor : Settings → NFA → AhoCorasickKind → Type 0
+IsWithinFor s from DFA = ¬ IsDfaTooLargeFor s from
+IsWithinFor s from ContiguousNFA = IsContiguousWithinFor s from
+IsWithinFor s from NoncontiguousNFA = Unit {0}
+
+-- which automaton serves where this one is named, or none is
+abbrev pub IsServedBy : Option AhoCorasickKind → Settings → NFA → AhoCorasickKind → Type 0
+IsServedBy None s from kind = IsTaken s from kind
+IsServedBy (Some named) s from kind = (kind ≡ named) × IsWithinFor s from kind
+
+-- which automaton serves by the settings
+abbrev pub IsServed : Settings → NFA → AhoCorasickKind → Type 0
+IsServed s from kind = IsServedBy s.kind s from kind
+
+-- ---- what is built
+
+-- an automaton finds what another does, and has the starts that the settings ask for
+pub record Follows (s : Settings) (from : NFA) (engine : Engine) : Type 0 where
+  pub dictionary : (built_as engine).dictionary ≡ reads.dictionary from
+  pub prefilter : (built_as engine).prefilter ≡ (reads.built_as from).prefilter
+  pub starts : HasStarts s.start_kind engine
+
+-- it is the one that serves, made of the noncontiguous NFA
+abbrev pub IsEngineOf : Settings → NFA → Engine → Type 0
+IsEngineOf s from engine = Follows s from engine × IsServed s from (kind_of engine)
+
+-- it is the one that is taken where none is named
+abbrev pub IsEngineTaken : Settings → NFA → Engine → Type 0
+IsEngineTaken s from engine = Follows s from engine × IsTaken s from (kind_of engine)
+
+-- the automaton is made over the one that serves
+abbrev pub IsMadeOf : Settings → NFA → AhoCorasick → Type 0
+IsMadeOf s from ac = (ac.start_kind ≡ s.start_kind) × IsEngineOf s from (engine_of ac)
+
+-- The automaton is built of the patterns: one serves that is made of a noncontiguous NFA that was built of them.
+pub record IsBuiltOf (s : Settings) (patterns : List (Bor (List ℕ))) (ac : AhoCorasick) : Type 0 where
+  pub start_kind : ac.start_kind ≡ s.start_kind
+  pub served : (from : NFA) × noncontiguous.IsBuiltOf (noncontiguous_by s) patterns (reads.built_as from) × IsEngineOf s from (engine_of ac)
+
+-- ---- what is refused
+
+-- why the automaton that was named can't be made of a noncontiguous NFA; without a name nothing but memory refuses it
+abbrev pub IsNamedRefused : Option AhoCorasickKind → Settings → NFA → BuildErrorKind → Type 0
+IsNamedRefused (Some DFA) s from error = dfas.IsDfaRefused (dfa_by s) from error
+IsNamedRefused (Some ContiguousNFA) s from error = contiguous.IsRefusedFrom (contiguous_by s) from error
+IsNamedRefused (Some NoncontiguousNFA) s from error = error ≡ Memory
+IsNamedRefused None s from error = error ≡ Memory
+
+-- why none is built: the patterns pass a limit, or the automaton that was named can't be made, or memory ended
+abbrev pub IsRefusedOf : Settings → List (Bor (List ℕ)) → BuildErrorKind → Type 0
+IsRefusedOf s patterns error = IsBuildRefused (dictionary_by s patterns) error ⊎ ((from : NFA) × (reads.dictionary from ≡ dictionary_by s patterns) × IsNamedRefused s.kind s from error)
+
+-- so it is by the settings that a builder has at first
+abbrev pub IsBuiltAtFirst : List (Bor (List ℕ)) → AhoCorasick → Type 0
+IsBuiltAtFirst patterns ac = (s : Settings) × AreFirst s × IsBuiltOf s patterns ac
+
+abbrev pub IsRefusedAtFirst : List (Bor (List ℕ)) → BuildErrorKind → Type 0
+IsRefusedAtFirst patterns error = (s : Settings) × AreFirst s × IsRefusedOf s patterns error
+
+-- ---- trying the next
+
+-- what was made, or none where it would be too large; any other error stays
+abbrev pub IsFitting : {T : Type 0} → Result T BuildErrorKind → Result (Option T) BuildErrorKind → Type 0
+IsFitting made (Ok (Some it)) = made ≡ Ok it
+IsFitting made (Ok None) = (max requested : ℕ) × (made ≡ Err (StateIDOverflow max requested))
+IsFitting made (Err error) = (made ≡ Err error) × ((max requested : ℕ) → error ≢ StateIDOverflow max requested)

@@ -1,0 +1,130 @@
+//! The automaton that most callers need, and which one serves it.
+mod automaton;
+mod builder;
+mod replace;
+mod search;
+mod stream;
+
+ghost use Rattle.std.specs.Prelude.{◌≡◌, ◌↔◌, IfOk, IsTrue, length};
+ghost use Rattle.ac_input.specs.Work.{longest, shortest};
+ghost use Rattle.aho_corasick.specs.Engine.{HasStarts, kind_of};
+
+use crate::engine::Engine;
+use ac_automaton::automaton::Automaton;
+use ac_automaton::{iter, overlapping, stream as streams};
+use ac_input::search::{MatchKind, StartKind};
+pub use builder::AhoCorasickBuilder;
+use std::alloc::{AllocError, Global};
+use std::rc::Rc;
+
+/// Which automaton serves.
+#[derive(Clone, Copy, Debug, PartialEq, Eq)]
+pub enum AhoCorasickKind {
+    /// The noncontiguous NFA.
+    NoncontiguousNFA,
+    /// The contiguous NFA.
+    ContiguousNFA,
+    /// The DFA.
+    DFA,
+}
+
+/// An automaton that searches for many patterns at once.
+///
+/// It is made once and searches as often as is wanted. Building it takes time and memory in proportion to the bytes of the patterns;
+/// a search takes time in proportion to the bytes that it reads, however many patterns there are.
+///
+/// A search is refused for its configuration alone, never for what the haystack holds: for an anchoring that the start kind doesn't
+/// serve, or for a stream or overlapping matches under a leftmost kind. A caller who knows the configuration uses the calls that ask
+/// for it, as [`AhoCorasick::find`]; the others, as [`AhoCorasick::try_find`], return a `MatchError`.
+///
+/// ```text
+/// let ac = AhoCorasick::new(alloc, &[b"apple", b"maple", b"Snapple"])?;
+/// for found in ac.find_iter(Input::from("Nobody likes maple in their apple flavored Snapple.")) {
+///     // patterns 1, 0 and 2, at 13..18, 28..33 and 43..50
+/// }
+/// ```
+///
+/// A clone shares the automaton, and takes no memory for another.
+#[derive(Drop)]
+pub struct AhoCorasick {
+    engine: Rc<Engine>,
+    /// The searches that were asked for. An NFA has a start for all, and is asked for no others either, so that the same searches
+    /// are refused whichever automaton serves.
+    start_kind: StartKind,
+    ghost starts: { HasStarts start_kind engine.value },
+}
+
+/// The matches of an input that are left to come. From [`AhoCorasick::find_iter`].
+pub type FindIter<'a, 'h> = iter::FindIter<'a, 'h, AhoCorasick>;
+
+/// The overlapping matches of an input that are left to come. From [`AhoCorasick::find_overlapping_iter`].
+pub type FindOverlappingIter<'a, 'h> = overlapping::FindOverlappingIter<'a, 'h, AhoCorasick>;
+
+/// The matches of a stream that are left to come. From [`AhoCorasick::stream_find_iter`].
+pub type StreamFindIter<'a, R> = streams::StreamFindIter<'a, AhoCorasick, R>;
+
+impl AhoCorasick {
+    ghost use Rattle.aho_corasick.specs.AhoCorasick.{MeansSame, engine_of, built_as};
+
+    /// Another that means the same. They share one automaton.
+    pub fn clone(&self, _alloc: Global) -> Result<AhoCorasick, AllocError>
+        ensures { IfOk result (MeansSame self.now) }
+    {
+        Ok(AhoCorasick {
+            engine: self.engine.clone()?,
+            start_kind: self.start_kind,
+        })
+    }
+
+    /// Which automaton serves.
+    pub fn kind(&self) -> AhoCorasickKind
+        ensures kind { result ≡ kind_of (engine_of self.now) }
+        ensures looks { IsTrue (built_as self.now).deterministic ↔ (result ≡ AhoCorasickKind.DFA) }
+    {
+        match &*self.engine {
+            Engine::Noncontiguous(_) => AhoCorasickKind::NoncontiguousNFA,
+            Engine::Contiguous(_) => AhoCorasickKind::ContiguousNFA,
+            Engine::Dfa(_) => AhoCorasickKind::DFA,
+        }
+    }
+
+    /// Which searches it serves.
+    pub fn start_kind(&self) -> StartKind
+        ensures { result ≡ self.now.start_kind }
+    {
+        self.start_kind
+    }
+
+    /// Which of several overlapping occurrences is the match.
+    pub fn match_kind(&self) -> MatchKind
+        ensures { result ≡ (built_as self.now).dictionary.kind }
+    {
+        Automaton::match_kind(self)
+    }
+
+    /// How many bytes the shortest pattern has; `usize::MAX` where there is none.
+    pub fn min_pattern_len(&self) -> usize
+        ensures { result ≡ shortest (built_as self.now).dictionary.patterns }
+    {
+        Automaton::min_pattern_len(self)
+    }
+
+    /// How many bytes the longest pattern has; 0 where there is none.
+    pub fn max_pattern_len(&self) -> usize
+        ensures { result ≡ longest (built_as self.now).dictionary.patterns }
+    {
+        Automaton::max_pattern_len(self)
+    }
+
+    /// How many patterns it was made from. Those that can't match count too.
+    pub fn patterns_len(&self) -> usize
+        ensures { result ≡ length (built_as self.now).dictionary.patterns }
+    {
+        Automaton::patterns_len(self)
+    }
+
+    /// About how many bytes of memory it holds.
+    pub fn memory_usage(&self) -> usize {
+        Automaton::memory_usage(self)
+    }
+}

@@ -1,0 +1,185 @@
+//! Replacement in memory.
+//!
+//! It takes the matches of a whole haystack, by an unanchored search. The calls with `try_` are refused where the automaton has no
+//! start for one; the others ask that it has. All are refused where memory is.
+ghost use Rattle.std.specs.Prelude.{◌≡◌, length, IfOk};
+ghost use Rattle.ac_automaton.specs.declared.error.ReplaceError.TheVariants.{Memory};
+ghost use Rattle.ac_automaton.specs.Replace.{IsForMatches, ReplacesText, ReplacesBytes, ReplacesTextWith, ReplacesBytesWith};
+ghost use Rattle.aho_corasick.specs.AhoCorasick.{built_as, supported_by};
+ghost use Rattle.aho_corasick.specs.Replaced.{IsReplacedText, AreReplacedBytes, AppendsText, AppendsBytes};
+
+use super::AhoCorasick;
+use ac_automaton::automaton::Automaton;
+use ac_automaton::error::ReplaceError;
+use ac_input::search::{Anchored, Match};
+use std::alloc::{AllocError, Global};
+
+/// The error of a replacement of which the search can't be refused.
+fn out_of_memory(error: ReplaceError) -> AllocError
+    requires { error ≡ Memory }
+{
+    match error {
+        ReplaceError::Memory => AllocError,
+        ReplaceError::Match(_) => unreachable!(),
+    }
+}
+
+impl AhoCorasick {
+    /// The text with each match exchanged for the replacement of its pattern: see [`AhoCorasick::try_replace_all`].
+    ///
+    /// ```text
+    /// let ac = AhoCorasick::new(alloc, &[b"fox", b"brown", b"quick"])?;
+    /// let text = ac.replace_all(alloc, "The quick brown fox.", &["sloth", "grey", "slow"])?;
+    /// assert_eq!(text.as_str(), "The slow grey sloth.");
+    /// ```
+    pub fn replace_all(
+        &self,
+        alloc: Global,
+        haystack: &str,
+        replacements: &[&str],
+    ) -> Result<String, AllocError>
+        requires can { supported_by self.now Anchored.No }
+        requires one_each { length replacements.now
+            ≡ length (built_as self.now).dictionary.patterns }
+        ensures { IfOk result
+            (IsReplacedText (built_as self.now) haystack.now replacements.now) }
+    {
+        match self.try_replace_all(alloc, haystack, replacements) {
+            Ok(text) => Ok(text),
+            Err(error) => Err(out_of_memory(error)),
+        }
+    }
+
+    /// The same of bytes: there every match is replaced.
+    pub fn replace_all_bytes(
+        &self,
+        alloc: Global,
+        haystack: &[u8],
+        replacements: &[&[u8]],
+    ) -> Result<Vec<u8>, AllocError>
+        requires can { supported_by self.now Anchored.No }
+        requires one_each { length replacements.now
+            ≡ length (built_as self.now).dictionary.patterns }
+        ensures { IfOk result
+            (AreReplacedBytes (built_as self.now) haystack.now replacements.now) }
+    {
+        match self.try_replace_all_bytes(alloc, haystack, replacements) {
+            Ok(bytes) => Ok(bytes),
+            Err(error) => Err(out_of_memory(error)),
+        }
+    }
+
+    /// Appends the text to the destination, and in place of each match what the closure appends: see
+    /// [`AhoCorasick::try_replace_all_with`].
+    pub fn replace_all_with<F>(
+        &self,
+        alloc: Global,
+        haystack: &str,
+        dst: &mut String,
+        replace_with: F,
+    ) -> Result<(), AllocError>
+    where
+        F: FnMut(&Match, &str, &mut String) -> Result<bool, AllocError>,
+        requires can { supported_by self.now Anchored.No }
+        requires ready { IsForMatches F.FnMut (length (built_as self.now).dictionary.patterns)
+            replace_with }
+        ensures { AppendsText F.FnMut (built_as self.now) haystack.now replace_with dst.old dst.new
+            result }
+    {
+        match self.try_replace_all_with(alloc, haystack, dst, replace_with) {
+            Ok(()) => Ok(()),
+            Err(error) => Err(out_of_memory(error)),
+        }
+    }
+
+    /// The same of bytes: there the closure is called for every match.
+    pub fn replace_all_with_bytes<F>(
+        &self,
+        alloc: Global,
+        haystack: &[u8],
+        dst: &mut Vec<u8>,
+        replace_with: F,
+    ) -> Result<(), AllocError>
+    where
+        F: FnMut(&Match, &[u8], &mut Vec<u8>) -> Result<bool, AllocError>,
+        requires can { supported_by self.now Anchored.No }
+        requires ready { IsForMatches F.FnMut (length (built_as self.now).dictionary.patterns)
+            replace_with }
+        ensures { AppendsBytes F.FnMut (built_as self.now) haystack.now replace_with dst.old dst.new
+            result }
+    {
+        match self.try_replace_all_with_bytes(alloc, haystack, dst, replace_with) {
+            Ok(()) => Ok(()),
+            Err(error) => Err(out_of_memory(error)),
+        }
+    }
+
+    /// The text with each match exchanged for the replacement of its pattern. There is one replacement for each pattern. A match
+    /// that begins or ends within a character is passed over: its bytes stay.
+    pub fn try_replace_all(
+        &self,
+        alloc: Global,
+        haystack: &str,
+        replacements: &[&str],
+    ) -> Result<String, ReplaceError>
+        requires { length replacements.now ≡ length (built_as self.now).dictionary.patterns }
+        ensures { ReplacesText (built_as self.now) (supported_by self.now) haystack.now
+            replacements.now result }
+    {
+        Automaton::try_replace_all(self, alloc, haystack, replacements)
+    }
+
+    /// The same of bytes: there every match is replaced.
+    pub fn try_replace_all_bytes(
+        &self,
+        alloc: Global,
+        haystack: &[u8],
+        replacements: &[&[u8]],
+    ) -> Result<Vec<u8>, ReplaceError>
+        requires { length replacements.now ≡ length (built_as self.now).dictionary.patterns }
+        ensures { ReplacesBytes (built_as self.now) (supported_by self.now) haystack.now
+            replacements.now result }
+    {
+        Automaton::try_replace_all_bytes(self, alloc, haystack, replacements)
+    }
+
+    /// Appends the text to the destination, and in place of each match what the closure appends: it is given the match, its text
+    /// and the destination. A match that begins or ends within a character is passed over. A closure that returns `false` is not
+    /// called again, and the rest is copied.
+    ///
+    /// Where memory is refused, what was appended stays. The destination grows by the allocator that it was made with.
+    pub fn try_replace_all_with<F>(
+        &self,
+        alloc: Global,
+        haystack: &str,
+        dst: &mut String,
+        replace_with: F,
+    ) -> Result<(), ReplaceError>
+    where
+        F: FnMut(&Match, &str, &mut String) -> Result<bool, AllocError>,
+        requires { IsForMatches F.FnMut (length (built_as self.now).dictionary.patterns)
+            replace_with }
+        ensures { ReplacesTextWith F.FnMut (built_as self.now) (supported_by self.now) haystack.now
+            replace_with dst.old dst.new result }
+    {
+        Automaton::try_replace_all_with(self, alloc, haystack, dst, replace_with)
+    }
+
+    /// The same of bytes: there the closure is called for every match.
+    pub fn try_replace_all_with_bytes<F>(
+        &self,
+        alloc: Global,
+        haystack: &[u8],
+        dst: &mut Vec<u8>,
+        replace_with: F,
+    ) -> Result<(), ReplaceError>
+    where
+        F: FnMut(&Match, &[u8], &mut Vec<u8>) -> Result<bool, AllocError>,
+        requires { IsForMatches F.FnMut (length (built_as self.now).dictionary.patterns)
+            replace_with }
+        ensures { ReplacesBytesWith F.FnMut (built_as self.now) (supported_by self.now) haystack.now
+            replace_with dst.old dst.new result }
+    {
+        Automaton::try_replace_all_with_bytes(self, alloc, haystack, dst, replace_with)
+    }
+}

@@ -1,0 +1,133 @@
+//! Searches for one match, and for one after another.
+//!
+//! The calls with `try_` are refused where the automaton has no start for the input's anchoring, and those for overlapping matches
+//! where its kind isn't the standard one. The others ask that neither is so.
+ghost use Rattle.std.specs.Prelude.{◌↔◌, IsTrue};
+ghost use Rattle.ac_automaton.specs.Automaton.{AnswersFind, CostsFind, IsFound, searched};
+ghost use Rattle.ac_automaton.specs.Iter.{AnswersFindIter};
+ghost use Rattle.ac_automaton.specs.Overlapping.{CameFrom, CanOverlap, ShowsNext, AnswersOverlapping, IsOverlappingCost, sums_of};
+ghost use Rattle.ac_automaton.specs.OverlappingIter.{CanRun, AnswersOverlappingIter};
+ghost use Rattle.aho_corasick.specs.AhoCorasick.{built_as, supported_by, IsRead, matches_at, HasOccurrence, IsWalkOver, IsRunOver};
+
+use super::{AhoCorasick, FindIter, FindOverlappingIter};
+use ac_automaton::automaton::Automaton;
+use ac_automaton::error::MatchError;
+use ac_automaton::overlapping::OverlappingState;
+use ac_input::search::{Input, Match};
+use ac_input::steps::Steps;
+
+impl AhoCorasick {
+    /// Whether some pattern occurs in the input. Under a leftmost kind it may read less than [`AhoCorasick::find`], since the first
+    /// end of a match that it meets will do.
+    ///
+    /// ```text
+    /// let ac = AhoCorasick::new(alloc, &[b"foo", b"bar", b"quux", b"baz"])?;
+    /// assert!(ac.is_match(Input::from("xxx bar xxx")));
+    /// assert!(!ac.is_match(Input::from("xxx qux xxx")));
+    /// ```
+    pub fn is_match(&self, input: Input<'_>) -> bool
+        requires { supported_by self.now input.anchored }
+        ensures { IsTrue result ↔ HasOccurrence (searched (built_as self.now) input.entry) }
+    {
+        self.find(input.earliest(true)).is_some()
+    }
+
+    /// The match of the input, if it has one: the best of the automaton's kind, or of the standard one in an earliest search.
+    pub fn find(&self, input: Input<'_>) -> Option<Match>
+        requires { supported_by self.now input.anchored }
+        ensures { IsFound (built_as self.now) input.entry result }
+    {
+        self.try_find(input).unwrap()
+    }
+
+    /// Shows the next occurrence of the input: see [`AhoCorasick::try_find_overlapping`].
+    pub fn find_overlapping(&self, input: Input<'_>, state: &mut OverlappingState)
+        requires can { CanOverlap (built_as self.now) (supported_by self.now) input }
+        requires came { CameFrom (built_as self.now) (IsRead self.now) (matches_at self.now) input
+            state.old }
+        ensures came { CameFrom (built_as self.now) (IsRead self.now) (matches_at self.now)
+            input.entry state.new }
+        ensures shows { ShowsNext (built_as self.now) input.entry state.old state.new }
+        ensures cost { IsOverlappingCost (built_as self.now) input.entry (sums_of state.new) }
+    {
+        self.try_find_overlapping(input, state).unwrap()
+    }
+
+    /// All matches of the input, one after another: see [`FindIter`].
+    pub fn find_iter<'a, 'h>(&'a self, input: Input<'h>) -> FindIter<'a, 'h>
+        requires { supported_by self.now input.anchored }
+        ensures { IsWalkOver (built_as self.now) input.entry result }
+    {
+        self.try_find_iter(input).unwrap()
+    }
+
+    /// All occurrences in the input, one after another: see [`FindOverlappingIter`]. The input isn't anchored.
+    pub fn find_overlapping_iter<'a, 'h>(&'a self, input: Input<'h>) -> FindOverlappingIter<'a, 'h>
+        requires { CanRun (built_as self.now) (supported_by self.now) input }
+        ensures { IsRunOver (built_as self.now) input.entry result }
+    {
+        self.try_find_overlapping_iter(input).unwrap()
+    }
+
+    /// The match of the input, if it has one: the best of the automaton's kind, or of the standard one in an earliest search.
+    pub fn try_find(&self, input: Input<'_>) -> Result<Option<Match>, MatchError>
+        ensures { AnswersFind (built_as self.now) (supported_by self.now) input.entry result }
+    {
+        Automaton::try_find(self, &input)
+    }
+
+    /// The same, and counts what it does.
+    pub fn try_find_counted(
+        &self,
+        input: Input<'_>,
+        steps: &mut Steps,
+    ) -> Result<Option<Match>, MatchError>
+        ensures answer { AnswersFind (built_as self.now) (supported_by self.now) input.entry result }
+        ensures cost { CostsFind (built_as self.now) input.entry steps.old steps.new result }
+    {
+        Automaton::try_find_counted(self, &input, steps)
+    }
+
+    /// Shows the next occurrence of the input, in the order of end, start and number, and each once; after the last one it shows
+    /// none. The state is fresh before the first call, and belongs to this automaton and this input from then on. Where the call is
+    /// refused, it is as it was.
+    ///
+    /// ```text
+    /// let mut state = OverlappingState::start();
+    /// ac.try_find_overlapping(Input::from("append the app to the appendage"), &mut state)?;
+    /// let first = state.get_match();
+    /// ```
+    pub fn try_find_overlapping(
+        &self,
+        input: Input<'_>,
+        state: &mut OverlappingState,
+    ) -> Result<(), MatchError>
+        requires { CameFrom (built_as self.now) (IsRead self.now) (matches_at self.now) input
+            state.old }
+        ensures came { CameFrom (built_as self.now) (IsRead self.now) (matches_at self.now)
+            input.entry state.new }
+        ensures answer { AnswersOverlapping (built_as self.now) (supported_by self.now) input.entry
+            state.old state.new result }
+        ensures cost { IsOverlappingCost (built_as self.now) input.entry (sums_of state.new) }
+    {
+        Automaton::try_find_overlapping(self, &input, state)
+    }
+
+    /// All matches of the input, one after another: see [`FindIter`].
+    pub fn try_find_iter<'a, 'h>(&'a self, input: Input<'h>) -> Result<FindIter<'a, 'h>, MatchError>
+        ensures { AnswersFindIter (built_as self.now) (supported_by self.now) input.entry result }
+    {
+        Automaton::try_find_iter(self, input)
+    }
+
+    /// All occurrences in the input, one after another: see [`FindOverlappingIter`]. It is refused for an anchored input too.
+    pub fn try_find_overlapping_iter<'a, 'h>(
+        &'a self,
+        input: Input<'h>,
+    ) -> Result<FindOverlappingIter<'a, 'h>, MatchError>
+        ensures { AnswersOverlappingIter (built_as self.now) (supported_by self.now) input.entry
+            result }
+    {
+        Automaton::try_find_overlapping_iter(self, input)
+    }
+}

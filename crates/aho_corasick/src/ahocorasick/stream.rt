@@ -1,0 +1,138 @@
+//! Streams: their matches, and replacement from a reader to a writer.
+//!
+//! A stream is searched under the standard kind, by an unanchored search, where no pattern is empty. The calls with `try_` are refused
+//! where that isn't so; [`AhoCorasick::stream_find_iter`] asks it. One buffer is taken before the first read, and no memory after it.
+ghost use Rattle.std.specs.Prelude.{◌≡◌, false, length, map, IfOk};
+ghost use Rattle.ac_automaton.specs.declared.error.StreamError.TheVariants.{Memory};
+ghost use Rattle.ac_automaton.specs.Replace.{IsForMatches};
+ghost use Rattle.ac_automaton.specs.Stream.{CanStream};
+ghost use Rattle.ac_automaton.specs.StreamIter.{AnswersStreamIter};
+ghost use Rattle.ac_automaton.specs.StreamReplace.{AcceptsReplacing, CostsStream, ReplacesStream};
+ghost use Rattle.ac_automaton.specs.StreamReplaceWith.{ReplacesStreamWith};
+ghost use Rattle.ac_automaton.specs.Watched.{has_ended};
+ghost use Rattle.aho_corasick.specs.AhoCorasick.{built_as, supported_by};
+ghost use Rattle.aho_corasick.specs.Streamed.{IsStreamOver};
+
+use super::{AhoCorasick, StreamFindIter};
+use ac_automaton::automaton::Automaton;
+use ac_automaton::error::StreamError;
+use ac_automaton::watched::Watched;
+use ac_input::search::Match;
+use ac_input::steps::Steps;
+use std::alloc::{AllocError, Global};
+use std::io::{Read, Write};
+
+/// The error of a search of a stream that nothing but memory can refuse.
+fn out_of_memory(error: StreamError) -> AllocError
+    requires { error ≡ Memory }
+{
+    match error {
+        StreamError::Memory => AllocError,
+        _ => unreachable!(),
+    }
+}
+
+impl AhoCorasick {
+    /// All matches of a stream, one after another: see [`AhoCorasick::try_stream_find_iter`].
+    pub fn stream_find_iter<'a, R>(
+        &'a self,
+        alloc: Global,
+        reader: &'a mut Watched<R>,
+    ) -> Result<StreamFindIter<'a, R>, AllocError>
+        requires open { has_ended reader.old ≡ false }
+        requires can { CanStream (built_as self.now) (supported_by self.now) }
+        ensures { IfOk result (IsStreamOver (built_as self.now) reader.entry) }
+    {
+        match self.try_stream_find_iter(alloc, reader) {
+            Ok(matches) => Ok(matches),
+            Err(error) => Err(out_of_memory(error)),
+        }
+    }
+
+    /// All matches of a stream, one after another: see [`StreamFindIter`]. Their places are counted from the first byte that is
+    /// read. It takes one buffer of `max(65536, 8 * max(1, longest))` bytes.
+    ///
+    /// It is refused where the automaton has no start for an unanchored search, or isn't of the standard kind, or has an empty
+    /// pattern, in that order, and then where there is no memory for the buffer. Nothing was read then.
+    pub fn try_stream_find_iter<'a, R>(
+        &'a self,
+        alloc: Global,
+        reader: &'a mut Watched<R>,
+    ) -> Result<StreamFindIter<'a, R>, StreamError>
+        requires { has_ended reader.old ≡ false }
+        ensures { AnswersStreamIter (built_as self.now) (supported_by self.now) reader.entry
+            result }
+    {
+        Automaton::try_stream_find_iter(self, alloc, reader)
+    }
+
+    /// Writes what is read with each match exchanged for the replacement of its pattern, of which there is one for each pattern.
+    /// The input ends at its first empty read. Before each read all is written that no later byte can change; at most as many bytes
+    /// are kept back as the longest pattern has. The writer isn't flushed.
+    ///
+    /// It is refused as [`AhoCorasick::try_stream_find_iter`] is; the reader and the writer are then as they were. Where a read or a
+    /// write fails, nothing is tried again.
+    pub fn try_stream_replace_all<R: Read, W: Write>(
+        &self,
+        alloc: Global,
+        reader: &mut Watched<R>,
+        writer: &mut Watched<W>,
+        replacements: &[&[u8]],
+    ) -> Result<(), StreamError>
+        requires open { has_ended reader.old ≡ false }
+        requires one_each { length replacements.now
+            ≡ length (built_as self.now).dictionary.patterns }
+        ensures replaced { ReplacesStream R.remaining W.contents (built_as self.now)
+            (map (λ r. r.now) replacements.now) reader.old reader.new writer.old writer.new result }
+        ensures accepted { AcceptsReplacing (built_as self.now) (supported_by self.now)
+            reader.old reader.new writer.old writer.new result }
+    {
+        Automaton::try_stream_replace_all(self, alloc, reader, writer, replacements)
+    }
+
+    /// The same, and counts what it does.
+    pub fn try_stream_replace_all_counted<R: Read, W: Write>(
+        &self,
+        alloc: Global,
+        reader: &mut Watched<R>,
+        writer: &mut Watched<W>,
+        replacements: &[&[u8]],
+        steps: &mut Steps,
+    ) -> Result<(), StreamError>
+        requires open { has_ended reader.old ≡ false }
+        requires one_each { length replacements.now
+            ≡ length (built_as self.now).dictionary.patterns }
+        ensures replaced { ReplacesStream R.remaining W.contents (built_as self.now)
+            (map (λ r. r.now) replacements.now) reader.old reader.new writer.old writer.new result }
+        ensures accepted { AcceptsReplacing (built_as self.now) (supported_by self.now)
+            reader.old reader.new writer.old writer.new result }
+        ensures cost { CostsStream (built_as self.now) reader.old reader.new
+            steps.old steps.new result }
+    {
+        Automaton::try_stream_replace_all_counted(self, alloc, reader, writer, replacements, steps)
+    }
+
+    /// Writes what is read, and in place of each match what the closure writes: it is given the match, its bytes and the writer,
+    /// which has taken all that stands before the match. The closure must take every pattern's number below
+    /// [`patterns_len`](AhoCorasick::patterns_len), also after each call.
+    ///
+    /// It reads, writes and is refused as [`AhoCorasick::try_stream_replace_all`]. The closure's first error ends the call and is
+    /// returned unchanged.
+    pub fn try_stream_replace_all_with<R: Read, W: Write, F>(
+        &self,
+        alloc: Global,
+        reader: &mut Watched<R>,
+        writer: &mut Watched<W>,
+        replace_with: F,
+    ) -> Result<(), StreamError>
+    where
+        F: FnMut(&Match, &[u8], &mut Watched<W>) -> Result<(), StreamError>,
+        requires open { has_ended reader.old ≡ false }
+        requires ready { IsForMatches F.FnMut (length (built_as self.now).dictionary.patterns)
+            replace_with }
+        ensures { ReplacesStreamWith W.contents F.FnMut R.remaining (built_as self.now)
+            (supported_by self.now) replace_with reader.old reader.new writer.old writer.new result }
+    {
+        Automaton::try_stream_replace_all_with(self, alloc, reader, writer, replace_with)
+    }
+}

@@ -1,0 +1,32 @@
+//! Searching a text for many patterns at once, in time that doesn't depend on how many there are.
+//!
+//! [`AhoCorasick`] is what most callers need: it is made from patterns, by settings where they are wanted
+//! ([`AhoCorasickBuilder`]), and finds, iterates, replaces, and reads streams. Which of three automata serves it is a matter of time
+//! and memory alone: the answers are the same.
+//!
+//! - [`nfa::noncontiguous::NFA`] is built soonest, and the others are built from it.
+//! - [`nfa::contiguous::NFA`] takes the least memory.
+//! - [`dfa::DFA`] searches fastest, and takes the most memory.
+//!
+//! They can be used directly too, by the trait [`automaton::Automaton`], which [`AhoCorasick`] implements as well. [`packed`] is
+//! another way to search, for a few patterns.
+#![tactic(auto)]
+
+pub mod ahocorasick;
+pub mod automaton;
+pub mod dfa;
+mod engine;
+pub mod nfa;
+pub mod packed;
+
+pub use ac_automaton::error::{MatchError, MatchErrorKind, ReplaceError, StreamError};
+pub use ac_automaton::overlapping::OverlappingState;
+pub use ac_automaton::watched::{Watched, write_whole};
+pub use ac_input::pairing::{Pairing, PairingError};
+pub use ac_input::primitives::{PatternID, PatternIDError};
+pub use ac_input::search::{Anchored, Input, Match, MatchKind, Span, StartKind};
+pub use ac_input::steps::Steps;
+pub use ac_noncontiguous::error::{BuildError, BuildErrorKind};
+pub use ahocorasick::{
+    AhoCorasick, AhoCorasickBuilder, AhoCorasickKind, FindIter, FindOverlappingIter, StreamFindIter,
+};

@@ -1,0 +1,3 @@
+//! The two automata with failures, used directly.
+pub mod contiguous;
+pub mod noncontiguous;

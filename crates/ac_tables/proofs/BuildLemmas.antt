@@ -12,7 +12,7 @@ use Rattle.ac_noncontiguous.specs.Reads.{matches_at}
 use Rattle.ac_noncontiguous.specs.ReadCalls.{fail_in, depth_in, edges_in, EdgesLeadIn}
 use Rattle.ac_tables.specs.Words.{StateParts, words_of}
 use Rattle.ac_tables.specs.ContiguousTable.{placed, parts_of, place_in, words_at, words_before}
-use Rattle.ac_tables.specs.ContiguousBuild.{ArePlaces, AreReadTo, IsKnown, AreKnown, IsStateWritten}
+use Rattle.ac_tables.specs.ContiguousBuild.{ArePlacesIn, AreReadTo, IsKnown, AreKnown, IsStateWritten}
 use Rattle.ac_tables.proofs.LenLemmas.{not-equal}
 use Rattle.ac_tables.proofs.EntryLemmas.{class-fits}
 
@@ -72,7 +72,7 @@ abbrev parts_by : Bool → ℕ → List (ℕ × ℕ) → List ℕ → StateParts
 parts_by shallow fail edges matches = record { shallow = shallow; fail = fail; edges = edges; matches = matches }
 
 -- what was read of a state are its words
-pub state-written : (nfa : NFA) (dense_depth sid alphabet fail : ℕ) (classes places before after matches : List ℕ) (edges : List (ℕ × ℕ)) (shallow : Bool) → ArePlaces nfa dense_depth classes places → sid ≢ 1 → IsKnown nfa sid → alphabet ≡ alphabet_len classes → shallow ≡ nat_lt (depth_in nfa sid) dense_depth → fail ≡ slice_index places (fail_in nfa sid) → edges ≡ map (placed classes (slice_index places)) (edges_in nfa sid) → matches ≡ matches_at nfa sid → after ≡ before ++ words_of alphabet (parts_by shallow fail edges matches) → IsStateWritten nfa dense_depth classes sid before after
+pub state-written : (nfa : NFA) (dense_depth sid alphabet fail : ℕ) (classes places before after matches : List ℕ) (edges : List (ℕ × ℕ)) (shallow : Bool) → ArePlacesIn nfa dense_depth classes places → sid ≢ 1 → IsKnown nfa sid → alphabet ≡ alphabet_len classes → shallow ≡ nat_lt (depth_in nfa sid) dense_depth → fail ≡ slice_index places (fail_in nfa sid) → edges ≡ map (placed classes (slice_index places)) (edges_in nfa sid) → matches ≡ matches_at nfa sid → after ≡ before ++ words_of alphabet (parts_by shallow fail edges matches) → IsStateWritten nfa dense_depth classes sid before after
 state-written nfa dense_depth sid alphabet fail classes places before after matches edges shallow h stands known is_alphabet is_shallow is_fail is_edges is_matches is =
     let place = place_in nfa dense_depth classes in
     let own_fail : fail ≡ place (fail_in nfa sid) = is_fail ∙ h.at (fail_in nfa sid) known.fails.within in

@@ -22,7 +22,7 @@ use Rattle.ac_noncontiguous.specs.ReadCalls.{state_len, fail_in, edges_in, speci
 use Rattle.ac_noncontiguous.proofs.NextLemmas.{state-some, state-none, straight, stuck, stuck-dead}
 use Rattle.ac_noncontiguous.proofs.ReadCallLemmas.{edges-lead, fails-in, alike-in, special-in}
 use Rattle.ac_tables.specs.DfaTable.{IsCell}
-use Rattle.ac_tables.specs.Filling.{Plan, number_in, cell_in, IsFit, IsRowRight, IsBlank, entry_in, HasClass, IsEntry, Written, Kept}
+use Rattle.ac_tables.specs.Filling.{RowPlan, number_in, cell_in, IsFit, IsRowRight, IsBlank, entry_in, HasClass, IsEntry, Written, Kept}
 use Rattle.ac_tables.proofs.RowLemmas.{row-first}
 
 -- ---- the automaton
@@ -78,13 +78,13 @@ met-dead nfa anchored =
 -- ---- the dead state
 
 -- it stands in the front
-pub number-dead : (p : Plan) (anchored : Anchored) → number_in p anchored 0 ≡ 0
+pub number-dead : (p : RowPlan) (anchored : Anchored) → number_in p anchored 0 ≡ 0
 number-dead p anchored =
     let none : 0 * p.stride ≡ 0 = omega arith in
     ap (λ (row : ℕ). row * p.stride) (row-first p.kind (special_in p.nfa).start_unanchored_id (is_anchored anchored) 0 (omega arith)) ∙ none
 
 -- and leads to itself
-pub dead-right : (p : Plan) (anchored : Anchored) (trans : List ℕ) → IsFit p → IsBlank p.stride (number_in p anchored 0) trans → IsRowRight p anchored 0 trans
+pub dead-right : (p : RowPlan) (anchored : Anchored) (trans : List ℕ) → IsFit p → IsBlank p.stride (number_in p anchored 0) trans → IsRowRight p anchored 0 trans
 dead-right p anchored trans fit blank byte small = (
   0,
   (record { met = met-dead p.nfa anchored; dead = λ e. e; leads = λ text t past. absurd (omega (arith, past)) }, blank (class p.classes byte) (fit.letters byte small) ∙ sym (number-dead p anchored)),
@@ -93,11 +93,11 @@ dead-right p anchored trans fit blank byte small = (
 -- ---- by a transition
 
 -- bytes of one class lead alike
-alike-of : (p : Plan) → IsFit p → (b c : ℕ) → b < 256 → c < 256 → class p.classes b ≡ class p.classes c → BytesLeadAlike (dictionary p.nfa) b c
+alike-of : (p : RowPlan) → IsFit p → (b c : ℕ) → b < 256 → c < 256 → class p.classes b ≡ class p.classes c → BytesLeadAlike (dictionary p.nfa) b c
 alike-of p fit b c b_in c_in same = alike-in p.nfa b c b_in c_in (fit.finer b c b_in c_in same)
 
 -- where a transition leads there is a state, to which all bytes of its class lead
-leads-straight : (p : Plan) (anchored : Anchored) (sid c byte next : ℕ) → IsFit p → MayBeMet p.nfa anchored sid → c < 256 → byte < 256 → class p.classes c ≡ class p.classes byte → next < state_len p.nfa → next ≢ 1 → ((text : ℕ → List ℕ) → StandFor p.nfa text → IsEdgeIn p.nfa text sid c next) → LeadsIn p.nfa anchored sid byte next
+leads-straight : (p : RowPlan) (anchored : Anchored) (sid c byte next : ℕ) → IsFit p → MayBeMet p.nfa anchored sid → c < 256 → byte < 256 → class p.classes c ≡ class p.classes byte → next < state_len p.nfa → next ≢ 1 → ((text : ℕ → List ℕ) → StandFor p.nfa text → IsEdgeIn p.nfa text sid c next) → LeadsIn p.nfa anchored sid byte next
 leads-straight p anchored sid c byte next fit met c_in byte_in same within stands edge =
     let nfa = p.nfa in
     let m = dictionary nfa in
@@ -114,7 +114,7 @@ leads-straight p anchored sid c byte next fit met c_in byte_in same within stand
     }
 
 -- where it leads to none, an anchored search is over
-leads-over : (p : Plan) (sid c byte : ℕ) → IsFit p → MayBeMet p.nfa Yes sid → c < 256 → byte < 256 → class p.classes c ≡ class p.classes byte → ((text : ℕ → List ℕ) → StandFor p.nfa text → IsEdgeIn p.nfa text sid c 1) → LeadsIn p.nfa Yes sid byte 0
+leads-over : (p : RowPlan) (sid c byte : ℕ) → IsFit p → MayBeMet p.nfa Yes sid → c < 256 → byte < 256 → class p.classes c ≡ class p.classes byte → ((text : ℕ → List ℕ) → StandFor p.nfa text → IsEdgeIn p.nfa text sid c 1) → LeadsIn p.nfa Yes sid byte 0
 leads-over p sid c byte fit met c_in byte_in same edge =
     let nfa = p.nfa in
     let m = dictionary nfa in
@@ -139,11 +139,11 @@ never-none nfa sid k c met past is =
     (cases_eq sid start)
 
 -- what is written for a state but the fail state
-entry-some : (p : Plan) (anchored : Anchored) (next : ℕ) → next ≢ 1 → entry_in p anchored next ≡ number_in p anchored next
+entry-some : (p : RowPlan) (anchored : Anchored) (next : ℕ) → next ≢ 1 → entry_in p anchored next ≡ number_in p anchored next
 entry-some p anchored next some = cond-false (next == 1) 0 (number_in p anchored next) (grind (arith, nat_tests))
 
 -- where it is the fail state the byte leads to none, which an anchored search alone can meet
-written-none : (p : Plan) (anchored : Anchored) (sid k c byte cell : ℕ) → IsFit p → MayBeMet p.nfa anchored sid → 1 < sid → slice_get (edges_in p.nfa sid) k ≡ Some (c, 1) → byte < 256 → class p.classes c ≡ class p.classes byte → cell ≡ 0 → (to : ℕ) × IsCell p.nfa p.kind p.stride cell anchored sid byte to
+written-none : (p : RowPlan) (anchored : Anchored) (sid k c byte cell : ℕ) → IsFit p → MayBeMet p.nfa anchored sid → 1 < sid → slice_get (edges_in p.nfa sid) k ≡ Some (c, 1) → byte < 256 → class p.classes c ≡ class p.classes byte → cell ≡ 0 → (to : ℕ) × IsCell p.nfa p.kind p.stride cell anchored sid byte to
 written-none p No sid k c byte cell fit met past is byte_in same zero_is = absurd (never-none p.nfa sid k c met past is)
 written-none p Yes sid k c byte cell fit met past is byte_in same zero_is =
     let e = edges-lead p.nfa sid met.within in (
@@ -152,7 +152,7 @@ written-none p Yes sid k c byte cell fit met past is byte_in same zero_is =
     )
 
 -- so an entry that is written is right
-pub written-right : (p : Plan) (anchored : Anchored) (sid k c byte next cell : ℕ) → IsFit p → MayBeMet p.nfa anchored sid → 1 < sid → slice_get (edges_in p.nfa sid) k ≡ Some (c, next) → byte < 256 → class p.classes c ≡ class p.classes byte → cell ≡ entry_in p anchored next → (to : ℕ) × IsCell p.nfa p.kind p.stride cell anchored sid byte to
+pub written-right : (p : RowPlan) (anchored : Anchored) (sid k c byte next cell : ℕ) → IsFit p → MayBeMet p.nfa anchored sid → 1 < sid → slice_get (edges_in p.nfa sid) k ≡ Some (c, next) → byte < 256 → class p.classes c ≡ class p.classes byte → cell ≡ entry_in p anchored next → (to : ℕ) × IsCell p.nfa p.kind p.stride cell anchored sid byte to
 written-right p anchored sid k c byte next cell fit met past is byte_in same written =
     let e = edges-lead p.nfa sid met.within in
     let w = e.within k c next is in
@@ -164,7 +164,7 @@ written-right p anchored sid k c byte next cell fit met past is byte_in same wri
 -- ---- without one
 
 -- a byte that no transition has leads to none
-no-edge : (p : Plan) (sid byte : ℕ) → sid < state_len p.nfa → byte < 256 → ((k c next : ℕ) → ¬ HasClass p.classes (edges_in p.nfa sid) (class p.classes byte) k c next) → (text : ℕ → List ℕ) → StandFor p.nfa text → IsEdgeIn p.nfa text sid byte 1
+no-edge : (p : RowPlan) (sid byte : ℕ) → sid < state_len p.nfa → byte < 256 → ((k c next : ℕ) → ¬ HasClass p.classes (edges_in p.nfa sid) (class p.classes byte) k c next) → (text : ℕ → List ℕ) → StandFor p.nfa text → IsEdgeIn p.nfa text sid byte 1
 no-edge p sid byte within byte_in none text t = ((edges-lead p.nfa sid within).leading text t).missing byte byte_in (λ k next is. none k byte next (is, refl))
 
 -- where the failure leads with it, the state does
@@ -196,7 +196,7 @@ leads-by_failure nfa sid byte next met past edge h =
 -- ---- rows
 
 -- a row is right that has the transitions over that of the failure
-pub row-plain : (p : Plan) (sid : ℕ) (old new : List ℕ) → IsFit p → MayBeMet p.nfa No sid → 1 < sid → ((x : ℕ) → x < p.stride → IsEntry p No (edges_in p.nfa sid) x (slice_index old (number_in p No (fail_in p.nfa sid) + x)) (slice_index new (number_in p No sid + x))) → IsRowRight p No (fail_in p.nfa sid) old → IsRowRight p No sid new
+pub row-plain : (p : RowPlan) (sid : ℕ) (old new : List ℕ) → IsFit p → MayBeMet p.nfa No sid → 1 < sid → ((x : ℕ) → x < p.stride → IsEntry p No (edges_in p.nfa sid) x (slice_index old (number_in p No (fail_in p.nfa sid) + x)) (slice_index new (number_in p No sid + x))) → IsRowRight p No (fail_in p.nfa sid) old → IsRowRight p No sid new
 row-plain p sid old new fit met past entries right byte small = by (entries (class p.classes byte) (fit.letters byte small))
   where
     by : IsEntry p No (edges_in p.nfa sid) (class p.classes byte) (slice_index old (cell_in p No (fail_in p.nfa sid) byte)) (slice_index new (cell_in p No sid byte)) → (to : ℕ) × IsCell p.nfa p.kind p.stride (slice_index new (cell_in p No sid byte)) No sid byte to
@@ -206,7 +206,7 @@ row-plain p sid old new fit met past entries right byte small = by (entries (cla
         (r.0, (leads-by_failure p.nfa sid byte r.0 met past (no-edge p sid byte met.within small none) r.1.0, is ∙ r.1.1))
 
 -- and for anchored searches one that has them over a blank one
-pub row-anchored : (p : Plan) (sid : ℕ) (old new : List ℕ) → IsFit p → MayBeMet p.nfa Yes sid → 1 < sid → ((x : ℕ) → x < p.stride → IsEntry p Yes (edges_in p.nfa sid) x (slice_index old (number_in p Yes sid + x)) (slice_index new (number_in p Yes sid + x))) → IsBlank p.stride (number_in p Yes sid) old → IsRowRight p Yes sid new
+pub row-anchored : (p : RowPlan) (sid : ℕ) (old new : List ℕ) → IsFit p → MayBeMet p.nfa Yes sid → 1 < sid → ((x : ℕ) → x < p.stride → IsEntry p Yes (edges_in p.nfa sid) x (slice_index old (number_in p Yes sid + x)) (slice_index new (number_in p Yes sid + x))) → IsBlank p.stride (number_in p Yes sid) old → IsRowRight p Yes sid new
 row-anchored p sid old new fit met past entries blank byte small = by (entries (class p.classes byte) (fit.letters byte small))
   where
     by : IsEntry p Yes (edges_in p.nfa sid) (class p.classes byte) (slice_index old (cell_in p Yes sid byte)) (slice_index new (cell_in p Yes sid byte)) → (to : ℕ) × IsCell p.nfa p.kind p.stride (slice_index new (cell_in p Yes sid byte)) Yes sid byte to

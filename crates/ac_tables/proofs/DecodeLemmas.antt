@@ -5,12 +5,12 @@ use Rattle.std.specs.List.{range_with_len}
 use Rattle.std.proofs.lemmas.Bool.{or_parts, and_parts, eqb-true, eq-eqb, ne_eqb, ltb-false, cond-true, cond-false}
 use Rattle.std.proofs.lemmas.List.{get_or-take, get_or-drop, take-take, take_at, drop-drop, drop-take, drop_at}
 use Rattle.std.proofs.lemmas.List.FromFn.{length-map-range_with_len, get_or-map-range_with_len}
-use Rattle.ac_tables.specs.Words.{StateParts, Form, Dense, One, Sparse, most_sparse, is_single, form_of, next_by, packed, classes_of, nexts_of, first_class, kind_word, transition_words, match_words, words_of, StandsAt}
+use Rattle.ac_tables.specs.Words.{StateParts, Form, Dense, One, Sparse, most_sparse, is_single, form_of, next_by, packed, classes_of, nexts_of, first_class, kind_word, transition_words, match_words, words_of, AreWordsAt}
 
 -- ---- some words of many
 
 -- where words stand, the first of them do,
-pub stands-left : (words p q : List ℕ) (at : ℕ) → StandsAt words at (p ++ q) → StandsAt words at p
+pub stands-left : (words p q : List ℕ) (at : ℕ) → AreWordsAt words at (p ++ q) → AreWordsAt words at p
 stands-left words p q at h =
     let long = length-append p q in (
       omega (arith, h.0, long),
@@ -18,7 +18,7 @@ stands-left words p q at h =
     )
 
 -- and those after them
-pub stands-right : (words p q : List ℕ) (at : ℕ) → StandsAt words at (p ++ q) → StandsAt words (at + length p) q
+pub stands-right : (words p q : List ℕ) (at : ℕ) → AreWordsAt words at (p ++ q) → AreWordsAt words (at + length p) q
 stands-right words p q at h =
     let long = length-append p q in (
       omega (arith, h.0, long),
@@ -28,7 +28,7 @@ stands-right words p q at h =
     )
 
 -- each stands at its place
-pub stands-item : (words part : List ℕ) (at k place : ℕ) → StandsAt words at part → k < length part → place ≡ at + k → (place < length words) × (get_or words place 0 ≡ get_or part k 0)
+pub stands-item : (words part : List ℕ) (at k place : ℕ) → AreWordsAt words at part → k < length part → place ≡ at + k → (place < length words) × (get_or words place 0 ≡ get_or part k 0)
 stands-item words part at k place h lt is = (
   omega (arith, h.0, lt, is),
   ap (λ (n : ℕ). get_or words n 0) is ∙ (sym (get_or-drop at words k 0) ∙ (sym (get_or-take (length part) (drop at words) k 0 lt) ∙ ap (λ (xs : List ℕ). get_or xs k 0) h.1)),
@@ -92,7 +92,7 @@ form-sparse s dense one = by (form_of s) (form-is s) dense one
 -- ---- where a class leads
 
 -- The words of a state stand at a place.
-module _ (words : List ℕ) (at alphabet : ℕ) (s : StateParts) (h : StandsAt words at (words_of alphabet s)) where
+module _ (words : List ℕ) (at alphabet : ℕ) (s : StateParts) (h : AreWordsAt words at (words_of alphabet s)) where
   -- the first two
   pub state-kind : (at < length words) × (get_or words at 0 ≡ kind_word (form_of s) s.edges)
   state-kind = stands-item words (words_of alphabet s) at 0 at h (omega arith) (omega arith)
@@ -101,28 +101,28 @@ module _ (words : List ℕ) (at alphabet : ℕ) (s : StateParts) (h : StandsAt w
   state-fail = stands-item words (words_of alphabet s) at 1 (at + 1) h (omega arith) refl
 
   -- the others
-  state-rest : StandsAt words (at + 2) (transition_words (form_of s) alphabet s.edges ++ match_words s.matches)
+  state-rest : AreWordsAt words (at + 2) (transition_words (form_of s) alphabet s.edges ++ match_words s.matches)
   state-rest = stands-right words (kind_word (form_of s) s.edges ∷ s.fail ∷ []) (transition_words (form_of s) alphabet s.edges ++ match_words s.matches) at h
 
-  pub state-transitions : StandsAt words (at + 2) (transition_words (form_of s) alphabet s.edges)
+  pub state-transitions : AreWordsAt words (at + 2) (transition_words (form_of s) alphabet s.edges)
   state-transitions = stands-left words (transition_words (form_of s) alphabet s.edges) (match_words s.matches) (at + 2) state-rest
 
-  pub state-matches : StandsAt words (at + 2 + length (transition_words (form_of s) alphabet s.edges)) (match_words s.matches)
+  pub state-matches : AreWordsAt words (at + 2 + length (transition_words (form_of s) alphabet s.edges)) (match_words s.matches)
   state-matches = stands-right words (transition_words (form_of s) alphabet s.edges) (match_words s.matches) (at + 2) state-rest
 
   -- an entry for each class
   pub dense-next : (c place : ℕ) → form_of s ≡ Dense → c < alphabet → place ≡ at + 2 + c → (place < length words) × (get_or words place 0 ≡ next_by s.edges c)
   dense-next c place is within there =
-      let t : StandsAt words (at + 2) (map (next_by s.edges) (range_with_len 0 alphabet)) = subst (λ (f : Form). StandsAt words (at + 2) (transition_words f alphabet s.edges)) is state-transitions in
+      let t : AreWordsAt words (at + 2) (map (next_by s.edges) (range_with_len 0 alphabet)) = subst (λ (f : Form). AreWordsAt words (at + 2) (transition_words f alphabet s.edges)) is state-transitions in
       let long = length-map-range_with_len (next_by s.edges) 0 alphabet in
       let item = stands-item words (map (next_by s.edges) (range_with_len 0 alphabet)) (at + 2) c place t (omega (arith, long, within)) there in
       (item.0, item.1 ∙ get_or-map-range_with_len (next_by s.edges) 0 alphabet c c 0 within (omega arith))
 
   -- a single transition
   pub one-next : form_of s ≡ One → length s.edges ≡ 1 → (at + 2 < length words) × ((c : ℕ) → first_class s.edges ≡ c → get_or words (at + 2) 0 ≡ next_by s.edges c) × ((c : ℕ) → first_class s.edges ≢ c → next_by s.edges c ≡ 1)
-  one-next is one = by s.edges one (subst (λ (f : Form). StandsAt words (at + 2) (transition_words f alphabet s.edges)) is state-transitions)
+  one-next is one = by s.edges one (subst (λ (f : Form). AreWordsAt words (at + 2) (transition_words f alphabet s.edges)) is state-transitions)
     where
-      by : (edges : List (ℕ × ℕ)) → length edges ≡ 1 → StandsAt words (at + 2) (nexts_of edges) → (at + 2 < length words) × ((c : ℕ) → first_class edges ≡ c → get_or words (at + 2) 0 ≡ next_by edges c) × ((c : ℕ) → first_class edges ≢ c → next_by edges c ≡ 1)
+      by : (edges : List (ℕ × ℕ)) → length edges ≡ 1 → AreWordsAt words (at + 2) (nexts_of edges) → (at + 2 < length words) × ((c : ℕ) → first_class edges ≡ c → get_or words (at + 2) 0 ≡ next_by edges c) × ((c : ℕ) → first_class edges ≢ c → next_by edges c ≡ 1)
       by [] e t = absurd (omega (arith, e))
       by (edge ∷ []) e t =
           let item = stands-item words (edge.1 ∷ []) (at + 2) 0 (at + 2) t (omega arith) (omega arith) in (
@@ -133,9 +133,9 @@ module _ (words : List ℕ) (at alphabet : ℕ) (s : StateParts) (h : StandsAt w
       by (edge ∷ more ∷ edges) e t = absurd (omega (arith, e))
 
   -- the classes of a few, packed,
-  pub sparse-classes : form_of s ≡ Sparse → StandsAt words (at + 2) (packed (classes_of s.edges))
-  sparse-classes is = stands-left words (packed (classes_of s.edges)) (nexts_of s.edges) (at + 2) (subst (λ (f : Form). StandsAt words (at + 2) (transition_words f alphabet s.edges)) is state-transitions)
+  pub sparse-classes : form_of s ≡ Sparse → AreWordsAt words (at + 2) (packed (classes_of s.edges))
+  sparse-classes is = stands-left words (packed (classes_of s.edges)) (nexts_of s.edges) (at + 2) (subst (λ (f : Form). AreWordsAt words (at + 2) (transition_words f alphabet s.edges)) is state-transitions)
 
   -- and then where they lead
-  pub sparse-nexts : form_of s ≡ Sparse → StandsAt words (at + 2 + length (packed (classes_of s.edges))) (nexts_of s.edges)
-  sparse-nexts is = stands-right words (packed (classes_of s.edges)) (nexts_of s.edges) (at + 2) (subst (λ (f : Form). StandsAt words (at + 2) (transition_words f alphabet s.edges)) is state-transitions)
+  pub sparse-nexts : form_of s ≡ Sparse → AreWordsAt words (at + 2 + length (packed (classes_of s.edges))) (nexts_of s.edges)
+  sparse-nexts is = stands-right words (packed (classes_of s.edges)) (nexts_of s.edges) (at + 2) (subst (λ (f : Form). AreWordsAt words (at + 2) (transition_words f alphabet s.edges)) is state-transitions)

@@ -26,9 +26,9 @@ use Rattle.ac_tables.specs.declared.dfa.DFA.{DFA}
 use Rattle.ac_tables.specs.DfaBuild.{Settings, IsDfaOf, IsDfaRefused, IsTooLargeOr}
 use Rattle.ac_tables.specs.DfaLists.{AreListsOf}
 use Rattle.ac_tables.specs.DfaReads.{IsMadeOf}
-use Rattle.ac_tables.specs.DfaMade.{AreChosen, start_of, IsTableOf, IsTableFor, IsTableRefused}
-use Rattle.ac_tables.specs.DfaTable.{number_of, stride_of, AreTransitionsOf, AreSomeRows, AreParts}
-use Rattle.ac_tables.specs.Filling.{Plan, IsFit, IsOverflow, AreRowsUpTo}
+use Rattle.ac_tables.specs.DfaMade.{AreChosen, nfa_start_of, IsDfaTableOf, IsTableFor, IsTableRefused}
+use Rattle.ac_tables.specs.DfaTable.{dfa_number_of, stride_of, AreTransitionsOf, AreSomeRows, AreDfaParts}
+use Rattle.ac_tables.specs.Filling.{RowPlan, IsFit, IsOverflow, AreRowsUpTo}
 use Rattle.ac_tables.proofs.CellLemmas.{starts-of}
 use Rattle.ac_tables.proofs.FilledLemmas.{number-small}
 use Rattle.ac_tables.proofs.RowLemmas.{number-row}
@@ -121,7 +121,7 @@ chosen-fit classed nfa kind classes stride chosen least wide fits =
 -- ---- the table
 
 -- what is made of an automaton
-pub table-for : (nfa : NFA) (table : Table) (classed : Bool) (stride : ℕ) → AreChosen classed nfa table.classes → stride ≡ stride_of table → table.stride2 ≤ 8 → IsLeastExponent (alphabet_len table.classes) table.stride2 → IsFit (record { nfa = nfa; kind = table.kind; classes = table.classes; stride = stride }) → AreRowsUpTo (record { nfa = nfa; kind = table.kind; classes = table.classes; stride = stride }) (state_len nfa) (state_len nfa) table.trans.items → AreListsOf nfa table.lists → table.start ≡ number_of table.kind (start_of nfa) stride false (start_of nfa) → table.start_anchored ≡ number_of table.kind (start_of nfa) stride true (start_of nfa + 1) → table.max_match ≡ number_of table.kind (start_of nfa) stride true (special_in nfa).max_match_id → IsTableFor nfa table.kind classed table
+pub table-for : (nfa : NFA) (table : Table) (classed : Bool) (stride : ℕ) → AreChosen classed nfa table.classes → stride ≡ stride_of table → table.stride2 ≤ 8 → IsLeastExponent (alphabet_len table.classes) table.stride2 → IsFit (record { nfa = nfa; kind = table.kind; classes = table.classes; stride = stride }) → AreRowsUpTo (record { nfa = nfa; kind = table.kind; classes = table.classes; stride = stride }) (state_len nfa) (state_len nfa) table.trans.items → AreListsOf nfa table.lists → table.start ≡ dfa_number_of table.kind (nfa_start_of nfa) stride false (nfa_start_of nfa) → table.start_anchored ≡ dfa_number_of table.kind (nfa_start_of nfa) stride true (nfa_start_of nfa + 1) → table.max_match ≡ dfa_number_of table.kind (nfa_start_of nfa) stride true (special_in nfa).max_match_id → IsTableFor nfa table.kind classed table
 table-for nfa table classed stride chosen is wide least fit rows lists first second last = record {
   made = record {
     fit = subst (λ (s : ℕ). IsFit (record { nfa = nfa; kind = table.kind; classes = table.classes; stride = s })) is fit;
@@ -129,20 +129,20 @@ table-for nfa table classed stride chosen is wide least fit rows lists first sec
     least = least;
     rows = subst (λ (s : ℕ). AreRowsUpTo (record { nfa = nfa; kind = table.kind; classes = table.classes; stride = s }) (state_len nfa) (state_len nfa) table.trans.items) is rows;
     lists = lists;
-    start = subst (λ (s : ℕ). table.start ≡ number_of table.kind (start_of nfa) s false (start_of nfa)) is first;
-    start_anchored = subst (λ (s : ℕ). table.start_anchored ≡ number_of table.kind (start_of nfa) s true (start_of nfa + 1)) is second;
-    max_match = subst (λ (s : ℕ). table.max_match ≡ number_of table.kind (start_of nfa) s true (special_in nfa).max_match_id) is last;
+    start = subst (λ (s : ℕ). table.start ≡ dfa_number_of table.kind (nfa_start_of nfa) s false (nfa_start_of nfa)) is first;
+    start_anchored = subst (λ (s : ℕ). table.start_anchored ≡ dfa_number_of table.kind (nfa_start_of nfa) s true (nfa_start_of nfa + 1)) is second;
+    max_match = subst (λ (s : ℕ). table.max_match ≡ dfa_number_of table.kind (nfa_start_of nfa) s true (special_in nfa).max_match_id) is last;
   };
   kind = refl;
   classes = chosen;
 }
 
 -- the dictionary of the automaton has it
-pub made-some : (nfa : NFA) (table : Table) → IsTableOf nfa table → AreSomeRows (dictionary nfa) table
+pub made-some : (nfa : NFA) (table : Table) → IsDfaTableOf nfa table → AreSomeRows (dictionary nfa) table
 made-some nfa table h = ∥∥₁_map nfa.stands (λ w. (_, table-rows nfa table w.0 h w.1))
 
 -- its transitions are laid out as is said
-pub made-laid : (nfa : NFA) (table : Table) → IsTableOf nfa table → AreTransitionsOf nfa table.kind table.classes (stride_of table) table.trans.items
+pub made-laid : (nfa : NFA) (table : Table) → IsDfaTableOf nfa table → AreTransitionsOf nfa table.kind table.classes (stride_of table) table.trans.items
 made-laid nfa table h = record {
   least = (table.stride2, h.least, refl);
   len = h.rows.len;
@@ -150,12 +150,12 @@ made-laid nfa table h = record {
 }
 
 -- so many rows there are
-pub made-states : (nfa : NFA) (table : Table) → IsTableOf nfa table → length table.trans.items / stride_of table ≡ dfa_states table.kind (state_len nfa)
+pub made-states : (nfa : NFA) (table : Table) → IsDfaTableOf nfa table → length table.trans.items / stride_of table ≡ dfa_states table.kind (state_len nfa)
 made-states nfa table h = ap (λ (n : ℕ). n / stride_of table) h.rows.len ∙ number-row (dfa_states table.kind (state_len nfa)) (stride_of table) (stride-some nfa table h)
 
 -- the number of each state fits
-pub number-kept : (p : Plan) (anchored : Anchored) (start sid : ℕ) → IsFit p → start ≡ start_of p.nfa → sid < state_len p.nfa → number_of p.kind start p.stride (is_anchored anchored) sid ≤ GREATEST
-number-kept p anchored start sid fit is within = subst (λ (n : ℕ). number_of p.kind n p.stride (is_anchored anchored) sid ≤ GREATEST) (sym is) (number-small p anchored sid fit within)
+pub number-kept : (p : RowPlan) (anchored : Anchored) (start sid : ℕ) → IsFit p → start ≡ nfa_start_of p.nfa → sid < state_len p.nfa → dfa_number_of p.kind start p.stride (is_anchored anchored) sid ≤ GREATEST
+number-kept p anchored start sid fit is within = subst (λ (n : ℕ). dfa_number_of p.kind n p.stride (is_anchored anchored) sid ≤ GREATEST) (sym is) (number-small p anchored sid fit within)
 
 -- ---- the automaton
 
@@ -194,9 +194,9 @@ refused-parts s m (PatternTooLong pattern len) h = h
 refused-parts s m Memory h = h
 
 -- the table, the prefilter and the pairing go together
-pub parts-of : (nfa : NFA) (table : Table) (prefilter : Option Filter) (m : Dictionary) → m ≡ dictionary nfa → IsTableOf nfa table → prefilter ≡ nfa.prefilter → AreParts m table prefilter
+pub parts-of : (nfa : NFA) (table : Table) (prefilter : Option Filter) (m : Dictionary) → m ≡ dictionary nfa → IsDfaTableOf nfa table → prefilter ≡ nfa.prefilter → AreDfaParts m table prefilter
 parts-of nfa table prefilter m is h same =
-    subst (λ (d : Dictionary). AreParts d table prefilter) (sym is)
+    subst (λ (d : Dictionary). AreDfaParts d table prefilter) (sym is)
     (record {
       stands = made-some nfa table h;
       held = λ f held. nfa.held f (sym same ∙ held);

@@ -10,8 +10,8 @@ use Rattle.ac_input.specs.Input.{is_anchored}
 use Rattle.ac_automaton.specs.Named.{Naming, IsStep}
 use Rattle.ac_tables.specs.declared.dfa.lists.Lists.{Lists}
 use Rattle.ac_tables.specs.declared.dfa.table.Table.{Table}
-use Rattle.ac_tables.specs.DfaCopy.{AreSameLists, IsSameTable}
-use Rattle.ac_tables.specs.DfaTable.{list_start, list_end, list_of, list_index, stride_of, matches_by, AreRows, AreSomeRows}
+use Rattle.ac_tables.specs.DfaCopy.{AreSameLists, IsSameDfaTable}
+use Rattle.ac_tables.specs.DfaTable.{list_start, list_end, dfa_list_of, list_index, stride_of, matches_by, AreDfaRows, AreSomeRows}
 
 -- ---- lists
 
@@ -23,7 +23,7 @@ start-same old new zero s = refl
 start-same old new (suc k) s = end-same old new k s
 
 -- each list is the same
-list-same : (old new : Lists) (k : ℕ) → AreSameLists old new → list_of new k ≡ list_of old k
+list-same : (old new : Lists) (k : ℕ) → AreSameLists old new → dfa_list_of new k ≡ dfa_list_of old k
 list-same old new k s =
     ap₂ (λ (b a : ℕ). take (b - a) (drop a new.patterns.items)) (end-same old new k s) (start-same old new k s)
     ∙ ap (λ (xs : List ℕ). take (list_end old k - list_start old k) (drop (list_start old k) xs)) s.patterns
@@ -35,11 +35,11 @@ abbrev moved : Table → Table → Table
 moved old new = record old { trans = new.trans; lists = new.lists }
 
 -- the patterns of a number are the same
-matches-same : (old new : Table) (sid : ℕ) → IsSameTable old new → matches_by (moved old new) sid ≡ matches_by old sid
+matches-same : (old new : Table) (sid : ℕ) → IsSameDfaTable old new → matches_by (moved old new) sid ≡ matches_by old sid
 matches-same old new sid s = ap (λ (list : List ℕ). if not (sid == 0) && nat_le sid old.max_match then list else []) (list-same old.lists new.lists (list_index old.kind (sid / stride_of old)) s.lists)
 
 -- so it is that of the dictionary
-moved-rows : (m : Dictionary) (old new : Table) (names : Naming) → IsSameTable old new → AreRows m old names → AreRows m (moved old new) names
+moved-rows : (m : Dictionary) (old new : Table) (names : Naming) → IsSameDfaTable old new → AreDfaRows m old names → AreDfaRows m (moved old new) names
 moved-rows m old new names s h =
     let long = ap length s.trans in
     let ends = ap length s.lists.ends in
@@ -67,7 +67,7 @@ moved-rows m old new names s h =
     }
 
 -- and the new one is that table
-moved-is : (old new : Table) → IsSameTable old new → moved old new ≡ new
+moved-is : (old new : Table) → IsSameDfaTable old new → moved old new ≡ new
 moved-is old new s =
     ap (λ (x : List ℕ). record (moved old new) { classes = x }) (sym s.classes)
     ∙ (ap (λ (x : ℕ). record (moved old new) { classes = new.classes; stride2 = x }) (sym s.stride2)
@@ -77,5 +77,5 @@ moved-is old new s =
     ∙ ap (λ (x : StartKind). record (moved old new) { classes = new.classes; stride2 = new.stride2; start = new.start; start_anchored = new.start_anchored; max_match = new.max_match; kind = x }) (sym s.kind)))))
 
 -- a copy is that of the same dictionary
-pub copy-rows : (m : Dictionary) (old new : Table) → IsSameTable old new → AreSomeRows m old → AreSomeRows m new
-copy-rows m old new s h = ∥∥₁_map h (λ w. (w.0, subst (λ (t : Table). AreRows m t w.0) (moved-is old new s) (moved-rows m old new w.0 s w.1)))
+pub copy-rows : (m : Dictionary) (old new : Table) → IsSameDfaTable old new → AreSomeRows m old → AreSomeRows m new
+copy-rows m old new s h = ∥∥₁_map h (λ w. (w.0, subst (λ (t : Table). AreDfaRows m t w.0) (moved-is old new s) (moved-rows m old new w.0 s w.1)))

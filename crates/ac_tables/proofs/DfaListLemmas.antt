@@ -9,7 +9,7 @@ use Rattle.ac_noncontiguous.specs.declared.nfa.NFA.{NFA}
 use Rattle.ac_noncontiguous.specs.Reads.{dictionary, matches_at}
 use Rattle.ac_noncontiguous.proofs.OrderLemmas.{index-kept, index-last}
 use Rattle.ac_tables.specs.declared.dfa.lists.Lists.{Lists}
-use Rattle.ac_tables.specs.DfaTable.{list_start, list_end, list_of}
+use Rattle.ac_tables.specs.DfaTable.{list_start, list_end, dfa_list_of}
 use Rattle.ac_tables.specs.DfaLists.{IsListAdded, AreFirstLists}
 
 -- where the lists end that were there before
@@ -70,7 +70,7 @@ lists-more nfa n list old new added is known h =
           ∙ (part-kept (list_start old k) (list_end old k - list_start old k) old.patterns.items list (omega (arith, up, within)) ∙ h.each k before)))
           (λ (after : n ≤ k).
           let here : k ≡ n = omega (arith, lt, after) in
-          ap (list_of new) here
+          ap (dfa_list_of new) here
           ∙ (ap₂ (λ (b a : ℕ). take (b - a) (drop a new.patterns.items)) last first
           ∙ (ap (λ (xs : List ℕ). take (length new.patterns.items - length old.patterns.items) (drop (length old.patterns.items) xs)) added.patterns
           ∙ (part-last (length new.patterns.items - length old.patterns.items) old.patterns.items list (omega (arith, long)) ∙ (is ∙ ap (λ (i : ℕ). matches_at nfa (i + 2)) (sym here))))))

@@ -20,14 +20,14 @@ use Rattle.ac_automaton.specs.Named.{AllNames}
 use Rattle.ac_automaton.proofs.NamedLemmas.{reached-met, read-met, read-next, read-start, read-dead, read-starts, read-known}
 use Rattle.ac_tables.specs.declared.dfa.DFA.{DFA}
 use Rattle.ac_tables.specs.declared.dfa.table.Table.{Table}
-use Rattle.ac_tables.specs.DfaTable.{AreRows, stride_of, list_of, list_start, list_end, matches_by, start_by, last_special_by}
-use Rattle.ac_tables.specs.DfaLookups.{list_at, ArePlain, HasRow, HasList}
+use Rattle.ac_tables.specs.DfaTable.{AreDfaRows, stride_of, dfa_list_of, list_start, list_end, matches_by, start_by, last_special_by}
+use Rattle.ac_tables.specs.DfaLookups.{list_at, ArePlain, HasRow, HasDfaList}
 use Rattle.ac_tables.specs.DfaReads.{dictionary, built_as, matches_at, is_start_at, is_special_at, IsNamingFor, IsRead}
 
 -- ---- where the starts stand
 
 -- past the fail state, the anchored one a row after the other
-pub starts-placed : (m : Dictionary) (table : Table) (names : Naming) → AreRows m table names → (0 < stride_of table) × (2 * stride_of table ≤ table.start) × (table.start_anchored ≡ table.start + stride_of table)
+pub starts-placed : (m : Dictionary) (table : Table) (names : Naming) → AreDfaRows m table names → (0 < stride_of table) × (2 * stride_of table ≤ table.start) × (table.start_anchored ≡ table.start + stride_of table)
 starts-placed m table names rows =
     let w = rows.starts in
     let some = pow_pos table.stride2 in
@@ -93,11 +93,11 @@ listed-within table sid some =
     let both = and_parts (not (sid == 0)) (nat_le sid table.max_match) yes in
     (λ zero. false≢true (sym (ap (λ (b : Bool). not b) (eq-eqb sid 0 zero)) ∙ both.0), leb-true sid table.max_match both.1))
     (λ (no : (not (sid == 0) && nat_le sid table.max_match) ≡ false).
-    absurd (some (cond-false (not (sid == 0) && nat_le sid table.max_match) (list_of table.lists (list_at table sid)) [] no)))
+    absurd (some (cond-false (not (sid == 0) && nat_le sid table.max_match) (dfa_list_of table.lists (list_at table sid)) [] no)))
     (cases_Bool (not (sid == 0) && nat_le sid table.max_match))
 
 -- the last special number is no less than the last that matches
-last-past : (m : Dictionary) (table : Table) (names : Naming) (held : Option Filter) → AreRows m table names → table.max_match ≤ last_special_by table held
+last-past : (m : Dictionary) (table : Table) (names : Naming) (held : Option Filter) → AreDfaRows m table names → table.max_match ≤ last_special_by table held
 last-past m table names None rows = omega arith
 last-past m table names (Some f) rows =
     let placed = starts-placed m table names rows in
@@ -107,14 +107,14 @@ last-past m table names (Some f) rows =
     rows.greatest
 
 -- where a prefilter is held, it is no less than the starts
-last-starts : (m : Dictionary) (table : Table) (names : Naming) (held : Option Filter) (sid : ℕ) → AreRows m table names → held ≢ None → (sid ≡ table.start) ⊎ (sid ≡ table.start_anchored) → sid ≤ last_special_by table held
+last-starts : (m : Dictionary) (table : Table) (names : Naming) (held : Option Filter) (sid : ℕ) → AreDfaRows m table names → held ≢ None → (sid ≡ table.start) ⊎ (sid ≡ table.start_anchored) → sid ≤ last_special_by table held
 last-starts m table names None sid rows some is = absurd (some refl)
 last-starts m table names (Some f) sid rows some is =
     let placed = starts-placed m table names rows in
     ⊎_elim (λ (a : sid ≡ table.start). omega (arith, a, placed)) (λ (b : sid ≡ table.start_anchored). omega (arith, b)) is
 
 -- a special number of a text matches, or is a start with a prefilter to ask
-special-some : (m : Dictionary) (table : Table) (names : Naming) (held : Option Filter) (anchored : Bool) (sid : ℕ) → AreRows m table names → IsTrue (names.met anchored sid) → sid ≢ 0 → sid ≤ last_special_by table held → (matches_by table sid ≢ []) ⊎ (((sid ≡ table.start) ⊎ (sid ≡ table.start_anchored)) × (held ≢ None))
+special-some : (m : Dictionary) (table : Table) (names : Naming) (held : Option Filter) (anchored : Bool) (sid : ℕ) → AreDfaRows m table names → IsTrue (names.met anchored sid) → sid ≢ 0 → sid ≤ last_special_by table held → (matches_by table sid ≢ []) ⊎ (((sid ≡ table.start) ⊎ (sid ≡ table.start_anchored)) × (held ≢ None))
 special-some m table names None anchored sid rows met some le = inl ((rows.matching anchored sid met some).1 le)
 special-some m table names (Some f) anchored sid rows met some le =
     ⊎_elim
@@ -133,7 +133,7 @@ special-some m table names (Some f) anchored sid rows met some le =
 -- ---- what the numbers stand for
 
 -- the lists and the tests of the numbers are those of their states
-pub are-names : (dfa : DFA) (names : Naming) → AreRows (dictionary dfa) dfa.table names → AreNames (built_as dfa) (matches_at dfa) (is_start_at dfa) (is_special_at dfa) names
+pub are-names : (dfa : DFA) (names : Naming) → AreDfaRows (dictionary dfa) dfa.table names → AreNames (built_as dfa) (matches_at dfa) (is_start_at dfa) (is_special_at dfa) names
 are-names dfa names rows =
     record {
       inverse = own_inverse-pairing dfa.pairing dfa.paired;
@@ -185,7 +185,7 @@ all-names dfa anchored = λ names fits. are-names dfa names fits.1
 -- ---- a number that some text reaches
 
 -- what follows of a number that is met, whatever the names are, holds of one that is reached
-pub state-holds : (P : Type 0) (dfa : DFA) (sid : ℕ) → ((x y : P) → x ≡ y) → ((names : Naming) (anchored : Bool) → AreRows (dictionary dfa) dfa.table names → IsTrue (names.met anchored sid) → P) → IsState (IsRead dfa) sid → P
+pub state-holds : (P : Type 0) (dfa : DFA) (sid : ℕ) → ((x y : P) → x ≡ y) → ((names : Naming) (anchored : Bool) → AreDfaRows (dictionary dfa) dfa.table names → IsTrue (names.met anchored sid) → P) → IsState (IsRead dfa) sid → P
 state-holds P dfa sid prop follows h =
     ∥∥₁_elim h prop (λ w. read-met P (built_as dfa) (IsNamingFor dfa w.0) (matches_at dfa) (is_start_at dfa) (is_special_at dfa) w.0 w.1 sid prop (λ names fits met. follows names (is_anchored w.0) fits.1 met) w.2)
 
@@ -215,7 +215,7 @@ pub state-matches : (dfa : DFA) (sid : ℕ) → IsState (IsRead dfa) sid → sid
 state-matches dfa sid h some le none = state-holds ⊥ dfa sid (λ x y. absurd x) (λ names anchored rows met. (rows.matching anchored sid met some).1 le none) h
 
 -- where it matches its list stands among the others,
-pub state-list : (dfa : DFA) (sid : ℕ) → IsState (IsRead dfa) sid → matches_at dfa sid ≢ [] → HasList dfa.table sid
+pub state-list : (dfa : DFA) (sid : ℕ) → IsState (IsRead dfa) sid → matches_at dfa sid ≢ [] → HasDfaList dfa.table sid
 state-list dfa sid h match =
     let w = listed-within dfa.table sid match in
     record {
@@ -232,10 +232,10 @@ some-within [] index within = absurd (omega (arith, within))
 some-within (n ∷ ns) index within = λ e. let d : n ∷ ns ≡ [] = e in cc
 
 -- and is the list of its state
-pub state-listed : (table : Table) (sid : ℕ) → matches_by table sid ≢ [] → matches_by table sid ≡ list_of table.lists (list_at table sid)
+pub state-listed : (table : Table) (sid : ℕ) → matches_by table sid ≢ [] → matches_by table sid ≡ dfa_list_of table.lists (list_at table sid)
 state-listed table sid match =
     let w = listed-within table sid match in
-    cond-true (not (sid == 0) && nat_le sid table.max_match) (list_of table.lists (list_at table sid)) [] (and_from (not (sid == 0)) (nat_le sid table.max_match) (ap (λ (b : Bool). not b) (ne_eqb sid 0 w.0)) (le-leb sid table.max_match w.1))
+    cond-true (not (sid == 0) && nat_le sid table.max_match) (dfa_list_of table.lists (list_at table sid)) [] (and_from (not (sid == 0)) (nat_le sid table.max_match) (ap (λ (b : Bool). not b) (ne_eqb sid 0 w.0)) (le-leb sid table.max_match w.1))
 
 -- each pattern of it is one
 pub state-known : (dfa : DFA) (sid index n : ℕ) → IsState (IsRead dfa) sid → slice_get (matches_at dfa sid) index ≡ Some n → n < length (dictionary dfa).patterns

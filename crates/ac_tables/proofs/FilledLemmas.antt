@@ -14,24 +14,24 @@ use Rattle.ac_input.specs.Input.{is_anchored}
 use Rattle.ac_noncontiguous.specs.declared.nfa.NFA.{NFA}
 use Rattle.ac_noncontiguous.specs.ReadCalls.{state_len, fail_in, depth_in, special_in, MayBeMet}
 use Rattle.ac_noncontiguous.proofs.ReadCallLemmas.{fails-in, ordered-in}
-use Rattle.ac_tables.specs.DfaTable.{row_of}
-use Rattle.ac_tables.specs.Filling.{Plan, number_in, IsFit, IsRowRight, IsBlank, IsChangedIn, AreFilled, IsDone, AreRowsUpTo}
+use Rattle.ac_tables.specs.DfaTable.{dfa_row_of}
+use Rattle.ac_tables.specs.Filling.{RowPlan, number_in, IsFit, IsRowRight, IsBlank, IsChangedIn, AreRowsFilled, IsDone, AreRowsUpTo}
 use Rattle.ac_tables.proofs.RowLemmas.{row-below, row-room, number-fits, row-apart}
 use Rattle.ac_tables.proofs.CellLemmas.{starts-of, texts-of, met-dead, dead-right}
 
 -- ---- places
 
 -- the whole row of a state is within the table
-pub row-space : (p : Plan) (anchored : Anchored) (sid len : ℕ) → sid < state_len p.nfa → len ≡ dfa_states p.kind (state_len p.nfa) * p.stride → number_in p anchored sid + p.stride ≤ len
+pub row-space : (p : RowPlan) (anchored : Anchored) (sid len : ℕ) → sid < state_len p.nfa → len ≡ dfa_states p.kind (state_len p.nfa) * p.stride → number_in p anchored sid + p.stride ≤ len
 row-space p anchored sid len within is =
     let s = starts-of p.nfa in
-    row-room (dfa_states p.kind (state_len p.nfa)) (row_of p.kind (special_in p.nfa).start_unanchored_id (is_anchored anchored) sid) p.stride len (row-below p.kind (special_in p.nfa).start_unanchored_id (state_len p.nfa) (is_anchored anchored) sid s.0 s.1 within) is
+    row-room (dfa_states p.kind (state_len p.nfa)) (dfa_row_of p.kind (special_in p.nfa).start_unanchored_id (is_anchored anchored) sid) p.stride len (row-below p.kind (special_in p.nfa).start_unanchored_id (state_len p.nfa) (is_anchored anchored) sid s.0 s.1 within) is
 
 -- and its number fits
-pub number-small : (p : Plan) (anchored : Anchored) (sid : ℕ) → IsFit p → sid < state_len p.nfa → number_in p anchored sid ≤ GREATEST
+pub number-small : (p : RowPlan) (anchored : Anchored) (sid : ℕ) → IsFit p → sid < state_len p.nfa → number_in p anchored sid ≤ GREATEST
 number-small p anchored sid fit within =
     let s = starts-of p.nfa in
-    number-fits (dfa_states p.kind (state_len p.nfa)) (row_of p.kind (special_in p.nfa).start_unanchored_id (is_anchored anchored) sid) p.stride GREATEST (row-below p.kind (special_in p.nfa).start_unanchored_id (state_len p.nfa) (is_anchored anchored) sid s.0 s.1 within) fit.few
+    number-fits (dfa_states p.kind (state_len p.nfa)) (dfa_row_of p.kind (special_in p.nfa).start_unanchored_id (is_anchored anchored) sid) p.stride GREATEST (row-below p.kind (special_in p.nfa).start_unanchored_id (state_len p.nfa) (is_anchored anchored) sid s.0 s.1 within) fit.few
 
 -- a place in another row is in front of a row or after it
 place-outside : (row other stride x : ℕ) → row ≢ other → x < stride → (other * stride + x < row * stride) ⊎ (row * stride + stride ≤ other * stride + x)
@@ -45,12 +45,12 @@ place-outside row other stride x apart within =
     (cases_lt other row)
 
 -- so the row of one state is as it was where that of another has changed
-pub changed-others : (p : Plan) (a b : Anchored) (i j x : ℕ) (old new : List ℕ) → Serves p.kind a → Serves p.kind b → MayBeMet p.nfa a i → 1 < i → MayBeMet p.nfa b j → (a ≡ b → i ≢ j) → x < p.stride → IsChangedIn p.stride (number_in p a i) old new → slice_index new (number_in p b j + x) ≡ slice_index old (number_in p b j + x)
+pub changed-others : (p : RowPlan) (a b : Anchored) (i j x : ℕ) (old new : List ℕ) → Serves p.kind a → Serves p.kind b → MayBeMet p.nfa a i → 1 < i → MayBeMet p.nfa b j → (a ≡ b → i ≢ j) → x < p.stride → IsChangedIn p.stride (number_in p a i) old new → slice_index new (number_in p b j + x) ≡ slice_index old (number_in p b j + x)
 changed-others p a b i j x old new serves_a serves_b met_i past met_j ne within h =
     let start = (special_in p.nfa).start_unanchored_id in
     let apart = row-apart p.kind start a b i j serves_a serves_b (starts-of p.nfa).0 past met_i.own met_j.own ne in
-    let here = row_of p.kind start (is_anchored a) i in
-    let there = row_of p.kind start (is_anchored b) j in
+    let here = dfa_row_of p.kind start (is_anchored a) i in
+    let there = dfa_row_of p.kind start (is_anchored b) j in
     ⊎_elim
     (λ (less : there * p.stride + x < here * p.stride). h.before (there * p.stride + x) less)
     (λ (more : here * p.stride + p.stride ≤ there * p.stride + x). h.after (there * p.stride + x) more)
@@ -75,13 +75,13 @@ copied-entry row other x n old new within copied =
 -- ---- the rows of a state
 
 -- a right row that is as it was is right
-pub right-kept : (p : Plan) (a : Anchored) (sid : ℕ) (old new : List ℕ) → IsFit p → ((x : ℕ) → x < p.stride → slice_index new (number_in p a sid + x) ≡ slice_index old (number_in p a sid + x)) → IsRowRight p a sid old → IsRowRight p a sid new
+pub right-kept : (p : RowPlan) (a : Anchored) (sid : ℕ) (old new : List ℕ) → IsFit p → ((x : ℕ) → x < p.stride → slice_index new (number_in p a sid + x) ≡ slice_index old (number_in p a sid + x)) → IsRowRight p a sid old → IsRowRight p a sid new
 right-kept p a sid old new fit kept right byte small =
     let r = right byte small in
     (r.0, (r.1.0, kept _ (fit.letters byte small) ∙ r.1.1))
 
 -- only unanchored searches are served,
-pub filled-plain : (p : Plan) (u v : ℕ) (old new : List ℕ) → Serves p.kind No → ¬ Serves p.kind Yes → MayBeMet p.nfa No u → 1 < u → IsChangedIn p.stride (number_in p No u) old new → IsRowRight p No u new → AreFilled p u v old new
+pub filled-plain : (p : RowPlan) (u v : ℕ) (old new : List ℕ) → Serves p.kind No → ¬ Serves p.kind Yes → MayBeMet p.nfa No u → 1 < u → IsChangedIn p.stride (number_in p No u) old new → IsRowRight p No u new → AreRowsFilled p u v old new
 filled-plain p u v old new served unserved met past changed right = record {
   len = changed.len;
   row = λ _. right;
@@ -94,7 +94,7 @@ filled-plain p u v old new served unserved met past changed right = record {
     by Yes sid x serves met_a ne ne_v within = absurd (unserved serves)
 
 -- or only anchored ones,
-pub filled-anchored : (p : Plan) (u v : ℕ) (old new : List ℕ) → ¬ Serves p.kind No → Serves p.kind Yes → MayBeMet p.nfa Yes v → 1 < v → IsChangedIn p.stride (number_in p Yes v) old new → IsRowRight p Yes v new → AreFilled p u v old new
+pub filled-anchored : (p : RowPlan) (u v : ℕ) (old new : List ℕ) → ¬ Serves p.kind No → Serves p.kind Yes → MayBeMet p.nfa Yes v → 1 < v → IsChangedIn p.stride (number_in p Yes v) old new → IsRowRight p Yes v new → AreRowsFilled p u v old new
 filled-anchored p u v old new unserved served met past changed right = record {
   len = changed.len;
   row = λ s. absurd (unserved s);
@@ -111,11 +111,11 @@ anchorings-apart : No ≢ Yes
 anchorings-apart e = let f : No ≡ Yes = e in cc
 
 -- after the row for unanchored searches that for anchored ones is as blank as before
-pub blank-still : (p : Plan) (u v : ℕ) (old mid : List ℕ) → Serves p.kind No → Serves p.kind Yes → MayBeMet p.nfa No u → 1 < u → MayBeMet p.nfa Yes v → IsChangedIn p.stride (number_in p No u) old mid → IsBlank p.stride (number_in p Yes v) old → IsBlank p.stride (number_in p Yes v) mid
+pub blank-still : (p : RowPlan) (u v : ℕ) (old mid : List ℕ) → Serves p.kind No → Serves p.kind Yes → MayBeMet p.nfa No u → 1 < u → MayBeMet p.nfa Yes v → IsChangedIn p.stride (number_in p No u) old mid → IsBlank p.stride (number_in p Yes v) old → IsBlank p.stride (number_in p Yes v) mid
 blank-still p u v old mid served also met past met_v changed blank x within = changed-others p No Yes u v x old mid served also met past met_v (λ e. absurd (anchorings-apart e)) within changed ∙ blank x within
 
 -- or both
-pub filled-both : (p : Plan) (u v : ℕ) (old mid new : List ℕ) → IsFit p → Serves p.kind No → Serves p.kind Yes → MayBeMet p.nfa No u → 1 < u → MayBeMet p.nfa Yes v → 1 < v → IsChangedIn p.stride (number_in p No u) old mid → IsRowRight p No u mid → IsChangedIn p.stride (number_in p Yes v) mid new → IsRowRight p Yes v new → AreFilled p u v old new
+pub filled-both : (p : RowPlan) (u v : ℕ) (old mid new : List ℕ) → IsFit p → Serves p.kind No → Serves p.kind Yes → MayBeMet p.nfa No u → 1 < u → MayBeMet p.nfa Yes v → 1 < v → IsChangedIn p.stride (number_in p No u) old mid → IsRowRight p No u mid → IsChangedIn p.stride (number_in p Yes v) mid new → IsRowRight p Yes v new → AreRowsFilled p u v old new
 filled-both p u v old mid new fit served also met past met_v past_v first right second right_v = record {
   len = second.len ∙ first.len;
   row = λ _. right-kept p No u mid new fit (λ x within. changed-others p Yes No v u x mid new also served met_v past_v met (λ e. absurd (anchorings-apart (sym e))) within second) right;
@@ -130,7 +130,7 @@ filled-both p u v old mid new fit served also met past met_v past_v first right 
 -- ---- all rows
 
 -- at first the row of the dead state is right, and all others are blank
-pub rows-none : (p : Plan) (trans : List ℕ) → IsFit p → length trans ≡ dfa_states p.kind (state_len p.nfa) * p.stride → IsBlank (length trans) 0 trans → AreRowsUpTo p 2 (special_in p.nfa).start_unanchored_id trans
+pub rows-none : (p : RowPlan) (trans : List ℕ) → IsFit p → length trans ≡ dfa_states p.kind (state_len p.nfa) * p.stride → IsBlank (length trans) 0 trans → AreRowsUpTo p 2 (special_in p.nfa).start_unanchored_id trans
 rows-none p trans fit len blank = record {
   len = len;
   right = λ a sid serves met done.
@@ -147,12 +147,12 @@ rows-none p trans fit len blank = record {
         subst (λ (k : ℕ). slice_index trans k ≡ 0) e (blank (number_in p a sid + x) (omega (arith, room, in_row)))
 
 -- the two states that are filled, by the anchoring
-right-now : (p : Plan) (a : Anchored) (sid u v : ℕ) (old new : List ℕ) → Serves p.kind a → ((a ≡ No → sid ≡ u) × (a ≡ Yes → sid ≡ v)) → AreFilled p u v old new → IsRowRight p a sid new
+right-now : (p : RowPlan) (a : Anchored) (sid u v : ℕ) (old new : List ℕ) → Serves p.kind a → ((a ≡ No → sid ≡ u) × (a ≡ Yes → sid ≡ v)) → AreRowsFilled p u v old new → IsRowRight p a sid new
 right-now p No sid u v old new serves here f = subst (λ (i : ℕ). IsRowRight p No i new) (sym (here.0 refl)) (f.row serves)
 right-now p Yes sid u v old new serves here f = subst (λ (i : ℕ). IsRowRight p Yes i new) (sym (here.1 refl)) (f.row_anchored serves)
 
 -- the rows of one state more, or of the two starts
-pub rows-more : (p : Plan) (start low high more further u v : ℕ) (old new : List ℕ) → start ≡ (special_in p.nfa).start_unanchored_id → IsFit p → (¬ IsDone start low high u) → (¬ IsDone start low high v) → IsDone start more further u → IsDone start more further v → ((sid : ℕ) → IsDone start low high sid → IsDone start more further sid) → ((a : Anchored) (sid : ℕ) → MayBeMet p.nfa a sid → IsDone start more further sid → IsDone start low high sid ⊎ ((a ≡ No → sid ≡ u) × (a ≡ Yes → sid ≡ v))) → AreRowsUpTo p low high old → AreFilled p u v old new → AreRowsUpTo p more further new
+pub rows-more : (p : RowPlan) (start low high more further u v : ℕ) (old new : List ℕ) → start ≡ (special_in p.nfa).start_unanchored_id → IsFit p → (¬ IsDone start low high u) → (¬ IsDone start low high v) → IsDone start more further u → IsDone start more further v → ((sid : ℕ) → IsDone start low high sid → IsDone start more further sid) → ((a : Anchored) (sid : ℕ) → MayBeMet p.nfa a sid → IsDone start more further sid → IsDone start low high sid ⊎ ((a ≡ No → sid ≡ u) × (a ≡ Yes → sid ≡ v))) → AreRowsUpTo p low high old → AreRowsFilled p u v old new → AreRowsUpTo p more further new
 rows-more p start low high more further u v old new is fit fresh_u fresh_v now_u now_v grows only h f = record {
   len = f.len ∙ h.len;
   right = λ a sid serves met done.
@@ -175,7 +175,7 @@ pub fresh-high : (start low high : ℕ) → low ≤ start → start + 2 ≤ high
 fresh-high start low high within past done = ⊎_elim (λ (l : high < low). omega (arith, l, within, past)) (λ (r : (start ≤ high) × (high < high)). omega (arith, r.1)) done
 
 -- those of the starts
-pub rows-starts : (p : Plan) (old new : List ℕ) → IsFit p → AreRowsUpTo p 2 (special_in p.nfa).start_unanchored_id old → AreFilled p (special_in p.nfa).start_unanchored_id ((special_in p.nfa).start_unanchored_id + 1) old new → AreRowsUpTo p 2 ((special_in p.nfa).start_unanchored_id + 2) new
+pub rows-starts : (p : RowPlan) (old new : List ℕ) → IsFit p → AreRowsUpTo p 2 (special_in p.nfa).start_unanchored_id old → AreRowsFilled p (special_in p.nfa).start_unanchored_id ((special_in p.nfa).start_unanchored_id + 1) old new → AreRowsUpTo p 2 ((special_in p.nfa).start_unanchored_id + 2) new
 rows-starts p old new fit h f =
     let start = (special_in p.nfa).start_unanchored_id in
     let past = (starts-of p.nfa).0 in
@@ -191,7 +191,7 @@ rows-starts p old new fit h f =
     by Yes sid met done = ⊎_elim (λ (l : sid < 2). inl (inl l)) (λ (r : ((special_in p.nfa).start_unanchored_id ≤ sid) × (sid < (special_in p.nfa).start_unanchored_id + 2)). let own = met.own in inr (λ e. absurd (anchorings-apart (sym e)), λ _. omega (arith, r.0, r.1, own))) done
 
 -- those of a state of the first run
-pub rows-low : (p : Plan) (low high : ℕ) (old new : List ℕ) → IsFit p → low < (special_in p.nfa).start_unanchored_id → AreRowsUpTo p low high old → AreFilled p low low old new → AreRowsUpTo p (low + 1) high new
+pub rows-low : (p : RowPlan) (low high : ℕ) (old new : List ℕ) → IsFit p → low < (special_in p.nfa).start_unanchored_id → AreRowsUpTo p low high old → AreRowsFilled p low low old new → AreRowsUpTo p (low + 1) high new
 rows-low p low high old new fit within h f =
     let start = (special_in p.nfa).start_unanchored_id in
     let fresh = fresh-low start low high within in
@@ -201,7 +201,7 @@ rows-low p low high old new fit within h f =
     h f
 
 -- and those of one of the second
-pub rows-high : (p : Plan) (low high : ℕ) (old new : List ℕ) → IsFit p → low ≤ (special_in p.nfa).start_unanchored_id → (special_in p.nfa).start_unanchored_id + 2 ≤ high → AreRowsUpTo p low high old → AreFilled p high high old new → AreRowsUpTo p low (high + 1) new
+pub rows-high : (p : RowPlan) (low high : ℕ) (old new : List ℕ) → IsFit p → low ≤ (special_in p.nfa).start_unanchored_id → (special_in p.nfa).start_unanchored_id + 2 ≤ high → AreRowsUpTo p low high old → AreRowsFilled p high high old new → AreRowsUpTo p low (high + 1) new
 rows-high p low high old new fit within past h f =
     let start = (special_in p.nfa).start_unanchored_id in
     let fresh = fresh-high start low high within past in
@@ -211,7 +211,7 @@ rows-high p low high old new fit within past h f =
     h f
 
 -- in the end those of all
-pub rows-all : (p : Plan) (low high : ℕ) (trans : List ℕ) → (special_in p.nfa).start_unanchored_id ≤ low → state_len p.nfa ≤ high → AreRowsUpTo p low high trans → AreRowsUpTo p (state_len p.nfa) (state_len p.nfa) trans
+pub rows-all : (p : RowPlan) (low high : ℕ) (trans : List ℕ) → (special_in p.nfa).start_unanchored_id ≤ low → state_len p.nfa ≤ high → AreRowsUpTo p low high trans → AreRowsUpTo p (state_len p.nfa) (state_len p.nfa) trans
 rows-all p low high trans first second h = record {
   len = h.len;
   right = λ a sid serves met done.
@@ -282,21 +282,21 @@ failure-done nfa low high sid past_low past_high within first second =
     (let h = cases_lt 1 fail in ⊎_elim (λ (l : 1 < fail). inr (omega (arith, l))) (λ (r : fail ≤ 1). inl r) h)
 
 -- so the row of its failure is right: for the starts,
-pub failure-right_start : (p : Plan) (trans : List ℕ) → AreRowsUpTo p 2 (special_in p.nfa).start_unanchored_id trans → Serves p.kind No → IsRowRight p No (fail_in p.nfa (special_in p.nfa).start_unanchored_id) trans
+pub failure-right_start : (p : RowPlan) (trans : List ℕ) → AreRowsUpTo p 2 (special_in p.nfa).start_unanchored_id trans → Serves p.kind No → IsRowRight p No (fail_in p.nfa (special_in p.nfa).start_unanchored_id) trans
 failure-right_start p trans h serves =
     let s = starts-of p.nfa in
     let small = failure-start p.nfa in
     h.right No (fail_in p.nfa (special_in p.nfa).start_unanchored_id) serves (met-failure p.nfa (special_in p.nfa).start_unanchored_id (omega (arith, s.1))) (inl (omega (arith, small)))
 
 -- for the next state of the first run, where it is filled first,
-pub failure-right_low : (p : Plan) (low high : ℕ) (trans : List ℕ) → 2 ≤ low → (special_in p.nfa).start_unanchored_id + 2 ≤ high → low < (special_in p.nfa).start_unanchored_id → (high < state_len p.nfa → depth_in p.nfa low ≤ depth_in p.nfa high) → AreRowsUpTo p low high trans → Serves p.kind No → IsRowRight p No (fail_in p.nfa low) trans
+pub failure-right_low : (p : RowPlan) (low high : ℕ) (trans : List ℕ) → 2 ≤ low → (special_in p.nfa).start_unanchored_id + 2 ≤ high → low < (special_in p.nfa).start_unanchored_id → (high < state_len p.nfa → depth_in p.nfa low ≤ depth_in p.nfa high) → AreRowsUpTo p low high trans → Serves p.kind No → IsRowRight p No (fail_in p.nfa low) trans
 failure-right_low p low high trans past_low past_high before first h serves =
     let s = starts-of p.nfa in
     let within : low < state_len p.nfa = omega (arith, s.1, before) in
     h.right No (fail_in p.nfa low) serves (met-failure p.nfa low within) (failure-done p.nfa low high low past_low past_high within (λ _. omega arith) first)
 
 -- and for that of the second
-pub failure-right_high : (p : Plan) (low high : ℕ) (trans : List ℕ) → 2 ≤ low → (special_in p.nfa).start_unanchored_id + 2 ≤ high → high < state_len p.nfa → (low < (special_in p.nfa).start_unanchored_id → depth_in p.nfa high < depth_in p.nfa low) → AreRowsUpTo p low high trans → Serves p.kind No → IsRowRight p No (fail_in p.nfa high) trans
+pub failure-right_high : (p : RowPlan) (low high : ℕ) (trans : List ℕ) → 2 ≤ low → (special_in p.nfa).start_unanchored_id + 2 ≤ high → high < state_len p.nfa → (low < (special_in p.nfa).start_unanchored_id → depth_in p.nfa high < depth_in p.nfa low) → AreRowsUpTo p low high trans → Serves p.kind No → IsRowRight p No (fail_in p.nfa high) trans
 failure-right_high p low high trans past_low past_high within first h serves =
     h.right No (fail_in p.nfa high) serves (met-failure p.nfa high within) (failure-done p.nfa low high high past_low past_high within (λ before. let lt = first before in omega (arith, lt)) (λ _. omega arith))
 

@@ -13,7 +13,7 @@ use Rattle.ac_noncontiguous.specs.declared.nfa.NFA.{NFA}
 use Rattle.ac_noncontiguous.specs.Nfa.{state_of}
 use Rattle.ac_noncontiguous.specs.Reads.{dictionary}
 use Rattle.ac_noncontiguous.specs.ReadCalls.{state_len, fail_in, special_in, StandFor, TextsBegin, SpecialIn, AreBounds, IsEdgeIn}
-use Rattle.ac_tables.specs.Places.{is_met, state_at, named_by, AreApart}
+use Rattle.ac_tables.specs.Places.{is_met, met_state_at, named_by, AreApartInTable}
 use Rattle.ac_tables.specs.Words.{StateParts, next_by}
 use Rattle.ac_tables.specs.ContiguousTable.{parts_of, place_in}
 use Rattle.ac_tables.specs.ContiguousBuild.{AreKnown, AreServing}
@@ -48,7 +48,7 @@ known_at nfa dense_depth classes (Some i) = parts_of nfa dense_depth classes (pl
 
 -- and so at each number
 abbrev pub parts_in : NFA → ℕ → List ℕ → ℕ → StateParts
-parts_in nfa dense_depth classes sid = known_at nfa dense_depth classes (state_at (λ _. true) (place_in nfa dense_depth classes) (state_len nfa) sid)
+parts_in nfa dense_depth classes sid = known_at nfa dense_depth classes (met_state_at (λ _. true) (place_in nfa dense_depth classes) (state_len nfa) sid)
 
 -- ---- the state at a place
 
@@ -78,7 +78,7 @@ pub zero-or-past : (i : ℕ) → i ≢ 1 → (i ≡ 0) ⊎ (1 < i)
 zero-or-past i stands = ⊎_elim (λ (z : i ≡ 0). inl z) (λ (nz : i ≢ 0). inr (omega (arith, nz, stands))) (cases_eq i 0)
 
 -- no two states stand at one place
-apart : (nfa : NFA) (dense_depth : ℕ) (classes : List ℕ) → AreApart (state_len nfa) (start_in nfa) (λ _ i. place_in nfa dense_depth classes i)
+apart : (nfa : NFA) (dense_depth : ℕ) (classes : List ℕ) → AreApartInTable (state_len nfa) (start_in nfa) (λ _ i. place_in nfa dense_depth classes i)
 apart nfa dense_depth classes a b i j i_in j_in i_met j_met same = place-one nfa dense_depth classes i j same
 
 -- at a state's place is what is known of the state

@@ -6,7 +6,7 @@ use Rattle.std.proofs.lemmas.List.{length-map, get_or-take, get_or-drop, length-
 use Rattle.std.proofs.lemmas.Option.{slice_get_read}
 use Rattle.std.proofs.lemmas.List.FromFn.{length-map-range_with_len}
 use Rattle.ac_input.specs.declared.primitives.number.TheConstants.{GREATEST}
-use Rattle.ac_tables.specs.Words.{StateParts, Form, Dense, One, Sparse, form_of, next_by, packed, classes_of, nexts_of, kind_word, transition_words, one_pattern, match_words, words_of, StandsAt}
+use Rattle.ac_tables.specs.Words.{StateParts, Form, Dense, One, Sparse, form_of, next_by, packed, classes_of, nexts_of, kind_word, transition_words, one_pattern, match_words, words_of, AreWordsAt}
 use Rattle.ac_tables.specs.WordReads.{transitions_len, list_from}
 use Rattle.ac_tables.proofs.DecodeLemmas.{IsForm, IsOne, IsSparse, form-is, kind-one, kind-sparse, stands-item, stands-right, state-kind, state-matches}
 use Rattle.ac_tables.proofs.LenLemmas.{packed-long}
@@ -35,7 +35,7 @@ transitions-long alphabet s = by (form_of s) (form-is s)
 -- ---- the words of a list
 
 -- one pattern
-one-from : (words : List ℕ) (at n : ℕ) → StandsAt words at ((one_pattern + n) ∷ []) → list_from words at ≡ n ∷ []
+one-from : (words : List ℕ) (at n : ℕ) → AreWordsAt words at ((one_pattern + n) ∷ []) → list_from words at ≡ n ∷ []
 one-from words at n h =
     let item = stands-item words ((one_pattern + n) ∷ []) at 0 at h (omega arith) (omega arith) in
     let is = item.1 in
@@ -43,7 +43,7 @@ one-from words at n h =
     ∙ ap (λ (k : ℕ). k ∷ []) (let e : slice_index words at - one_pattern ≡ n = omega (arith, is) in e)
 
 -- or several
-many-from : (words : List ℕ) (at n o : ℕ) (ns : List ℕ) → length (n ∷ o ∷ ns) < one_pattern → StandsAt words at (length (n ∷ o ∷ ns) ∷ n ∷ o ∷ ns) → list_from words at ≡ n ∷ o ∷ ns
+many-from : (words : List ℕ) (at n o : ℕ) (ns : List ℕ) → length (n ∷ o ∷ ns) < one_pattern → AreWordsAt words at (length (n ∷ o ∷ ns) ∷ n ∷ o ∷ ns) → list_from words at ≡ n ∷ o ∷ ns
 many-from words at n o ns few h =
     let item = stands-item words (length (n ∷ o ∷ ns) ∷ n ∷ o ∷ ns) at 0 at h (omega arith) (omega arith) in
     let is = item.1 in
@@ -52,18 +52,18 @@ many-from words at n o ns few h =
     ∙ (ap (λ (k : ℕ). take k (drop (at + 1) words)) is ∙ rest.1)
 
 -- the words of some patterns are read as those patterns
-pub list-read : (words : List ℕ) (at : ℕ) (ns : List ℕ) → ns ≢ [] → length ns ≤ GREATEST + 1 → StandsAt words at (match_words ns) → list_from words at ≡ ns
+pub list-read : (words : List ℕ) (at : ℕ) (ns : List ℕ) → ns ≢ [] → length ns ≤ GREATEST + 1 → AreWordsAt words at (match_words ns) → list_from words at ≡ ns
 list-read words at [] some few h = absurd (some refl)
 list-read words at (n ∷ []) some few h = one-from words at n h
 list-read words at (n ∷ o ∷ ns) some few h = many-from words at n o ns (omega (arith, few)) h
 
 -- the patterns of a state that matches are read from its words
-pub matches-read : (words : List ℕ) (at alphabet : ℕ) (s : StateParts) → StandsAt words at (words_of alphabet s) → s.matches ≢ [] → length s.matches ≤ GREATEST + 1 → list_from words (at + 2 + transitions_len alphabet (slice_index words at % 256)) ≡ s.matches
+pub matches-read : (words : List ℕ) (at alphabet : ℕ) (s : StateParts) → AreWordsAt words at (words_of alphabet s) → s.matches ≢ [] → length s.matches ≤ GREATEST + 1 → list_from words (at + 2 + transitions_len alphabet (slice_index words at % 256)) ≡ s.matches
 matches-read words at alphabet s h some few =
     let kind = (state-kind words at alphabet s h).1 in
     let long : length (transition_words (form_of s) alphabet s.edges) ≡ transitions_len alphabet (slice_index words at % 256) = transitions-long alphabet s ∙ ap (λ (w : ℕ). transitions_len alphabet (w % 256)) (sym kind) in
     list-read words (at + 2 + transitions_len alphabet (slice_index words at % 256)) s.matches some few
-    (subst (λ (k : ℕ). StandsAt words (at + 2 + k) (match_words s.matches)) long (state-matches words at alphabet s h))
+    (subst (λ (k : ℕ). AreWordsAt words (at + 2 + k) (match_words s.matches)) long (state-matches words at alphabet s h))
 
 -- ---- one of a list
 
@@ -101,14 +101,14 @@ many-at_index words at index x low all within read =
     slice_get_read (list_from words at) (length (list_from words at)) index x refl within (sym e)
 
 -- the words of the patterns of a state are among all
-pub list-placed : (words : List ℕ) (at alphabet : ℕ) (s : StateParts) → StandsAt words at (words_of alphabet s) → s.matches ≢ [] → (at < length words) × (at + 2 + transitions_len alphabet (slice_index words at % 256) < length words) × (slice_index words (at + 2 + transitions_len alphabet (slice_index words at % 256)) < one_pattern → at + 2 + transitions_len alphabet (slice_index words at % 256) + 1 + slice_index words (at + 2 + transitions_len alphabet (slice_index words at % 256)) ≤ length words)
+pub list-placed : (words : List ℕ) (at alphabet : ℕ) (s : StateParts) → AreWordsAt words at (words_of alphabet s) → s.matches ≢ [] → (at < length words) × (at + 2 + transitions_len alphabet (slice_index words at % 256) < length words) × (slice_index words (at + 2 + transitions_len alphabet (slice_index words at % 256)) < one_pattern → at + 2 + transitions_len alphabet (slice_index words at % 256) + 1 + slice_index words (at + 2 + transitions_len alphabet (slice_index words at % 256)) ≤ length words)
 list-placed words at alphabet s h some =
     let kind = state-kind words at alphabet s h in
     let long : length (transition_words (form_of s) alphabet s.edges) ≡ transitions_len alphabet (slice_index words at % 256) = transitions-long alphabet s ∙ ap (λ (w : ℕ). transitions_len alphabet (w % 256)) (sym kind.1) in
-    let list = by (at + 2 + transitions_len alphabet (slice_index words at % 256)) s.matches some (subst (λ (k : ℕ). StandsAt words (at + 2 + k) (match_words s.matches)) long (state-matches words at alphabet s h)) in
+    let list = by (at + 2 + transitions_len alphabet (slice_index words at % 256)) s.matches some (subst (λ (k : ℕ). AreWordsAt words (at + 2 + k) (match_words s.matches)) long (state-matches words at alphabet s h)) in
     (kind.0, list.0, list.1)
   where
-    by : (place : ℕ) (ns : List ℕ) → ns ≢ [] → StandsAt words place (match_words ns) → (place < length words) × (slice_index words place < one_pattern → place + 1 + slice_index words place ≤ length words)
+    by : (place : ℕ) (ns : List ℕ) → ns ≢ [] → AreWordsAt words place (match_words ns) → (place < length words) × (slice_index words place < one_pattern → place + 1 + slice_index words place ≤ length words)
     by place [] full stands = absurd (full refl)
     by place (n ∷ []) full stands =
         let item = stands-item words ((one_pattern + n) ∷ []) place 0 place stands (omega arith) (omega arith) in

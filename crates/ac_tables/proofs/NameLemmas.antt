@@ -17,7 +17,7 @@ use Rattle.ac_tables.specs.declared.contiguous.NFA.{NFA}
 use Rattle.ac_tables.specs.declared.contiguous.table.Table.{Table}
 use Rattle.ac_tables.specs.ContiguousTable.{AreStates, last_special_in}
 use Rattle.ac_tables.specs.ContiguousReads.{dictionary, built_as, matches_at, is_start_at, is_special_at, IsLaidOut, IsRead, IsMet}
-use Rattle.ac_tables.specs.WordReads.{HasList, list_place, listed_at, matches_by}
+use Rattle.ac_tables.specs.WordReads.{HasWordList, list_place, listed_at, matches_by}
 use Rattle.ac_tables.specs.Words.{StateParts, one_pattern}
 use Rattle.ac_tables.proofs.MatchLemmas.{matches-read, list-placed}
 use Rattle.ac_tables.proofs.TestLemmas.{test-le, start-has, start-is, start-none}
@@ -194,7 +194,7 @@ pub state-many : (nfa : NFA) (sid : ℕ) → IsState (IsRead nfa) sid → 1 < si
 state-many nfa sid h past le none = of-state ⊥ nfa sid (λ x y. absurd x) (λ anchored names fits met. (list-some (dictionary nfa) nfa.table names fits.0 fits.1 anchored sid met).1 (past, le) none) h
 
 -- its patterns stand among the words,
-pub state-list : (nfa : NFA) (sid : ℕ) → IsState (IsRead nfa) sid → matches_at nfa sid ≢ [] → HasList nfa.table sid
+pub state-list : (nfa : NFA) (sid : ℕ) → IsState (IsRead nfa) sid → matches_at nfa sid ≢ [] → HasWordList nfa.table sid
 state-list nfa sid h some = record {
   first = of-state (sid < length nfa.table.words.items) nfa sid le_prop (λ anchored names fits met. (there names fits anchored met).0) h;
   list = of-state (list_place nfa.table sid < length nfa.table.words.items) nfa sid le_prop (λ anchored names fits met. (there names fits anchored met).1) h;
@@ -216,11 +216,11 @@ state-listed nfa sid h some =
 -- ---- the starts
 
 -- the start of a search of each anchoring
-abbrev pub start_of : Table → Bool → ℕ
-start_of table anchored = if anchored then table.start_anchored else table.start
+abbrev pub nfa_start_of : Table → Bool → ℕ
+nfa_start_of table anchored = if anchored then table.start_anchored else table.start
 
 -- is read before the first byte
-pub start-read : (nfa : NFA) (anchored : Anchored) (sid : ℕ) → sid ≡ start_of nfa.table (is_anchored anchored) → IsRead nfa anchored [] sid
+pub start-read : (nfa : NFA) (anchored : Anchored) (sid : ℕ) → sid ≡ nfa_start_of nfa.table (is_anchored anchored) → IsRead nfa anchored [] sid
 start-read nfa anchored sid is =
     read-start (built_as nfa) (IsLaidOut nfa) (matches_at nfa) (is_start_at nfa) (is_special_at nfa) anchored sid (names-are nfa)
     (∥∥₁_map nfa.stands (λ w. (w.0, (w.1, w.2), subst (IsFirst w.0 (is_anchored anchored)) (sym is) (w.2.first (is_anchored anchored)))))

@@ -3,34 +3,34 @@ use Rattle.std.proofs.Common.{◌≡◌, ◌≢◌, ℕ, zero, suc, ◌+◌, ◌
 use Rattle.std.specs.Prelude.{◌==◌, ◌&&◌, is_some}
 use Rattle.std.proofs.lemmas.Bool.{cases_eq, cases_Bool, and_parts, and_from, cond-true, cond-false, eqb-true, false≢true, true≢false}
 use Rattle.std.proofs.lemmas.Bool.Decides.{nat_tests}
-use Rattle.ac_tables.specs.Places.{is_met, state_at, either_of, placed_at, text_at, named_by, AreApart}
+use Rattle.ac_tables.specs.Places.{is_met, met_state_at, either_of, placed_at, text_at, named_by, AreApartInTable}
 
 -- ---- the state at a place
 
 -- the state that is found is one of them, is met, and stands there
-pub at-some : (met : ℕ → Bool) (place : ℕ → ℕ) (len at i : ℕ) → state_at met place len at ≡ Some i → (i < len) × IsTrue (met i) × (place i ≡ at)
+pub at-some : (met : ℕ → Bool) (place : ℕ → ℕ) (len at i : ℕ) → met_state_at met place len at ≡ Some i → (i < len) × IsTrue (met i) × (place i ≡ at)
 at-some met place zero at i is = absurd (let e : None ≡ Some i = is in cc)
 at-some met place (suc n) at i is =
     ⊎_elim
     (λ (yes : (met n && (place n == at)) ≡ true).
-    let found : state_at met place (suc n) at ≡ Some n = cond-true (met n && (place n == at)) (Some n) (state_at met place n at) yes in
+    let found : met_state_at met place (suc n) at ≡ Some n = cond-true (met n && (place n == at)) (Some n) (met_state_at met place n at) yes in
     let both = and_parts (met n) (place n == at) yes in
     let same : i ≡ n = cc in
     (omega (arith, same), subst (λ (k : ℕ). IsTrue (met k)) (sym same) both.0, ap place same ∙ eqb-true (place n) at both.1))
     (λ (no : (met n && (place n == at)) ≡ false).
-    let rest = at-some met place n at i (sym (cond-false (met n && (place n == at)) (Some n) (state_at met place n at) no) ∙ is) in
+    let rest = at-some met place n at i (sym (cond-false (met n && (place n == at)) (Some n) (met_state_at met place n at) no) ∙ is) in
     let less = rest.0 in
     (omega (arith, less), rest.1, rest.2))
     (cases_Bool (met n && (place n == at)))
 
 -- where none is found, none of them that is met stands there
-pub at-none : (met : ℕ → Bool) (place : ℕ → ℕ) (len at : ℕ) → state_at met place len at ≡ None → (i : ℕ) → i < len → IsTrue (met i) → place i ≢ at
+pub at-none : (met : ℕ → Bool) (place : ℕ → ℕ) (len at : ℕ) → met_state_at met place len at ≡ None → (i : ℕ) → i < len → IsTrue (met i) → place i ≢ at
 at-none met place zero at is i less met_i e = absurd (omega (arith, less))
 at-none met place (suc n) at is i less met_i e =
     ⊎_elim
-    (λ (yes : (met n && (place n == at)) ≡ true). let found : state_at met place (suc n) at ≡ Some n = cond-true (met n && (place n == at)) (Some n) (state_at met place n at) yes in absurd (let f : None ≡ Some n = sym is ∙ found in cc))
+    (λ (yes : (met n && (place n == at)) ≡ true). let found : met_state_at met place (suc n) at ≡ Some n = cond-true (met n && (place n == at)) (Some n) (met_state_at met place n at) yes in absurd (let f : None ≡ Some n = sym is ∙ found in cc))
     (λ (no : (met n && (place n == at)) ≡ false).
-    let rest : state_at met place n at ≡ None = sym (cond-false (met n && (place n == at)) (Some n) (state_at met place n at) no) ∙ is in
+    let rest : met_state_at met place n at ≡ None = sym (cond-false (met n && (place n == at)) (Some n) (met_state_at met place n at) no) ∙ is in
     ⊎_elim
     (λ (last : i ≡ n).
     let here : (place n == at) ≡ true = subst (λ (k : ℕ). (place k == at) ≡ true) last (let same : place i ≡ at = e in grind (arith, nat_tests)) in
@@ -41,10 +41,10 @@ at-none met place (suc n) at is i less met_i e =
     (cases_Bool (met n && (place n == at)))
 
 -- a state that is met is found at its place, or another one that is met and stands there
-pub at-found : (met : ℕ → Bool) (place : ℕ → ℕ) (len i : ℕ) → i < len → IsTrue (met i) → (j : ℕ) × (state_at met place len (place i) ≡ Some j)
-at-found met place len i less met_i = by (state_at met place len (place i)) refl
+pub at-found : (met : ℕ → Bool) (place : ℕ → ℕ) (len i : ℕ) → i < len → IsTrue (met i) → (j : ℕ) × (met_state_at met place len (place i) ≡ Some j)
+at-found met place len i less met_i = by (met_state_at met place len (place i)) refl
   where
-    by : (r : Option ℕ) → state_at met place len (place i) ≡ r → (j : ℕ) × (state_at met place len (place i) ≡ Some j)
+    by : (r : Option ℕ) → met_state_at met place len (place i) ≡ r → (j : ℕ) × (met_state_at met place len (place i) ≡ Some j)
     by None e = absurd (at-none met place len (place i) e i less met_i refl)
     by (Some j) e = (j, e)
 
@@ -58,25 +58,25 @@ named-met state len start places anchored i less met_i =
 
 -- a number that is met is the place of a state that is met
 pub named-state : (state : ℕ → Option (List ℕ)) (len start : ℕ) (places : Bool → ℕ → ℕ) (anchored : Bool) (at : ℕ) → IsTrue ((named_by state len start places).met anchored at) → (i : ℕ) × (i < len) × IsTrue (is_met start anchored i) × (places anchored i ≡ at)
-named-state state len start places anchored at met_at = by (state_at (is_met start anchored) (places anchored) len at) refl
+named-state state len start places anchored at met_at = by (met_state_at (is_met start anchored) (places anchored) len at) refl
   where
-    by : (r : Option ℕ) → state_at (is_met start anchored) (places anchored) len at ≡ r → (i : ℕ) × (i < len) × IsTrue (is_met start anchored i) × (places anchored i ≡ at)
+    by : (r : Option ℕ) → met_state_at (is_met start anchored) (places anchored) len at ≡ r → (i : ℕ) × (i < len) × IsTrue (is_met start anchored i) × (places anchored i ≡ at)
     by None e = absurd (false≢true (sym (ap (λ (r : Option ℕ). is_some r) e) ∙ met_at))
     by (Some i) e = let s = at-some (is_met start anchored) (places anchored) len at i e in (i, s.0, s.1, s.2)
 
 -- the state at the place of a state that is met is that state
-placed-is : (len start : ℕ) (places : Bool → ℕ → ℕ) (anchored : Bool) (i : ℕ) → AreApart len start places → i < len → IsTrue (is_met start anchored i) → placed_at len start places (places anchored i) ≡ Some i
-placed-is len start places anchored i apart less met_i = by (state_at (is_met start false) (places false) len (places anchored i)) (state_at (is_met start true) (places true) len (places anchored i)) refl refl
+placed-is : (len start : ℕ) (places : Bool → ℕ → ℕ) (anchored : Bool) (i : ℕ) → AreApartInTable len start places → i < len → IsTrue (is_met start anchored i) → placed_at len start places (places anchored i) ≡ Some i
+placed-is len start places anchored i apart less met_i = by (met_state_at (is_met start false) (places false) len (places anchored i)) (met_state_at (is_met start true) (places true) len (places anchored i)) refl refl
   where
-    one : (a : Bool) (j : ℕ) → state_at (is_met start a) (places a) len (places anchored i) ≡ Some j → j ≡ i
+    one : (a : Bool) (j : ℕ) → met_state_at (is_met start a) (places a) len (places anchored i) ≡ Some j → j ≡ i
     one a j e = let s = at-some (is_met start a) (places a) len (places anchored i) j e in apart a anchored j i s.0 less s.1 met_i s.2
 
-    lost : (a : Bool) → a ≡ anchored → state_at (is_met start a) (places a) len (places anchored i) ≢ None
+    lost : (a : Bool) → a ≡ anchored → met_state_at (is_met start a) (places a) len (places anchored i) ≢ None
     lost a same e = at-none (is_met start a) (places a) len (places anchored i) e i less (subst (λ (b : Bool). IsTrue (is_met start b i)) (sym same) met_i) (ap (λ (b : Bool). places b i) same)
 
-    by : (r s : Option ℕ) → state_at (is_met start false) (places false) len (places anchored i) ≡ r → state_at (is_met start true) (places true) len (places anchored i) ≡ s → placed_at len start places (places anchored i) ≡ Some i
-    by (Some j) s e f = ap (λ (r : Option ℕ). either_of r (state_at (is_met start true) (places true) len (places anchored i))) e ∙ ap Some (one false j e)
-    by None (Some k) e f = ap (λ (r : Option ℕ). either_of r (state_at (is_met start true) (places true) len (places anchored i))) e ∙ (f ∙ ap Some (one true k f))
+    by : (r s : Option ℕ) → met_state_at (is_met start false) (places false) len (places anchored i) ≡ r → met_state_at (is_met start true) (places true) len (places anchored i) ≡ s → placed_at len start places (places anchored i) ≡ Some i
+    by (Some j) s e f = ap (λ (r : Option ℕ). either_of r (met_state_at (is_met start true) (places true) len (places anchored i))) e ∙ ap Some (one false j e)
+    by None (Some k) e f = ap (λ (r : Option ℕ). either_of r (met_state_at (is_met start true) (places true) len (places anchored i))) e ∙ (f ∙ ap Some (one true k f))
     by None None e f = absurd (neither anchored refl)
       where
         neither : (a : Bool) → a ≡ anchored → ⊥
@@ -84,7 +84,7 @@ placed-is len start places anchored i apart less met_i = by (state_at (is_met st
         neither true same = lost true same f
 
 -- and it stands for what the state does
-pub named-text : (state : ℕ → Option (List ℕ)) (len start : ℕ) (places : Bool → ℕ → ℕ) (anchored : Bool) (i : ℕ) → AreApart len start places → i < len → IsTrue (is_met start anchored i) → (named_by state len start places).text (places anchored i) ≡ state i
+pub named-text : (state : ℕ → Option (List ℕ)) (len start : ℕ) (places : Bool → ℕ → ℕ) (anchored : Bool) (i : ℕ) → AreApartInTable len start places → i < len → IsTrue (is_met start anchored i) → (named_by state len start places).text (places anchored i) ≡ state i
 named-text state len start places anchored i apart less met_i = ap (text_at state) (placed-is len start places anchored i apart less met_i)
 
 -- ---- which states are met

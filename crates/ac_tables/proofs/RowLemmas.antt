@@ -11,7 +11,7 @@ use Rattle.ac_input.specs.declared.search.StartKind.TheVariants as starts
 use Rattle.ac_input.specs.Dfa.{Serves, dfa_states}
 use Rattle.ac_input.specs.Input.{is_anchored}
 use Rattle.ac_noncontiguous.specs.Lookups.{other_start}
-use Rattle.ac_tables.specs.DfaTable.{row_of, list_index}
+use Rattle.ac_tables.specs.DfaTable.{dfa_row_of, list_index}
 
 -- ---- the row of a state
 
@@ -22,28 +22,28 @@ le-false : (a b : ℕ) → b < a → nat_le a b ≡ false
 le-false a b h = grind (arith, nat_tests)
 
 -- the first two stay in their places
-pub row-first : (kind : StartKind) (start : ℕ) (a : Bool) (i : ℕ) → i ≤ 1 → row_of kind start a i ≡ i
+pub row-first : (kind : StartKind) (start : ℕ) (a : Bool) (i : ℕ) → i ≤ 1 → dfa_row_of kind start a i ≡ i
 row-first starts.Unanchored start a i h = refl
 row-first starts.Anchored start a i h = refl
 row-first starts.Both start false i h = cond-true (nat_le i 1) i (if nat_le i start then 2 * i - 2 else 2 * i - 4) (le-true i 1 h)
 row-first starts.Both start true i h = cond-true (nat_le i 1) i (if nat_le start i then 2 * i - 3 else 2 * i - 1) (le-true i 1 h)
 
 -- with both start kinds, for unanchored searches
-row-up : (start i : ℕ) → 1 < i → i ≤ start → row_of starts.Both start false i ≡ 2 * i - 2
+row-up : (start i : ℕ) → 1 < i → i ≤ start → dfa_row_of starts.Both start false i ≡ 2 * i - 2
 row-up start i past h = cond-false (nat_le i 1) i (if nat_le i start then 2 * i - 2 else 2 * i - 4) (le-false i 1 past) ∙ cond-true (nat_le i start) (2 * i - 2) (2 * i - 4) (le-true i start h)
 
-row-after : (start i : ℕ) → 1 < i → start < i → row_of starts.Both start false i ≡ 2 * i - 4
+row-after : (start i : ℕ) → 1 < i → start < i → dfa_row_of starts.Both start false i ≡ 2 * i - 4
 row-after start i past h = cond-false (nat_le i 1) i (if nat_le i start then 2 * i - 2 else 2 * i - 4) (le-false i 1 past) ∙ cond-false (nat_le i start) (2 * i - 2) (2 * i - 4) (le-false i start h)
 
 -- and for anchored ones
-row-anchored_up : (start i : ℕ) → 1 < i → i < start → row_of starts.Both start true i ≡ 2 * i - 1
+row-anchored_up : (start i : ℕ) → 1 < i → i < start → dfa_row_of starts.Both start true i ≡ 2 * i - 1
 row-anchored_up start i past h = cond-false (nat_le i 1) i (if nat_le start i then 2 * i - 3 else 2 * i - 1) (le-false i 1 past) ∙ cond-false (nat_le start i) (2 * i - 3) (2 * i - 1) (le-false start i h)
 
-row-anchored_after : (start i : ℕ) → 1 < i → start ≤ i → row_of starts.Both start true i ≡ 2 * i - 3
+row-anchored_after : (start i : ℕ) → 1 < i → start ≤ i → dfa_row_of starts.Both start true i ≡ 2 * i - 3
 row-anchored_after start i past h = cond-false (nat_le i 1) i (if nat_le start i then 2 * i - 3 else 2 * i - 1) (le-false i 1 past) ∙ cond-true (nat_le start i) (2 * i - 3) (2 * i - 1) (le-true start i h)
 
 -- where the row of a state may be, case by case
-rows-plain : {P : Type 0} (start i : ℕ) → (i ≤ 1 → row_of starts.Both start false i ≡ i → P) → (1 < i → i ≤ start → row_of starts.Both start false i + 2 ≡ 2 * i → P) → (1 < i → start < i → row_of starts.Both start false i + 4 ≡ 2 * i → P) → 0 < start → P
+rows-plain : {P : Type 0} (start i : ℕ) → (i ≤ 1 → dfa_row_of starts.Both start false i ≡ i → P) → (1 < i → i ≤ start → dfa_row_of starts.Both start false i + 2 ≡ 2 * i → P) → (1 < i → start < i → dfa_row_of starts.Both start false i + 4 ≡ 2 * i → P) → 0 < start → P
 rows-plain start i first up after some =
     ⊎_elim
     (λ (past : 1 < i).
@@ -54,7 +54,7 @@ rows-plain start i first up after some =
     (λ (low : i ≤ 1). first low (row-first starts.Both start false i low))
     (cases_lt 1 i)
 
-rows-anchored : {P : Type 0} (start i : ℕ) → (i ≤ 1 → row_of starts.Both start true i ≡ i → P) → (1 < i → i < start → row_of starts.Both start true i + 1 ≡ 2 * i → P) → (1 < i → start ≤ i → row_of starts.Both start true i + 3 ≡ 2 * i → P) → P
+rows-anchored : {P : Type 0} (start i : ℕ) → (i ≤ 1 → dfa_row_of starts.Both start true i ≡ i → P) → (1 < i → i < start → dfa_row_of starts.Both start true i + 1 ≡ 2 * i → P) → (1 < i → start ≤ i → dfa_row_of starts.Both start true i + 3 ≡ 2 * i → P) → P
 rows-anchored start i first up after =
     ⊎_elim
     (λ (past : 1 < i).
@@ -68,14 +68,14 @@ rows-anchored start i first up after =
 -- ---- within the table
 
 -- each row is one of them
-pub row-below : (kind : StartKind) (start len : ℕ) (a : Bool) (i : ℕ) → 1 < start → start + 1 < len → i < len → row_of kind start a i < dfa_states kind len
+pub row-below : (kind : StartKind) (start len : ℕ) (a : Bool) (i : ℕ) → 1 < start → start + 1 < len → i < len → dfa_row_of kind start a i < dfa_states kind len
 row-below starts.Unanchored start len a i past within h = h
 row-below starts.Anchored start len a i past within h = h
 row-below starts.Both start len false i past within h = rows-plain start i (λ low e. omega (arith, e, low, past, within)) (λ more up e. omega (arith, e, up, past, within)) (λ more up e. omega (arith, e, h)) (omega (arith, past))
 row-below starts.Both start len true i past within h = rows-anchored start i (λ low e. omega (arith, e, low, past, within)) (λ more up e. omega (arith, e, up, within)) (λ more up e. omega (arith, e, h))
 
 -- a state past the first two has a row past them
-pub row-past : (kind : StartKind) (start : ℕ) (a : Bool) (i : ℕ) → 1 < start → 1 < i → i ≢ other_start start a → 1 < row_of kind start a i
+pub row-past : (kind : StartKind) (start : ℕ) (a : Bool) (i : ℕ) → 1 < start → 1 < i → i ≢ other_start start a → 1 < dfa_row_of kind start a i
 row-past starts.Unanchored start a i past h own = h
 row-past starts.Anchored start a i past h own = h
 row-past starts.Both start false i past h own = rows-plain start i (λ low e. omega (arith, low, h)) (λ more up e. omega (arith, e, h)) (λ more up e. omega (arith, e, up, past)) (omega (arith, past))
@@ -109,7 +109,7 @@ rows-apart row other stride x y apart in_row in_other same =
 -- ---- no two states have one row
 
 -- Two states with one row are one; with both start kinds, past the first two, for searches of one anchoring.
-pub row-one : (kind : StartKind) (start : ℕ) (a b : Bool) (i j : ℕ) → 1 < start → i ≢ other_start start a → j ≢ other_start start b → row_of kind start a i ≡ row_of kind start b j → (i ≡ j) × (kind ≡ starts.Both → 1 < i → a ≡ b)
+pub row-one : (kind : StartKind) (start : ℕ) (a b : Bool) (i j : ℕ) → 1 < start → i ≢ other_start start a → j ≢ other_start start b → dfa_row_of kind start a i ≡ dfa_row_of kind start b j → (i ≡ j) × (kind ≡ starts.Both → 1 < i → a ≡ b)
 row-one starts.Unanchored start a b i j past not_i not_j same = (same, λ both. absurd (let e : starts.Unanchored ≡ starts.Both = both in cc))
 row-one starts.Anchored start a b i j past not_i not_j same = (same, λ both. absurd (let e : starts.Anchored ≡ starts.Both = both in cc))
 row-one starts.Both start false false i j past not_i not_j same =
@@ -142,7 +142,7 @@ row-one starts.Both start true false i j past not_i not_j same =
     some
 
 -- so the rows of two states that are served are two
-pub row-apart : (kind : StartKind) (start : ℕ) (a b : Anchored) (i j : ℕ) → Serves kind a → Serves kind b → 1 < start → 1 < i → i ≢ other_start start (is_anchored a) → j ≢ other_start start (is_anchored b) → (a ≡ b → i ≢ j) → row_of kind start (is_anchored a) i ≢ row_of kind start (is_anchored b) j
+pub row-apart : (kind : StartKind) (start : ℕ) (a b : Anchored) (i j : ℕ) → Serves kind a → Serves kind b → 1 < start → 1 < i → i ≢ other_start start (is_anchored a) → j ≢ other_start start (is_anchored b) → (a ≡ b → i ≢ j) → dfa_row_of kind start (is_anchored a) i ≢ dfa_row_of kind start (is_anchored b) j
 row-apart starts.Unanchored start a b i j sa sb past more not_i not_j ne same = ne (sa ∙ sym sb) same
 row-apart starts.Anchored start a b i j sa sb past more not_i not_j ne same = ne (sa ∙ sym sb) same
 row-apart starts.Both start No No i j sa sb past more not_i not_j ne same = ne refl (row-one starts.Both start false false i j past not_i not_j same).0
@@ -181,14 +181,14 @@ number-row row s some = let e : row * s + 0 ≡ row * s = omega arith in ap (λ 
 -- ---- the states that match
 
 -- the row of the last one, right before that of the unanchored start, or that of the anchored start
-row-last : (start last : ℕ) → 1 < start → (last + 1 ≡ start → row_of starts.Both start true last + 3 ≡ 2 * start) × (last ≡ start + 1 → row_of starts.Both start true last + 1 ≡ 2 * start)
+row-last : (start last : ℕ) → 1 < start → (last + 1 ≡ start → dfa_row_of starts.Both start true last + 3 ≡ 2 * start) × (last ≡ start + 1 → dfa_row_of starts.Both start true last + 1 ≡ 2 * start)
 row-last start last past = (
   λ is. rows-anchored start last (λ low e. omega (arith, is, low, e, past)) (λ more up e. omega (arith, is, e)) (λ more up e. omega (arith, is, up)),
   λ is. rows-anchored start last (λ low e. omega (arith, is, low, past)) (λ more up e. omega (arith, is, up)) (λ more up e. omega (arith, is, e)),
 )
 
 -- a row is at most that of the last state that matches exactly where the state is at most that
-pub row-le : (kind : StartKind) (start last : ℕ) (a : Bool) (i : ℕ) → 1 < start → (last + 1 ≡ start) ⊎ (last ≡ start + 1) → i ≢ 1 → i ≢ other_start start a → (row_of kind start a i ≤ row_of kind start true last) ↔ (i ≤ last)
+pub row-le : (kind : StartKind) (start last : ℕ) (a : Bool) (i : ℕ) → 1 < start → (last + 1 ≡ start) ⊎ (last ≡ start + 1) → i ≢ 1 → i ≢ other_start start a → (dfa_row_of kind start a i ≤ dfa_row_of kind start true last) ↔ (i ≤ last)
 row-le starts.Unanchored start last a i past is stands own = (λ h. h, λ h. h)
 row-le starts.Anchored start last a i past is stands own = (λ h. h, λ h. h)
 row-le starts.Both start last false i past is stands own =
@@ -217,15 +217,15 @@ half : (n r : ℕ) → r < 2 → (n * 2 + r) / 2 ≡ n
 half n r lt = div-mul-add n 2 r lt
 
 -- The list of a state up to the starts is the one that is as far from the first; with both start kinds the two starts share one.
-pub index-is : (kind : StartKind) (start : ℕ) (a : Bool) (i : ℕ) → 1 < start → 1 < i → i ≤ start + 1 → i ≢ other_start start a → (list_index kind (row_of kind start a i) + 2 ≡ i) ⊎ ((list_index kind (row_of kind start a i) + 2 ≡ start) × (i ≡ start + 1))
+pub index-is : (kind : StartKind) (start : ℕ) (a : Bool) (i : ℕ) → 1 < start → 1 < i → i ≤ start + 1 → i ≢ other_start start a → (list_index kind (dfa_row_of kind start a i) + 2 ≡ i) ⊎ ((list_index kind (dfa_row_of kind start a i) + 2 ≡ start) × (i ≡ start + 1))
 index-is starts.Unanchored start a i past more up own = inl (omega (arith, more))
 index-is starts.Anchored start a i past more up own = inl (omega (arith, more))
 index-is starts.Both start false i past more up own =
     rows-plain start i
     (λ low e. absurd (omega (arith, low, more)))
     (λ _ before e.
-    let is : row_of starts.Both start false i - 2 ≡ (i - 2) * 2 + 0 = omega (arith, e, more) in
-    let h : (row_of starts.Both start false i - 2) / 2 ≡ i - 2 = ap (λ (n : ℕ). n / 2) is ∙ half (i - 2) 0 (omega arith) in
+    let is : dfa_row_of starts.Both start false i - 2 ≡ (i - 2) * 2 + 0 = omega (arith, e, more) in
+    let h : (dfa_row_of starts.Both start false i - 2) / 2 ≡ i - 2 = ap (λ (n : ℕ). n / 2) is ∙ half (i - 2) 0 (omega arith) in
     inl (omega (arith, h, more)))
     (λ _ after e. absurd (omega (arith, after, up, own)))
     (omega (arith, past))
@@ -233,17 +233,17 @@ index-is starts.Both start true i past more up own =
     rows-anchored start i
     (λ low e. absurd (omega (arith, low, more)))
     (λ _ before e.
-    let is : row_of starts.Both start true i - 2 ≡ (i - 2) * 2 + 1 = omega (arith, e, more) in
-    let h : (row_of starts.Both start true i - 2) / 2 ≡ i - 2 = ap (λ (n : ℕ). n / 2) is ∙ half (i - 2) 1 (omega arith) in
+    let is : dfa_row_of starts.Both start true i - 2 ≡ (i - 2) * 2 + 1 = omega (arith, e, more) in
+    let h : (dfa_row_of starts.Both start true i - 2) / 2 ≡ i - 2 = ap (λ (n : ℕ). n / 2) is ∙ half (i - 2) 1 (omega arith) in
     inl (omega (arith, h, more)))
     (λ _ after e.
     let last : i ≡ start + 1 = omega (arith, after, up, own) in
-    let is : row_of starts.Both start true i - 2 ≡ (start - 2) * 2 + 1 = omega (arith, e, last, past) in
-    let h : (row_of starts.Both start true i - 2) / 2 ≡ start - 2 = ap (λ (n : ℕ). n / 2) is ∙ half (start - 2) 1 (omega arith) in
+    let is : dfa_row_of starts.Both start true i - 2 ≡ (start - 2) * 2 + 1 = omega (arith, e, last, past) in
+    let h : (dfa_row_of starts.Both start true i - 2) / 2 ≡ start - 2 = ap (λ (n : ℕ). n / 2) is ∙ half (start - 2) 1 (omega arith) in
     inr (omega (arith, h, past), last))
 
 -- the row of the anchored start is the one after that of the unanchored one
-pub row-starts : (kind : StartKind) (start : ℕ) → 1 < start → row_of kind start true (start + 1) ≡ row_of kind start false start + 1
+pub row-starts : (kind : StartKind) (start : ℕ) → 1 < start → dfa_row_of kind start true (start + 1) ≡ dfa_row_of kind start false start + 1
 row-starts starts.Unanchored start past = refl
 row-starts starts.Anchored start past = refl
 row-starts starts.Both start past =
@@ -252,7 +252,7 @@ row-starts starts.Both start past =
     omega (arith, a, b, past)
 
 -- and the row after that of the last state that matches is that of the unanchored start, where the starts don't match
-pub row-before_starts : (kind : StartKind) (start last : ℕ) → 1 < start → last + 1 ≡ start → row_of kind start true last + 1 ≡ row_of kind start false start
+pub row-before_starts : (kind : StartKind) (start last : ℕ) → 1 < start → last + 1 ≡ start → dfa_row_of kind start true last + 1 ≡ dfa_row_of kind start false start
 row-before_starts starts.Unanchored start last past is = is
 row-before_starts starts.Anchored start last past is = is
 row-before_starts starts.Both start last past is =

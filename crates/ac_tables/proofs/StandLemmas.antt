@@ -7,7 +7,7 @@ use Rattle.std.proofs.lemmas.List.FromFn.{length-map-range_with_len}
 use Rattle.ac_input.specs.Alphabet.{alphabet_len}
 use Rattle.ac_noncontiguous.specs.declared.nfa.NFA.{NFA}
 use Rattle.ac_noncontiguous.specs.ReadCalls.{edges_in}
-use Rattle.ac_tables.specs.Words.{StateParts, Form, Dense, One, Sparse, most_sparse, form_of, next_by, packed, classes_of, nexts_of, transition_words, match_words, words_of, StandsAt}
+use Rattle.ac_tables.specs.Words.{StateParts, Form, Dense, One, Sparse, most_sparse, form_of, next_by, packed, classes_of, nexts_of, transition_words, match_words, words_of, AreWordsAt}
 use Rattle.ac_tables.specs.ContiguousTable.{placed, parts_of, len_at, len_before, place_in, words_at, words_before}
 use Rattle.ac_tables.proofs.LenLemmas.{not-equal, packed-long, form-long}
 
@@ -90,7 +90,7 @@ words-split nfa dense_depth classes sid (suc n) lt =
     (cases_lt sid n)
 
 -- what stands between two parts
-stands-between : (words front own rest : List ℕ) (at : ℕ) → words ≡ front ++ (own ++ rest) → length front ≡ at → StandsAt words at own
+stands-between : (words front own rest : List ℕ) (at : ℕ) → words ≡ front ++ (own ++ rest) → length front ≡ at → AreWordsAt words at own
 stands-between words front own rest at is long =
     let all = ap length is in
     let a = length-append front (own ++ rest) in
@@ -99,13 +99,13 @@ stands-between words front own rest at is long =
     (omega (arith, all, a, b, long), ap (take (length own)) dropped ∙ take_at own rest (length own) refl)
 
 -- the words of a state stand at its place
-pub stands : (nfa : NFA) (dense_depth : ℕ) (classes words : List ℕ) (sid n : ℕ) → words ≡ words_before nfa dense_depth classes n → sid < n → sid ≢ 1 → StandsAt words (place_in nfa dense_depth classes sid) (words_of (alphabet_len classes) (parts_of nfa dense_depth classes (place_in nfa dense_depth classes) sid))
+pub stands : (nfa : NFA) (dense_depth : ℕ) (classes words : List ℕ) (sid n : ℕ) → words ≡ words_before nfa dense_depth classes n → sid < n → sid ≢ 1 → AreWordsAt words (place_in nfa dense_depth classes sid) (words_of (alphabet_len classes) (parts_of nfa dense_depth classes (place_in nfa dense_depth classes) sid))
 stands nfa dense_depth classes words sid n is lt not_fail =
     let split = words-split nfa dense_depth classes sid n lt in
     let own = words_of (alphabet_len classes) (parts_of nfa dense_depth classes (place_in nfa dense_depth classes) sid) in
     let same : words_at nfa dense_depth classes sid ≡ own = cond-false (sid == 1) [] own (not-equal sid 1 not_fail) in
     let place : place_in nfa dense_depth classes sid ≡ len_before nfa dense_depth classes sid = cond-false (sid == 1) 1 (len_before nfa dense_depth classes sid) (not-equal sid 1 not_fail) in
-    subst (StandsAt words (place_in nfa dense_depth classes sid)) same
+    subst (AreWordsAt words (place_in nfa dense_depth classes sid)) same
     (stands-between words (words_before nfa dense_depth classes sid) (words_at nfa dense_depth classes sid) split.0 (place_in nfa dense_depth classes sid) (is ∙ split.1) (before-long nfa dense_depth classes sid ∙ sym place))
 
 -- ---- the places rise

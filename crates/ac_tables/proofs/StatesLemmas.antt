@@ -13,9 +13,9 @@ use Rattle.ac_noncontiguous.specs.Reads.{dictionary, matches_at}
 use Rattle.ac_noncontiguous.specs.ReadCalls.{state_len, edges_in, special_in, AreBounds}
 use Rattle.ac_tables.specs.declared.contiguous.table.Table.{Table}
 use Rattle.ac_tables.specs.Places.{is_met}
-use Rattle.ac_tables.specs.Words.{StateParts, next_by, words_of, StandsAt}
+use Rattle.ac_tables.specs.Words.{StateParts, next_by, words_of, AreWordsAt}
 use Rattle.ac_tables.specs.ContiguousTable.{placed, parts_of, place_in, AreStates}
-use Rattle.ac_tables.specs.ContiguousBuild.{IsTableOf}
+use Rattle.ac_tables.specs.ContiguousBuild.{IsWordTableOf}
 use Rattle.ac_tables.proofs.PlacesLemmas.{met-stands, met-other, met-start, met-start_anchored}
 use Rattle.ac_tables.proofs.StandLemmas.{stands, place-rises, place-one, place-later}
 use Rattle.ac_tables.proofs.EntryLemmas.{class-fits}
@@ -48,7 +48,7 @@ first-is nfa dense_depth classes text anchored i sid h i_in i_met past start is 
     })
 
 -- the table is that of the dictionary, by the names and the states at the places
-pub states : (nfa : NFA) (dense_depth : ℕ) (table : Table) (text : ℕ → List ℕ) → Laid nfa text dense_depth table.classes → IsTableOf nfa dense_depth table → AreStates (dictionary nfa) table (names_in nfa dense_depth table.classes text) (parts_in nfa dense_depth table.classes)
+pub states : (nfa : NFA) (dense_depth : ℕ) (table : Table) (text : ℕ → List ℕ) → Laid nfa text dense_depth table.classes → IsWordTableOf nfa dense_depth table → AreStates (dictionary nfa) table (names_in nfa dense_depth table.classes text) (parts_in nfa dense_depth table.classes)
 states nfa dense_depth table text h t =
     let classes = table.classes in
     let place = place_in nfa dense_depth classes in
@@ -70,9 +70,9 @@ states nfa dense_depth table text h t =
       alphabet = t.alphabet;
       few_classes = t.few_classes;
       small = λ anchored. each anchored (λ sid. sid ≤ GREATEST) (λ i i_in i_met. h.fits i i_in);
-      stand = λ anchored. each anchored (λ sid. StandsAt table.words.items sid (words_of table.alphabet_len (parts sid))) (λ i i_in i_met.
-          subst (λ (s : StateParts). StandsAt table.words.items (place i) (words_of table.alphabet_len s)) (sym (at i i_in))
-          (subst (λ (n : ℕ). StandsAt table.words.items (place i) (words_of n (parts_of nfa dense_depth classes place i))) (sym t.alphabet)
+      stand = λ anchored. each anchored (λ sid. AreWordsAt table.words.items sid (words_of table.alphabet_len (parts sid))) (λ i i_in i_met.
+          subst (λ (s : StateParts). AreWordsAt table.words.items (place i) (words_of table.alphabet_len s)) (sym (at i i_in))
+          (subst (λ (n : ℕ). AreWordsAt table.words.items (place i) (words_of n (parts_of nfa dense_depth classes place i))) (sym t.alphabet)
           (stands nfa dense_depth classes table.words.items i (state_len nfa) t.words i_in (met-stands start anchored i i_met))));
       fits = λ anchored sid k edge met. each anchored (λ n. slice_get (parts n).edges k ≡ Some edge → edge.0 < table.alphabet_len) (λ i i_in i_met is.
           let known = h.known i i_in (met-stands start anchored i i_met) in

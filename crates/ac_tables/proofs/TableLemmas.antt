@@ -21,9 +21,9 @@ use Rattle.ac_noncontiguous.specs.ReadCalls.{state_len, special_in, StandFor, Ma
 use Rattle.ac_noncontiguous.proofs.NextLemmas.{state-some, state-none}
 use Rattle.ac_noncontiguous.proofs.ReadCallLemmas.{lists-in, special-in}
 use Rattle.ac_tables.specs.declared.dfa.table.Table.{Table}
-use Rattle.ac_tables.specs.DfaMade.{start_of, number_by, IsTableOf}
-use Rattle.ac_tables.specs.DfaTable.{row_of, stride_of, list_index, list_of, matches_by, start_by, AreRows}
-use Rattle.ac_tables.specs.Places.{is_met, named_by, AreApart}
+use Rattle.ac_tables.specs.DfaMade.{nfa_start_of, number_by, IsDfaTableOf}
+use Rattle.ac_tables.specs.DfaTable.{dfa_row_of, stride_of, list_index, dfa_list_of, matches_by, start_by, AreDfaRows}
+use Rattle.ac_tables.specs.Places.{is_met, named_by, AreApartInTable}
 use Rattle.ac_tables.proofs.PlacesLemmas.{named-met, named-state, named-text, met-stands, met-unanchored, met-anchored, met-start, met-start_anchored}
 use Rattle.ac_tables.proofs.RowLemmas.{row-first, row-below, row-past, row-room, row-one, row-le, row-starts, row-before_starts, scale-one, scale-le, number-row, index-is}
 use Rattle.ac_tables.proofs.CellLemmas.{texts-of, starts-of, last-match_is}
@@ -41,58 +41,58 @@ met-of start true i stands own = let e : i ≢ start = own in grind (arith, nat_
 met-of start false i stands own = let e : i ≢ start + 1 = own in grind (arith, nat_tests)
 
 -- those are the ones that searches may come to
-met-may : (nfa : NFA) (anchored : Anchored) (i : ℕ) → i < state_len nfa → IsTrue (is_met (start_of nfa) (is_anchored anchored) i) → MayBeMet nfa anchored i
-met-may nfa anchored i within met = record { within = within; stands = met-stands (start_of nfa) (is_anchored anchored) i met; own = met-own (start_of nfa) (is_anchored anchored) i met }
+met-may : (nfa : NFA) (anchored : Anchored) (i : ℕ) → i < state_len nfa → IsTrue (is_met (nfa_start_of nfa) (is_anchored anchored) i) → MayBeMet nfa anchored i
+met-may nfa anchored i within met = record { within = within; stands = met-stands (nfa_start_of nfa) (is_anchored anchored) i met; own = met-own (nfa_start_of nfa) (is_anchored anchored) i met }
 
-may-met : (nfa : NFA) (anchored : Anchored) (i : ℕ) → MayBeMet nfa anchored i → IsTrue (is_met (start_of nfa) (is_anchored anchored) i)
-may-met nfa anchored i met = met-of (start_of nfa) (is_anchored anchored) i met.stands met.own
+may-met : (nfa : NFA) (anchored : Anchored) (i : ℕ) → MayBeMet nfa anchored i → IsTrue (is_met (nfa_start_of nfa) (is_anchored anchored) i)
+may-met nfa anchored i met = met-of (nfa_start_of nfa) (is_anchored anchored) i met.stands met.own
 
 -- ---- numbers
 
 -- rows have entries
-pub stride-some : (nfa : NFA) (table : Table) → IsTableOf nfa table → 0 < stride_of table
+pub stride-some : (nfa : NFA) (table : Table) → IsDfaTableOf nfa table → 0 < stride_of table
 stride-some nfa table h = let l = h.fit.letters 0 (omega arith) in omega (arith, l)
 
 -- no two states that are met have one number
-pub numbers-apart : (nfa : NFA) (table : Table) → IsTableOf nfa table → AreApart (state_len nfa) (start_of nfa) (number_by nfa table)
+pub numbers-apart : (nfa : NFA) (table : Table) → IsDfaTableOf nfa table → AreApartInTable (state_len nfa) (nfa_start_of nfa) (number_by nfa table)
 numbers-apart nfa table h a b i j i_in j_in met_i met_j same =
-    let start = start_of nfa in
+    let start = nfa_start_of nfa in
     (row-one table.kind start a b i j (starts-of nfa).0 (met-own start a i met_i) (met-own start b j met_j)
-    (scale-one (row_of table.kind start a i) (row_of table.kind start b j) (stride_of table) (stride-some nfa table h) same)).0
+    (scale-one (dfa_row_of table.kind start a i) (dfa_row_of table.kind start b j) (stride_of table) (stride-some nfa table h) same)).0
 
 -- the dead state has number 0,
 number-dead : (nfa : NFA) (table : Table) (a : Bool) → number_by nfa table a 0 ≡ 0
-number-dead nfa table a = let none : 0 * stride_of table ≡ 0 = omega arith in ap (λ (row : ℕ). row * stride_of table) (row-first table.kind (start_of nfa) a 0 (omega arith)) ∙ none
+number-dead nfa table a = let none : 0 * stride_of table ≡ 0 = omega arith in ap (λ (row : ℕ). row * stride_of table) (row-first table.kind (nfa_start_of nfa) a 0 (omega arith)) ∙ none
 
 -- and each other one that is met a number past the first two rows
-number-past : (nfa : NFA) (table : Table) (a : Bool) (i : ℕ) → 1 < i → IsTrue (is_met (start_of nfa) a i) → 2 * stride_of table ≤ number_by nfa table a i
+number-past : (nfa : NFA) (table : Table) (a : Bool) (i : ℕ) → 1 < i → IsTrue (is_met (nfa_start_of nfa) a i) → 2 * stride_of table ≤ number_by nfa table a i
 number-past nfa table a i past met =
-    let row = row-past table.kind (start_of nfa) a i (starts-of nfa).0 past (met-own (start_of nfa) a i met) in
-    mul-le 2 (stride_of table) (row_of table.kind (start_of nfa) a i) (stride_of table) (omega (arith, row)) (omega arith)
+    let row = row-past table.kind (nfa_start_of nfa) a i (starts-of nfa).0 past (met-own (nfa_start_of nfa) a i met) in
+    mul-le 2 (stride_of table) (dfa_row_of table.kind (nfa_start_of nfa) a i) (stride_of table) (omega (arith, row)) (omega arith)
 
 -- a state that is met is the dead one or past the first two
-dead-or : (nfa : NFA) (a : Bool) (i : ℕ) → IsTrue (is_met (start_of nfa) a i) → (i ≡ 0) ⊎ (1 < i)
+dead-or : (nfa : NFA) (a : Bool) (i : ℕ) → IsTrue (is_met (nfa_start_of nfa) a i) → (i ≡ 0) ⊎ (1 < i)
 dead-or nfa a i met =
-    let stands = met-stands (start_of nfa) a i met in
+    let stands = met-stands (nfa_start_of nfa) a i met in
     ⊎_elim (λ (l : 1 < i). inr l) (λ (r : i ≤ 1). inl (omega (arith, r, stands))) (cases_lt 1 i)
 
 -- ---- the names of the numbers
 
 abbrev names_of : NFA → Table → (ℕ → List ℕ) → Naming
-names_of nfa table text = named_by (state_of text) (state_len nfa) (start_of nfa) (number_by nfa table)
+names_of nfa table text = named_by (state_of text) (state_len nfa) (nfa_start_of nfa) (number_by nfa table)
 
 -- What is known of a number that is met: it is that of a state, and stands for what the state does.
 record IsNumber (nfa : NFA) (table : Table) (text : ℕ → List ℕ) (a : Bool) (sid i : ℕ) : Type 0 where
   within : i < state_len nfa
-  met : IsTrue (is_met (start_of nfa) a i)
+  met : IsTrue (is_met (nfa_start_of nfa) a i)
   number : sid ≡ number_by nfa table a i
   named : (names_of nfa table text).text sid ≡ state_of text i
 
 -- the state of a number
-number-of : (nfa : NFA) (table : Table) (text : ℕ → List ℕ) (a : Bool) (sid : ℕ) → IsTableOf nfa table → IsTrue ((names_of nfa table text).met a sid) → (i : ℕ) × IsNumber nfa table text a sid i
+number-of : (nfa : NFA) (table : Table) (text : ℕ → List ℕ) (a : Bool) (sid : ℕ) → IsDfaTableOf nfa table → IsTrue ((names_of nfa table text).met a sid) → (i : ℕ) × IsNumber nfa table text a sid i
 number-of nfa table text a sid h met =
-    let s = named-state (state_of text) (state_len nfa) (start_of nfa) (number_by nfa table) a sid met in
-    let named = named-text (state_of text) (state_len nfa) (start_of nfa) (number_by nfa table) a s.0 (numbers-apart nfa table h) s.1 s.2 in
+    let s = named-state (state_of text) (state_len nfa) (nfa_start_of nfa) (number_by nfa table) a sid met in
+    let named = named-text (state_of text) (state_len nfa) (nfa_start_of nfa) (number_by nfa table) a s.0 (numbers-apart nfa table h) s.1 s.2 in
     (s.0, record { within = s.1; met = s.2; number = sym s.3; named = ap (names_of nfa table text).text (sym s.3) ∙ named })
 
 -- the text of a state
@@ -106,7 +106,7 @@ text-some text i t stands is =
 -- ---- look-ups
 
 -- a look-up leads where the byte does
-table-steps : (nfa : NFA) (table : Table) (text : ℕ → List ℕ) → IsTableOf nfa table → StandFor nfa text → (anchored : Anchored) (sid byte : ℕ) → Serves table.kind anchored → IsTrue ((names_of nfa table text).met (is_anchored anchored) sid) → byte < 256 → IsStep (dictionary nfa) (names_of nfa table text) (is_anchored anchored) sid byte (slice_index table.trans.items (sid + class table.classes byte))
+table-steps : (nfa : NFA) (table : Table) (text : ℕ → List ℕ) → IsDfaTableOf nfa table → StandFor nfa text → (anchored : Anchored) (sid byte : ℕ) → Serves table.kind anchored → IsTrue ((names_of nfa table text).met (is_anchored anchored) sid) → byte < 256 → IsStep (dictionary nfa) (names_of nfa table text) (is_anchored anchored) sid byte (slice_index table.trans.items (sid + class table.classes byte))
 table-steps nfa table text h t anchored sid byte serves met small =
     let a = is_anchored anchored in
     let n = number-of nfa table text a sid h met in
@@ -117,24 +117,24 @@ table-steps nfa table text h t anchored sid byte serves met small =
     let leads = cell.1.0 in
     let is : slice_index table.trans.items (sid + class table.classes byte) ≡ number_by nfa table a next = ap (λ (k : ℕ). slice_index table.trans.items (k + class table.classes byte)) n.1.number ∙ cell.1.1 in
     let next_met = may-met nfa anchored next leads.met in
-    let named = named-text (state_of text) (state_len nfa) (start_of nfa) (number_by nfa table) a next (numbers-apart nfa table h) leads.met.within next_met in
+    let named = named-text (state_of text) (state_len nfa) (nfa_start_of nfa) (number_by nfa table) a next (numbers-apart nfa table h) leads.met.within next_met in
     subst (λ (to : ℕ). IsStep (dictionary nfa) (names_of nfa table text) a sid byte to) (sym is)
     (record {
-      met = named-met (state_of text) (state_len nfa) (start_of nfa) (number_by nfa table) a next leads.met.within next_met;
+      met = named-met (state_of text) (state_len nfa) (nfa_start_of nfa) (number_by nfa table) a next leads.met.within next_met;
       dead = λ none.
           ⊎_elim
           (λ (zero_is : i ≡ 0). named ∙ state-none text next (leads.dead zero_is))
           (λ (past : 1 < i). absurd (let e : None ≡ Some (text i) = sym none ∙ (n.1.named ∙ state-some text i past) in cc))
           (dead-or nfa a i n.1.met);
       leads = λ of some.
-          let s = text-some text i of (met-stands (start_of nfa) a i n.1.met) (sym n.1.named ∙ some) in
+          let s = text-some text i of (met-stands (nfa_start_of nfa) a i n.1.met) (sym n.1.named ∙ some) in
           subst (LeadsTo (dictionary nfa) a (of ++ byte ∷ [])) (sym named) (subst (λ (u : List ℕ). LeadsTo (dictionary nfa) a (u ++ byte ∷ []) (state_of text next)) (sym s.1) (leads.leads text t s.0));
     })
 
 -- each start is the first number of its searches
-table-first : (nfa : NFA) (table : Table) (text : ℕ → List ℕ) → IsTableOf nfa table → StandFor nfa text → IsFirst (names_of nfa table text) false table.start × IsFirst (names_of nfa table text) true table.start_anchored
+table-first : (nfa : NFA) (table : Table) (text : ℕ → List ℕ) → IsDfaTableOf nfa table → StandFor nfa text → IsFirst (names_of nfa table text) false table.start × IsFirst (names_of nfa table text) true table.start_anchored
 table-first nfa table text h t =
-    let start = start_of nfa in
+    let start = nfa_start_of nfa in
     let s = starts-of nfa in
     let texts = texts-of nfa text t in
     let names = names_of nfa table text in
@@ -153,9 +153,9 @@ table-first nfa table text h t =
     )
 
 -- and no other number stands for the empty text
-table-starting : (nfa : NFA) (table : Table) (text : ℕ → List ℕ) → IsTableOf nfa table → StandFor nfa text → (a : Bool) (sid : ℕ) → IsTrue ((names_of nfa table text).met a sid) → ((names_of nfa table text).text sid ≡ Some []) ↔ ((sid ≡ table.start) ⊎ (sid ≡ table.start_anchored))
+table-starting : (nfa : NFA) (table : Table) (text : ℕ → List ℕ) → IsDfaTableOf nfa table → StandFor nfa text → (a : Bool) (sid : ℕ) → IsTrue ((names_of nfa table text).met a sid) → ((names_of nfa table text).text sid ≡ Some []) ↔ ((sid ≡ table.start) ⊎ (sid ≡ table.start_anchored))
 table-starting nfa table text h t a sid met =
-    let start = start_of nfa in
+    let start = nfa_start_of nfa in
     let n = number-of nfa table text a sid h met in
     let i = n.0 in
     let texts = texts-of nfa text t in
@@ -166,20 +166,20 @@ table-starting nfa table text h t a sid met =
       λ is. ⊎_elim (λ (l : sid ≡ table.start). ap (names_of nfa table text).text l ∙ first.0.empty) (λ (r : sid ≡ table.start_anchored). ap (names_of nfa table text).text r ∙ first.1.empty) is,
     )
   where
-    by : (b : Bool) (i : ℕ) → (i ≡ start_of nfa) ⊎ (i ≡ start_of nfa + 1) → IsTrue (is_met (start_of nfa) b i) → sid ≡ number_by nfa table b i → (sid ≡ table.start) ⊎ (sid ≡ table.start_anchored)
+    by : (b : Bool) (i : ℕ) → (i ≡ nfa_start_of nfa) ⊎ (i ≡ nfa_start_of nfa + 1) → IsTrue (is_met (nfa_start_of nfa) b i) → sid ≡ number_by nfa table b i → (sid ≡ table.start) ⊎ (sid ≡ table.start_anchored)
     by false i (inl here) met_i is = inl (is ∙ (ap (number_by nfa table false) here ∙ sym h.start))
-    by false i (inr other) met_i is = absurd (met-unanchored (start_of nfa) i met_i other)
-    by true i (inl other) met_i is = absurd (met-anchored (start_of nfa) i met_i other)
+    by false i (inr other) met_i is = absurd (met-unanchored (nfa_start_of nfa) i met_i other)
+    by true i (inl other) met_i is = absurd (met-anchored (nfa_start_of nfa) i met_i other)
     by true i (inr here) met_i is = inr (is ∙ (ap (number_by nfa table true) here ∙ sym h.start_anchored))
 
 -- ---- lists
 
 -- the numbers up to the last one that matches are those of the states up to the last one that does
-number-matches : (nfa : NFA) (table : Table) (a : Bool) (i : ℕ) → IsTableOf nfa table → IsTrue (is_met (start_of nfa) a i) → (number_by nfa table a i ≤ table.max_match) ↔ (i ≤ (special_in nfa).max_match_id)
+number-matches : (nfa : NFA) (table : Table) (a : Bool) (i : ℕ) → IsDfaTableOf nfa table → IsTrue (is_met (nfa_start_of nfa) a i) → (number_by nfa table a i ≤ table.max_match) ↔ (i ≤ (special_in nfa).max_match_id)
 number-matches nfa table a i h met =
-    let start = start_of nfa in
+    let start = nfa_start_of nfa in
     let last = (special_in nfa).max_match_id in
-    let scale = scale-le (row_of table.kind start a i) (row_of table.kind start true last) (stride_of table) (stride-some nfa table h) in
+    let scale = scale-le (dfa_row_of table.kind start a i) (dfa_row_of table.kind start true last) (stride_of table) (stride-some nfa table h) in
     let rows = row-le table.kind start last a i (starts-of nfa).0 (last-match_is nfa) (met-stands start a i met) (met-own start a i met) in
     let is = h.max_match in (
       λ le. rows.0 (scale.0 (omega (arith, le, is))),
@@ -194,17 +194,17 @@ record IsListed (nfa : NFA) (table : Table) (text : ℕ → List ℕ) (a : Bool)
   index : list_index table.kind (number_by nfa table a i / stride_of table) + 2 ≡ j
 
 -- whose list it is
-listed-of : (nfa : NFA) (table : Table) (text : ℕ → List ℕ) (a : Bool) (i : ℕ) → IsTableOf nfa table → StandFor nfa text → 1 < i → IsTrue (is_met (start_of nfa) a i) → i ≤ (special_in nfa).max_match_id → (j : ℕ) × IsListed nfa table text a i j
+listed-of : (nfa : NFA) (table : Table) (text : ℕ → List ℕ) (a : Bool) (i : ℕ) → IsDfaTableOf nfa table → StandFor nfa text → 1 < i → IsTrue (is_met (nfa_start_of nfa) a i) → i ≤ (special_in nfa).max_match_id → (j : ℕ) × IsListed nfa table text a i j
 listed-of nfa table text a i h t past met low =
-    let start = start_of nfa in
+    let start = nfa_start_of nfa in
     let s = starts-of nfa in
     let texts = texts-of nfa text t in
     let up : i ≤ start + 1 = ⊎_elim (λ (l : (special_in nfa).max_match_id + 1 ≡ start). omega (arith, l, low)) (λ (r : (special_in nfa).max_match_id ≡ start + 1). omega (arith, r, low)) (last-match_is nfa) in
-    let row = number-row (row_of table.kind start a i) (stride_of table) (stride-some nfa table h) in
-    let at : list_index table.kind (number_by nfa table a i / stride_of table) ≡ list_index table.kind (row_of table.kind start a i) = ap (list_index table.kind) row in
+    let row = number-row (dfa_row_of table.kind start a i) (stride_of table) (stride-some nfa table h) in
+    let at : list_index table.kind (number_by nfa table a i / stride_of table) ≡ list_index table.kind (dfa_row_of table.kind start a i) = ap (list_index table.kind) row in
     ⊎_elim
-    (λ (own : list_index table.kind (row_of table.kind start a i) + 2 ≡ i). (i, record { past = past; low = low; same = refl; index = omega (arith, at, own) }))
-    (λ (shared : (list_index table.kind (row_of table.kind start a i) + 2 ≡ start) × (i ≡ start + 1)).
+    (λ (own : list_index table.kind (dfa_row_of table.kind start a i) + 2 ≡ i). (i, record { past = past; low = low; same = refl; index = omega (arith, at, own) }))
+    (λ (shared : (list_index table.kind (dfa_row_of table.kind start a i) + 2 ≡ start) × (i ≡ start + 1)).
     let here = shared.1 in
     let first = shared.0 in
     (start, record { past = s.0; low = omega (arith, here, low); same = texts.starts.2 ∙ (sym texts.starts.3 ∙ ap text (sym here)); index = omega (arith, at, first) }))
@@ -215,7 +215,7 @@ some-at : (nfa : NFA) (text : ℕ → List ℕ) (i : ℕ) → StandFor nfa text 
 some-at nfa text i t past within = (special-in nfa text t).matching i past within
 
 -- the list of a number up to the last one that matches
-matches-low : (nfa : NFA) (table : Table) (text : ℕ → List ℕ) (a : Bool) (sid i : ℕ) → IsTableOf nfa table → StandFor nfa text → 1 < i → IsNumber nfa table text a sid i → i ≤ (special_in nfa).max_match_id → (j : ℕ) × IsListed nfa table text a i j × (matches_by table sid ≡ matches_at nfa j)
+matches-low : (nfa : NFA) (table : Table) (text : ℕ → List ℕ) (a : Bool) (sid i : ℕ) → IsDfaTableOf nfa table → StandFor nfa text → 1 < i → IsNumber nfa table text a sid i → i ≤ (special_in nfa).max_match_id → (j : ℕ) × IsListed nfa table text a i j × (matches_by table sid ≡ matches_at nfa j)
 matches-low nfa table text a sid i h t past n low =
     let l = listed-of nfa table text a i h t past n.met low in
     let some = number-past nfa table a i past n.met in
@@ -229,11 +229,11 @@ matches-low nfa table text a sid i h t past n low =
     let j_past = l.1.past in
     let k = list_index table.kind (number_by nfa table a i / stride_of table) in
     let counted = h.lists.1 in
-    let shown : matches_by table sid ≡ list_of table.lists k = cond-true (not (sid == 0) && nat_le sid table.max_match) (list_of table.lists (list_index table.kind (sid / stride_of table))) [] test ∙ ap (λ (m : ℕ). list_of table.lists (list_index table.kind (m / stride_of table))) is in
+    let shown : matches_by table sid ≡ dfa_list_of table.lists k = cond-true (not (sid == 0) && nat_le sid table.max_match) (dfa_list_of table.lists (list_index table.kind (sid / stride_of table))) [] test ∙ ap (λ (m : ℕ). dfa_list_of table.lists (list_index table.kind (m / stride_of table))) is in
     (l.0, l.1, shown ∙ (h.lists.2.each k (omega (arith, index, top, counted)) ∙ ap (matches_at nfa) index))
 
 -- and of one past it
-matches-high : (nfa : NFA) (table : Table) (text : ℕ → List ℕ) (a : Bool) (sid i : ℕ) → IsTableOf nfa table → IsNumber nfa table text a sid i → (special_in nfa).max_match_id < i → matches_by table sid ≡ []
+matches-high : (nfa : NFA) (table : Table) (text : ℕ → List ℕ) (a : Bool) (sid i : ℕ) → IsDfaTableOf nfa table → IsNumber nfa table text a sid i → (special_in nfa).max_match_id < i → matches_by table sid ≡ []
 matches-high nfa table text a sid i h n high =
     let is = n.number in
     let past : table.max_match < sid =
@@ -242,7 +242,7 @@ matches-high nfa table text a sid i h n high =
     (λ (r : sid ≤ table.max_match). let low = (number-matches nfa table a i h n.met).0 (omega (arith, r, is)) in absurd (omega (arith, low, high)))
     (cases_lt table.max_match sid) in
     let test : (not (sid == 0) && nat_le sid table.max_match) ≡ false = grind (arith, nat_tests) in
-    cond-false (not (sid == 0) && nat_le sid table.max_match) (list_of table.lists (list_index table.kind (sid / stride_of table))) [] test
+    cond-false (not (sid == 0) && nat_le sid table.max_match) (dfa_list_of table.lists (list_index table.kind (sid / stride_of table))) [] test
 
 -- no list is both empty and not
 some-list : (xs : List ℕ) → xs ≢ [] → 0 < length xs
@@ -253,11 +253,11 @@ list-some : (xs : List ℕ) → 0 < length xs → xs ≢ []
 list-some xs some e = let n = ap length e in omega (arith, n, some)
 
 -- each list is that of the text
-table-lists : (nfa : NFA) (table : Table) (text : ℕ → List ℕ) → IsTableOf nfa table → StandFor nfa text → (a : Bool) (sid : ℕ) (of : List ℕ) → IsTrue ((names_of nfa table text).met a sid) → (names_of nfa table text).text sid ≡ Some of → IsList (dictionary nfa) of (matches_by table sid)
+table-lists : (nfa : NFA) (table : Table) (text : ℕ → List ℕ) → IsDfaTableOf nfa table → StandFor nfa text → (a : Bool) (sid : ℕ) (of : List ℕ) → IsTrue ((names_of nfa table text).met a sid) → (names_of nfa table text).text sid ≡ Some of → IsList (dictionary nfa) of (matches_by table sid)
 table-lists nfa table text h t a sid of met some =
     let n = number-of nfa table text a sid h met in
     let i = n.0 in
-    let s = text-some text i of (met-stands (start_of nfa) a i n.1.met) (sym n.1.named ∙ some) in
+    let s = text-some text i of (met-stands (nfa_start_of nfa) a i n.1.met) (sym n.1.named ∙ some) in
     subst (λ (u : List ℕ). IsList (dictionary nfa) u (matches_by table sid)) (sym s.1)
     (⊎_elim
     (λ (high : (special_in nfa).max_match_id < i).
@@ -271,12 +271,12 @@ table-lists nfa table text h t a sid of met some =
     (λ (low : i ≤ (special_in nfa).max_match_id).
     let m = matches-low nfa table text a sid i h t s.0 n.1 low in
     let top = m.1.low in
-    let j_in : m.0 < state_len nfa = let st = starts-of nfa in ⊎_elim (λ (l : (special_in nfa).max_match_id + 1 ≡ start_of nfa). omega (arith, l, top, st.1)) (λ (r : (special_in nfa).max_match_id ≡ start_of nfa + 1). omega (arith, r, top, st.1)) (last-match_is nfa) in
+    let j_in : m.0 < state_len nfa = let st = starts-of nfa in ⊎_elim (λ (l : (special_in nfa).max_match_id + 1 ≡ nfa_start_of nfa). omega (arith, l, top, st.1)) (λ (r : (special_in nfa).max_match_id ≡ nfa_start_of nfa + 1). omega (arith, r, top, st.1)) (last-match_is nfa) in
     subst (IsList (dictionary nfa) (text i)) (sym m.2) (subst (λ (u : List ℕ). IsList (dictionary nfa) u (matches_at nfa m.0)) m.1.same ((lists-in nfa m.0 j_in).list text t m.1.past)))
     (cases_lt (special_in nfa).max_match_id i))
 
 -- a number has patterns exactly up to the last one that matches
-table-matching : (nfa : NFA) (table : Table) (text : ℕ → List ℕ) → IsTableOf nfa table → StandFor nfa text → (a : Bool) (sid : ℕ) → IsTrue ((names_of nfa table text).met a sid) → sid ≢ 0 → ((matches_by table sid ≢ []) ↔ (sid ≤ table.max_match)) × (sid ≤ table.max_match → list_index table.kind (sid / stride_of table) < length table.lists.ends.items)
+table-matching : (nfa : NFA) (table : Table) (text : ℕ → List ℕ) → IsDfaTableOf nfa table → StandFor nfa text → (a : Bool) (sid : ℕ) → IsTrue ((names_of nfa table text).met a sid) → sid ≢ 0 → ((matches_by table sid ≢ []) ↔ (sid ≤ table.max_match)) × (sid ≤ table.max_match → list_index table.kind (sid / stride_of table) < length table.lists.ends.items)
 table-matching nfa table text h t a sid met not_zero =
     let n = number-of nfa table text a sid h met in
     let i = n.0 in
@@ -295,7 +295,7 @@ table-matching nfa table text h t a sid met not_zero =
         λ le.
             let m = matches-low nfa table text a sid i h t past n.1 (below le) in
             let top = m.1.low in
-            let j_in : m.0 < state_len nfa = let st = starts-of nfa in ⊎_elim (λ (l : (special_in nfa).max_match_id + 1 ≡ start_of nfa). omega (arith, l, top, st.1)) (λ (r : (special_in nfa).max_match_id ≡ start_of nfa + 1). omega (arith, r, top, st.1)) (last-match_is nfa) in
+            let j_in : m.0 < state_len nfa = let st = starts-of nfa in ⊎_elim (λ (l : (special_in nfa).max_match_id + 1 ≡ nfa_start_of nfa). omega (arith, l, top, st.1)) (λ (r : (special_in nfa).max_match_id ≡ nfa_start_of nfa + 1). omega (arith, r, top, st.1)) (last-match_is nfa) in
             λ e. list-some (matches_at nfa m.0) ((some-at nfa text m.0 t m.1.past j_in).1 top) (sym m.2 ∙ e),
       ),
       λ le.
@@ -309,9 +309,9 @@ table-matching nfa table text h t a sid met not_zero =
 -- ---- the table
 
 -- so the table is that of the dictionary
-pub table-rows : (nfa : NFA) (table : Table) (text : ℕ → List ℕ) → IsTableOf nfa table → StandFor nfa text → AreRows (dictionary nfa) table (names_of nfa table text)
+pub table-rows : (nfa : NFA) (table : Table) (text : ℕ → List ℕ) → IsDfaTableOf nfa table → StandFor nfa text → AreDfaRows (dictionary nfa) table (names_of nfa table text)
 table-rows nfa table text h t =
-    let start = start_of nfa in
+    let start = nfa_start_of nfa in
     let s = starts-of nfa in
     let stride = stride-some nfa table h in
     record {
@@ -319,11 +319,11 @@ table-rows nfa table text h t =
       within = λ a sid met.
           let n = number-of nfa table text a sid h met in
           let is = n.1.number in
-          let room = row-room (dfa_states table.kind (state_len nfa)) (row_of table.kind start a n.0) (stride_of table) (length table.trans.items) (row-below table.kind start (state_len nfa) a n.0 s.0 s.1 n.1.within) h.rows.len in (
+          let room = row-room (dfa_states table.kind (state_len nfa)) (dfa_row_of table.kind start a n.0) (stride_of table) (length table.trans.items) (row-below table.kind start (state_len nfa) a n.0 s.0 s.1 n.1.within) h.rows.len in (
             omega (arith, room, is),
             ⊎_elim (λ (zero_is : n.0 ≡ 0). inl (is ∙ (ap (number_by nfa table a) zero_is ∙ number-dead nfa table a))) (λ (past : 1 < n.0). let p = number-past nfa table a n.0 past n.1.met in inr (omega (arith, p, is))) (dead-or nfa a n.0 n.1.met),
           );
-      rows = λ a sid met. let n = number-of nfa table text a sid h met in (row_of table.kind start a n.0, n.1.number);
+      rows = λ a sid met. let n = number-of nfa table text a sid h met in (dfa_row_of table.kind start a n.0, n.1.number);
       dead = λ a sid met.
           let n = number-of nfa table text a sid h met in
           let is = n.1.number in (
@@ -342,7 +342,7 @@ table-rows nfa table text h t =
           ⊎_elim
           (λ (before : (special_in nfa).max_match_id + 1 ≡ start).
           let rows = row-before_starts table.kind start (special_in nfa).max_match_id s.0 before in
-          let e : (row_of table.kind start true (special_in nfa).max_match_id + 1) * stride_of table ≡ row_of table.kind start true (special_in nfa).max_match_id * stride_of table + stride_of table = omega arith in
+          let e : (dfa_row_of table.kind start true (special_in nfa).max_match_id + 1) * stride_of table ≡ dfa_row_of table.kind start true (special_in nfa).max_match_id * stride_of table + stride_of table = omega arith in
           let f = ap (λ (row : ℕ). row * stride_of table) rows in
           let is = h.max_match in
           let at = h.start in
@@ -352,7 +352,7 @@ table-rows nfa table text h t =
       wide = h.wide;
       starts =
           let past = row-past table.kind start false start s.0 s.0 (λ e. omega (arith, e)) in
-          (row_of table.kind start false start, omega (arith, past), h.start, h.start_anchored ∙ ap (λ (row : ℕ). row * stride_of table) (row-starts table.kind start s.0));
+          (dfa_row_of table.kind start false start, omega (arith, past), h.start, h.start_anchored ∙ ap (λ (row : ℕ). row * stride_of table) (row-starts table.kind start s.0));
       known = h.lists.2.known;
     }
   where
@@ -364,8 +364,8 @@ table-rows nfa table text h t =
     by-unanchored =
         ⊎_elim
         (λ (up : (names_of nfa table text).met true table.start ≡ true).
-        let n = named-state (state_of text) (state_len nfa) (start_of nfa) (number_by nfa table) true table.start up in
+        let n = named-state (state_of text) (state_len nfa) (nfa_start_of nfa) (number_by nfa table) true table.start up in
         let s = starts-of nfa in
-        absurd (met-anchored (start_of nfa) n.0 n.2 (numbers-apart nfa table h true false n.0 (start_of nfa) n.1 (omega (arith, s.1)) n.2 (met-start (start_of nfa) s.0) (n.3 ∙ h.start))))
+        absurd (met-anchored (nfa_start_of nfa) n.0 n.2 (numbers-apart nfa table h true false n.0 (nfa_start_of nfa) n.1 (omega (arith, s.1)) n.2 (met-start (nfa_start_of nfa) s.0) (n.3 ∙ h.start))))
         (λ (down : (names_of nfa table text).met true table.start ≡ false). down)
         (cases_Bool ((names_of nfa table text).met true table.start))

@@ -14,9 +14,9 @@ use Rattle.ac_noncontiguous.specs.Reads.{dictionary}
 use Rattle.ac_noncontiguous.specs.ReadCalls.{state_len, classes_in, special_in, StandForSome, TextsBegin, SpecialIn, ClassesAreThose, AlikeIn}
 use Rattle.ac_tables.specs.declared.contiguous.table.Table.{Table}
 use Rattle.ac_automaton.specs.Named.{Naming}
-use Rattle.ac_tables.specs.Words.{StateParts, words_of, StandsAt}
+use Rattle.ac_tables.specs.Words.{StateParts, words_of, AreWordsAt}
 use Rattle.ac_tables.specs.ContiguousTable.{AreStates, AreSomeStates, ArePlacesTooGreat}
-use Rattle.ac_tables.specs.ContiguousBuild.{ArePlaces, AreKnown, AreServing, IsTableOf, IsSameTable}
+use Rattle.ac_tables.specs.ContiguousBuild.{ArePlacesIn, AreKnown, AreServing, IsWordTableOf, IsCopiedTable}
 use Rattle.ac_tables.proofs.LayLemmas.{Laid, names_in, parts_in}
 use Rattle.ac_tables.proofs.StatesLemmas.{states}
 
@@ -55,13 +55,13 @@ specials-within nfa some bounds = (
 )
 
 -- no place is too great where each is a number
-pub places-small : (nfa : NFA) (dense_depth : ℕ) (classes places : List ℕ) → ArePlaces nfa dense_depth classes places → ¬ ArePlacesTooGreat nfa dense_depth classes
+pub places-small : (nfa : NFA) (dense_depth : ℕ) (classes places : List ℕ) → ArePlacesIn nfa dense_depth classes places → ¬ ArePlacesTooGreat nfa dense_depth classes
 places-small nfa dense_depth classes places h great = let fits = h.fits great.0 great.1 in let past = great.2 in absurd (omega (arith, fits, past))
 
 -- ---- the states
 
 -- whatever texts the states stand for, the table holds them
-pub some-states : (nfa : NFA) (dense_depth : ℕ) (table : Table) (places : List ℕ) → StandForSome nfa → TextsBegin nfa → AreKnown nfa (state_len nfa) → SpecialIn nfa (special_in nfa) → IsPairing (dictionary nfa).pairing → AreServing (dictionary nfa) table.classes → ArePlaces nfa dense_depth table.classes places → IsTableOf nfa dense_depth table → AreSomeStates (dictionary nfa) table
+pub some-states : (nfa : NFA) (dense_depth : ℕ) (table : Table) (places : List ℕ) → StandForSome nfa → TextsBegin nfa → AreKnown nfa (state_len nfa) → SpecialIn nfa (special_in nfa) → IsPairing (dictionary nfa).pairing → AreServing (dictionary nfa) table.classes → ArePlacesIn nfa dense_depth table.classes places → IsWordTableOf nfa dense_depth table → AreSomeStates (dictionary nfa) table
 some-states nfa dense_depth table places some begin known bounds paired serving h made =
     ∥∥₁_map some (λ w.
     let laid : Laid nfa w.0 dense_depth table.classes = record {
@@ -92,7 +92,7 @@ words-copied m old new names parts same h = record {
   alphabet = h.alphabet;
   few_classes = h.few_classes;
   small = h.small;
-  stand = λ anchored sid met. subst (λ (ws : List ℕ). StandsAt ws sid (words_of old.alphabet_len (parts sid))) (sym same) (h.stand anchored sid met);
+  stand = λ anchored sid met. subst (λ (ws : List ℕ). AreWordsAt ws sid (words_of old.alphabet_len (parts sid))) (sym same) (h.stand anchored sid met);
   fits = h.fits;
   linked = h.linked;
   dead = h.dead;
@@ -110,7 +110,7 @@ words-copied m old new names parts same h = record {
 }
 
 -- and so are those of a copy
-pub states-copied : (m : Dictionary) (old new : Table) → IsSameTable old new → AreSomeStates m old → AreSomeStates m new
+pub states-copied : (m : Dictionary) (old new : Table) → IsCopiedTable old new → AreSomeStates m old → AreSomeStates m new
 states-copied m old new same some = ∥∥₁_map some (λ w.
     let names = w.0 in
     let parts = w.1 in

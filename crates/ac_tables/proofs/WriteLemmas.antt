@@ -4,7 +4,7 @@ use Rattle.std.specs.Prelude.{slice_index}
 use Rattle.std.proofs.lemmas.Bool.{cases_eq}
 use Rattle.ac_input.specs.declared.search.Anchored.{Anchored}
 use Rattle.ac_input.specs.Alphabet.{class}
-use Rattle.ac_tables.specs.Filling.{Plan, entry_in, IsEntry, Written, Kept, IsChangedIn, AreWritten}
+use Rattle.ac_tables.specs.Filling.{RowPlan, entry_in, IsEntry, Written, Kept, IsChangedIn, AreWritten}
 
 -- ---- lists of transitions
 
@@ -65,14 +65,14 @@ changed-on stride at old mid new g h =
 -- ---- the transitions of a state
 
 -- at first none is written
-pub written-none : (p : Plan) (anchored : Anchored) (at : ℕ) (old : List ℕ) → AreWritten p anchored at [] old old
+pub written-none : (p : RowPlan) (anchored : Anchored) (at : ℕ) (old : List ℕ) → AreWritten p anchored at [] old old
 written-none p anchored at old = record {
   alone = changed-none p.stride at old;
   entries = λ x within. Kept (λ k byte next has. absurd (let e : None ≡ Some (byte, next) = has.0 in cc)) refl;
 }
 
 -- one more
-pub written-more : (p : Plan) (anchored : Anchored) (at c next v : ℕ) (done : List (ℕ × ℕ)) (old new : List ℕ) → class p.classes c < p.stride → at + p.stride ≤ length old → v ≡ entry_in p anchored next → AreWritten p anchored at done old new → AreWritten p anchored at (done ++ (c, next) ∷ []) old (slice_set new (at + class p.classes c) v)
+pub written-more : (p : RowPlan) (anchored : Anchored) (at c next v : ℕ) (done : List (ℕ × ℕ)) (old new : List ℕ) → class p.classes c < p.stride → at + p.stride ≤ length old → v ≡ entry_in p anchored next → AreWritten p anchored at done old new → AreWritten p anchored at (done ++ (c, next) ∷ []) old (slice_set new (at + class p.classes c) v)
 written-more p anchored at c next v done old new within room is h =
     let place = at + class p.classes c in
     let len = h.alone.len in

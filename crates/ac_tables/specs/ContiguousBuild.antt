@@ -36,8 +36,8 @@ abbrev pub IsPlaceTooGreat : ℕ → ℕ → BuildErrorKind → Type 0
 IsPlaceTooGreat sid before error = (sid ≢ 1) × (GREATEST < before) × (error ≡ StateIDOverflow GREATEST before)
 
 -- The places of the states are such.
-abbrev pub ArePlaces : NFA → ℕ → List ℕ → List ℕ → Type 0
-ArePlaces nfa dense_depth classes places = ArePlacesOf nfa dense_depth classes (state_len nfa) places
+abbrev pub ArePlacesIn : NFA → ℕ → List ℕ → List ℕ → Type 0
+ArePlacesIn nfa dense_depth classes places = ArePlacesOf nfa dense_depth classes (state_len nfa) places
 
 -- Why there are no such words: some place is too great, or memory ends.
 abbrev pub IsRefusedFor : NFA → ℕ → List ℕ → BuildErrorKind → Type 0
@@ -68,7 +68,7 @@ pub record AreServing (m : Dictionary) (classes : List ℕ) : Type 0 where
 -- ---- the table
 
 -- The table is that of an automaton: its words, and the places of its starts and of its last state that matches.
-pub record IsTableOf (nfa : NFA) (dense_depth : ℕ) (table : Table) : Type 0 where
+pub record IsWordTableOf (nfa : NFA) (dense_depth : ℕ) (table : Table) : Type 0 where
   pub words : AreWordsOf nfa dense_depth table.classes table.words.items
   pub alphabet : table.alphabet_len ≡ alphabet_len table.classes
   pub few_classes : table.alphabet_len ≤ 256
@@ -93,7 +93,7 @@ pub record AreReadTo (classes : List ℕ) (place : ℕ → ℕ) (edges : List (�
   pub within : n ≤ length edges
 
 -- the same table once more
-pub record IsSameTable (old new : Table) : Type 0 where
+pub record IsCopiedTable (old new : Table) : Type 0 where
   pub words : new.words.items ≡ old.words.items
   pub classes : new.classes ≡ old.classes
   pub alphabet_len : new.alphabet_len ≡ old.alphabet_len

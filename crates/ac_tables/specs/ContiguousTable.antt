@@ -1,6 +1,5 @@
 -- What the words of a contiguous automaton hold.
-use Rattle.std.specs.Prelude.{◌≡◌, ◌≢◌, ◌↔◌, ◌⊎◌, ℕ, zero, suc, ◌+◌, ◌<◌, ◌≤◌, nat_lt, ◌==◌, Bool, true, false, IsTrue, if◌then◌else◌, map, List, [], ◌∷◌, ◌++◌, length, slice_get, Option, Some, None}
-use Rattle.std.specs.List.{range_with_len}
+use Rattle.std.specs.Prelude.{◌≡◌, ◌≢◌, ◌↔◌, ◌⊎◌, ℕ, zero, suc, ◌+◌, ◌<◌, ◌≤◌, nat_lt, ◌==◌, Bool, true, IsTrue, if◌then◌else◌, map, List, [], ◌++◌, length, slice_get, Option, Some, None}
 use Rattle.ac_input.specs.declared.primitives.number.TheConstants.{GREATEST}
 use Rattle.ac_input.specs.Alphabet.{class, alphabet_len}
 use Rattle.ac_input.specs.Candidate.{Filter}
@@ -13,7 +12,7 @@ use Rattle.ac_noncontiguous.specs.declared.nfa.NFA.{NFA}
 use Rattle.ac_noncontiguous.specs.Nfa.{IsHeldFor}
 use Rattle.ac_noncontiguous.specs.ReadCalls.{state_len, fail_in, depth_in, edges_in}
 use Rattle.ac_noncontiguous.specs.Reads.{matches_at}
-use Rattle.ac_tables.specs.Words.{StateParts, next_by, words_of, StandsAt}
+use Rattle.ac_tables.specs.Words.{StateParts, next_by, words_of, AreWordsAt}
 use Rattle.ac_tables.specs.declared.contiguous.table.Table.{Table}
 
 -- ---- the words as they are made of an automaton
@@ -68,7 +67,7 @@ pub record AreStates (m : Dictionary) (table : Table) (names : Naming) (parts : 
   pub alphabet : table.alphabet_len ≡ alphabet_len table.classes
   pub few_classes : table.alphabet_len ≤ 256
   pub small : (anchored : Bool) (sid : ℕ) → IsTrue (names.met anchored sid) → sid ≤ GREATEST
-  pub stand : (anchored : Bool) (sid : ℕ) → IsTrue (names.met anchored sid) → StandsAt table.words.items sid (words_of table.alphabet_len (parts sid))
+  pub stand : (anchored : Bool) (sid : ℕ) → IsTrue (names.met anchored sid) → AreWordsAt table.words.items sid (words_of table.alphabet_len (parts sid))
   pub fits : (anchored : Bool) (sid k : ℕ) (edge : ℕ × ℕ) → IsTrue (names.met anchored sid) → slice_get (parts sid).edges k ≡ Some edge → edge.0 < table.alphabet_len
   pub linked : AreLinked m names table.start (λ sid byte. next_by (parts sid).edges (class table.classes byte)) (λ sid. (parts sid).fail)
   pub dead : (anchored : Bool) (sid : ℕ) → IsTrue (names.met anchored sid) → (names.text sid ≡ None) ↔ (sid ≡ 0)

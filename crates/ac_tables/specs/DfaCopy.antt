@@ -9,7 +9,7 @@ pub record AreSameLists (old new : Lists) : Type 0 where
   pub ends : new.ends.items ≡ old.ends.items
 
 -- the same table once more
-pub record IsSameTable (old new : Table) : Type 0 where
+pub record IsSameDfaTable (old new : Table) : Type 0 where
   pub trans : new.trans.items ≡ old.trans.items
   pub classes : new.classes ≡ old.classes
   pub lists : AreSameLists old.lists new.lists

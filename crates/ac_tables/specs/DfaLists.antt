@@ -4,7 +4,7 @@ use Rattle.ac_noncontiguous.specs.declared.nfa.NFA.{NFA}
 use Rattle.ac_noncontiguous.specs.Reads.{dictionary, matches_at}
 use Rattle.ac_noncontiguous.specs.ReadCalls.{special_in}
 use Rattle.ac_tables.specs.declared.dfa.lists.Lists.{Lists}
-use Rattle.ac_tables.specs.DfaTable.{list_start, list_of, AreRanges}
+use Rattle.ac_tables.specs.DfaTable.{list_start, dfa_list_of, AreListRanges}
 
 -- one more list stands after the others
 pub record IsListAdded (list : List ℕ) (old new : Lists) : Type 0 where
@@ -15,8 +15,8 @@ pub record IsListAdded (list : List ℕ) (old new : Lists) : Type 0 where
 pub record AreFirstLists (nfa : NFA) (n : ℕ) (lists : Lists) : Type 0 where
   pub counted : length lists.ends.items ≡ n
   pub total : list_start lists n ≡ length lists.patterns.items
-  pub each : (k : ℕ) → k < n → list_of lists k ≡ matches_at nfa (k + 2)
-  pub ranges : AreRanges lists
+  pub each : (k : ℕ) → k < n → dfa_list_of lists k ≡ matches_at nfa (k + 2)
+  pub ranges : AreListRanges lists
   pub known : (k : ℕ) → k < length lists.patterns.items → slice_index lists.patterns.items k < length (dictionary nfa).patterns
 
 -- those of all states that match

@@ -26,7 +26,7 @@ pub record IsIdleIn (table : Table) (byte : ℕ) : Type 0 where
   pub stays : slice_index table.trans.items (table.start + class table.classes byte) ≡ table.start
 
 -- the list of a number stands among the others
-pub record HasList (table : Table) (sid : ℕ) : Type 0 where
+pub record HasDfaList (table : Table) (sid : ℕ) : Type 0 where
   pub wide : table.stride2 ≤ 8
   pub past : 2 * stride_of table ≤ sid
   pub listed : list_at table sid < length table.lists.ends.items

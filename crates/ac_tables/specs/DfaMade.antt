@@ -11,8 +11,8 @@ use Rattle.ac_noncontiguous.specs.Reads.{dictionary}
 use Rattle.ac_noncontiguous.specs.ReadCalls.{state_len, special_in, classes_in}
 use Rattle.ac_tables.specs.declared.dfa.table.Table.{Table}
 use Rattle.ac_tables.specs.DfaLists.{AreListsOf}
-use Rattle.ac_tables.specs.DfaTable.{number_of, stride_of}
-use Rattle.ac_tables.specs.Filling.{Plan, IsFit, AreRowsUpTo}
+use Rattle.ac_tables.specs.DfaTable.{dfa_number_of, stride_of}
+use Rattle.ac_tables.specs.Filling.{RowPlan, IsFit, AreRowsUpTo}
 
 -- the classes of bytes: those of the automaton, or each byte a class alone where bytes aren't put into classes
 abbrev pub AreChosen : Bool → NFA → List ℕ → Type 0
@@ -20,31 +20,31 @@ AreChosen true nfa classes = classes ≡ classes_in nfa
 AreChosen false nfa classes = (b : ℕ) → b < 256 → class classes b ≡ b
 
 -- where the rows of a table stand
-abbrev pub plan_by : NFA → Table → Plan
+abbrev pub plan_by : NFA → Table → RowPlan
 plan_by nfa table = record { nfa = nfa; kind = table.kind; classes = table.classes; stride = stride_of table }
 
 -- where the unanchored start of the automaton stands
-abbrev pub start_of : NFA → ℕ
-start_of nfa = (special_in nfa).start_unanchored_id
+abbrev pub nfa_start_of : NFA → ℕ
+nfa_start_of nfa = (special_in nfa).start_unanchored_id
 
 -- the number of a state
 abbrev pub number_by : NFA → Table → Bool → ℕ → ℕ
-number_by nfa table anchored i = number_of table.kind (start_of nfa) (stride_of table) anchored i
+number_by nfa table anchored i = dfa_number_of table.kind (nfa_start_of nfa) (stride_of table) anchored i
 
 -- The table is made of an automaton: rows, lists and numbers are those of its states.
-pub record IsTableOf (nfa : NFA) (table : Table) : Type 0 where
+pub record IsDfaTableOf (nfa : NFA) (table : Table) : Type 0 where
   pub fit : IsFit (plan_by nfa table)
   pub wide : table.stride2 ≤ 8
   pub least : IsLeastExponent (alphabet_len table.classes) table.stride2
   pub rows : AreRowsUpTo (plan_by nfa table) (state_len nfa) (state_len nfa) table.trans.items
   pub lists : AreListsOf nfa table.lists
-  pub start : table.start ≡ number_by nfa table false (start_of nfa)
-  pub start_anchored : table.start_anchored ≡ number_by nfa table true (start_of nfa + 1)
+  pub start : table.start ≡ number_by nfa table false (nfa_start_of nfa)
+  pub start_anchored : table.start_anchored ≡ number_by nfa table true (nfa_start_of nfa + 1)
   pub max_match : table.max_match ≡ number_by nfa table true (special_in nfa).max_match_id
 
 -- it is made for these searches, with the automaton's classes or without
 pub record IsTableFor (nfa : NFA) (start_kind : StartKind) (classed : Bool) (table : Table) : Type 0 where
-  pub made : IsTableOf nfa table
+  pub made : IsDfaTableOf nfa table
   pub kind : table.kind ≡ start_kind
   pub classes : AreChosen classed nfa table.classes
 

@@ -11,7 +11,7 @@ use Rattle.ac_automaton.specs.Named.{Naming, IsReadBy}
 use Rattle.ac_noncontiguous.specs.Reads.{is_between}
 use Rattle.ac_tables.specs.declared.dfa.DFA.{DFA}
 use Rattle.ac_tables.specs.declared.dfa.table.Table.{Table}
-use Rattle.ac_tables.specs.DfaTable.{AreRows, matches_by}
+use Rattle.ac_tables.specs.DfaTable.{AreDfaRows, matches_by}
 
 -- what the automaton is made from
 abbrev pub dictionary : DFA → Dictionary
@@ -39,7 +39,7 @@ is_special_at dfa sid = nat_le sid dfa.max_special
 
 -- The numbers have these names, and the automaton has a start for searches of this anchoring.
 abbrev pub IsNamingFor : DFA → Anchored → Naming → Type 0
-IsNamingFor dfa anchored names = Serves dfa.table.kind anchored × AreRows (dictionary dfa) dfa.table names
+IsNamingFor dfa anchored names = Serves dfa.table.kind anchored × AreDfaRows (dictionary dfa) dfa.table names
 
 -- a number is read by a search
 abbrev pub IsRead : DFA → Anchored → List ℕ → ℕ → Type 0

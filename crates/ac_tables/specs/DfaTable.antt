@@ -21,28 +21,28 @@ use Rattle.ac_tables.specs.declared.dfa.table.Table.{Table}
 
 -- The row of a state. With one start kind it is the state's number. With both each state has two rows, one for either anchoring,
 -- but for the dead state, the fail state and the two starts; the unanchored start's row comes right before the anchored one's.
-abbrev pub row_of : StartKind → ℕ → Bool → ℕ → ℕ
-row_of starts.Unanchored start anchored i = i
-row_of starts.Anchored start anchored i = i
-row_of starts.Both start false i = if nat_le i 1 then i else if nat_le i start then 2 * i - 2 else 2 * i - 4
-row_of starts.Both start true i = if nat_le i 1 then i else if nat_le start i then 2 * i - 3 else 2 * i - 1
+abbrev pub dfa_row_of : StartKind → ℕ → Bool → ℕ → ℕ
+dfa_row_of starts.Unanchored start anchored i = i
+dfa_row_of starts.Anchored start anchored i = i
+dfa_row_of starts.Both start false i = if nat_le i 1 then i else if nat_le i start then 2 * i - 2 else 2 * i - 4
+dfa_row_of starts.Both start true i = if nat_le i 1 then i else if nat_le start i then 2 * i - 3 else 2 * i - 1
 
 -- the number of a state is where its row begins
-abbrev pub number_of : StartKind → ℕ → ℕ → Bool → ℕ → ℕ
-number_of kind start stride anchored i = row_of kind start anchored i * stride
+abbrev pub dfa_number_of : StartKind → ℕ → ℕ → Bool → ℕ → ℕ
+dfa_number_of kind start stride anchored i = dfa_row_of kind start anchored i * stride
 
 -- ---- the table as it is made of an automaton
 
 -- the next state that stands where a state's row has the byte's class
 abbrev pub IsCell : NFA → StartKind → ℕ → ℕ → Anchored → ℕ → ℕ → ℕ → Type 0
-IsCell nfa kind stride cell anchored sid byte next = LeadsIn nfa anchored sid byte next × (cell ≡ number_of kind (special_in nfa).start_unanchored_id stride (is_anchored anchored) next)
+IsCell nfa kind stride cell anchored sid byte next = LeadsIn nfa anchored sid byte next × (cell ≡ dfa_number_of kind (special_in nfa).start_unanchored_id stride (is_anchored anchored) next)
 
 -- The transitions are those of an automaton: a row for each of its states, as long as the least power of two that is enough for
 -- the classes; in it the next state for each class, all failures followed.
 pub record AreTransitionsOf (nfa : NFA) (kind : StartKind) (classes : List ℕ) (stride : ℕ) (transitions : List ℕ) : Type 0 where
   pub least : IsLeastPowerOfTwo (alphabet_len classes) stride
   pub len : length transitions ≡ dfa_states kind (state_len nfa) * stride
-  pub cells : (anchored : Anchored) (sid byte : ℕ) → Serves kind anchored → MayBeMet nfa anchored sid → byte < 256 → ∥ ((next : ℕ) × IsCell nfa kind stride (slice_index transitions (number_of kind (special_in nfa).start_unanchored_id stride (is_anchored anchored) sid + class classes byte)) anchored sid byte next) ∥₁
+  pub cells : (anchored : Anchored) (sid byte : ℕ) → Serves kind anchored → MayBeMet nfa anchored sid → byte < 256 → ∥ ((next : ℕ) × IsCell nfa kind stride (slice_index transitions (dfa_number_of kind (special_in nfa).start_unanchored_id stride (is_anchored anchored) sid + class classes byte)) anchored sid byte next) ∥₁
 
 -- ---- the table as a search reads it
 
@@ -55,11 +55,11 @@ list_start lists zero = 0
 list_start lists (suc k) = list_end lists k
 
 -- one of the lists
-abbrev pub list_of : Lists → ℕ → List ℕ
-list_of lists k = take (list_end lists k - list_start lists k) (drop (list_start lists k) lists.patterns.items)
+abbrev pub dfa_list_of : Lists → ℕ → List ℕ
+dfa_list_of lists k = take (list_end lists k - list_start lists k) (drop (list_start lists k) lists.patterns.items)
 
 -- the lists stand one after another
-pub record AreRanges (lists : Lists) : Type 0 where
+pub record AreListRanges (lists : Lists) : Type 0 where
   pub rising : (k : ℕ) → k < length lists.ends.items → list_start lists k ≤ list_end lists k
   pub within : (k : ℕ) → k < length lists.ends.items → list_end lists k ≤ length lists.patterns.items
 
@@ -75,7 +75,7 @@ list_index starts.Anchored row = row - 2
 
 -- the patterns that match at a number; none at the dead state, and none past the last state that matches
 abbrev pub matches_by : Table → ℕ → List ℕ
-matches_by table sid = if not (sid == 0) && nat_le sid table.max_match then list_of table.lists (list_index table.kind (sid / stride_of table)) else []
+matches_by table sid = if not (sid == 0) && nat_le sid table.max_match then dfa_list_of table.lists (list_index table.kind (sid / stride_of table)) else []
 
 -- the start of searches of this anchoring
 abbrev pub start_by : Table → Bool → ℕ
@@ -84,7 +84,7 @@ start_by table true = table.start_anchored
 
 -- The table is that of a dictionary, where its numbers have these names. Row 1 is that of the fail state, which no search meets.
 -- The anchored start is the row after the unanchored one.
-pub record AreRows (m : Dictionary) (table : Table) (names : Naming) : Type 0 where
+pub record AreDfaRows (m : Dictionary) (table : Table) (names : Naming) : Type 0 where
   pub classes : (byte : ℕ) → byte < 256 → class table.classes byte < stride_of table
   pub within : (anchored : Bool) (sid : ℕ) → IsTrue (names.met anchored sid) → (sid + stride_of table ≤ length table.trans.items) × ((sid ≡ 0) ⊎ (2 * stride_of table ≤ sid))
   pub rows : (anchored : Bool) (sid : ℕ) → IsTrue (names.met anchored sid) → (row : ℕ) × (sid ≡ row * stride_of table)
@@ -95,7 +95,7 @@ pub record AreRows (m : Dictionary) (table : Table) (names : Naming) : Type 0 wh
   pub lists : (anchored : Bool) (sid : ℕ) (text : List ℕ) → IsTrue (names.met anchored sid) → names.text sid ≡ Some text → IsList m text (matches_by table sid)
   pub matching : (anchored : Bool) (sid : ℕ) → IsTrue (names.met anchored sid) → sid ≢ 0 → (matches_by table sid ≢ []) ↔ (sid ≤ table.max_match)
   pub listed : (anchored : Bool) (sid : ℕ) → IsTrue (names.met anchored sid) → sid ≢ 0 → sid ≤ table.max_match → list_index table.kind (sid / stride_of table) < length table.lists.ends.items
-  pub ranges : AreRanges table.lists
+  pub ranges : AreListRanges table.lists
   pub unanchored : names.met true table.start ≡ false
   pub greatest : (table.max_match + stride_of table ≡ table.start) ⊎ (table.max_match ≡ table.start_anchored)
   pub wide : table.stride2 ≤ 8
@@ -104,7 +104,7 @@ pub record AreRows (m : Dictionary) (table : Table) (names : Naming) : Type 0 wh
 
 -- some names are such
 abbrev pub AreSomeRows : Dictionary → Table → Type 0
-AreSomeRows m table = ∥ ((names : Naming) × AreRows m table names) ∥₁
+AreSomeRows m table = ∥ ((names : Naming) × AreDfaRows m table names) ∥₁
 
 -- ---- what the automaton keeps beside it
 
@@ -115,7 +115,7 @@ last_special_by table None = table.max_match
 last_special_by table (Some f) = table.start_anchored
 
 -- the table of an automaton, its prefilter, if it holds one, and its pairing
-pub record AreParts (m : Dictionary) (table : Table) (prefilter : Option Filter) : Type 0 where
+pub record AreDfaParts (m : Dictionary) (table : Table) (prefilter : Option Filter) : Type 0 where
   pub stands : AreSomeRows m table
   pub held : IsHeldFor m prefilter
   pub paired : IsPairing m.pairing

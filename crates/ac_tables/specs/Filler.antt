@@ -5,10 +5,10 @@ use Rattle.ac_input.specs.declared.search.Anchored.TheVariants.{No, Yes}
 use Rattle.ac_input.specs.Dfa.{dfa_states}
 use Rattle.ac_noncontiguous.specs.ReadCalls.{state_len, fail_in, edges_in, MayBeMet}
 use Rattle.ac_tables.specs.declared.dfa.fill.Filler.{Filler}
-use Rattle.ac_tables.specs.Filling.{Plan, number_in, IsRowRight, IsBlank, IsChangedIn, AreWritten, AreRowsUpTo}
+use Rattle.ac_tables.specs.Filling.{RowPlan, number_in, IsRowRight, IsBlank, IsChangedIn, AreWritten, AreRowsUpTo}
 
 -- the rows of its automaton, by its classes and numbers
-abbrev pub plan_of : Filler → Plan
+abbrev pub plan_of : Filler → RowPlan
 plan_of f = record { nfa = f.nfa.now; kind = f.numbers.kind; classes = f.classes.now; stride = f.numbers.stride }
 
 -- the table has as many rows as there are states
@@ -16,8 +16,8 @@ abbrev pub HasRows : Filler → List ℕ → Type 0
 HasRows f trans = length trans ≡ dfa_states f.numbers.kind (state_len f.nfa.now) * f.numbers.stride
 
 -- the whole row of a state is within the table
-abbrev pub HasRoom : Filler → Anchored → ℕ → List ℕ → Type 0
-HasRoom f anchored sid trans = number_in (plan_of f) anchored sid + f.numbers.stride ≤ length trans
+abbrev pub HasRowRoom : Filler → Anchored → ℕ → List ℕ → Type 0
+HasRowRoom f anchored sid trans = number_in (plan_of f) anchored sid + f.numbers.stride ≤ length trans
 
 -- the transitions of a state are written over its row
 abbrev pub IsWrittenOver : Filler → Anchored → ℕ → List ℕ → List ℕ → Type 0

@@ -11,7 +11,7 @@ use Rattle.ac_noncontiguous.specs.declared.error.BuildErrorKind.{BuildErrorKind}
 use Rattle.ac_noncontiguous.specs.declared.error.BuildErrorKind.TheVariants.{StateIDOverflow, PatternIDOverflow, PatternTooLong, Memory}
 use Rattle.ac_noncontiguous.specs.declared.nfa.NFA.{NFA}
 use Rattle.ac_noncontiguous.specs.ReadCalls.{state_len, depth_in, special_in, classes_in, MayBeMet}
-use Rattle.ac_tables.specs.DfaTable.{number_of, IsCell}
+use Rattle.ac_tables.specs.DfaTable.{dfa_number_of, IsCell}
 
 -- ---- the size
 
@@ -25,22 +25,22 @@ IsOverflow last Memory = ⊥
 -- ---- what is filled
 
 -- where the states of an automaton have their rows, and by which classes of bytes these go
-pub record Plan : Type 0 where
+pub record RowPlan : Type 0 where
   pub nfa : NFA
   pub kind : StartKind
   pub classes : List ℕ
   pub stride : ℕ
 
 -- the number of a state
-abbrev pub number_in : Plan → Anchored → ℕ → ℕ
-number_in p anchored sid = number_of p.kind (special_in p.nfa).start_unanchored_id p.stride (is_anchored anchored) sid
+abbrev pub number_in : RowPlan → Anchored → ℕ → ℕ
+number_in p anchored sid = dfa_number_of p.kind (special_in p.nfa).start_unanchored_id p.stride (is_anchored anchored) sid
 
 -- where the entry of a byte stands in the row of a state
-abbrev pub cell_in : Plan → Anchored → ℕ → ℕ → ℕ
+abbrev pub cell_in : RowPlan → Anchored → ℕ → ℕ → ℕ
 cell_in p anchored sid byte = number_in p anchored sid + class p.classes byte
 
 -- Each class has its place in a row, bytes of one class are so in the automaton's own classes too, and the last row has a number.
-pub record IsFit (p : Plan) : Type 0 where
+pub record IsFit (p : RowPlan) : Type 0 where
   pub wide : p.stride ≤ 256
   pub letters : (byte : ℕ) → byte < 256 → class p.classes byte < p.stride
   pub finer : (b c : ℕ) → b < 256 → c < 256 → class p.classes b ≡ class p.classes c → class (classes_in p.nfa) b ≡ class (classes_in p.nfa) c
@@ -49,7 +49,7 @@ pub record IsFit (p : Plan) : Type 0 where
 -- ---- one row
 
 -- the row of a state is right: each byte's entry is the number of the state to which it leads
-abbrev pub IsRowRight : Plan → Anchored → ℕ → List ℕ → Type 0
+abbrev pub IsRowRight : RowPlan → Anchored → ℕ → List ℕ → Type 0
 IsRowRight p anchored sid trans = (byte : ℕ) → byte < 256 → (next : ℕ) × IsCell p.nfa p.kind p.stride (slice_index trans (cell_in p anchored sid byte)) anchored sid byte next
 
 -- nothing but the dead state stands in so many places from here on
@@ -63,7 +63,7 @@ pub record IsChangedIn (stride at : ℕ) (old new : List ℕ) : Type 0 where
   pub after : (k : ℕ) → at + stride ≤ k → slice_index new k ≡ slice_index old k
 
 -- what is written for a transition: the number of the next state, and the dead state for none
-abbrev pub entry_in : Plan → Anchored → ℕ → ℕ
+abbrev pub entry_in : RowPlan → Anchored → ℕ → ℕ
 entry_in p anchored next = if next == 1 then 0 else number_in p anchored next
 
 -- one of some transitions has a byte of this class
@@ -71,12 +71,12 @@ abbrev pub HasClass : List ℕ → List (ℕ × ℕ) → ℕ → ℕ → ℕ →
 HasClass classes edges x k byte next = (slice_get edges k ≡ Some (byte, next)) × (class classes byte ≡ x)
 
 -- A class has the entry of one of some transitions that has a byte of it, or where there is none the entry that it had.
-pub data IsEntry (p : Plan) (anchored : Anchored) (edges : List (ℕ × ℕ)) (x old new : ℕ) : Type 0 where
+pub data IsEntry (p : RowPlan) (anchored : Anchored) (edges : List (ℕ × ℕ)) (x old new : ℕ) : Type 0 where
   Written : (k byte next : ℕ) → HasClass p.classes edges x k byte next → new ≡ entry_in p anchored next → IsEntry p anchored edges x old new
   Kept : ((k byte next : ℕ) → ¬ HasClass p.classes edges x k byte next) → new ≡ old → IsEntry p anchored edges x old new
 
 -- some transitions are written over a row
-pub record AreWritten (p : Plan) (anchored : Anchored) (at : ℕ) (edges : List (ℕ × ℕ)) (old new : List ℕ) : Type 0 where
+pub record AreWritten (p : RowPlan) (anchored : Anchored) (at : ℕ) (edges : List (ℕ × ℕ)) (old new : List ℕ) : Type 0 where
   pub alone : IsChangedIn p.stride at old new
   pub entries : (x : ℕ) → x < p.stride → IsEntry p anchored edges x (slice_index old (at + x)) (slice_index new (at + x))
 
@@ -84,7 +84,7 @@ pub record AreWritten (p : Plan) (anchored : Anchored) (at : ℕ) (edges : List 
 
 -- The rows of one state for unanchored searches and of one for anchored ones are right, where such searches are served; those of
 -- all other states are as they were.
-pub record AreFilled (p : Plan) (plain anchored : ℕ) (old new : List ℕ) : Type 0 where
+pub record AreRowsFilled (p : RowPlan) (plain anchored : ℕ) (old new : List ℕ) : Type 0 where
   pub len : length new ≡ length old
   pub row : Serves p.kind No → IsRowRight p No plain new
   pub row_anchored : Serves p.kind Yes → IsRowRight p Yes anchored new
@@ -95,7 +95,7 @@ abbrev pub IsDone : ℕ → ℕ → ℕ → ℕ → Type 0
 IsDone start low high sid = (sid < low) ⊎ ((start ≤ sid) × (sid < high))
 
 -- so far the rows are right, and all others are blank
-pub record AreRowsUpTo (p : Plan) (low high : ℕ) (trans : List ℕ) : Type 0 where
+pub record AreRowsUpTo (p : RowPlan) (low high : ℕ) (trans : List ℕ) : Type 0 where
   pub len : length trans ≡ dfa_states p.kind (state_len p.nfa) * p.stride
   pub right : (a : Anchored) (sid : ℕ) → Serves p.kind a → MayBeMet p.nfa a sid → IsDone (special_in p.nfa).start_unanchored_id low high sid → IsRowRight p a sid trans
   pub blank : (a : Anchored) (sid : ℕ) → Serves p.kind a → MayBeMet p.nfa a sid → (¬ IsDone (special_in p.nfa).start_unanchored_id low high sid) → IsBlank p.stride (number_in p a sid) trans

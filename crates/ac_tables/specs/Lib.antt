@@ -21,7 +21,6 @@ pub mod Places
 pub mod DfaTable
 pub mod DfaLookups
 pub mod DfaReads
-
 pub mod Words
 pub mod ContiguousTable
 pub mod ContiguousBuild

@@ -9,9 +9,9 @@ is_met start true i = not (i == 1) && not (i == start)
 is_met start false i = not (i == 1) && not (i == start + 1)
 
 -- the last of the first so many states that are met and stand at a place
-abbrev pub state_at : (ℕ → Bool) → (ℕ → ℕ) → ℕ → ℕ → Option ℕ
-state_at met place zero at = None
-state_at met place (suc i) at = if met i && (place i == at) then Some i else state_at met place i at
+abbrev pub met_state_at : (ℕ → Bool) → (ℕ → ℕ) → ℕ → ℕ → Option ℕ
+met_state_at met place zero at = None
+met_state_at met place (suc i) at = if met i && (place i == at) then Some i else met_state_at met place i at
 
 -- the first of two answers, where there is one
 abbrev pub either_of : Option ℕ → Option ℕ → Option ℕ
@@ -20,7 +20,7 @@ either_of (Some i) other = Some i
 
 -- the state that stands at a place for searches of either anchoring
 abbrev pub placed_at : ℕ → ℕ → (Bool → ℕ → ℕ) → ℕ → Option ℕ
-placed_at len start places at = either_of (state_at (is_met start false) (places false) len at) (state_at (is_met start true) (places true) len at)
+placed_at len start places at = either_of (met_state_at (is_met start false) (places false) len at) (met_state_at (is_met start true) (places true) len at)
 
 -- what a state stands for, where it is one
 abbrev pub text_at : (ℕ → Option (List ℕ)) → Option ℕ → Option (List ℕ)
@@ -31,9 +31,9 @@ text_at state (Some i) = state i
 abbrev pub named_by : (ℕ → Option (List ℕ)) → ℕ → ℕ → (Bool → ℕ → ℕ) → Naming
 named_by state len start places = record {
   text = λ at. text_at state (placed_at len start places at);
-  met = λ anchored at. is_some (state_at (is_met start anchored) (places anchored) len at);
+  met = λ anchored at. is_some (met_state_at (is_met start anchored) (places anchored) len at);
 }
 
 -- No two states that searches come to stand at one place.
-abbrev pub AreApart : ℕ → ℕ → (Bool → ℕ → ℕ) → Type 0
-AreApart len start places = (a b : Bool) (i j : ℕ) → i < len → j < len → IsTrue (is_met start a i) → IsTrue (is_met start b j) → places a i ≡ places b j → i ≡ j
+abbrev pub AreApartInTable : ℕ → ℕ → (Bool → ℕ → ℕ) → Type 0
+AreApartInTable len start places = (a b : Bool) (i j : ℕ) → i < len → j < len → IsTrue (is_met start a i) → IsTrue (is_met start b j) → places a i ≡ places b j → i ≡ j

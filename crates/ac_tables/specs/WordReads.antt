@@ -5,7 +5,7 @@ use Rattle.std.specs.List.{flat_map}
 use Rattle.ac_input.specs.declared.primitives.number.TheConstants.{GREATEST}
 use Rattle.ac_input.specs.Alphabet.{class, alphabet_len}
 use Rattle.ac_tables.specs.declared.contiguous.table.Table.{Table}
-use Rattle.ac_tables.specs.Words.{StateParts, next_by, one_pattern, words_of, StandsAt}
+use Rattle.ac_tables.specs.Words.{StateParts, next_by, one_pattern, words_of, AreWordsAt}
 
 -- ---- classes packed in words
 
@@ -22,7 +22,7 @@ IsFirstPlace bytes wanted (Some at) = (at < length bytes) × (slice_index bytes 
 
 -- A state stands at a place: its words do, the class of each transition is one of the alphabet, and each byte leads to a number.
 pub record IsStateAt (table : Table) (sid : ℕ) (s : StateParts) : Type 0 where
-  pub stands : StandsAt table.words.items sid (words_of table.alphabet_len s)
+  pub stands : AreWordsAt table.words.items sid (words_of table.alphabet_len s)
   pub alphabet : table.alphabet_len ≡ alphabet_len table.classes
   pub few_classes : table.alphabet_len ≤ 256
   pub fits : (k : ℕ) (edge : ℕ × ℕ) → slice_get s.edges k ≡ Some edge → edge.0 < table.alphabet_len
@@ -76,7 +76,7 @@ abbrev pub matches_by : Table → ℕ → List ℕ
 matches_by table sid = if not (sid == 0) && nat_le sid table.max_match then listed_at table sid else []
 
 -- The state there has patterns, and these are among the words.
-pub record HasList (table : Table) (sid : ℕ) : Type 0 where
+pub record HasWordList (table : Table) (sid : ℕ) : Type 0 where
   pub first : sid < length table.words.items
   pub list : list_place table sid < length table.words.items
   pub rest : slice_index table.words.items (list_place table sid) < one_pattern → list_place table sid + 1 + slice_index table.words.items (list_place table sid) ≤ length table.words.items

@@ -105,5 +105,5 @@ pub record CanBeWritten (alphabet : ℕ) (s : StateParts) : Type 0 where
   pub few : length s.matches ≤ GREATEST + 1
 
 -- such words stand at a place
-abbrev pub StandsAt : List ℕ → ℕ → List ℕ → Type 0
-StandsAt words at part = (at + length part ≤ length words) × (take (length part) (drop at words) ≡ part)
+abbrev pub AreWordsAt : List ℕ → ℕ → List ℕ → Type 0
+AreWordsAt words at part = (at + length part ≤ length words) × (take (length part) (drop at words) ≡ part)

@@ -58,7 +58,6 @@ use ac_input::primitives::StateID;
 use ac_input::search::MatchKind;
 use ac_literal::prefilter::Prefilter;
 use ac_noncontiguous::nfa::pattern_lens::PatternLens;
-
 pub use builder::Builder;
 
 /// A contiguous automaton.

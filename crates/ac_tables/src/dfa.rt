@@ -47,7 +47,7 @@ ghost use Rattle.ac_input.specs.Pairing.{IsPairing};
 ghost use Rattle.ac_noncontiguous.specs.Nfa.{IsHeldFor};
 ghost use Rattle.ac_automaton.specs.Starters.{SkipsIdle};
 ghost use Rattle.ac_tables.specs.DfaLookups.{IsIdleIn};
-ghost use Rattle.ac_tables.specs.DfaTable.{AreSomeRows, AreParts, last_special_by};
+ghost use Rattle.ac_tables.specs.DfaTable.{AreSomeRows, AreDfaParts, last_special_by};
 
 use crate::dfa::table::Table;
 use ac_automaton::starters::Starters;
@@ -56,7 +56,6 @@ use ac_input::primitives::StateID;
 use ac_input::search::MatchKind;
 use ac_literal::prefilter::Prefilter;
 use ac_noncontiguous::nfa::pattern_lens::PatternLens;
-
 pub use builder::Builder;
 
 /// A deterministic automaton.
@@ -99,7 +98,7 @@ impl DFA {
         pairing: Pairing,
         kind: MatchKind,
     ) -> DFA
-        requires { AreParts (dictionary_of lens pairing kind) table prefilter }
+        requires { AreDfaParts (dictionary_of lens pairing kind) table prefilter }
         ensures { IsMadeOf (dictionary_of lens pairing kind) table prefilter result }
     {
         let max_special = last_special_of(&table, prefilter.is_some());

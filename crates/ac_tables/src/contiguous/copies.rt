@@ -1,6 +1,6 @@
 //! Copies of a contiguous automaton.
 ghost use Rattle.std.specs.Prelude.{◌≡◌, IfOk};
-ghost use Rattle.ac_tables.specs.ContiguousBuild.{IsSameTable};
+ghost use Rattle.ac_tables.specs.ContiguousBuild.{IsCopiedTable};
 ghost use Rattle.ac_tables.specs.ContiguousBuilder.{IsCopy};
 
 use crate::contiguous::NFA;
@@ -10,7 +10,7 @@ use std::alloc::{AllocError, Global};
 
 /// The table once more.
 fn clone_table(alloc: Global, table: &Table) -> Result<Table, AllocError>
-    ensures { IfOk result (IsSameTable table.now) }
+    ensures { IfOk result (IsCopiedTable table.now) }
 {
     Ok(Table {
         words: Vec::from_slice(alloc, &table.words)?,

@@ -6,7 +6,7 @@ ghost use Rattle.std.specs.Prelude.{◌≡◌, ◌≢◌, ℕ, ◌+◌, ◌<◌,
 ghost use Rattle.ac_input.specs.declared.primitives.number.TheConstants.{GREATEST};
 ghost use Rattle.ac_noncontiguous.specs.ReadCalls.{state_len, edges_in};
 ghost use Rattle.ac_tables.specs.ContiguousTable.{len_at};
-ghost use Rattle.ac_tables.specs.ContiguousBuild.{IsLen, ArePlaces, IsPlaceAfter, IsPlaceTooGreat, IsRefusedFor};
+ghost use Rattle.ac_tables.specs.ContiguousBuild.{IsLen, ArePlacesIn, IsPlaceAfter, IsPlaceTooGreat, IsRefusedFor};
 
 use crate::contiguous::layout::MOST_SPARSE;
 use ac_input::alphabet::ByteClasses;
@@ -99,7 +99,7 @@ pub(super) fn lay_out(
     classes: &ByteClasses,
 ) -> Result<Layout, BuildError>
     ensures made { IfOk result
-        (λ it. ArePlaces nfa.now dense_depth classes.now it.places.items) }
+        (λ it. ArePlacesIn nfa.now dense_depth classes.now it.places.items) }
     ensures refused { IfErr result (IsRefusedFor nfa.now dense_depth classes.now) }
 {
     let states = nfa.state_len();

@@ -2,7 +2,7 @@
 ghost use Rattle.std.specs.Prelude.{◌≡◌, ◌<◌, ◌≤◌, ℕ, ◌+◌, length, take, drop, slice_get, Some};
 ghost use Rattle.ac_input.specs.declared.primitives.number.TheConstants.{GREATEST};
 ghost use Rattle.ac_automaton.specs.Starters.{SkipsIdle};
-ghost use Rattle.ac_tables.specs.WordReads.{unpacked, IsFirstPlace, HoldsState, IsSparseAt, ClassLeadsTo, StepsTo, IsIdleAt, HasList, list_place, listed_at, transitions_len};
+ghost use Rattle.ac_tables.specs.WordReads.{unpacked, IsFirstPlace, HoldsState, IsSparseAt, ClassLeadsTo, StepsTo, IsIdleAt, HasWordList, list_place, listed_at, transitions_len};
 
 use crate::contiguous::layout::{DENSE, HEAD, KIND, NOWHERE, ONE, ONE_PATTERN};
 use crate::contiguous::table::Table;
@@ -128,7 +128,7 @@ impl Table {
     /// Where the patterns of a state begin that has some.
     #[inline]
     fn list_place(&self, sid: StateID) -> usize
-        requires { HasList self.now sid }
+        requires { HasWordList self.now sid }
         ensures { result ≡ list_place self.now sid }
     {
         let at = sid.as_usize();
@@ -137,7 +137,7 @@ impl Table {
 
     /// How many patterns match at a state at which some do.
     pub(super) fn match_len(&self, sid: StateID) -> usize
-        requires { HasList self.now sid }
+        requires { HasWordList self.now sid }
         ensures { result ≡ length (listed_at self.now sid) }
     {
         let word = self.words[self.list_place(sid)];
@@ -149,7 +149,7 @@ impl Table {
 
     /// One of the patterns that match at a state.
     pub(super) fn match_pattern(&self, sid: StateID, index: usize) -> PatternID
-        requires list { HasList self.now sid }
+        requires list { HasWordList self.now sid }
         requires within { index < length (listed_at self.now sid) }
         requires known { (k n : ℕ) → slice_get (listed_at self.now sid) k ≡ Some n → n ≤ GREATEST }
         ensures { slice_get (listed_at self.now sid) index ≡ Some result }

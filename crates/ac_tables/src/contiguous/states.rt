@@ -1,7 +1,7 @@
 //! The words of all states, one state after another.
 ghost use Rattle.std.specs.Prelude.{◌≡◌, ◌<◌, length, IfOk};
 ghost use Rattle.ac_noncontiguous.specs.ReadCalls.{state_len, EdgesLeadIn};
-ghost use Rattle.ac_tables.specs.ContiguousBuild.{ArePlaces, AreReadBy, IsStateWritten, AreAllWritten};
+ghost use Rattle.ac_tables.specs.ContiguousBuild.{ArePlacesIn, AreReadBy, IsStateWritten, AreAllWritten};
 
 use crate::contiguous::places::FAIL;
 use crate::contiguous::words::{Parts, push_state};
@@ -42,7 +42,7 @@ fn push_words(
     words: &mut Vec<u32>,
 ) -> Result<(), AllocError>
     requires within { sid < state_len nfa.now }
-    requires places { ArePlaces nfa.now dense_depth classes.now places.now }
+    requires places { ArePlacesIn nfa.now dense_depth classes.now places.now }
     ensures { IfOk result (λ _. IsStateWritten nfa.now dense_depth classes.now sid
         words.old.items words.new.items) }
 {
@@ -68,7 +68,7 @@ pub(super) fn words(
     places: &[StateID],
     words_len: usize,
 ) -> Result<Vec<u32>, AllocError>
-    requires { ArePlaces nfa.now dense_depth classes.now places.now }
+    requires { ArePlacesIn nfa.now dense_depth classes.now places.now }
     ensures { IfOk result
         (λ words. AreAllWritten nfa.now dense_depth classes.now words.items) }
 {

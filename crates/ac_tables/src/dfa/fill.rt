@@ -35,8 +35,8 @@ impl<'a> Filler<'a> {
     ghost use Rattle.ac_input.specs.declared.search.Anchored.TheVariants.{No, Yes};
     ghost use Rattle.ac_input.specs.Dfa.{Serves, dfa_states};
     ghost use Rattle.ac_noncontiguous.specs.ReadCalls.{state_len, MayBeMet};
-    ghost use Rattle.ac_tables.specs.Filling.{number_in, entry_in, IsRowRight, IsBlank, AreFilled, IsMerged};
-    ghost use Rattle.ac_tables.specs.Filler.{plan_of, HasRows, HasRoom, IsWrittenOver, IsOnlyRow, IsFailureFilled, IsRowFree, ArePairMet, AreAllRows};
+    ghost use Rattle.ac_tables.specs.Filling.{number_in, entry_in, IsRowRight, IsBlank, AreRowsFilled, IsMerged};
+    ghost use Rattle.ac_tables.specs.Filler.{plan_of, HasRows, HasRowRoom, IsWrittenOver, IsOnlyRow, IsFailureFilled, IsRowFree, ArePairMet, AreAllRows};
 
     /// Where the row of a state begins.
     #[inline]
@@ -62,7 +62,7 @@ impl<'a> Filler<'a> {
     /// Writes the transitions of a state over its row.
     fn write(&self, anchored: Anchored, sid: StateID, trans: &mut [StateID])
         requires kept { sid < state_len self.now.nfa.now }
-        requires room { HasRoom self.now anchored sid trans.old }
+        requires room { HasRowRoom self.now anchored sid trans.old }
         ensures { IsWrittenOver self.now anchored sid trans.old trans.new }
     {
         let row = self.place(anchored, sid);
@@ -102,7 +102,7 @@ impl<'a> Filler<'a> {
         requires len { HasRows self.now trans.old }
         requires failure { Serves self.now.numbers.kind No → IsFailureFilled self.now plain trans.old }
         requires blank { Serves self.now.numbers.kind Yes → IsRowFree self.now anchored trans.old }
-        ensures { AreFilled (plan_of self.now) plain anchored trans.old trans.new }
+        ensures { AreRowsFilled (plan_of self.now) plain anchored trans.old trans.new }
     {
         match self.numbers.kind {
             StartKind::Unanchored => self.fill_unanchored(plain, trans),

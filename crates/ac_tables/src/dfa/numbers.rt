@@ -8,7 +8,7 @@ ghost use Rattle.ac_input.specs.declared.primitives.number.TheConstants.{GREATES
 ghost use Rattle.ac_input.specs.Dfa.{dfa_states};
 ghost use Rattle.ac_input.specs.Input.{is_anchored};
 ghost use Rattle.ac_tables.specs.DfaNumbers.{number_at};
-ghost use Rattle.ac_tables.specs.DfaTable.{row_of};
+ghost use Rattle.ac_tables.specs.DfaTable.{dfa_row_of};
 ghost use Rattle.ac_tables.specs.Filling.{IsOverflow};
 
 use ac_input::primitives::{GREATEST, StateID};
@@ -58,7 +58,7 @@ impl Numbers {
     /// The row of a state for searches of this anchoring.
     #[inline]
     fn row(&self, anchored: Anchored, sid: StateID) -> usize
-        ensures { result ≡ row_of self.now.kind self.now.start (is_anchored anchored) sid }
+        ensures { result ≡ dfa_row_of self.now.kind self.now.start (is_anchored anchored) sid }
     {
         let at = sid.as_usize();
         let start = self.start.as_usize();

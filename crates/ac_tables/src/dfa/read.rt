@@ -1,7 +1,7 @@
 //! Reading a DFA: its table, entry by entry, and a copy of it.
 ghost use Rattle.std.specs.Prelude.{◌≡◌, IfOk};
 ghost use Rattle.ac_tables.specs.DfaBuild.{transitions_in, stride_in, states_in, start_kind_in, IsCopy};
-ghost use Rattle.ac_tables.specs.DfaCopy.{AreSameLists, IsSameTable};
+ghost use Rattle.ac_tables.specs.DfaCopy.{AreSameLists, IsSameDfaTable};
 
 use crate::dfa::DFA;
 use crate::dfa::lists::Lists;
@@ -26,7 +26,7 @@ impl Lists {
 impl Table {
     /// The same once more, in memory from `alloc`.
     fn clone(&self, alloc: Global) -> Result<Table, AllocError>
-        ensures { IfOk result (IsSameTable self.now) }
+        ensures { IfOk result (IsSameDfaTable self.now) }
     {
         Ok(Table {
             trans: Vec::from_slice(alloc, &self.trans)?,

@@ -6,9 +6,9 @@
 ghost use Rattle.std.specs.Prelude.{◌≡◌, ◌↔◌, ◌+◌, ◌==◌, ◌||◌, IsTrue, slice_index};
 ghost use Rattle.ac_input.specs.Alphabet.{class};
 ghost use Rattle.ac_input.specs.Dfa.{Serves};
-ghost use Rattle.ac_tables.specs.DfaTable.{list_of};
+ghost use Rattle.ac_tables.specs.DfaTable.{dfa_list_of};
 ghost use Rattle.ac_automaton.specs.Starters.{SkipsIdle};
-ghost use Rattle.ac_tables.specs.DfaLookups.{ArePlain, HasRow, HasList, IsIdleIn, list_at};
+ghost use Rattle.ac_tables.specs.DfaLookups.{ArePlain, HasRow, HasDfaList, IsIdleIn, list_at};
 
 use crate::dfa::lists::Lists;
 use ac_automaton::starters::Starters;
@@ -101,7 +101,7 @@ impl Table {
     /// Which of the lists is that of a state.
     #[inline]
     fn list_index(&self, sid: StateID) -> usize
-        requires { HasList self.now sid }
+        requires { HasDfaList self.now sid }
         ensures { result ≡ list_at self.now sid }
     {
         let row = (sid.as_usize() >> self.stride2) - 2;
@@ -113,8 +113,8 @@ impl Table {
 
     /// The patterns that match at a state.
     pub(crate) fn match_list(&self, sid: StateID) -> &[PatternID]
-        requires { HasList self.now sid }
-        ensures { result.now ≡ list_of self.now.lists (list_at self.now sid) }
+        requires { HasDfaList self.now sid }
+        ensures { result.now ≡ dfa_list_of self.now.lists (list_at self.now sid) }
     {
         let at = self.list_index(sid);
         let start = if at == 0 { 0 } else { self.lists.ends[at - 1] };

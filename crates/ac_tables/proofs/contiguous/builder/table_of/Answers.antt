@@ -4,7 +4,7 @@ use Rattle.std.proofs.lemmas.List.{get_or_read}
 use Rattle.ac_noncontiguous.specs.declared.nfa.read.Special.{Special}
 use Rattle.ac_noncontiguous.specs.ReadCalls.{state_len, special_in, SpecialIn}
 use Rattle.ac_tables.specs.declared.contiguous.table.Table.{Table}
-use Rattle.ac_tables.specs.ContiguousBuild.{IsTableOf}
+use Rattle.ac_tables.specs.ContiguousBuild.{IsWordTableOf}
 use Rattle.ac_tables.proofs.WordTableLemmas.{specials-within, places-small, some-states}
 use Rattle.ac_tables.proofs.contiguous.builder.table_of.Goals as goal
 
@@ -32,7 +32,7 @@ returns-clause-made c =
     let at_b = ap (slice_index places) b ∙ h.at (special_in nfa).start_anchored_id next in
     let at_d = ap (slice_index places) d ∙ h.at (special_in nfa).max_match_id max in
     let table : Table = record { words = c.in_ok-words.words; classes = classes; alphabet_len = c.alphabet_len.result; start = c.index.result.now; start_anchored = c.index-2.result.now; max_match = c.index-3.result.now } in
-    let made : IsTableOf nfa depth table = record {
+    let made : IsWordTableOf nfa depth table = record {
       words = c.in_ok-words.ensures.0;
       alphabet = c.alphabet_len.ensures.value;
       few_classes = c.alphabet_len.ensures.fits;

@@ -4,7 +4,7 @@ use Rattle.ac_input.specs.Candidate.{Filter}
 use Rattle.ac_input.specs.Dictionary.{Dictionary, dictionary_of}
 use Rattle.ac_tables.specs.declared.dfa.table.Table.{Table}
 use Rattle.ac_tables.specs.DfaReads.{dictionary}
-use Rattle.ac_tables.specs.DfaTable.{AreParts}
+use Rattle.ac_tables.specs.DfaTable.{AreDfaParts}
 use Rattle.ac_tables.proofs.DfaCopyLemmas.{copy-rows}
 use Rattle.ac_tables.proofs.dfa.DFA.clone.Goals as goal
 
@@ -12,7 +12,7 @@ pub from_parts-requires : goal.from_parts-requires
 from_parts-requires c =
     let a = c.args.self.now in
     let same : dictionary_of c.in_ok-lens.lens a.pairing a.kind ≡ dictionary a = ap (λ (patterns : List (List ℕ)). dictionary_of patterns a.pairing a.kind) c.in_ok-lens.ensures in
-    subst (λ (m : Dictionary). AreParts m c.in_ok-table.table c.in_ok-prefilter.prefilter) (sym same)
+    subst (λ (m : Dictionary). AreDfaParts m c.in_ok-table.table c.in_ok-prefilter.prefilter) (sym same)
     (record {
       stands = copy-rows (dictionary a) a.table c.in_ok-table.table c.in_ok-table.ensures a.stands;
       held = λ f is. a.held f (sym c.in_ok-prefilter.ensures ∙ is);

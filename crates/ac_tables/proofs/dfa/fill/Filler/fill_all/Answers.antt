@@ -3,7 +3,7 @@ use Rattle.std.proofs.Common.{◌≡◌, ◌<◌, ◌≤◌, ◌+◌, ℕ, inl, 
 use Rattle.ac_input.specs.declared.search.Anchored.TheVariants.{No, Yes}
 use Rattle.ac_noncontiguous.specs.declared.nfa.read.Special.{Special}
 use Rattle.ac_noncontiguous.specs.ReadCalls.{special_in, fail_in}
-use Rattle.ac_tables.specs.Filling.{number_in, IsRowRight, IsBlank, AreFilled, AreRowsUpTo, IsDone}
+use Rattle.ac_tables.specs.Filling.{number_in, IsRowRight, IsBlank, AreRowsFilled, AreRowsUpTo, IsDone}
 use Rattle.ac_tables.specs.Filler.{plan_of}
 use Rattle.ac_tables.proofs.CellLemmas.{starts-of}
 use Rattle.ac_tables.proofs.FilledLemmas.{rows-none, rows-starts, rows-low, rows-high, rows-all, fresh-low, fresh-high, failure-right_start, failure-right_low, failure-right_high, met-both, met-start_own}
@@ -32,7 +32,7 @@ loop-low-init c =
     let anchored : c.special-special.result.start_anchored_id ≡ (special_in p.nfa).start_unanchored_id + 1 = ap (λ (s : Special). s.start_anchored_id) c.special-special.ensures.value in
     let at : c.as_usize-start.result ≡ (special_in p.nfa).start_unanchored_id = c.as_usize-start.ensures.value ∙ start in
     let none = rows-none p c.args.trans.now c.args.self.now.fit c.requires.len c.requires.blank in
-    let filled = subst (λ (u : ℕ). AreFilled p u ((special_in p.nfa).start_unanchored_id + 1) c.args.trans.now c.fill.new.trans) start (subst (λ (v : ℕ). AreFilled p c.special-special.result.start_unanchored_id v c.args.trans.now c.fill.new.trans) anchored c.fill.ensures) in
+    let filled = subst (λ (u : ℕ). AreRowsFilled p u ((special_in p.nfa).start_unanchored_id + 1) c.args.trans.now c.fill.new.trans) start (subst (λ (v : ℕ). AreRowsFilled p c.special-special.result.start_unanchored_id v c.args.trans.now c.fill.new.trans) anchored c.fill.ensures) in
     record {
       low_past = omega arith;
       low_in = omega (arith, at, s.0);
@@ -74,7 +74,7 @@ loop-low-preserved-then-is_first_next c =
       low_in = omega (arith, before, at);
       high_past = i.high_past;
       high_in = i.high_in;
-      rows = rows-low p c.loop-low.low c.loop-low.high c.loop-low.trans c.fill-then-is_first_next.new.trans c.args.self.now.fit before i.rows (subst (λ (sid : ℕ). AreFilled p sid sid c.loop-low.trans c.fill-then-is_first_next.new.trans) c.must-next.ensures c.fill-then-is_first_next.ensures);
+      rows = rows-low p c.loop-low.low c.loop-low.high c.loop-low.trans c.fill-then-is_first_next.new.trans c.args.self.now.fit before i.rows (subst (λ (sid : ℕ). AreRowsFilled p sid sid c.loop-low.trans c.fill-then-is_first_next.new.trans) c.must-next.ensures c.fill-then-is_first_next.ensures);
     }
 
 -- ---- one of the second
@@ -109,7 +109,7 @@ loop-low-preserved c =
       low_in = i.low_in;
       high_past = omega (arith, i.high_past);
       high_in = omega (arith, later.0, c.state_len-states.ensures.value);
-      rows = rows-high p c.loop-low.low c.loop-low.high c.loop-low.trans c.fill-else-is_first_next.new.trans c.args.self.now.fit (omega (arith, at, i.low_in)) (omega (arith, at, i.high_past)) i.rows (subst (λ (sid : ℕ). AreFilled p sid sid c.loop-low.trans c.fill-else-is_first_next.new.trans) c.must-next-else-is_first_next.ensures c.fill-else-is_first_next.ensures);
+      rows = rows-high p c.loop-low.low c.loop-low.high c.loop-low.trans c.fill-else-is_first_next.new.trans c.args.self.now.fit (omega (arith, at, i.low_in)) (omega (arith, at, i.high_past)) i.rows (subst (λ (sid : ℕ). AreRowsFilled p sid sid c.loop-low.trans c.fill-else-is_first_next.new.trans) c.must-next-else-is_first_next.ensures c.fill-else-is_first_next.ensures);
     }
 
 -- ---- all

@@ -6,8 +6,8 @@ use Rattle.ac_input.specs.declared.search.Anchored.TheVariants.{No, Yes}
 use Rattle.ac_input.specs.Dfa.{dfa_states}
 use Rattle.ac_noncontiguous.specs.declared.nfa.read.Special.{Special}
 use Rattle.ac_noncontiguous.specs.ReadCalls.{state_len, special_in}
-use Rattle.ac_tables.specs.DfaMade.{start_of}
-use Rattle.ac_tables.specs.DfaTable.{number_of}
+use Rattle.ac_tables.specs.DfaMade.{nfa_start_of}
+use Rattle.ac_tables.specs.DfaTable.{dfa_number_of}
 use Rattle.ac_tables.specs.Filling.{IsOverflow}
 use Rattle.ac_tables.proofs.CellLemmas.{starts-of, last-match_is}
 use Rattle.ac_tables.proofs.DfaBuildLemmas.{rows-some, size-refused, chosen-fit, number-kept, stride-is, table-for}
@@ -42,7 +42,7 @@ number-requires c =
     let rows : c.rows-rows.result ≡ dfa_states c.args.kind (state_len nfa) = c.rows-rows.ensures ∙ ap (dfa_states c.args.kind) c.state_len.ensures.value in
     let fits = subst (λ (n : ℕ). (n - 1) * c.stride-stride.result ≤ GREATEST) rows c.in_ok-check_size.ensures.fits in
     let fit = chosen-fit c.args.classed nfa c.args.kind c.in_ok-classes.classes c.stride-stride.result c.in_ok-classes.ensures c.stride-stride.ensures.value c.stride-stride.ensures.fits fits in
-    let start : c.special-special.result.start_unanchored_id ≡ start_of nfa = ap (λ (x : Special). x.start_unanchored_id) c.special-special.ensures.value in
+    let start : c.special-special.result.start_unanchored_id ≡ nfa_start_of nfa = ap (λ (x : Special). x.start_unanchored_id) c.special-special.ensures.value in
     number-kept _ No c.special-special.result.start_unanchored_id c.special-special.result.start_unanchored_id fit start (omega (arith, start, s.1))
 
 pub number-requires-2 : goal.number-requires-2
@@ -52,8 +52,8 @@ number-requires-2 c =
     let rows : c.rows-rows.result ≡ dfa_states c.args.kind (state_len nfa) = c.rows-rows.ensures ∙ ap (dfa_states c.args.kind) c.state_len.ensures.value in
     let fits = subst (λ (n : ℕ). (n - 1) * c.stride-stride.result ≤ GREATEST) rows c.in_ok-check_size.ensures.fits in
     let fit = chosen-fit c.args.classed nfa c.args.kind c.in_ok-classes.classes c.stride-stride.result c.in_ok-classes.ensures c.stride-stride.ensures.value c.stride-stride.ensures.fits fits in
-    let start : c.special-special.result.start_unanchored_id ≡ start_of nfa = ap (λ (x : Special). x.start_unanchored_id) c.special-special.ensures.value in
-    let next : c.special-special.result.start_anchored_id ≡ start_of nfa + 1 = ap (λ (x : Special). x.start_anchored_id) c.special-special.ensures.value in
+    let start : c.special-special.result.start_unanchored_id ≡ nfa_start_of nfa = ap (λ (x : Special). x.start_unanchored_id) c.special-special.ensures.value in
+    let next : c.special-special.result.start_anchored_id ≡ nfa_start_of nfa + 1 = ap (λ (x : Special). x.start_anchored_id) c.special-special.ensures.value in
     number-kept _ Yes c.special-special.result.start_unanchored_id c.special-special.result.start_anchored_id fit start (omega (arith, next, s.1))
 
 pub number-requires-3 : goal.number-requires-3
@@ -63,9 +63,9 @@ number-requires-3 c =
     let rows : c.rows-rows.result ≡ dfa_states c.args.kind (state_len nfa) = c.rows-rows.ensures ∙ ap (dfa_states c.args.kind) c.state_len.ensures.value in
     let fits = subst (λ (n : ℕ). (n - 1) * c.stride-stride.result ≤ GREATEST) rows c.in_ok-check_size.ensures.fits in
     let fit = chosen-fit c.args.classed nfa c.args.kind c.in_ok-classes.classes c.stride-stride.result c.in_ok-classes.ensures c.stride-stride.ensures.value c.stride-stride.ensures.fits fits in
-    let start : c.special-special.result.start_unanchored_id ≡ start_of nfa = ap (λ (x : Special). x.start_unanchored_id) c.special-special.ensures.value in
+    let start : c.special-special.result.start_unanchored_id ≡ nfa_start_of nfa = ap (λ (x : Special). x.start_unanchored_id) c.special-special.ensures.value in
     let last : c.special-special.result.max_match_id ≡ (special_in nfa).max_match_id = ap (λ (x : Special). x.max_match_id) c.special-special.ensures.value in
-    let within : (special_in nfa).max_match_id < state_len nfa = ⊎_elim (λ (l : (special_in nfa).max_match_id + 1 ≡ start_of nfa). omega (arith, l, s.1)) (λ (r : (special_in nfa).max_match_id ≡ start_of nfa + 1). omega (arith, r, s.1)) (last-match_is nfa) in
+    let within : (special_in nfa).max_match_id < state_len nfa = ⊎_elim (λ (l : (special_in nfa).max_match_id + 1 ≡ nfa_start_of nfa). omega (arith, l, s.1)) (λ (r : (special_in nfa).max_match_id ≡ nfa_start_of nfa + 1). omega (arith, r, s.1)) (last-match_is nfa) in
     number-kept _ Yes c.special-special.result.start_unanchored_id c.special-special.result.max_match_id fit start (omega (arith, last, within))
 
 pub returns-clause-made : goal.returns-clause-made
@@ -76,10 +76,10 @@ returns-clause-made c =
     let rows : c.rows-rows.result ≡ dfa_states kind (state_len nfa) = c.rows-rows.ensures ∙ ap (dfa_states kind) c.state_len.ensures.value in
     let fits = subst (λ (n : ℕ). (n - 1) * stride ≤ GREATEST) rows c.in_ok-check_size.ensures.fits in
     let fit = chosen-fit c.args.classed nfa kind c.in_ok-classes.classes stride c.in_ok-classes.ensures c.stride-stride.ensures.value c.stride-stride.ensures.fits fits in
-    let start : c.special-special.result.start_unanchored_id ≡ start_of nfa = ap (λ (x : Special). x.start_unanchored_id) c.special-special.ensures.value in
-    let next : c.special-special.result.start_anchored_id ≡ start_of nfa + 1 = ap (λ (x : Special). x.start_anchored_id) c.special-special.ensures.value in
+    let start : c.special-special.result.start_unanchored_id ≡ nfa_start_of nfa = ap (λ (x : Special). x.start_unanchored_id) c.special-special.ensures.value in
+    let next : c.special-special.result.start_anchored_id ≡ nfa_start_of nfa + 1 = ap (λ (x : Special). x.start_anchored_id) c.special-special.ensures.value in
     let last : c.special-special.result.max_match_id ≡ (special_in nfa).max_match_id = ap (λ (x : Special). x.max_match_id) c.special-special.ensures.value in
     table-for nfa _ c.args.classed stride c.in_ok-classes.ensures (stride-is _ stride c.stride2.result c.stride-stride.ensures.value c.stride2.ensures.value) c.stride2.ensures.fits c.stride2.ensures.value fit c.in_ok-trans.ensures c.in_ok-lists.ensures
-    (c.number.ensures ∙ ap (λ (n : ℕ). number_of kind n stride false n) start)
-    (c.number-2.ensures ∙ ap₂ (λ (n i : ℕ). number_of kind n stride true i) start next)
-    (c.number-3.ensures ∙ ap₂ (λ (n i : ℕ). number_of kind n stride true i) start last)
+    (c.number.ensures ∙ ap (λ (n : ℕ). dfa_number_of kind n stride false n) start)
+    (c.number-2.ensures ∙ ap₂ (λ (n i : ℕ). dfa_number_of kind n stride true i) start next)
+    (c.number-3.ensures ∙ ap₂ (λ (n i : ℕ). dfa_number_of kind n stride true i) start last)

@@ -1,13 +1,22 @@
--- The start of a search by whichever automaton serves.
-use Rattle.std.specs.Prelude.{ℕ, Result, Ok, Err}
+-- What whichever automaton serves was built as, and the start of a search by it.
+use Rattle.std.specs.Prelude.{◌≡◌, ℕ, IsTrue, Result, Ok, Err}
+use Rattle.std.proofs.Common.{refl}
 use Rattle.std.proofs.Math.Logic.{∥∥₁_elim}
 use Rattle.ac_input.specs.declared.search.Anchored.{Anchored}
 use Rattle.ac_input.specs.declared.search.StartKind.{StartKind}
 use Rattle.ac_input.specs.Dfa.{Serves}
 use Rattle.ac_automaton.specs.declared.error.MatchErrorKind.{MatchErrorKind}
 use Rattle.ac_automaton.specs.Automaton.{AnswersStart}
+use Rattle.aho_corasick.specs.declared.ahocorasick.AhoCorasickKind.TheVariants.{DFA}
 use Rattle.aho_corasick.specs.declared.engine.Engine.{Engine}
-use Rattle.aho_corasick.specs.Engine.{IsRead, supported_by, HasStarts}
+use Rattle.aho_corasick.specs.declared.engine.Engine.TheVariants.{Noncontiguous, Contiguous, Dfa}
+use Rattle.aho_corasick.specs.Engine.{IsRead, built_as, kind_of, supported_by, HasStarts}
+
+-- a DFA looks at one state for a byte
+pub dfa-deterministic : (engine : Engine) → kind_of engine ≡ DFA → IsTrue (built_as engine).deterministic
+dfa-deterministic (Noncontiguous nfa) is = cc
+dfa-deterministic (Contiguous nfa) is = cc
+dfa-deterministic (Dfa dfa) is = refl
 
 -- where the start kind asks for this search, the automaton doesn't refuse it
 pub start-served : (engine : Engine) (kind : StartKind) (anchored : Anchored) (r : Result ℕ MatchErrorKind)

@@ -46,7 +46,7 @@ follows-dfa s from dfa is =
     }
 
 -- where the DFA is refused for its size, none is taken
-pub refused-dfa : (s : Settings) (from : NFA) (max requested : ℕ) → dfas.IsDfaRefused (dfa_by s) from (StateIDOverflow max requested) → ¬ TakesDfa s from
+pub refused-dfa : (s : Settings) (from : NFA) (max requested : ℕ) → dfas.IsDfaRefused (dfa_by s) from (StateIDOverflow max requested) → ¬ TakesDfa s (reads.dictionary from)
 refused-dfa s from max requested (inl large) takes = ∥∥₁_elim large.2 (λ (x y : ⊥). absurd x) takes.2
 refused-dfa s from max requested (inr other) takes = absurd other
 

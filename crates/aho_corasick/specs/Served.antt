@@ -3,6 +3,7 @@ use Rattle.std.specs.Prelude.{◌≡◌, ◌≢◌, ◌⊎◌, ℕ, ◌≤◌, l
 use Rattle.std.specs.Borrow.{Bor}
 use Rattle.ac_input.specs.declared.search.StartKind.TheVariants.{Both}
 use Rattle.ac_input.specs.Dfa.{IsDfaTooLarge}
+use Rattle.ac_input.specs.Dictionary.{Dictionary}
 use Rattle.ac_noncontiguous.specs.Builder as noncontiguous
 use Rattle.ac_noncontiguous.specs.Reads as reads
 use Rattle.ac_noncontiguous.specs.Standing.{IsBuildRefused}
@@ -33,9 +34,9 @@ dfa_by s = record { kind = s.match_kind; pairing = s.pairing; prefilter = s.pref
 
 -- ---- which one serves
 
--- the DFA of an automaton is too large for the settings
-abbrev pub IsDfaTooLargeFor : Settings → NFA → Type 0
-IsDfaTooLargeFor s from = IsDfaTooLarge (reads.dictionary from) s.start_kind s.byte_classes
+-- the DFA of a dictionary is too large for the settings
+abbrev pub IsDfaTooLargeFor : Settings → Dictionary → Type 0
+IsDfaTooLargeFor s m = IsDfaTooLarge m s.start_kind s.byte_classes
 
 -- the contiguous NFA of an automaton is too large for the settings, or isn't
 abbrev pub IsContiguousTooLargeFor : Settings → NFA → Type 0
@@ -45,20 +46,20 @@ abbrev pub IsContiguousWithinFor : Settings → NFA → Type 0
 IsContiguousWithinFor s from = (classes : List ℕ) × contiguous.AreClassesFor from s.byte_classes classes × ¬ ArePlacesTooGreat from (contiguous_by s).dense_depth classes
 
 -- a DFA is taken where none is named: for one start kind and few patterns, where it isn't too large
-abbrev pub TakesDfa : Settings → NFA → Type 0
-TakesDfa s from = (s.start_kind ≢ Both) × (length (reads.dictionary from).patterns ≤ MOST_FOR_DFA) × ¬ IsDfaTooLargeFor s from
+abbrev pub TakesDfa : Settings → Dictionary → Type 0
+TakesDfa s m = (s.start_kind ≢ Both) × (length m.patterns ≤ MOST_FOR_DFA) × ¬ IsDfaTooLargeFor s m
 
 -- which automaton serves where none is named: the DFA where one is taken, else the contiguous NFA where it isn't too large, else the
 -- noncontiguous one
 abbrev pub IsTaken : Settings → NFA → AhoCorasickKind → Type 0
-IsTaken s from DFA = TakesDfa s from
-IsTaken s from ContiguousNFA = (¬ TakesDfa s from) × IsContiguousWithinFor s from
-IsTaken s from NoncontiguousNFA = (¬ TakesDfa s from) × IsContiguousTooLargeFor s from
+IsTaken s from DFA = TakesDfa s (reads.dictionary from)
+IsTaken s from ContiguousNFA = (¬ TakesDfa s (reads.dictionary from)) × IsContiguousWithinFor s from
+IsTaken s from NoncontiguousNFA = (¬ TakesDfa s (reads.dictionary from)) × IsContiguousTooLargeFor s from
 
 -- what a try of the DFA gives: one is taken, or none is
 abbrev pub IsTriedDfa : Settings → NFA → Option Deterministic → Type 0
 IsTriedDfa s from (Some dfa) = (s.start_kind ≢ Both) × (length (reads.dictionary from).patterns ≤ MOST_FOR_DFA) × dfas.IsDfaOf (dfa_by s) from dfa
-IsTriedDfa s from None = ¬ TakesDfa s from
+IsTriedDfa s from None = ¬ TakesDfa s (reads.dictionary from)
 
 -- what a try of the contiguous NFA gives: one that is made of the automaton, or none where it is too large
 abbrev pub IsTriedContiguous : Settings → NFA → Option Contiguous → Type 0
@@ -67,7 +68,7 @@ IsTriedContiguous s from None = IsContiguousTooLargeFor s from
 
 -- the automaton is within its own limit
 abbrev pub IsWithinFor : Settings → NFA → AhoCorasickKind → Type 0
-IsWithinFor s from DFA = ¬ IsDfaTooLargeFor s from
+IsWithinFor s from DFA = ¬ IsDfaTooLargeFor s (reads.dictionary from)
 IsWithinFor s from ContiguousNFA = IsContiguousWithinFor s from
 IsWithinFor s from NoncontiguousNFA = Unit {0}
 
@@ -114,9 +115,13 @@ IsNamedRefused (Some ContiguousNFA) s from error = contiguous.IsRefusedFrom (con
 IsNamedRefused (Some NoncontiguousNFA) s from error = error ≡ Memory
 IsNamedRefused None s from error = error ≡ Memory
 
--- why none is built: the patterns pass a limit, or the automaton that was named can't be made, or memory ended
+-- why none is built for a dictionary: it passes a limit, or the automaton that was named can't be made, or memory ended
+abbrev pub IsDictionaryRefused : Settings → Dictionary → BuildErrorKind → Type 0
+IsDictionaryRefused s m error = IsBuildRefused m error ⊎ ((from : NFA) × (reads.dictionary from ≡ m) × IsNamedRefused s.kind s from error)
+
+-- why none is built of these patterns
 abbrev pub IsRefusedOf : Settings → List (Bor (List ℕ)) → BuildErrorKind → Type 0
-IsRefusedOf s patterns error = IsBuildRefused (dictionary_by s patterns) error ⊎ ((from : NFA) × (reads.dictionary from ≡ dictionary_by s patterns) × IsNamedRefused s.kind s from error)
+IsRefusedOf s patterns error = IsDictionaryRefused s (dictionary_by s patterns) error
 
 -- so it is by the settings that a builder has at first
 abbrev pub IsBuiltAtFirst : List (Bor (List ℕ)) → AhoCorasick → Type 0

@@ -1,12 +1,13 @@
 -- What finding the matches of an input counts, and what a run costs.
-use Rattle.std.proofs.Common.{◌≡◌, ◌++◌, ℕ, ◌-◌, ◌*◌, ◌≤◌, Bool, List, [], length, Option, None, Some, Result, Err, refl, sym, ap, ◌∙◌, subst, add-zero, arith}
+use Rattle.std.proofs.Common.{◌≡◌, ◌++◌, ℕ, ◌-◌, ◌*◌, ◌≤◌, ◌+◌, Bool, true, false, List, [], length, Option, None, Some, Result, Err, refl, sym, ap, ◌∙◌, subst, add-zero, arith}
 use Rattle.std.specs.List.{concat}
-use Rattle.std.proofs.Math.Nat.{mul-le-mul_left}
+use Rattle.std.specs.Prelude.{IsTrue}
 use Rattle.std.proofs.lemmas.List.{append-nil}
 use Rattle.ac_input.specs.Dictionary.{Dictionary}
 use Rattle.ac_input.specs.Input.{whole_of}
 use Rattle.ac_input.specs.Occurrence.{Occurrence}
 use Rattle.ac_input.specs.Rules.{Rule, IsRuleFile}
+use Rattle.ac_input.specs.Steps.{looked_of}
 use Rattle.ac_input.specs.Work.{lookups_per_byte}
 use Rattle.ac_input.specs.declared.search.Anchored.{Anchored}
 use Rattle.ac_input.specs.declared.steps.Steps.{Steps}
@@ -21,7 +22,7 @@ use Rattle.acsub.specs.Input.{ReadsWhole}
 use Rattle.acsub.specs.Matches.{IsCounted, IsHeldCost, IsListingCounted, IsWalkCounted}
 use Rattle.acsub.specs.Plan.{Plan}
 use Rattle.acsub.specs.Run.{CostsRun}
-use Rattle.acsub.specs.Served.{is_deterministic, served}
+use Rattle.acsub.specs.Served.{AreLooksFor, IsServedByDfa}
 use Rattle.ac_automaton.specs.StreamReplace.{CostsStream}
 use Rattle.acsub.specs.Transformed.{IsStreamed}
 use Rattle.acsub.specs.declared.error.RunError.{RunError}
@@ -56,7 +57,7 @@ walk-counted w v r before after goes (states, places, bytes, done, looked, scann
         moved = omega (arith, done.moved, moved, counted.moved);
       };
       kind = rw (built, asked) h.kind;
-      looks = ap (λ (b : Built). b.deterministic) built ∙ h.looks;
+      looks = λ by_dfa. rw built (h.looks by_dfa);
       within = rw asked h.within;
       paid = paid;
     }
@@ -74,7 +75,7 @@ listing-counted run later r before after goes counts paid plan n begun h =
         scanned = omega (arith, counts.scanned, counted.scanned);
         moved = omega (arith, counts.moved, counted.moved);
       };
-      looks = ap (λ (b : Built). b.deterministic) built ∙ h.looks;
+      looks = λ by_dfa. rw built (h.looks by_dfa);
       within = rw asked h.within;
       paid = paid;
     }
@@ -103,16 +104,23 @@ module _ (plan : Plan) (b : Built) (supports : Anchored → Type 0) (input : Lis
 
 -- ---- what was counted is what it may cost
 
--- more bytes may cost more looks
-more-looks : (deterministic asked : Bool) (sums less n : ℕ) → deterministic ≡ asked → less ≤ n → sums ≤ lookups_per_byte deterministic * less → sums ≤ lookups_per_byte asked * n
-more-looks deterministic asked sums less n same le paid =
-    let more = mul-le-mul_left (lookups_per_byte asked) le in
-    let is : sums ≤ lookups_per_byte asked * less = subst (λ (d : Bool). sums ≤ lookups_per_byte d * less) same paid in
-    omega (arith, more, is)
+-- false is not true
+not-true : ¬ IsTrue false
+not-true is = cc
+
+-- The looks of a search of no more bytes, by an automaton that looks at one state for a byte where a DFA serves.
+looks-for : (plan : Plan) (deterministic : Bool) (looks less n : ℕ) (before after : Steps) → (IsServedByDfa plan.settings plan.rules → IsTrue deterministic) → less ≤ n
+    → looks ≤ lookups_per_byte deterministic * less → looked_of after ≤ looked_of before + looks → AreLooksFor plan n before after
+looks-for plan true looks less n before after serves le paid counted = record { most = omega arith; by_dfa = λ by_dfa. omega arith }
+looks-for plan false looks less n before after serves le paid counted = record { most = omega arith; by_dfa = λ by_dfa. absurd (not-true (serves by_dfa)) }
+
+-- no look was counted
+no-looks : (plan : Plan) (n : ℕ) (steps : Steps) → AreLooksFor plan n steps steps
+no-looks plan n steps = record { most = omega arith; by_dfa = λ by_dfa. omega arith }
 
 -- nothing was counted
 pub nothing-counted : (plan : Plan) (n : ℕ) (steps : Steps) → IsHeldCost plan n steps steps
-nothing-counted plan n steps = record { looked = λ _. omega arith; scanned = omega arith; moved = refl }
+nothing-counted plan n steps = record { looked = λ _. no-looks plan n steps; scanned = omega arith; moved = refl }
 
 -- what was counted of matches is what it may cost to find them
 pub counted-cost : {A : Type 0} (plan : Plan) (n : ℕ) (before after : Steps) (matches : Matches A) → IsCounted plan n before after matches → IsHeldCost plan n before after
@@ -121,7 +129,7 @@ counted-cost plan n before after (sources.Walk walk) h =
     let paid = h.paid in
     let le : passed walk ≤ n = let within = h.within in omega arith in
     record {
-      looked = λ standard. let looks = more-looks walk.built.deterministic (is_deterministic (served plan.settings plan.rules)) walk.looked (passed walk) n h.looks le (paid.looked (h.kind ∙ standard)) in omega (arith, counted.looked, looks);
+      looked = λ standard. looks-for plan walk.built.deterministic walk.looked (passed walk) n before after h.looks le (paid.looked (h.kind ∙ standard)) (omega (arith, counted.looked));
       scanned = omega (arith, counted.scanned, paid.scanned, le);
       moved = omega (arith, counted.moved, paid.moved);
     }
@@ -130,7 +138,7 @@ counted-cost plan n before after (sources.Overlapping run) h =
     let paid = h.paid in
     let le = h.within in
     record {
-      looked = λ standard. let looks = more-looks run.built.deterministic (is_deterministic (served plan.settings plan.rules)) run.looked (run.asked.span.end - run.asked.span.start) n h.looks le paid.looked in omega (arith, counted.looked, looks);
+      looked = λ standard. looks-for plan run.built.deterministic run.looked (run.asked.span.end - run.asked.span.start) n before after h.looks le paid.looked (omega (arith, counted.looked));
       scanned = omega (arith, counted.scanned, paid.scanned, le);
       moved = omega (arith, counted.moved, paid.moved);
     }
@@ -144,7 +152,7 @@ nothing_cost plan r steps error =
     record {
       gained = [];
       read = sym (append-nil (pieces_of r));
-      streamed = λ _. record { looked = omega arith; scanned = refl; moved = omega arith };
+      streamed = λ _. record { looked = no-looks plan 0 steps; scanned = refl; moved = omega arith };
       whole = λ _. tt;
       whole_input = λ _. nothing-counted plan 0 steps;
     }
@@ -178,7 +186,7 @@ streamed-cost plan b supports r r' before after result serves streamed (pieces, 
     record {
       gained = pieces;
       read = read;
-      streamed = λ _. record { looked = rw serves.looks at cost.looked; scanned = cost.scanned; moved = cost.moved };
+      streamed = λ _. record { looked = looks-for plan b.deterministic (lookups_per_byte b.deterministic * length (concat pieces)) (length (concat pieces)) (length (concat pieces)) before after serves.looks (omega arith) (omega arith) cost.looked; scanned = cost.scanned; moved = cost.moved };
       whole = λ _. whole;
       whole_input = λ held. absurd (held streamed);
     }

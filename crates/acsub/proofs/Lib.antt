@@ -3,11 +3,13 @@ pub mod LineLemmas
 pub mod InputLemmas
 pub mod RewriteLemmas
 pub mod RunLemmas
+pub mod RunLawLemmas
 pub mod PairsLemmas
 pub mod ParseLemmas
 pub mod PlaceLemmas
 pub mod TypedLemmas
 pub mod FinderLemmas
+pub mod ServedLemmas
 pub mod CountLemmas
 pub mod SendingLemmas
 pub mod BuiltLemmas

@@ -22,7 +22,8 @@ use Rattle.acsub.specs.Settings.{IsAccepted}
 use Rattle.acsub.specs.Stream.{IsToldAs}
 use Rattle.acsub.specs.Transformed.{IsStreamed, output_of}
 use Rattle.acsub.specs.Run.{AnswersRun, HasBegun, IsFileBuildable, Ran, RanRules, RanToFailedWrite, Accepts, Prepares}
-use Rattle.acsub.specs.Finder.{Builds, FailsToBuild, IsBuildable}
+use Rattle.acsub.specs.Finder.{Builds, FailsToBuild}
+use Rattle.acsub.specs.Served.{IsBuildable}
 use Rattle.acsub.specs.Plan.{Plan}
 
 -- nothing was moved

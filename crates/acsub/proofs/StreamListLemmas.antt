@@ -38,7 +38,8 @@ use Rattle.ac_automaton.specs.StreamReplace.{IsBegun}
 use Rattle.ac_automaton.specs.declared.error.MatchErrorKind.{MatchErrorKind}
 use Rattle.ac_automaton.specs.declared.error.StreamError.{StreamError}
 use Rattle.ac_automaton.specs.declared.error.StreamError.TheVariants as reads
-use Rattle.acsub.specs.Finder.{dictionary_for, whole_search}
+use Rattle.acsub.specs.Finder.{whole_search}
+use Rattle.acsub.specs.Served.{dictionary_for}
 use Rattle.acsub.specs.Sides.{patterns_of, replacements_of}
 use Rattle.acsub.specs.Stream.{AnswersStream, IsToldAs, Streams}
 use Rattle.acsub.specs.Transformed.{IsOutputFront, IsStreamed, output_of, text_in}

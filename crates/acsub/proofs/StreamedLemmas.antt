@@ -30,7 +30,8 @@ use Rattle.acsub.specs.declared.error.RunError.TheVariants as errors
 use Rattle.acsub.specs.declared.settings.Mode.{Mode}
 use Rattle.acsub.specs.declared.settings.Mode.TheVariants as modes
 use Rattle.acsub.specs.declared.settings.Settings.{Settings}
-use Rattle.acsub.specs.Finder.{dictionary_for, whole_search}
+use Rattle.acsub.specs.Finder.{whole_search}
+use Rattle.acsub.specs.Served.{dictionary_for}
 use Rattle.acsub.specs.Run.{IsReadByBuffer, RanRules, RanToFailedWrite, ReadsWithin}
 use Rattle.acsub.specs.Plan.{Plan}
 use Rattle.acsub.specs.Settings.{HasEmptyPattern, IsAccepted}

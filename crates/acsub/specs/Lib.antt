@@ -3,6 +3,7 @@ pub mod Sides
 pub mod Settings
 pub mod Input
 pub mod Run
+pub mod RunLaws
 pub mod Command
 pub mod Words
 pub mod Tool

@@ -1,14 +1,13 @@
 -- The matches of an input that are left to come, and what finding them has counted.
-use Rattle.std.specs.Prelude.{◌≡◌, ℕ, ◌+◌, ◌-◌, ◌*◌, ◌≤◌, List}
+use Rattle.std.specs.Prelude.{◌≡◌, ℕ, ◌+◌, ◌-◌, ◌*◌, ◌≤◌, IsTrue, List}
 use Rattle.ac_input.specs.Occurrence.{Occurrence}
-use Rattle.ac_input.specs.Steps.{Done, looked_of, moved_of, scanned_of}
-use Rattle.ac_input.specs.Work.{lookups_per_byte}
+use Rattle.ac_input.specs.Steps.{Done, moved_of, scanned_of}
 use Rattle.ac_input.specs.declared.search.MatchKind.TheVariants.{Standard}
 use Rattle.ac_input.specs.declared.steps.Steps.{Steps}
 use Rattle.ac_automaton.specs.Iter.{IsWithinBudget, Walk, kind_of, left_of}
 use Rattle.ac_automaton.specs.OverlappingIter.{IsWithinOneWalk, Run, rest_of}
 use Rattle.acsub.specs.Plan.{Plan}
-use Rattle.acsub.specs.Served.{is_deterministic, served}
+use Rattle.acsub.specs.Served.{AreLooksFor, IsServedByDfa}
 use Rattle.acsub.specs.declared.matches.Matches.{Matches}
 use Rattle.acsub.specs.declared.matches.Matches.TheVariants as sources
 
@@ -17,7 +16,7 @@ use Rattle.acsub.specs.declared.matches.Matches.TheVariants as sources
 -- What a run of a plan that holds its input may count, by the bytes of the input. Under the standard kind the looks are within
 -- those of one walk; packed search counts nothing.
 pub record IsHeldCost (plan : Plan) (n : ℕ) (before after : Steps) : Type 0 where
-  pub looked : plan.settings.kind ≡ Standard → looked_of after ≤ looked_of before + lookups_per_byte (is_deterministic (served plan.settings plan.rules)) * n
+  pub looked : plan.settings.kind ≡ Standard → AreLooksFor plan n before after
   pub scanned : scanned_of after ≤ scanned_of before + 256 * n
   pub moved : moved_of after ≡ moved_of before
 
@@ -27,14 +26,14 @@ pub record IsHeldCost (plan : Plan) (n : ℕ) (before after : Steps) : Type 0 wh
 pub record IsWalkCounted (plan : Plan) (n : ℕ) (begun now : Steps) (walk : Walk) : Type 0 where
   pub counted : Done walk.looked walk.scanned walk.moved begun now
   pub kind : kind_of walk ≡ plan.settings.kind
-  pub looks : walk.built.deterministic ≡ is_deterministic (served plan.settings plan.rules)
+  pub looks : IsServedByDfa plan.settings plan.rules → IsTrue walk.built.deterministic
   pub within : walk.asked.span.end ≤ n
   pub paid : IsWithinBudget walk
 
 -- the same of a run through all occurrences
 pub record IsListingCounted (plan : Plan) (n : ℕ) (begun now : Steps) (run : Run) : Type 0 where
   pub counted : Done run.looked run.scanned run.moved begun now
-  pub looks : run.built.deterministic ≡ is_deterministic (served plan.settings plan.rules)
+  pub looks : IsServedByDfa plan.settings plan.rules → IsTrue run.built.deterministic
   pub within : run.asked.span.end - run.asked.span.start ≤ n
   pub paid : IsWithinOneWalk run
 

@@ -4,7 +4,6 @@ use Rattle.std.specs.List.{concat}
 use Rattle.ac_input.specs.BeginningLaws.{IsBeginning}
 use Rattle.ac_input.specs.Rules.{Rule, IsRuleFile, FirstBadLine}
 use Rattle.ac_input.specs.Steps.{looked_of, moved_of, scanned_of}
-use Rattle.ac_input.specs.Work.{lookups_per_byte}
 use Rattle.ac_input.specs.declared.steps.Steps.{Steps}
 use Rattle.ac_automaton.specs.Moved.{AllFit, AreFilled, AreWhole, Failed, HasMoved, Moved, NoneTouched}
 use Rattle.ac_automaton.specs.Stream.{CanBeCounted}
@@ -14,10 +13,9 @@ use Rattle.acsub.specs.declared.rules.RuleError.TheVariants as rule_errors
 use Rattle.acsub.specs.declared.error.RunError.{RunError}
 use Rattle.acsub.specs.declared.error.RunError.TheVariants as errors
 use Rattle.acsub.specs.declared.settings.Settings.{Settings}
-use Rattle.acsub.specs.Finder.{IsBuildable, IsNotBuilt}
 use Rattle.acsub.specs.Matches.{IsHeldCost}
 use Rattle.acsub.specs.Plan.{Plan}
-use Rattle.acsub.specs.Served.{is_deterministic, served}
+use Rattle.acsub.specs.Served.{AreLooksFor, IsBuildable, IsNotBuilt}
 use Rattle.acsub.specs.Settings.{IsAccepted, IsFirstExclusion}
 use Rattle.acsub.specs.Transformed.{IsOutputFront, IsPrompt, IsStreamed, output_of, stream_room}
 
@@ -146,10 +144,10 @@ ReadsByBuffer plan before after = IsStreamed plan.settings plan.rules → ReadsW
 abbrev pub IsReadByBuffer : {R : Type 0} → Settings → List ℕ → Watched R → Watched R → Type 0
 IsReadByBuffer settings file before after = (rules : List Rule) → IsRuleFile file rules → IsStreamed settings rules → ReadsWithin (stream_room rules) before after
 
--- What it may cost to read so many bytes, and to write their text while they are read. The looks for a byte go by what serves the
--- plan; no place is scanned, and a seventh of the bytes at most is moved within the buffer.
+-- What it may cost to read so many bytes, and to write their text while they are read. The looks go by the automaton that serves
+-- the plan; no place is scanned, and a seventh of the bytes at most is moved within the buffer.
 pub record IsRunCost (plan : Plan) (n : ℕ) (before after : Steps) : Type 0 where
-  pub looked : looked_of after ≤ looked_of before + lookups_per_byte (is_deterministic (served plan.settings plan.rules)) * n
+  pub looked : AreLooksFor plan n before after
   pub scanned : scanned_of after ≡ scanned_of before
   pub moved : 7 * moved_of after ≤ 7 * moved_of before + n
 

@@ -1,57 +1,73 @@
--- By what a run finds its matches, and what goes by that: the limits of a build, the looks a byte, and the default depth.
-use Rattle.std.specs.Prelude.{ℕ, Bool, false, List}
+-- Which automaton serves a run, as the builder of the front chooses it, and what goes by that: the limits of a build, and the looks
+-- a byte.
+use Rattle.std.specs.Prelude.{◌≡◌, ◌≢◌, ◌⊎◌, ℕ, ◌+◌, ◌*◌, ◌≤◌, true, false, List, Option, None, Some}
 use Rattle.ac_input.specs.Dictionary.{Dictionary}
 use Rattle.ac_input.specs.Limits.{IsWithinLimits}
 use Rattle.ac_input.specs.Rules.{Rule}
-use Rattle.ac_noncontiguous.specs.Standing.{IsBuildRefused}
+use Rattle.ac_input.specs.Steps.{looked_of}
+use Rattle.ac_input.specs.Work.{lookups_per_byte}
+use Rattle.ac_input.specs.declared.search.StartKind.TheVariants as starts
+use Rattle.ac_input.specs.declared.steps.Steps.{Steps}
+use Rattle.ac_noncontiguous.specs.Reads as reads
 use Rattle.ac_noncontiguous.specs.declared.error.BuildErrorKind.{BuildErrorKind}
 use Rattle.ac_noncontiguous.specs.declared.error.BuildErrorKind.TheVariants as limits
+use Rattle.ac_noncontiguous.specs.declared.nfa.NFA.{NFA}
+use Rattle.aho_corasick.specs.Builder as front
+use Rattle.aho_corasick.specs.Served.{IsDictionaryRefused, IsServed, TakesDfa}
+use Rattle.aho_corasick.specs.declared.ahocorasick.AhoCorasickKind.{AhoCorasickKind}
+use Rattle.aho_corasick.specs.declared.ahocorasick.AhoCorasickKind.TheVariants as kinds
+use Rattle.acsub.specs.Plan.{Plan}
+use Rattle.acsub.specs.Sides.{patterns_of}
 use Rattle.acsub.specs.declared.settings.Engine.{Engine}
 use Rattle.acsub.specs.declared.settings.Engine.TheVariants as engines
 use Rattle.acsub.specs.declared.settings.Settings.{Settings}
 
--- what finds matches
-pub data Serving : Type 0 where
-  PackedSearch : Serving
-  Noncontiguous : Serving
+-- the automaton that an engine's word names; `auto` leaves it to the front, and packed search is none
+abbrev pub automaton_named : Engine → Option AhoCorasickKind
+automaton_named engines.Auto = None
+automaton_named engines.Noncontiguous = Some kinds.NoncontiguousNFA
+automaton_named engines.Contiguous = Some kinds.ContiguousNFA
+automaton_named engines.Dfa = Some kinds.DFA
+automaton_named engines.Packed = None
 
--- packed search where the engine's word names it, else the noncontiguous automaton, whichever it names
-abbrev pub serving_of : Engine → Serving
-serving_of engines.Auto = Noncontiguous
-serving_of engines.Noncontiguous = Noncontiguous
-serving_of engines.Contiguous = Noncontiguous
-serving_of engines.Dfa = Noncontiguous
-serving_of engines.Packed = PackedSearch
+-- the settings of the builder of the automaton, whose searches are unanchored
+abbrev pub builder_settings : Settings → front.Settings
+builder_settings s = record {
+  match_kind = s.kind;
+  start_kind = starts.Unanchored;
+  pairing = s.pairing;
+  kind = automaton_named s.engine;
+  prefilter = s.prefilter;
+  dense_depth = s.dense_depth;
+  byte_classes = s.byte_classes;
+}
 
--- What serves a run. Today the engine's word alone decides, whatever the rules are.
-abbrev pub served : Settings → List Rule → Serving
-served settings rules = serving_of settings.engine
+-- what an automaton is built from
+abbrev pub dictionary_for : Settings → List (List ℕ) → Dictionary
+dictionary_for settings patterns = record { patterns = patterns; pairing = settings.pairing; kind = settings.kind }
+
+-- the automaton for settings and rules is of this kind
+abbrev pub IsAutomatonFor : Settings → List Rule → AhoCorasickKind → Type 0
+IsAutomatonFor settings rules kind = (from : NFA) × (reads.dictionary from ≡ dictionary_for settings (patterns_of rules)) × IsServed (builder_settings settings) from kind
 
 -- ---- the limits
 
--- the dictionary passes no limit of what serves
-abbrev pub FitsServing : Serving → Dictionary → Type 0
-FitsServing PackedSearch m = Unit {0}
-FitsServing Noncontiguous m = IsWithinLimits m
+-- the limit that the rules' patterns pass, where the settings ask for an automaton: one of every build, or that of the automaton
+-- that is named; out of memory is none
+abbrev pub IsNotBuilt : Settings → List Rule → BuildErrorKind → Type 0
+IsNotBuilt settings rules error = (settings.engine ≢ engines.Packed) × (error ≢ limits.Memory) × IsDictionaryRefused (builder_settings settings) (dictionary_for settings (patterns_of rules)) error
 
--- the limit that the dictionary passes, as a build reports it; out of memory is none
-abbrev pub PassesLimit : Serving → Dictionary → BuildErrorKind → Type 0
-PassesLimit PackedSearch m kind = ⊥
-PassesLimit Noncontiguous m (limits.StateIDOverflow max requested) = IsBuildRefused m (limits.StateIDOverflow max requested)
-PassesLimit Noncontiguous m (limits.PatternIDOverflow max requested) = IsBuildRefused m (limits.PatternIDOverflow max requested)
-PassesLimit Noncontiguous m (limits.PatternTooLong pattern len) = IsBuildRefused m (limits.PatternTooLong pattern len)
-PassesLimit Noncontiguous m limits.Memory = ⊥
+-- the rules' patterns pass no limit, where the settings ask for an automaton: one serves
+abbrev pub IsBuildable : Settings → List Rule → Type 0
+IsBuildable settings rules = settings.engine ≢ engines.Packed → IsWithinLimits (dictionary_for settings (patterns_of rules)) × (kind : AhoCorasickKind) × IsAutomatonFor settings rules kind
 
 -- ---- the looks
 
--- what serves looks at one state for a byte
-abbrev pub is_deterministic : Serving → Bool
-is_deterministic PackedSearch = false
-is_deterministic Noncontiguous = false
+-- a DFA serves: the engine's word names it, or leaves the automaton to the front, which takes one
+abbrev pub IsServedByDfa : Settings → List Rule → Type 0
+IsServedByDfa settings rules = (settings.engine ≡ engines.Dfa) ⊎ ((settings.engine ≡ engines.Auto) × TakesDfa (builder_settings settings) (dictionary_for settings (patterns_of rules)))
 
--- ---- the depth
-
--- up to which depth states have a table each, where the settings name no depth; packed search has no states
-abbrev pub default_depth : Serving → ℕ
-default_depth PackedSearch = 0
-default_depth Noncontiguous = 3
+-- The looks for so many bytes: at most two for each, and at most one where a DFA serves.
+pub record AreLooksFor (plan : Plan) (n : ℕ) (before after : Steps) : Type 0 where
+  pub most : looked_of after ≤ looked_of before + lookups_per_byte false * n
+  pub by_dfa : IsServedByDfa plan.settings plan.rules → looked_of after ≤ looked_of before + lookups_per_byte true * n

@@ -14,7 +14,8 @@ use Rattle.ac_automaton.specs.StreamAnswer.{WroteEarly}
 use Rattle.acsub.specs.declared.settings.Mode.{Mode}
 use Rattle.acsub.specs.declared.settings.Mode.TheVariants as modes
 use Rattle.acsub.specs.declared.settings.Settings.{Settings}
-use Rattle.acsub.specs.Finder.{dictionary_for, whole_search}
+use Rattle.acsub.specs.Finder.{whole_search}
+use Rattle.acsub.specs.Served.{dictionary_for}
 use Rattle.acsub.specs.Settings.{HasEmptyPattern}
 use Rattle.acsub.specs.Sides.{patterns_of, replacements_of}
 

@@ -1,17 +1,19 @@
 //! What a run has settled before it reads.
 //!
 //! A [`Prepared`] holds the settings, the rules, which go with them, and what finds the matches of the rules' patterns. It is made
-//! before the input is read, and takes all its memory then. Which search serves stands in one definition, `served`. How an
-//! automaton is built stands in its impl of [`Serve`]; all else is said and proved of any automaton.
+//! before the input is read, and takes all its memory then. Packed search serves where the engine's word names it; else an
+//! [`AhoCorasick`] does, by the automaton that the word names, or by the one that its builder takes. Only the build knows of it; all
+//! else is said and proved of any automaton.
 ghost use Rattle.std.specs.Prelude.{◌≡◌, ◌≢◌, ◌↔◌, IfOk, IfSome, IsSome, length};
 ghost use Rattle.ac_input.specs.declared.search.MatchKind.TheVariants.{Standard};
 ghost use Rattle.ac_literal.specs.Packed.{AreServed, bytes_of, search_kind};
-ghost use Rattle.acsub.specs.Finder.{Builds, IsFinderOf, IsPackedFor, IsServing, builder_settings, whole_listing, whole_walk};
+ghost use Rattle.acsub.specs.Finder.{Builds, BuildsAutomaton, IsFinderOf, IsPackedFor, IsServing, whole_listing, whole_walk};
 ghost use Rattle.acsub.specs.Matches.{IsUncounted, left_in};
-ghost use Rattle.acsub.specs.Served.{Noncontiguous};
+ghost use Rattle.acsub.specs.Served.{automaton_named, builder_settings};
 ghost use Rattle.acsub.specs.Settings.{IsAccepted};
 ghost use Rattle.acsub.specs.Sides.{patterns_of};
 ghost use Rattle.acsub.specs.Transformed.{IsStreamed};
+ghost use Rattle.acsub.specs.declared.settings.Engine.TheVariants.{Packed};
 
 use crate::error::RunError;
 use crate::matches::Matches;
@@ -20,13 +22,12 @@ use crate::settings::{Engine, Mode, Settings, is_streamed};
 use ac_automaton::automaton::Automaton;
 use ac_input::search::{Input, MatchKind};
 use ac_literal::packed::{self, Config, Searcher};
-use ac_noncontiguous::builder::Builder;
-use ac_noncontiguous::nfa::NFA;
+use aho_corasick::{AhoCorasick, AhoCorasickBuilder, AhoCorasickKind};
 use std::alloc::{AllocError, Global};
 use std::marker::Model;
 
-/// The automaton that serves all engines but packed search.
-pub type Chosen = NFA;
+/// What serves all engines but packed search.
+pub type Chosen = AhoCorasick;
 
 /// What finds matches.
 #[derive(Drop)]
@@ -130,62 +131,56 @@ impl<A: Automaton> Prepared<A> {
     }
 }
 
-/// An automaton that serves runs.
-pub trait Serve: Automaton {
-    ghost use Rattle.std.specs.Prelude.{◌≡◌};
-    ghost use Rattle.acsub.specs.Finder.{BuildsAutomaton};
-    ghost use Rattle.acsub.specs.Served.{Serving, served};
-
-    /// By which name it serves.
-    ghost serving: { Serving };
-
-    /// One for the rules' patterns, by the settings.
-    fn build(alloc: Global, settings: &Settings, rules: &Rules) -> Result<Self, RunError>
-        requires { served settings.now rules.now ≡ serving }
-        ensures { BuildsAutomaton Self.built Self.supports settings.now rules.now result };
-}
-
-impl Serve for NFA {
-    ghost use Rattle.acsub.specs.Served.{Noncontiguous};
-
-    ghost serving = { Noncontiguous };
-
-    fn build(alloc: Global, settings: &Settings, rules: &Rules) -> Result<NFA, RunError> {
-        let patterns = rules.patterns(alloc)?;
-        Ok(builder_for(settings).build(alloc, patterns.as_slice())?)
-    }
-}
-
 /// Makes all that a run has before it reads, of rules that go with the settings.
 pub fn build(alloc: Global, settings: &Settings, rules: Rules) -> Result<Prepared<Chosen>, RunError>
     requires { IsAccepted settings.now rules }
     ensures { Builds settings.now rules result }
 {
-    match settings.engine {
-        Engine::Packed => {
-            let searcher = packed_for(alloc, settings.kind, &rules)?;
-            Ok(Prepared::new(settings, rules, Finder::Packed(searcher)))
-        }
-        Engine::Auto | Engine::Noncontiguous | Engine::Contiguous | Engine::Dfa => {
-            let automaton = Chosen::build(alloc, settings, &rules)?;
-            Ok(Prepared::new(settings, rules, Finder::Automaton(automaton)))
-        }
+    if settings.engine == Engine::Packed {
+        let searcher = packed_for(alloc, settings.kind, &rules)?;
+        Ok(Prepared::new(settings, rules, Finder::Packed(searcher)))
+    } else {
+        let automaton = automaton_for(alloc, settings, &rules)?;
+        Ok(Prepared::new(settings, rules, Finder::Automaton(automaton)))
     }
 }
 
-/// The builder of the noncontiguous automaton, by the settings.
-fn builder_for(settings: &Settings) -> Builder
-    ensures { result ≡ builder_settings settings.now Noncontiguous }
+/// An automaton for the rules' patterns, by settings that ask for one.
+fn automaton_for(alloc: Global, settings: &Settings, rules: &Rules) -> Result<Chosen, RunError>
+    requires { settings.now.engine ≢ Packed }
+    ensures { BuildsAutomaton settings.now rules.now result }
 {
-    let mut builder = Builder::new();
+    let patterns = rules.patterns(alloc)?;
+    Ok(builder_for(settings).build(alloc, patterns.as_slice())?)
+}
+
+/// The builder of the automaton, by the settings. Its searches are unanchored, as they are at first.
+fn builder_for(settings: &Settings) -> AhoCorasickBuilder
+    ensures { result ≡ builder_settings settings.now }
+{
+    let mut builder = AhoCorasick::builder();
     builder
         .match_kind(settings.kind)
         .pairing(settings.pairing)
-        .prefilter(settings.prefilter);
+        .kind(automaton_named(settings.engine))
+        .prefilter(settings.prefilter)
+        .byte_classes(settings.byte_classes);
     if let Some(depth) = settings.dense_depth {
         builder.dense_depth(depth);
     }
     builder
+}
+
+/// The automaton that an engine's word names.
+fn automaton_named(engine: Engine) -> Option<AhoCorasickKind>
+    ensures { result ≡ automaton_named engine }
+{
+    match engine {
+        Engine::Noncontiguous => Some(AhoCorasickKind::NoncontiguousNFA),
+        Engine::Contiguous => Some(AhoCorasickKind::ContiguousNFA),
+        Engine::Dfa => Some(AhoCorasickKind::DFA),
+        Engine::Auto | Engine::Packed => None,
+    }
 }
 
 /// A packed search for the rules' patterns, which it serves.

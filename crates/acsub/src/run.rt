@@ -8,11 +8,12 @@
 //! packed search where the settings name it and by an automaton otherwise, and writes the text as it is found.
 //!
 //! On either road a run that is out of memory stops before anything is written. The engine and its settings change nothing of the
-//! text.
+//! text, which [`runs_write_alike`] states.
 ghost use Rattle.std.specs.Prelude.{◌≡◌, List, [], false, length};
 ghost use Rattle.ac_automaton.specs.Watched.{has_ended};
 ghost use Rattle.acsub.specs.Matches.{IsHeldCost};
 ghost use Rattle.acsub.specs.Run.{Accepts, CostsFile, CostsRun, IsReadByBuffer, Prepares, Ran, RanRules, ReadsByBuffer, Refuses, RunsOutFirst};
+ghost use Rattle.acsub.specs.RunLaws.{RunsWriteAlike};
 ghost use Rattle.acsub.specs.Sending.{SendsText};
 ghost use Rattle.acsub.specs.Settings.{IsAccepted};
 ghost use Rattle.acsub.specs.Transformed.{IsStreamed};
@@ -80,6 +81,12 @@ pub fn run_counted<R: Read, W: Write>(
         Err(error) => Err(error),
     }
 }
+
+/// Two runs that answer Ok by one rule file, mode, kind and pairing, and that read the same bytes, wrote the same bytes. Neither the
+/// engine nor its settings change them, nor how the reads cut the input. The function does nothing: its contract is the law.
+pub fn runs_write_alike()
+    ensures { RunsWriteAlike }
+{}
 
 /// All that is settled before the input is read.
 fn prepare(alloc: Global, settings: &Settings, bytes: &[u8]) -> Result<Prepared<Chosen>, RunError>

@@ -23,17 +23,17 @@ pub enum Mode {
     Overlap,
 }
 
-/// By what matches are found. No engine changes what is written. Today all but packed search are served by the noncontiguous
-/// automaton, whatever their name.
+/// By what matches are found. No engine changes what is written, only what a run costs.
 #[derive(Clone, Copy, Debug, PartialEq, Eq)]
 pub enum Engine {
-    /// Whichever the program chooses.
+    /// The DFA for up to 100 patterns; for more, or where it would be too large, the contiguous NFA; and where that would be too
+    /// large, the noncontiguous one.
     Auto,
-    /// The noncontiguous automaton.
+    /// The noncontiguous NFA: it is built soonest.
     Noncontiguous,
-    /// The contiguous automaton, which isn't there yet.
+    /// The contiguous NFA: it takes the least memory.
     Contiguous,
-    /// The deterministic automaton, which isn't there yet.
+    /// The DFA: it searches fastest, and takes the most memory.
     Dfa,
     /// Packed search: for few patterns and leftmost kinds, with no pairing.
     Packed,
@@ -52,9 +52,10 @@ pub struct Settings {
     pub engine: Engine,
     /// Whether the engine may look for places worth a search before it searches.
     pub prefilter: bool,
-    /// Up to which depth an automaton's states have a table each; where there is none, each automaton takes its own.
+    /// To which depth the states of either NFA keep a row: those to which fewer bytes lead. Where there is none, it is 3 for the
+    /// noncontiguous one and 2 for the contiguous one.
     pub dense_depth: Option<usize>,
-    /// Whether an automaton takes bytes together that no pattern tells apart.
+    /// Whether bytes that lead alike from every state are one class, in the contiguous NFA and the DFA.
     pub byte_classes: bool,
 }
 

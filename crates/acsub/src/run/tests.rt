@@ -221,67 +221,24 @@ fn writes_by(
 /// How many bytes a read gives.
 const PIECES: &[usize] = &[1, 2, 7];
 
-/// Settings that change nothing of a text.
-struct Tuning {
-    prefilter: bool,
-    dense_depth: Option<usize>,
-    byte_classes: bool,
-}
-
-const TUNINGS: &[Tuning] = &[
-    Tuning {
-        prefilter: true,
-        dense_depth: None,
-        byte_classes: true,
-    },
-    Tuning {
-        prefilter: true,
-        dense_depth: Some(0),
-        byte_classes: false,
-    },
-    Tuning {
-        prefilter: true,
-        dense_depth: Some(1),
-        byte_classes: true,
-    },
-    Tuning {
-        prefilter: true,
-        dense_depth: Some(100),
-        byte_classes: true,
-    },
-    Tuning {
-        prefilter: false,
-        dense_depth: None,
-        byte_classes: false,
-    },
-    Tuning {
-        prefilter: false,
-        dense_depth: Some(0),
-        byte_classes: true,
-    },
-    Tuning {
-        prefilter: false,
-        dense_depth: Some(1),
-        byte_classes: false,
-    },
-    Tuning {
-        prefilter: false,
-        dense_depth: Some(100),
-        byte_classes: true,
-    },
-];
+/// The depths that are tried.
+const DEPTHS: &[Option<usize>] = &[None, Some(0), Some(1), Some(100)];
 
 /// Asserts that a text is written whatever else the settings say.
 fn writes_alike(rt: &impl Abort, alloc: Global, settings: &Settings, by: &[By], case: &Case<'_>) {
-    for tuning in TUNINGS {
-        let settings = Settings {
-            prefilter: tuning.prefilter,
-            dense_depth: tuning.dense_depth,
-            byte_classes: tuning.byte_classes,
-            ..*settings
-        };
-        for most in PIECES {
-            writes_by(rt, alloc, &settings, by, case, *most);
+    for prefilter in [true, false] {
+        for byte_classes in [true, false] {
+            for dense_depth in DEPTHS {
+                let settings = Settings {
+                    prefilter,
+                    dense_depth: *dense_depth,
+                    byte_classes,
+                    ..*settings
+                };
+                for most in PIECES {
+                    writes_by(rt, alloc, &settings, by, case, *most);
+                }
+            }
         }
     }
 }

@@ -433,6 +433,9 @@ fn in_memory_that_may_end(rt: HostRuntime) -> Result<(), Fail> {
     for (mode, kind, engine, text, pieces) in [
         (Replace, standard, Engine::Auto, RAN, 0),
         (List, standard, Engine::Auto, line, 0),
+        (Replace, standard, Engine::Noncontiguous, RAN, 0),
+        (Replace, standard, Engine::Contiguous, RAN, 0),
+        (Replace, standard, Engine::Dfa, RAN, 0),
         (Replace, longest, Engine::Auto, RAN, 4),
         (Replace, longest, Engine::Packed, RAN, 4),
         (Overlap, standard, Engine::Auto, line, 4),

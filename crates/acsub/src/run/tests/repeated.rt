@@ -339,26 +339,12 @@ fn lists_all_of_letters_over_and_over(rt: HostRuntime) -> Result<(), Fail> {
 }
 
 /// One folded pattern of 400,001 bytes over 2,000,000 that never end it. A body that compares at every place, from either end of
-/// the pattern, doesn't end in time. One engine is enough: today one automaton serves them all.
+/// the pattern, doesn't end in time.
 #[test]
 fn ends_over_a_pattern_that_never_ends(rt: HostRuntime) -> Result<(), Fail> {
-    const AUTO: &[Engine] = &[Engine::Auto];
     const ROWS: &[Row] = &[Row {
         told: FOLDED,
-        by: &[
-            By {
-                kind: MatchKind::Standard,
-                engines: AUTO,
-            },
-            By {
-                kind: MatchKind::LeftmostFirst,
-                engines: AUTO,
-            },
-            By {
-                kind: MatchKind::LeftmostLongest,
-                engines: AUTO,
-            },
-        ],
+        by: &[STANDARD, FIRST_BY_AUTOMATA, LONGEST_BY_AUTOMATA],
         rules: Rules::File(&[
             Times(200_000, "61"),
             Times(1, "62"),

@@ -1,0 +1,80 @@
+-- What the front builds, or refuses to build, for settings and rules.
+use Rattle.std.proofs.Common.{◌≡◌, ◌≢◌, ℕ, List, None, Some, inl, inr, refl, sym, ap, ◌∙◌, subst}
+use Rattle.std.specs.Prelude.{IsTrue, Option}
+use Rattle.std.specs.Borrow.{Bor}
+use Rattle.ac_input.specs.Dfa.{Serves}
+use Rattle.ac_input.specs.Dictionary.{Dictionary}
+use Rattle.ac_input.specs.Limits.{IsWithinLimits}
+use Rattle.ac_input.specs.Rules.{Rule}
+use Rattle.ac_input.specs.declared.search.Anchored.TheVariants.{No}
+use Rattle.ac_input.specs.declared.search.StartKind.{StartKind}
+use Rattle.ac_literal.specs.Packed.{bytes_of}
+use Rattle.ac_noncontiguous.specs.Reads as reads
+use Rattle.ac_noncontiguous.specs.declared.error.BuildErrorKind.{BuildErrorKind}
+use Rattle.ac_noncontiguous.specs.declared.error.BuildErrorKind.TheVariants as limits
+use Rattle.ac_noncontiguous.specs.declared.nfa.NFA.{NFA}
+use Rattle.aho_corasick.specs.AhoCorasick.{built_as, engine_of, supported_by}
+use Rattle.aho_corasick.specs.Builder as front
+use Rattle.aho_corasick.specs.Engine.{kind_of}
+use Rattle.aho_corasick.specs.Served.{IsBuiltOf, IsDictionaryRefused, IsRefusedOf, IsServed, IsServedBy, IsTaken, TakesDfa}
+use Rattle.aho_corasick.specs.declared.ahocorasick.AhoCorasick.{AhoCorasick}
+use Rattle.aho_corasick.specs.declared.ahocorasick.AhoCorasickKind.{AhoCorasickKind}
+use Rattle.aho_corasick.specs.declared.ahocorasick.AhoCorasickKind.TheVariants as kinds
+use Rattle.aho_corasick.proofs.EngineLemmas.{dfa-deterministic}
+use Rattle.acsub.specs.Finder.{FailsToBuild, IsServing, not_built}
+use Rattle.acsub.specs.Served.{IsAutomatonFor, IsBuildable, IsServedByDfa, automaton_named, builder_settings, dictionary_for}
+use Rattle.acsub.specs.Sides.{patterns_of}
+use Rattle.acsub.specs.declared.settings.Engine.{Engine}
+use Rattle.acsub.specs.declared.settings.Engine.TheVariants as engines
+use Rattle.acsub.specs.declared.settings.Settings.{Settings}
+
+-- where a DFA is taken, what is taken is a DFA
+taken-dfa : (s : front.Settings) (from : NFA) (kind : AhoCorasickKind) → TakesDfa s (reads.dictionary from) → IsTaken s from kind → kind ≡ kinds.DFA
+taken-dfa s from kinds.DFA takes taken = refl
+taken-dfa s from kinds.ContiguousNFA takes taken = absurd (taken.0 takes)
+taken-dfa s from kinds.NoncontiguousNFA takes taken = absurd (taken.0 takes)
+
+-- where a DFA serves settings and rules, the automaton that serves is one
+served-dfa : (settings : Settings) (rules : List Rule) (from : NFA) (kind : AhoCorasickKind) → reads.dictionary from ≡ dictionary_for settings (patterns_of rules)
+    → IsServed (builder_settings settings) from kind → IsServedByDfa settings rules → kind ≡ kinds.DFA
+served-dfa settings rules from kind is served (inl named) =
+    (subst (λ (e : Engine). IsServedBy (automaton_named e) (builder_settings settings) from kind) named served).0
+served-dfa settings rules from kind is served (inr (auto, takes)) =
+    taken-dfa (builder_settings settings) from kind
+    (subst (TakesDfa (builder_settings settings)) (sym is) takes)
+    (subst (λ (e : Engine). IsServedBy (automaton_named e) (builder_settings settings) from kind) auto served)
+
+module _ (settings : Settings) (rules : List Rule) (patterns : List (Bor (List ℕ))) (same : bytes_of patterns ≡ patterns_of rules) where
+  -- the patterns that a builder is handed are those of the rules
+  handed : front.dictionary_by (builder_settings settings) patterns ≡ dictionary_for settings (patterns_of rules)
+  handed = ap (dictionary_for settings) same
+
+  module _ (ac : AhoCorasick) (built : IsBuiltOf (builder_settings settings) patterns ac) where
+    abbrev from : NFA
+    from = built.served.0
+
+    made : reads.dictionary from ≡ dictionary_for settings (patterns_of rules)
+    made = built.served.1.dictionary ∙ handed
+
+    -- what was built serves
+    pub built-serves : IsServing (record { settings = settings; rules = rules }) (built_as ac) (supported_by ac)
+    built-serves = record {
+      dictionary = built.served.2.0.dictionary ∙ made;
+      looks = λ by_dfa. dfa-deterministic (engine_of ac) (served-dfa settings rules from (kind_of (engine_of ac)) made built.served.2.1 by_dfa);
+      start = subst (λ (k : StartKind). Serves k No) (sym built.start_kind) refl;
+    }
+
+    -- it is of the kind that the settings ask for
+    pub built-kind : IsAutomatonFor settings rules (kind_of (engine_of ac))
+    built-kind = (from, made, built.served.2.1)
+
+    -- and its patterns passed no limit
+    pub built-buildable : IsBuildable settings rules
+    built-buildable = λ named. (subst IsWithinLimits handed built.served.1.within, kind_of (engine_of ac), built-kind)
+
+  -- what was refused passes a limit, or memory ended
+  pub refused-fails : (error : BuildErrorKind) → settings.engine ≢ engines.Packed → IsRefusedOf (builder_settings settings) patterns error → FailsToBuild settings rules (not_built error)
+  refused-fails (limits.StateIDOverflow max requested) named refused = (named, λ e. cc, subst (λ (m : Dictionary). IsDictionaryRefused (builder_settings settings) m (limits.StateIDOverflow max requested)) handed refused)
+  refused-fails (limits.PatternIDOverflow max requested) named refused = (named, λ e. cc, subst (λ (m : Dictionary). IsDictionaryRefused (builder_settings settings) m (limits.PatternIDOverflow max requested)) handed refused)
+  refused-fails (limits.PatternTooLong pattern len) named refused = (named, λ e. cc, subst (λ (m : Dictionary). IsDictionaryRefused (builder_settings settings) m (limits.PatternTooLong pattern len)) handed refused)
+  refused-fails limits.Memory named refused = tt

@@ -1,10 +1,10 @@
 -- What finding the matches of an input counts, and what a run costs.
-use Rattle.std.proofs.Common.{◌≡◌, ◌++◌, ℕ, ◌-◌, ◌*◌, ◌≤◌, ◌+◌, Bool, true, false, List, [], length, Option, None, Some, Result, Err, refl, sym, ap, ◌∙◌, subst, add-zero, arith}
+use Rattle.std.proofs.Common.{◌≡◌, ◌++◌, ℕ, ◌-◌, ◌*◌, ◌≤◌, ◌+◌, Bool, true, false, List, [], length, Option, None, Some, Result, Ok, Err, refl, sym, ap, ◌∙◌, subst, add-zero, arith}
 use Rattle.std.specs.List.{concat}
 use Rattle.std.specs.Prelude.{IsTrue}
 use Rattle.std.proofs.lemmas.List.{append-nil}
 use Rattle.ac_input.specs.Dictionary.{Dictionary}
-use Rattle.ac_input.specs.Input.{whole_of}
+use Rattle.ac_input.specs.Input.{Asked, whole_of}
 use Rattle.ac_input.specs.Occurrence.{Occurrence}
 use Rattle.ac_input.specs.Rules.{Rule, IsRuleFile}
 use Rattle.ac_input.specs.Steps.{looked_of}
@@ -13,9 +13,10 @@ use Rattle.ac_input.specs.declared.search.Anchored.{Anchored}
 use Rattle.ac_input.specs.declared.steps.Steps.{Steps}
 use Rattle.ac_input.proofs.RuleLemmas.{IsRuleFile-one}
 use Rattle.ac_automaton.specs.Automaton.{Built}
-use Rattle.ac_automaton.specs.Iter.{IsWalkAfter, IsWithinBudget, Walk, WalkCounts, fresh_walk, passed}
-use Rattle.ac_automaton.specs.OverlappingIter.{IsRunAfter, IsWithinOneWalk, Run, RunCounts, fresh_run}
+use Rattle.ac_automaton.specs.Iter.{AnswersFindIter, IsWalkAfter, IsWithinBudget, Walk, WalkCounts, fresh_walk, passed}
+use Rattle.ac_automaton.specs.OverlappingIter.{AnswersOverlappingIter, IsRunAfter, IsWithinOneWalk, Run, RunCounts, fresh_run}
 use Rattle.ac_automaton.specs.Watched.{pieces_of}
+use Rattle.ac_automaton.specs.declared.error.MatchErrorKind.{MatchErrorKind}
 use Rattle.ac_automaton.specs.declared.watched.Watched.{Watched}
 use Rattle.acsub.specs.Finder.{IsServing}
 use Rattle.acsub.specs.Input.{ReadsWhole}
@@ -101,6 +102,24 @@ module _ (plan : Plan) (b : Built) (supports : Anchored → Type 0) (input : Lis
         within = omega arith;
         paid = record { looked = omega arith; scanned = omega arith; moved = refl };
       }
+
+-- so it is of the walk over a whole input that an automaton gave
+pub walk-fresh : (b : Built) (supports : Anchored → Type 0) (inside plan : Plan) (input : List ℕ) (asked : Asked) (given : Result Walk MatchErrorKind) (walk : Walk) → inside ≡ plan → IsServing inside b supports
+    → AnswersFindIter b supports asked given → given ≡ Ok walk → asked ≡ whole_of input → (now : Steps) → IsWalkCounted plan (length input) now now walk
+walk-fresh b supports inside plan input asked given walk same serves answers is over now =
+    let answer = subst (λ (r : Result Walk MatchErrorKind). AnswersFindIter b supports asked r) is answers in
+    let fresh : walk ≡ fresh_walk b (whole_of input) = answer.1 ∙ ap (fresh_walk b) over in
+    subst (λ (w : Walk). IsWalkCounted plan (length input) now now w) (sym fresh)
+    (subst (λ (p : Plan). IsWalkCounted p (length input) now now (fresh_walk b (whole_of input))) same (walk-uncounted inside b supports input serves now))
+
+-- and of the run through all that overlap in it
+pub listing-fresh : (b : Built) (supports : Anchored → Type 0) (inside plan : Plan) (input : List ℕ) (asked : Asked) (given : Result Run MatchErrorKind) (run : Run) → inside ≡ plan → IsServing inside b supports
+    → AnswersOverlappingIter b supports asked given → given ≡ Ok run → asked ≡ whole_of input → (now : Steps) → IsListingCounted plan (length input) now now run
+listing-fresh b supports inside plan input asked given run same serves answers is over now =
+    let answer = subst (λ (r : Result Run MatchErrorKind). AnswersOverlappingIter b supports asked r) is answers in
+    let fresh : run ≡ fresh_run b (whole_of input) = answer.1 ∙ ap (fresh_run b) over in
+    subst (λ (r : Run). IsListingCounted plan (length input) now now r) (sym fresh)
+    (subst (λ (p : Plan). IsListingCounted p (length input) now now (fresh_run b (whole_of input))) same (listing-uncounted inside b supports input serves now))
 
 -- ---- what was counted is what it may cost
 

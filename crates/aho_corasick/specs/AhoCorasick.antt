@@ -1,11 +1,13 @@
 -- What an automaton of the front was built as, and what its searches answer where they can't be refused.
-use Rattle.std.specs.Prelude.{◌≡◌, ℕ, Bool, List}
+use Rattle.std.specs.Prelude.{◌≡◌, ℕ, Bool, List, length}
 use Rattle.ac_input.specs.declared.search.Anchored.{Anchored}
 use Rattle.ac_input.specs.Dfa.{Serves}
 use Rattle.ac_input.specs.Input.{Asked}
 use Rattle.ac_input.specs.Occurrence.{Search, Occurrence, Occurs}
 use Rattle.ac_automaton.specs.Automaton.{Built, walk_in, listing_in}
 use Rattle.ac_automaton.specs.Iter.{Walk, fresh_walk, left_of}
+use Rattle.ac_automaton.specs.Overlapping as overlapping
+use Rattle.ac_automaton.specs.declared.overlapping.OverlappingState.{OverlappingState}
 use Rattle.ac_automaton.specs.OverlappingIter.{Run, fresh_run, rest_of}
 use Rattle.aho_corasick.specs.declared.ahocorasick.AhoCorasick.{AhoCorasick}
 use Rattle.aho_corasick.specs.declared.engine.Engine.{Engine}
@@ -38,6 +40,14 @@ is_start_at ac sid = engines.is_start_at (serving_engine ac) sid
 -- the states at which a search has more to do than to read on
 abbrev pub is_special_at : AhoCorasick → ℕ → Bool
 is_special_at ac sid = engines.is_special_at (serving_engine ac) sid
+
+-- how many patterns it was made from
+abbrev pub pattern_count : AhoCorasick → ℕ
+pattern_count ac = length (built_as ac).dictionary.patterns
+
+-- an overlapping state is fresh, or came from earlier calls with this automaton and input alone
+abbrev pub CameFromCalls : AhoCorasick → Asked → OverlappingState → Type 0
+CameFromCalls ac asked state = overlapping.CameFrom (built_as ac) (IsRead ac) (matches_at ac) asked state
 
 -- one means the same as another: the same automaton serves both, for the same searches
 pub record MeansSame (ac other : AhoCorasick) : Type 0 where

@@ -4,6 +4,7 @@ use Rattle.std.specs.Borrow.{Bor}
 use Rattle.ac_input.specs.declared.search.StartKind.TheVariants.{Both}
 use Rattle.ac_input.specs.Dfa.{IsDfaTooLarge}
 use Rattle.ac_noncontiguous.specs.Builder as noncontiguous
+use Rattle.ac_noncontiguous.specs.Builder.{IsHeld}
 use Rattle.ac_noncontiguous.specs.Reads as reads
 use Rattle.ac_noncontiguous.specs.Standing.{IsBuildRefused}
 use Rattle.ac_noncontiguous.specs.declared.error.BuildErrorKind.{BuildErrorKind}
@@ -101,8 +102,11 @@ IsEngineTaken s from engine = Follows s from engine × ServesUnnamed s from (kin
 abbrev pub IsMadeOf : Settings → NFA → AhoCorasick → Type 0
 IsMadeOf s from ac = (ac.start_kind ≡ s.start_kind) × IsEngineOf s from (serving_engine ac)
 
--- The automaton is built of the patterns: one serves that is made of a noncontiguous NFA that was built of them.
+-- The automaton is built of the patterns: it has their dictionary, a prefilter as one is wanted, and the start kind; and one serves
+-- that is made of a noncontiguous NFA that was built of them.
 pub record IsBuiltOf (s : Settings) (patterns : List (Bor (List ℕ))) (ac : AhoCorasick) : Type 0 where
+  pub dictionary : (built_as (serving_engine ac)).dictionary ≡ dictionary_by s patterns
+  pub prefilter : IsHeld s.prefilter (dictionary_by s patterns) (built_as (serving_engine ac)).prefilter
   pub start_kind : ac.start_kind ≡ s.start_kind
   pub served : (from : NFA) × noncontiguous.IsBuiltOf (noncontiguous_by s) patterns (reads.built_as from) × IsEngineOf s from (serving_engine ac)
 

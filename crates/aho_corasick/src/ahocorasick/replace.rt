@@ -5,7 +5,7 @@
 ghost use Rattle.std.specs.Prelude.{◌≡◌, length, IfOk};
 ghost use Rattle.ac_automaton.specs.declared.error.ReplaceError.TheVariants.{Memory};
 ghost use Rattle.ac_automaton.specs.Replace.{IsForMatches, ReplacesText, ReplacesBytes, ReplacesTextWith, ReplacesBytesWith};
-ghost use Rattle.aho_corasick.specs.AhoCorasick.{built_as, supported_by};
+ghost use Rattle.aho_corasick.specs.AhoCorasick.{built_as, supported_by, pattern_count};
 ghost use Rattle.aho_corasick.specs.Replaced.{IsReplacedText, AreReplacedBytes, AppendsText, AppendsBytes};
 
 use super::AhoCorasick;
@@ -32,6 +32,8 @@ impl AhoCorasick {
     /// let text = ac.replace_all(alloc, "The quick brown fox.", &["sloth", "grey", "slow"])?;
     /// assert_eq!(text.as_str(), "The slow grey sloth.");
     /// ```
+    ///
+    /// A caller: `uses::callers::front_replace::replaced_text`.
     pub fn replace_all(
         &self,
         alloc: Global,
@@ -39,10 +41,9 @@ impl AhoCorasick {
         replacements: &[&str],
     ) -> Result<String, AllocError>
         requires can { supported_by self.now Anchored.No }
-        requires one_each { length replacements.now
-            ≡ length (built_as self.now).dictionary.patterns }
+        requires one_each { length replacements.now ≡ pattern_count self.now }
         ensures { IfOk result
-            (IsReplacedText (built_as self.now) haystack.now replacements.now) }
+            (IsReplacedText self.now haystack.now replacements.now) }
     {
         match self.try_replace_all(alloc, haystack, replacements) {
             Ok(text) => Ok(text),
@@ -51,6 +52,8 @@ impl AhoCorasick {
     }
 
     /// The same of bytes: there every match is replaced.
+    ///
+    /// A caller: `uses::callers::front_replace::replaced_by_itself`.
     pub fn replace_all_bytes(
         &self,
         alloc: Global,
@@ -58,10 +61,9 @@ impl AhoCorasick {
         replacements: &[&[u8]],
     ) -> Result<Vec<u8>, AllocError>
         requires can { supported_by self.now Anchored.No }
-        requires one_each { length replacements.now
-            ≡ length (built_as self.now).dictionary.patterns }
+        requires one_each { length replacements.now ≡ pattern_count self.now }
         ensures { IfOk result
-            (AreReplacedBytes (built_as self.now) haystack.now replacements.now) }
+            (AreReplacedBytes self.now haystack.now replacements.now) }
     {
         match self.try_replace_all_bytes(alloc, haystack, replacements) {
             Ok(bytes) => Ok(bytes),
@@ -71,6 +73,8 @@ impl AhoCorasick {
 
     /// Appends the text to the destination, and in place of each match what the closure appends: see
     /// [`AhoCorasick::try_replace_all_with`].
+    ///
+    /// A caller: `uses::callers::front_replace::append_first_replaced`.
     pub fn replace_all_with<F>(
         &self,
         alloc: Global,
@@ -81,9 +85,8 @@ impl AhoCorasick {
     where
         F: FnMut(&Match, &str, &mut String) -> Result<bool, AllocError>,
         requires can { supported_by self.now Anchored.No }
-        requires ready { IsForMatches F.FnMut (length (built_as self.now).dictionary.patterns)
-            replace_with }
-        ensures { AppendsText F.FnMut (built_as self.now) haystack.now replace_with dst.old dst.new
+        requires ready { IsForMatches F.FnMut (pattern_count self.now) replace_with }
+        ensures { AppendsText F.FnMut self.now haystack.now replace_with dst.old dst.new
             result }
     {
         match self.try_replace_all_with(alloc, haystack, dst, replace_with) {
@@ -93,6 +96,8 @@ impl AhoCorasick {
     }
 
     /// The same of bytes: there the closure is called for every match.
+    ///
+    /// A caller: `uses::callers::front_replace::append_matched`.
     pub fn replace_all_with_bytes<F>(
         &self,
         alloc: Global,
@@ -103,9 +108,8 @@ impl AhoCorasick {
     where
         F: FnMut(&Match, &[u8], &mut Vec<u8>) -> Result<bool, AllocError>,
         requires can { supported_by self.now Anchored.No }
-        requires ready { IsForMatches F.FnMut (length (built_as self.now).dictionary.patterns)
-            replace_with }
-        ensures { AppendsBytes F.FnMut (built_as self.now) haystack.now replace_with dst.old dst.new
+        requires ready { IsForMatches F.FnMut (pattern_count self.now) replace_with }
+        ensures { AppendsBytes F.FnMut self.now haystack.now replace_with dst.old dst.new
             result }
     {
         match self.try_replace_all_with_bytes(alloc, haystack, dst, replace_with) {
@@ -116,13 +120,15 @@ impl AhoCorasick {
 
     /// The text with each match exchanged for the replacement of its pattern. There is one replacement for each pattern. A match
     /// that begins or ends within a character is passed over: its bytes stay.
+    ///
+    /// A caller: `uses::callers::front_replace::try_replaced_text`.
     pub fn try_replace_all(
         &self,
         alloc: Global,
         haystack: &str,
         replacements: &[&str],
     ) -> Result<String, ReplaceError>
-        requires { length replacements.now ≡ length (built_as self.now).dictionary.patterns }
+        requires { length replacements.now ≡ pattern_count self.now }
         ensures { ReplacesText (built_as self.now) (supported_by self.now) haystack.now
             replacements.now result }
     {
@@ -130,13 +136,15 @@ impl AhoCorasick {
     }
 
     /// The same of bytes: there every match is replaced.
+    ///
+    /// A caller: `uses::callers::front_replace::try_replaced_by_itself`.
     pub fn try_replace_all_bytes(
         &self,
         alloc: Global,
         haystack: &[u8],
         replacements: &[&[u8]],
     ) -> Result<Vec<u8>, ReplaceError>
-        requires { length replacements.now ≡ length (built_as self.now).dictionary.patterns }
+        requires { length replacements.now ≡ pattern_count self.now }
         ensures { ReplacesBytes (built_as self.now) (supported_by self.now) haystack.now
             replacements.now result }
     {
@@ -148,6 +156,8 @@ impl AhoCorasick {
     /// called again, and the rest is copied.
     ///
     /// Where memory is refused, what was appended stays. The destination grows by the allocator that it was made with.
+    ///
+    /// A caller: `uses::callers::front_replace::try_append_first_replaced`.
     pub fn try_replace_all_with<F>(
         &self,
         alloc: Global,
@@ -157,8 +167,7 @@ impl AhoCorasick {
     ) -> Result<(), ReplaceError>
     where
         F: FnMut(&Match, &str, &mut String) -> Result<bool, AllocError>,
-        requires { IsForMatches F.FnMut (length (built_as self.now).dictionary.patterns)
-            replace_with }
+        requires { IsForMatches F.FnMut (pattern_count self.now) replace_with }
         ensures { ReplacesTextWith F.FnMut (built_as self.now) (supported_by self.now) haystack.now
             replace_with dst.old dst.new result }
     {
@@ -166,6 +175,8 @@ impl AhoCorasick {
     }
 
     /// The same of bytes: there the closure is called for every match.
+    ///
+    /// A caller: `uses::callers::front_replace::try_append_matched`.
     pub fn try_replace_all_with_bytes<F>(
         &self,
         alloc: Global,
@@ -175,8 +186,7 @@ impl AhoCorasick {
     ) -> Result<(), ReplaceError>
     where
         F: FnMut(&Match, &[u8], &mut Vec<u8>) -> Result<bool, AllocError>,
-        requires { IsForMatches F.FnMut (length (built_as self.now).dictionary.patterns)
-            replace_with }
+        requires { IsForMatches F.FnMut (pattern_count self.now) replace_with }
         ensures { ReplacesBytesWith F.FnMut (built_as self.now) (supported_by self.now) haystack.now
             replace_with dst.old dst.new result }
     {

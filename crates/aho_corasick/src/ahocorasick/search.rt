@@ -5,9 +5,9 @@
 ghost use Rattle.std.specs.Prelude.{◌↔◌, IsTrue};
 ghost use Rattle.ac_automaton.specs.Automaton.{AnswersFind, CostsFind, IsFound, searched};
 ghost use Rattle.ac_automaton.specs.Iter.{AnswersFindIter};
-ghost use Rattle.ac_automaton.specs.Overlapping.{CameFrom, CanOverlap, ShowsNext, AnswersOverlapping, IsOverlappingCost, sums_of};
+ghost use Rattle.ac_automaton.specs.Overlapping.{CanOverlap, ShowsNext, AnswersOverlapping, IsOverlappingCost, sums_of};
 ghost use Rattle.ac_automaton.specs.OverlappingIter.{CanRun, AnswersOverlappingIter};
-ghost use Rattle.aho_corasick.specs.AhoCorasick.{built_as, supported_by, IsRead, matches_at, HasOccurrence, IsWalkOver, IsRunOver};
+ghost use Rattle.aho_corasick.specs.AhoCorasick.{built_as, supported_by, CameFromCalls, HasOccurrence, IsWalkOver, IsRunOver};
 
 use super::{AhoCorasick, FindIter, FindOverlappingIter};
 use ac_automaton::automaton::Automaton;
@@ -25,6 +25,8 @@ impl AhoCorasick {
     /// assert!(ac.is_match(Input::from("xxx bar xxx")));
     /// assert!(!ac.is_match(Input::from("xxx qux xxx")));
     /// ```
+    ///
+    /// A caller: `uses::callers::front_find::contains_any`.
     pub fn is_match(&self, input: Input<'_>) -> bool
         requires { supported_by self.now input.anchored }
         ensures { IsTrue result ↔ HasOccurrence (searched (built_as self.now) input.entry) }
@@ -33,6 +35,8 @@ impl AhoCorasick {
     }
 
     /// The match of the input, if it has one: the best of the automaton's kind, or of the standard one in an earliest search.
+    ///
+    /// A caller: `uses::callers::front_find::first_match`.
     pub fn find(&self, input: Input<'_>) -> Option<Match>
         requires { supported_by self.now input.anchored }
         ensures { IsFound (built_as self.now) input.entry result }
@@ -41,12 +45,13 @@ impl AhoCorasick {
     }
 
     /// Shows the next occurrence of the input: see [`AhoCorasick::try_find_overlapping`].
+    ///
+    /// A caller: `uses::callers::front_find::occurrence`.
     pub fn find_overlapping(&self, input: Input<'_>, state: &mut OverlappingState)
         requires can { CanOverlap (built_as self.now) (supported_by self.now) input }
-        requires came { CameFrom (built_as self.now) (IsRead self.now) (matches_at self.now) input
+        requires came { CameFromCalls self.now input
             state.old }
-        ensures came { CameFrom (built_as self.now) (IsRead self.now) (matches_at self.now)
-            input.entry state.new }
+        ensures came { CameFromCalls self.now input.entry state.new }
         ensures shows { ShowsNext (built_as self.now) input.entry state.old state.new }
         ensures cost { IsOverlappingCost (built_as self.now) input.entry (sums_of state.new) }
     {
@@ -54,6 +59,8 @@ impl AhoCorasick {
     }
 
     /// All matches of the input, one after another: see [`FindIter`].
+    ///
+    /// A caller: `uses::callers::front_find::all_matches`.
     pub fn find_iter<'a, 'h>(&'a self, input: Input<'h>) -> FindIter<'a, 'h>
         requires { supported_by self.now input.anchored }
         ensures { IsWalkOver (built_as self.now) input.entry result }
@@ -62,6 +69,8 @@ impl AhoCorasick {
     }
 
     /// All occurrences in the input, one after another: see [`FindOverlappingIter`]. The input isn't anchored.
+    ///
+    /// A caller: `uses::callers::front_find::all_occurrences`.
     pub fn find_overlapping_iter<'a, 'h>(&'a self, input: Input<'h>) -> FindOverlappingIter<'a, 'h>
         requires { CanRun (built_as self.now) (supported_by self.now) input }
         ensures { IsRunOver (built_as self.now) input.entry result }
@@ -70,6 +79,8 @@ impl AhoCorasick {
     }
 
     /// The match of the input, if it has one: the best of the automaton's kind, or of the standard one in an earliest search.
+    ///
+    /// A caller: `uses::callers::front_find::begins_with_any`.
     pub fn try_find(&self, input: Input<'_>) -> Result<Option<Match>, MatchError>
         ensures { AnswersFind (built_as self.now) (supported_by self.now) input.entry result }
     {
@@ -77,6 +88,8 @@ impl AhoCorasick {
     }
 
     /// The same, and counts what it does.
+    ///
+    /// A caller: `uses::callers::front_find::first_match_counted`.
     pub fn try_find_counted(
         &self,
         input: Input<'_>,
@@ -97,15 +110,16 @@ impl AhoCorasick {
     /// ac.try_find_overlapping(Input::from("append the app to the appendage"), &mut state)?;
     /// let first = state.get_match();
     /// ```
+    ///
+    /// A caller: `uses::callers::front_find::first_occurrence`.
     pub fn try_find_overlapping(
         &self,
         input: Input<'_>,
         state: &mut OverlappingState,
     ) -> Result<(), MatchError>
-        requires { CameFrom (built_as self.now) (IsRead self.now) (matches_at self.now) input
+        requires { CameFromCalls self.now input
             state.old }
-        ensures came { CameFrom (built_as self.now) (IsRead self.now) (matches_at self.now)
-            input.entry state.new }
+        ensures came { CameFromCalls self.now input.entry state.new }
         ensures answer { AnswersOverlapping (built_as self.now) (supported_by self.now) input.entry
             state.old state.new result }
         ensures cost { IsOverlappingCost (built_as self.now) input.entry (sums_of state.new) }
@@ -114,6 +128,8 @@ impl AhoCorasick {
     }
 
     /// All matches of the input, one after another: see [`FindIter`].
+    ///
+    /// A caller: `uses::callers::front_find::count_matches`.
     pub fn try_find_iter<'a, 'h>(&'a self, input: Input<'h>) -> Result<FindIter<'a, 'h>, MatchError>
         ensures { AnswersFindIter (built_as self.now) (supported_by self.now) input.entry result }
     {
@@ -121,6 +137,8 @@ impl AhoCorasick {
     }
 
     /// All occurrences in the input, one after another: see [`FindOverlappingIter`]. It is refused for an anchored input too.
+    ///
+    /// A caller: `uses::callers::front_find::has_listing`.
     pub fn try_find_overlapping_iter<'a, 'h>(
         &'a self,
         input: Input<'h>,

@@ -10,7 +10,7 @@ ghost use Rattle.ac_automaton.specs.StreamIter.{AnswersStreamIter};
 ghost use Rattle.ac_automaton.specs.StreamReplace.{AcceptsReplacing, CostsStream, ReplacesStream};
 ghost use Rattle.ac_automaton.specs.StreamReplaceWith.{ReplacesStreamWith};
 ghost use Rattle.ac_automaton.specs.Watched.{has_ended};
-ghost use Rattle.aho_corasick.specs.AhoCorasick.{built_as, supported_by};
+ghost use Rattle.aho_corasick.specs.AhoCorasick.{built_as, supported_by, pattern_count};
 ghost use Rattle.aho_corasick.specs.Streamed.{IsStreamOver};
 
 use super::{AhoCorasick, StreamFindIter};
@@ -34,6 +34,8 @@ fn out_of_memory(error: StreamError) -> AllocError
 
 impl AhoCorasick {
     /// All matches of a stream, one after another: see [`AhoCorasick::try_stream_find_iter`].
+    ///
+    /// A caller: `uses::callers::front_stream::search_of`.
     pub fn stream_find_iter<'a, R>(
         &'a self,
         alloc: Global,
@@ -54,6 +56,8 @@ impl AhoCorasick {
     ///
     /// It is refused where the automaton has no start for an unanchored search, or isn't of the standard kind, or has an empty
     /// pattern, in that order, and then where there is no memory for the buffer. Nothing was read then.
+    ///
+    /// A caller: `uses::callers::front_stream::all_matches`.
     pub fn try_stream_find_iter<'a, R>(
         &'a self,
         alloc: Global,
@@ -72,6 +76,8 @@ impl AhoCorasick {
     ///
     /// It is refused as [`AhoCorasick::try_stream_find_iter`] is; the reader and the writer are then as they were. Where a read or a
     /// write fails, nothing is tried again.
+    ///
+    /// A caller: `uses::callers::front_stream::replaced`.
     pub fn try_stream_replace_all<R: Read, W: Write>(
         &self,
         alloc: Global,
@@ -80,8 +86,7 @@ impl AhoCorasick {
         replacements: &[&[u8]],
     ) -> Result<(), StreamError>
         requires open { has_ended reader.old ≡ false }
-        requires one_each { length replacements.now
-            ≡ length (built_as self.now).dictionary.patterns }
+        requires one_each { length replacements.now ≡ pattern_count self.now }
         ensures replaced { ReplacesStream R.remaining W.contents (built_as self.now)
             (map (λ r. r.now) replacements.now) reader.old reader.new writer.old writer.new result }
         ensures accepted { AcceptsReplacing (built_as self.now) (supported_by self.now)
@@ -91,6 +96,8 @@ impl AhoCorasick {
     }
 
     /// The same, and counts what it does.
+    ///
+    /// A caller: `uses::callers::front_stream::replaced_counted`.
     pub fn try_stream_replace_all_counted<R: Read, W: Write>(
         &self,
         alloc: Global,
@@ -100,8 +107,7 @@ impl AhoCorasick {
         steps: &mut Steps,
     ) -> Result<(), StreamError>
         requires open { has_ended reader.old ≡ false }
-        requires one_each { length replacements.now
-            ≡ length (built_as self.now).dictionary.patterns }
+        requires one_each { length replacements.now ≡ pattern_count self.now }
         ensures replaced { ReplacesStream R.remaining W.contents (built_as self.now)
             (map (λ r. r.now) replacements.now) reader.old reader.new writer.old writer.new result }
         ensures accepted { AcceptsReplacing (built_as self.now) (supported_by self.now)
@@ -118,6 +124,8 @@ impl AhoCorasick {
     ///
     /// It reads, writes and is refused as [`AhoCorasick::try_stream_replace_all`]. The closure's first error ends the call and is
     /// returned unchanged.
+    ///
+    /// A caller: `uses::callers::front_stream::copied`.
     pub fn try_stream_replace_all_with<R: Read, W: Write, F>(
         &self,
         alloc: Global,
@@ -128,8 +136,7 @@ impl AhoCorasick {
     where
         F: FnMut(&Match, &[u8], &mut Watched<W>) -> Result<(), StreamError>,
         requires open { has_ended reader.old ≡ false }
-        requires ready { IsForMatches F.FnMut (length (built_as self.now).dictionary.patterns)
-            replace_with }
+        requires ready { IsForMatches F.FnMut (pattern_count self.now) replace_with }
         ensures { ReplacesStreamWith W.contents F.FnMut R.remaining (built_as self.now)
             (supported_by self.now) replace_with reader.old reader.new writer.old writer.new result }
     {

@@ -6,6 +6,7 @@ mod buffer;
 mod cursor;
 pub mod error;
 mod find;
+mod gain;
 pub mod iter;
 pub mod output;
 pub mod overlapping;

@@ -16,7 +16,7 @@ use Rattle.ac_noncontiguous.specs.declared.nfa.NFA.{NFA}
 use Rattle.aho_corasick.specs.AhoCorasick.{built_as, engine_of, supported_by}
 use Rattle.aho_corasick.specs.Builder as front
 use Rattle.aho_corasick.specs.Engine.{kind_of}
-use Rattle.aho_corasick.specs.Served.{IsBuiltOf, IsDictionaryRefused, IsRefusedOf, IsServed, IsServedBy, IsTaken, TakesDfa}
+use Rattle.aho_corasick.specs.Served.{IsBuiltOf, IsDictionaryRefused, IsRefusedOf, IsServed, IsServedBy, ServesUnnamed, TakesDfa}
 use Rattle.aho_corasick.specs.declared.ahocorasick.AhoCorasick.{AhoCorasick}
 use Rattle.aho_corasick.specs.declared.ahocorasick.AhoCorasickKind.{AhoCorasickKind}
 use Rattle.aho_corasick.specs.declared.ahocorasick.AhoCorasickKind.TheVariants as kinds
@@ -29,7 +29,7 @@ use Rattle.acsub.specs.declared.settings.Engine.TheVariants as engines
 use Rattle.acsub.specs.declared.settings.Settings.{Settings}
 
 -- where a DFA is taken, what is taken is a DFA
-taken-dfa : (s : front.Settings) (from : NFA) (kind : AhoCorasickKind) → TakesDfa s (reads.dictionary from) → IsTaken s from kind → kind ≡ kinds.DFA
+taken-dfa : (s : front.Settings) (from : NFA) (kind : AhoCorasickKind) → TakesDfa s (reads.dictionary from) → ServesUnnamed s from kind → kind ≡ kinds.DFA
 taken-dfa s from kinds.DFA takes taken = refl
 taken-dfa s from kinds.ContiguousNFA takes taken = absurd (taken.0 takes)
 taken-dfa s from kinds.NoncontiguousNFA takes taken = absurd (taken.0 takes)

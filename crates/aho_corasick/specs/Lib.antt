@@ -5,3 +5,4 @@ pub mod Replaced
 pub mod Streamed
 pub mod Builder
 pub mod Served
+pub mod Laws

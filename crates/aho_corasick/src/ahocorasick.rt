@@ -5,9 +5,9 @@ mod replace;
 mod search;
 mod stream;
 
-ghost use Rattle.std.specs.Prelude.{◌≡◌, ◌↔◌, IfOk, IsTrue, length};
+ghost use Rattle.std.specs.Prelude.{◌≡◌, ◌↔◌, IfOk, IsTrue};
 ghost use Rattle.ac_input.specs.Work.{longest, shortest};
-ghost use Rattle.aho_corasick.specs.Engine.{HasStarts, kind_of};
+ghost use Rattle.aho_corasick.specs.Engine.{HasStarts, kind_served};
 
 use crate::engine::Engine;
 use ac_automaton::automaton::Automaton;
@@ -64,7 +64,7 @@ pub type FindOverlappingIter<'a, 'h> = overlapping::FindOverlappingIter<'a, 'h, 
 pub type StreamFindIter<'a, R> = streams::StreamFindIter<'a, AhoCorasick, R>;
 
 impl AhoCorasick {
-    ghost use Rattle.aho_corasick.specs.AhoCorasick.{MeansSame, engine_of, built_as};
+    ghost use Rattle.aho_corasick.specs.AhoCorasick.{MeansSame, serving_engine, built_as, pattern_count};
 
     /// Another that means the same. They share one automaton.
     pub fn clone(&self, _alloc: Global) -> Result<AhoCorasick, AllocError>
@@ -78,7 +78,7 @@ impl AhoCorasick {
 
     /// Which automaton serves.
     pub fn kind(&self) -> AhoCorasickKind
-        ensures kind { result ≡ kind_of (engine_of self.now) }
+        ensures kind { result ≡ kind_served (serving_engine self.now) }
         ensures looks { IsTrue (built_as self.now).deterministic ↔ (result ≡ AhoCorasickKind.DFA) }
     {
         match &*self.engine {
@@ -118,7 +118,7 @@ impl AhoCorasick {
 
     /// How many patterns it was made from. Those that can't match count too.
     pub fn patterns_len(&self) -> usize
-        ensures { result ≡ length (built_as self.now).dictionary.patterns }
+        ensures { result ≡ pattern_count self.now }
     {
         Automaton::patterns_len(self)
     }

@@ -16,6 +16,7 @@ pub mod ahocorasick;
 pub mod automaton;
 pub mod dfa;
 mod engine;
+pub mod laws;
 pub mod nfa;
 pub mod packed;
 

@@ -5,7 +5,7 @@
 ghost use Rattle.std.specs.Prelude.{◌≡◌, length, IfOk};
 ghost use Rattle.ac_automaton.specs.declared.error.ReplaceError.TheVariants.{Memory};
 ghost use Rattle.ac_automaton.specs.Replace.{IsForMatches, ReplacesText, ReplacesBytes, ReplacesTextWith, ReplacesBytesWith};
-ghost use Rattle.aho_corasick.specs.AhoCorasick.{built_as, supported_by};
+ghost use Rattle.aho_corasick.specs.AhoCorasick.{built_as, supported_by, pattern_count};
 ghost use Rattle.aho_corasick.specs.Replaced.{IsReplacedText, AreReplacedBytes, AppendsText, AppendsBytes};
 
 use super::AhoCorasick;
@@ -39,10 +39,9 @@ impl AhoCorasick {
         replacements: &[&str],
     ) -> Result<String, AllocError>
         requires can { supported_by self.now Anchored.No }
-        requires one_each { length replacements.now
-            ≡ length (built_as self.now).dictionary.patterns }
+        requires one_each { length replacements.now ≡ pattern_count self.now }
         ensures { IfOk result
-            (IsReplacedText (built_as self.now) haystack.now replacements.now) }
+            (IsReplacedText self.now haystack.now replacements.now) }
     {
         match self.try_replace_all(alloc, haystack, replacements) {
             Ok(text) => Ok(text),
@@ -58,10 +57,9 @@ impl AhoCorasick {
         replacements: &[&[u8]],
     ) -> Result<Vec<u8>, AllocError>
         requires can { supported_by self.now Anchored.No }
-        requires one_each { length replacements.now
-            ≡ length (built_as self.now).dictionary.patterns }
+        requires one_each { length replacements.now ≡ pattern_count self.now }
         ensures { IfOk result
-            (AreReplacedBytes (built_as self.now) haystack.now replacements.now) }
+            (AreReplacedBytes self.now haystack.now replacements.now) }
     {
         match self.try_replace_all_bytes(alloc, haystack, replacements) {
             Ok(bytes) => Ok(bytes),
@@ -81,9 +79,8 @@ impl AhoCorasick {
     where
         F: FnMut(&Match, &str, &mut String) -> Result<bool, AllocError>,
         requires can { supported_by self.now Anchored.No }
-        requires ready { IsForMatches F.FnMut (length (built_as self.now).dictionary.patterns)
-            replace_with }
-        ensures { AppendsText F.FnMut (built_as self.now) haystack.now replace_with dst.old dst.new
+        requires ready { IsForMatches F.FnMut (pattern_count self.now) replace_with }
+        ensures { AppendsText F.FnMut self.now haystack.now replace_with dst.old dst.new
             result }
     {
         match self.try_replace_all_with(alloc, haystack, dst, replace_with) {
@@ -103,9 +100,8 @@ impl AhoCorasick {
     where
         F: FnMut(&Match, &[u8], &mut Vec<u8>) -> Result<bool, AllocError>,
         requires can { supported_by self.now Anchored.No }
-        requires ready { IsForMatches F.FnMut (length (built_as self.now).dictionary.patterns)
-            replace_with }
-        ensures { AppendsBytes F.FnMut (built_as self.now) haystack.now replace_with dst.old dst.new
+        requires ready { IsForMatches F.FnMut (pattern_count self.now) replace_with }
+        ensures { AppendsBytes F.FnMut self.now haystack.now replace_with dst.old dst.new
             result }
     {
         match self.try_replace_all_with_bytes(alloc, haystack, dst, replace_with) {
@@ -122,7 +118,7 @@ impl AhoCorasick {
         haystack: &str,
         replacements: &[&str],
     ) -> Result<String, ReplaceError>
-        requires { length replacements.now ≡ length (built_as self.now).dictionary.patterns }
+        requires { length replacements.now ≡ pattern_count self.now }
         ensures { ReplacesText (built_as self.now) (supported_by self.now) haystack.now
             replacements.now result }
     {
@@ -136,7 +132,7 @@ impl AhoCorasick {
         haystack: &[u8],
         replacements: &[&[u8]],
     ) -> Result<Vec<u8>, ReplaceError>
-        requires { length replacements.now ≡ length (built_as self.now).dictionary.patterns }
+        requires { length replacements.now ≡ pattern_count self.now }
         ensures { ReplacesBytes (built_as self.now) (supported_by self.now) haystack.now
             replacements.now result }
     {
@@ -157,8 +153,7 @@ impl AhoCorasick {
     ) -> Result<(), ReplaceError>
     where
         F: FnMut(&Match, &str, &mut String) -> Result<bool, AllocError>,
-        requires { IsForMatches F.FnMut (length (built_as self.now).dictionary.patterns)
-            replace_with }
+        requires { IsForMatches F.FnMut (pattern_count self.now) replace_with }
         ensures { ReplacesTextWith F.FnMut (built_as self.now) (supported_by self.now) haystack.now
             replace_with dst.old dst.new result }
     {
@@ -175,8 +170,7 @@ impl AhoCorasick {
     ) -> Result<(), ReplaceError>
     where
         F: FnMut(&Match, &[u8], &mut Vec<u8>) -> Result<bool, AllocError>,
-        requires { IsForMatches F.FnMut (length (built_as self.now).dictionary.patterns)
-            replace_with }
+        requires { IsForMatches F.FnMut (pattern_count self.now) replace_with }
         ensures { ReplacesBytesWith F.FnMut (built_as self.now) (supported_by self.now) haystack.now
             replace_with dst.old dst.new result }
     {

@@ -5,9 +5,9 @@
 ghost use Rattle.std.specs.Prelude.{◌↔◌, IsTrue};
 ghost use Rattle.ac_automaton.specs.Automaton.{AnswersFind, CostsFind, IsFound, searched};
 ghost use Rattle.ac_automaton.specs.Iter.{AnswersFindIter};
-ghost use Rattle.ac_automaton.specs.Overlapping.{CameFrom, CanOverlap, ShowsNext, AnswersOverlapping, IsOverlappingCost, sums_of};
+ghost use Rattle.ac_automaton.specs.Overlapping.{CanOverlap, ShowsNext, AnswersOverlapping, IsOverlappingCost, sums_of};
 ghost use Rattle.ac_automaton.specs.OverlappingIter.{CanRun, AnswersOverlappingIter};
-ghost use Rattle.aho_corasick.specs.AhoCorasick.{built_as, supported_by, IsRead, matches_at, HasOccurrence, IsWalkOver, IsRunOver};
+ghost use Rattle.aho_corasick.specs.AhoCorasick.{built_as, supported_by, CameFromCalls, HasOccurrence, IsWalkOver, IsRunOver};
 
 use super::{AhoCorasick, FindIter, FindOverlappingIter};
 use ac_automaton::automaton::Automaton;
@@ -43,10 +43,9 @@ impl AhoCorasick {
     /// Shows the next occurrence of the input: see [`AhoCorasick::try_find_overlapping`].
     pub fn find_overlapping(&self, input: Input<'_>, state: &mut OverlappingState)
         requires can { CanOverlap (built_as self.now) (supported_by self.now) input }
-        requires came { CameFrom (built_as self.now) (IsRead self.now) (matches_at self.now) input
+        requires came { CameFromCalls self.now input
             state.old }
-        ensures came { CameFrom (built_as self.now) (IsRead self.now) (matches_at self.now)
-            input.entry state.new }
+        ensures came { CameFromCalls self.now input.entry state.new }
         ensures shows { ShowsNext (built_as self.now) input.entry state.old state.new }
         ensures cost { IsOverlappingCost (built_as self.now) input.entry (sums_of state.new) }
     {
@@ -102,10 +101,9 @@ impl AhoCorasick {
         input: Input<'_>,
         state: &mut OverlappingState,
     ) -> Result<(), MatchError>
-        requires { CameFrom (built_as self.now) (IsRead self.now) (matches_at self.now) input
+        requires { CameFromCalls self.now input
             state.old }
-        ensures came { CameFrom (built_as self.now) (IsRead self.now) (matches_at self.now)
-            input.entry state.new }
+        ensures came { CameFromCalls self.now input.entry state.new }
         ensures answer { AnswersOverlapping (built_as self.now) (supported_by self.now) input.entry
             state.old state.new result }
         ensures cost { IsOverlappingCost (built_as self.now) input.entry (sums_of state.new) }

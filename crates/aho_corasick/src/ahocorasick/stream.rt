@@ -10,7 +10,7 @@ ghost use Rattle.ac_automaton.specs.StreamIter.{AnswersStreamIter};
 ghost use Rattle.ac_automaton.specs.StreamReplace.{AcceptsReplacing, CostsStream, ReplacesStream};
 ghost use Rattle.ac_automaton.specs.StreamReplaceWith.{ReplacesStreamWith};
 ghost use Rattle.ac_automaton.specs.Watched.{has_ended};
-ghost use Rattle.aho_corasick.specs.AhoCorasick.{built_as, supported_by};
+ghost use Rattle.aho_corasick.specs.AhoCorasick.{built_as, supported_by, pattern_count};
 ghost use Rattle.aho_corasick.specs.Streamed.{IsStreamOver};
 
 use super::{AhoCorasick, StreamFindIter};
@@ -80,8 +80,7 @@ impl AhoCorasick {
         replacements: &[&[u8]],
     ) -> Result<(), StreamError>
         requires open { has_ended reader.old ≡ false }
-        requires one_each { length replacements.now
-            ≡ length (built_as self.now).dictionary.patterns }
+        requires one_each { length replacements.now ≡ pattern_count self.now }
         ensures replaced { ReplacesStream R.remaining W.contents (built_as self.now)
             (map (λ r. r.now) replacements.now) reader.old reader.new writer.old writer.new result }
         ensures accepted { AcceptsReplacing (built_as self.now) (supported_by self.now)
@@ -100,8 +99,7 @@ impl AhoCorasick {
         steps: &mut Steps,
     ) -> Result<(), StreamError>
         requires open { has_ended reader.old ≡ false }
-        requires one_each { length replacements.now
-            ≡ length (built_as self.now).dictionary.patterns }
+        requires one_each { length replacements.now ≡ pattern_count self.now }
         ensures replaced { ReplacesStream R.remaining W.contents (built_as self.now)
             (map (λ r. r.now) replacements.now) reader.old reader.new writer.old writer.new result }
         ensures accepted { AcceptsReplacing (built_as self.now) (supported_by self.now)
@@ -128,8 +126,7 @@ impl AhoCorasick {
     where
         F: FnMut(&Match, &[u8], &mut Watched<W>) -> Result<(), StreamError>,
         requires open { has_ended reader.old ≡ false }
-        requires ready { IsForMatches F.FnMut (length (built_as self.now).dictionary.patterns)
-            replace_with }
+        requires ready { IsForMatches F.FnMut (pattern_count self.now) replace_with }
         ensures { ReplacesStreamWith W.contents F.FnMut R.remaining (built_as self.now)
             (supported_by self.now) replace_with reader.old reader.new writer.old writer.new result }
     {

@@ -1,8 +1,11 @@
 -- The noncontiguous NFA of the patterns first, then the automaton that serves.
-use Rattle.std.proofs.Common.{ap, subst, ◌∙◌, inr}
+use Rattle.std.proofs.Common.{Option, ap, sym, subst, ◌∙◌, inr}
 use Rattle.std.proofs.lemmas.Result.{IfOk-weaker, IfErr-weaker}
+use Rattle.ac_input.specs.Candidate.{Filter}
 use Rattle.ac_noncontiguous.specs.Builder as noncontiguous
+use Rattle.ac_noncontiguous.specs.Builder.{IsHeld}
 use Rattle.ac_noncontiguous.specs.Reads as reads
+use Rattle.aho_corasick.specs.Builder.{dictionary_by}
 use Rattle.aho_corasick.specs.Served.{IsMadeOf, IsBuiltOf, IsNamedRefused, IsRefusedOf}
 use Rattle.aho_corasick.proofs.ahocorasick.builder.AhoCorasickBuilder.build.Goals as goal
 
@@ -12,7 +15,18 @@ returns-clause-built c =
     let nfa = c.in_ok-nfa.nfa in
     let patterns = c.args.patterns.now in
     let own = subst (λ (t : noncontiguous.Settings). noncontiguous.IsBuiltOf t patterns (reads.built_as nfa)) c.noncontiguous.ensures c.in_ok-nfa.ensures.built in
-    IfOk-weaker c.share.result (IsMadeOf s nfa) (IsBuiltOf s patterns) (λ ac made. record { start_kind = made.0; served = (nfa, own, made.1) }) c.share.ensures.made
+    IfOk-weaker
+    c.share.result
+    (IsMadeOf s nfa)
+    (IsBuiltOf s patterns)
+    (λ ac made.
+    record {
+      dictionary = made.1.0.dictionary ∙ own.dictionary;
+      prefilter = subst (λ (p : Option Filter). IsHeld s.prefilter (dictionary_by s patterns) p) (sym made.1.0.prefilter) own.prefilter;
+      start_kind = made.0;
+      served = (nfa, own, made.1);
+    })
+    c.share.ensures.made
 
 pub returns-clause-refused : goal.returns-clause-refused
 returns-clause-refused c =

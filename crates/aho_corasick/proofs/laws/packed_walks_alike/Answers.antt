@@ -1,0 +1,5 @@
+use Rattle.aho_corasick.proofs.LawLemmas.{packed-alike}
+use Rattle.aho_corasick.proofs.laws.packed_walks_alike.Goals as goal
+
+pub returns : goal.returns
+returns c = packed-alike

@@ -1,0 +1,58 @@
+"""What `processes` and `large` share: the program, rule files, and how much memory a process has."""
+import fcntl
+import os
+import re
+import struct
+import subprocess
+import sys
+import termios
+import time
+
+REPOSITORY = os.path.dirname(os.path.dirname(os.path.abspath(__file__)))
+CRATE = f"{REPOSITORY}/crates/acsub"
+PROGRAM = f"{CRATE}/out/acsub"
+
+
+def programs(given):
+    """The paths that were given, or the program of this repository, proved and built."""
+    if given:
+        return [os.path.abspath(path) for path in given]
+    with open(f"{CRATE}/stdin", "rb") as stdin:
+        words = ["rt", "run", "--", "replace", "data/rules.txt"]
+        if subprocess.run(words, cwd=CRATE, stdin=stdin, stdout=sys.stderr).returncode:
+            sys.exit("the program was not built")
+    return [PROGRAM]
+
+
+def write_rules(path, pairs):
+    """Writes a rule file of pairs of bytes, and returns its path."""
+    with open(path, "wb") as file:
+        for pattern, replacement in pairs:
+            file.write(b"%s\t%s\n" % (pattern.hex().encode(), replacement.hex().encode()))
+    return path
+
+
+def engines(program):
+    """The words that `--engine` takes, as the help lists them."""
+    text = subprocess.run([program, "--help"], stdout=subprocess.PIPE, check=True).stdout.decode()
+    line = next(it for it in text.splitlines() if "--engine" in it)
+    return re.search(r"possible values: ([^\]]*)", line).group(1).split(", ")
+
+
+def memory(pid, name):
+    """A figure of /proc/PID/status in KiB: VmHWM is the peak, VmRSS what is touched now, VmPeak the addresses.
+
+    It is 0 where the process has ended, or isn't `acsub` yet.
+    """
+    try:
+        with open(f"/proc/{pid}/status") as file:
+            said = dict(line.split(":", 1) for line in file)
+    except (FileNotFoundError, ProcessLookupError):
+        return 0
+    return int(said[name].split()[0]) if said["Name"].strip() == "acsub" and name in said else 0
+
+
+def drain(child):
+    """Waits until a child has read all that was put into the pipe to it. It may still be at work on that."""
+    while child.poll() is None and struct.unpack("i", fcntl.ioctl(child.stdin, termios.FIONREAD, bytes(4)))[0]:
+        time.sleep(0.001)

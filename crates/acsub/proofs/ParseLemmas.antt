@@ -30,7 +30,7 @@ use Rattle.clap.specs.declared.error.kind.ErrorKind.TheVariants as kind
 use Rattle.acsub.specs.declared.words.WordsFault.{WordsFault}
 use Rattle.acsub.specs.declared.words.WordsFault.TheVariants.{Help, Bad, Memory, Pairing}
 use Rattle.acsub.specs.declared.words.TheConstants.{MOST_DEPTH}
-use Rattle.acsub.specs.Words.{IsWordsFault, IsTyped, Parses, engine_named, engine_asked, kind_named, match_kind_of, mode_named, mode_of, rules_path}
+use Rattle.acsub.specs.Words.{IsWordsFault, IsTyped, Parses, engine_named, engine_of, kind_named, match_kind_of, mode_named, mode_of, rules_path}
 use Rattle.std.proofs.Common.{lit<}
 use Rattle.acsub.proofs.PlaceLemmas.{same_fault, same_matches}
 use Rattle.acsub.proofs.TypedLemmas.{IsOwn, entry_there, first_accepted, has_value, same_reading}
@@ -214,7 +214,7 @@ module _ (old : Command) (lists : Lists) (names : HasNames lists) (is : app_of o
       choice kind_named 2 an_arg (codes "kind") lists.kinds kind_names own (ap (λ (x : Rule). x.id) r) (ap (λ (x : Rule). x.parser) r) (ap (λ (x : Rule). x.ignore_case) r) names.kinds refl
       (default_value 2 an_arg (codes "standard") (lit< tt) own (ap (λ (x : Rule). x.action) r) (ap (λ (x : Rule). x.range) r) (ap (λ (x : Rule). x.defaults) r))
 
-  engine_typed : is_some (engine_asked (rows_of (found_of m))) ≡ true
+  engine_typed : is_some (engine_of (rows_of (found_of m))) ≡ true
   engine_typed =
       let r : rule_of (slice_index_or (args_of old) 5 an_arg) ≡ engine_rule lists.engines = rule_at old lists is 5 an_arg (lit< tt) in
       let own = own_at old lists is 5 an_arg (lit< tt) refl refl in

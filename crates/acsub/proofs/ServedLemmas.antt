@@ -13,9 +13,9 @@ use Rattle.ac_noncontiguous.specs.Reads as reads
 use Rattle.ac_noncontiguous.specs.declared.error.BuildErrorKind.{BuildErrorKind}
 use Rattle.ac_noncontiguous.specs.declared.error.BuildErrorKind.TheVariants as limits
 use Rattle.ac_noncontiguous.specs.declared.nfa.NFA.{NFA}
-use Rattle.aho_corasick.specs.AhoCorasick.{built_as, engine_of, supported_by}
+use Rattle.aho_corasick.specs.AhoCorasick.{built_as, serving_engine, supported_by}
 use Rattle.aho_corasick.specs.Builder as front
-use Rattle.aho_corasick.specs.Engine.{kind_of}
+use Rattle.aho_corasick.specs.Engine.{kind_served}
 use Rattle.aho_corasick.specs.Served.{IsBuiltOf, IsDictionaryRefused, IsRefusedOf, IsServed, IsServedBy, ServesUnnamed, TakesDfa}
 use Rattle.aho_corasick.specs.declared.ahocorasick.AhoCorasick.{AhoCorasick}
 use Rattle.aho_corasick.specs.declared.ahocorasick.AhoCorasickKind.{AhoCorasickKind}
@@ -60,17 +60,17 @@ module _ (settings : Settings) (rules : List Rule) (patterns : List (Bor (List �
     pub built-serves : IsServing (record { settings = settings; rules = rules }) (built_as ac) (supported_by ac)
     built-serves = record {
       dictionary = built.served.2.0.dictionary ∙ made;
-      looks = λ by_dfa. dfa-deterministic (engine_of ac) (served-dfa settings rules from (kind_of (engine_of ac)) made built.served.2.1 by_dfa);
+      looks = λ by_dfa. dfa-deterministic (serving_engine ac) (served-dfa settings rules from (kind_served (serving_engine ac)) made built.served.2.1 by_dfa);
       start = subst (λ (k : StartKind). Serves k No) (sym built.start_kind) refl;
     }
 
     -- it is of the kind that the settings ask for
-    pub built-kind : IsAutomatonFor settings rules (kind_of (engine_of ac))
+    pub built-kind : IsAutomatonFor settings rules (kind_served (serving_engine ac))
     built-kind = (from, made, built.served.2.1)
 
     -- and its patterns passed no limit
     pub built-buildable : IsBuildable settings rules
-    built-buildable = λ named. (subst IsWithinLimits handed built.served.1.within, kind_of (engine_of ac), built-kind)
+    built-buildable = λ named. (subst IsWithinLimits handed built.served.1.within, kind_served (serving_engine ac), built-kind)
 
   -- what was refused passes a limit, or memory ended
   pub refused-fails : (error : BuildErrorKind) → settings.engine ≢ engines.Packed → IsRefusedOf (builder_settings settings) patterns error → FailsToBuild settings rules (not_built error)

@@ -11,8 +11,8 @@ use Rattle.ac_literal.specs.Packed.{Packed, search_kind}
 use Rattle.ac_automaton.specs.Automaton.{Built}
 use Rattle.ac_noncontiguous.specs.declared.error.BuildErrorKind.{BuildErrorKind}
 use Rattle.ac_noncontiguous.specs.declared.error.BuildErrorKind.TheVariants as limits
-use Rattle.aho_corasick.specs.AhoCorasick.{built_as, engine_of, supported_by}
-use Rattle.aho_corasick.specs.Engine.{kind_of}
+use Rattle.aho_corasick.specs.AhoCorasick.{built_as, serving_engine, supported_by}
+use Rattle.aho_corasick.specs.Engine.{kind_served}
 use Rattle.aho_corasick.specs.declared.ahocorasick.AhoCorasick.{AhoCorasick}
 use Rattle.acsub.specs.declared.error.RunError.{RunError}
 use Rattle.acsub.specs.declared.error.RunError.TheVariants as errors
@@ -78,7 +78,7 @@ FailsToBuild settings rules errors.Position = ⊥
 abbrev pub BuildsAutomaton : Settings → List Rule → Result AhoCorasick RunError → Type 0
 BuildsAutomaton settings rules (Ok automaton) =
     IsServing (record { settings = settings; rules = rules }) (built_as automaton) (supported_by automaton)
-    × IsAutomatonFor settings rules (kind_of (engine_of automaton))
+    × IsAutomatonFor settings rules (kind_served (serving_engine automaton))
     × IsBuildable settings rules
 BuildsAutomaton settings rules (Err error) = FailsToBuild settings rules error
 

@@ -72,8 +72,8 @@ rules_path rows = first_of (codes "rules") rows
 abbrev pub match_kind_of : List Row → Option MatchKind
 match_kind_of rows = option_and_then kind_named (first_of (codes "kind") rows)
 
-abbrev pub engine_asked : List Row → Option Engine
-engine_asked rows = option_and_then engine_named (first_of (codes "engine") rows)
+abbrev pub engine_of : List Row → Option Engine
+engine_of rows = option_and_then engine_named (first_of (codes "engine") rows)
 
 abbrev pub dense_depth_of : List Row → Option ℕ
 dense_depth_of rows = option_map number_of (one_of (codes "dense-depth") rows)
@@ -142,7 +142,7 @@ pub record AsksFor (rows : List Row) (w : Words) : Type 0 where
   pub rules : rules_path rows ≡ Some w.rules.now
   pub kind : match_kind_of rows ≡ Some w.settings.kind
   pub pairing : IsPairedBy rows w.settings.pairing
-  pub engine : engine_asked rows ≡ Some w.settings.engine
+  pub engine : engine_of rows ≡ Some w.settings.engine
   pub prefilter : w.settings.prefilter ≡ not (is_given (codes "no-prefilter") rows)
   pub dense_depth : dense_depth_of rows ≡ w.settings.dense_depth
   pub byte_classes : w.settings.byte_classes ≡ not (is_given (codes "no-byte-classes") rows)
@@ -152,7 +152,7 @@ pub record IsTyped (rows : List Row) : Type 0 where
   pub mode : is_some (mode_of rows) ≡ true
   pub rules : is_some (rules_path rows) ≡ true
   pub kind : is_some (match_kind_of rows) ≡ true
-  pub engine : is_some (engine_asked rows) ≡ true
+  pub engine : is_some (engine_of rows) ≡ true
   pub dense_depth : (text : Text) → one_of (codes "dense-depth") rows ≡ Some text → IsUnsignedIn 0 MOST_DEPTH text
 
 -- what is answered where these are the matches

@@ -9,7 +9,7 @@ ghost use Rattle.std.specs.Prelude.{◌≡◌, ◌∷◌, [], ◌++◌, ◌<◌,
 ghost use Rattle.clap.specs.Words.{first_of, rule_of};
 ghost use Rattle.acsub.specs.Command.{AddsEngine, AddsMatching, IsCommand, Shows, choice, flag, option, placed};
 ghost use Rattle.acsub.specs.Words.{AreTwoByTwo, ReadsMatches, IsWordsFault, IsTyped, Misspells, Pairs, Parses, Reads, SpellsPairs, rows_in};
-ghost use Rattle.acsub.specs.Words.{engine_named, engine_asked, hex_fault, is_given, kind_named, match_kind_of, mode_named, mode_of};
+ghost use Rattle.acsub.specs.Words.{engine_named, engine_of, hex_fault, is_given, kind_named, match_kind_of, mode_named, mode_of};
 
 use crate::settings::{Engine, Mode, Settings};
 use ac_input::pairing::{Pairing, PairingError};
@@ -204,7 +204,7 @@ fn asked_for<'a>(alloc: Global, matches: &ArgMatches<'a>) -> Result<Words<'a>, W
         mode: mode_of(matches).unwrap(),
         kind: match_kind_of(matches).unwrap(),
         pairing: pairing_of(alloc, matches)?,
-        engine: engine_asked(matches).unwrap(),
+        engine: engine_of(matches).unwrap(),
         prefilter: !is_given(matches, "no-prefilter"),
         dense_depth: matches.get_one::<usize>("dense-depth"),
         byte_classes: !is_given(matches, "no-byte-classes"),
@@ -234,8 +234,8 @@ fn match_kind_of(matches: &ArgMatches<'_>) -> Option<MatchKind>
     kind_named(text_of(matches, "kind")?)
 }
 
-fn engine_asked(matches: &ArgMatches<'_>) -> Option<Engine>
-    ensures { result ≡ engine_asked (rows_in matches.now) }
+fn engine_of(matches: &ArgMatches<'_>) -> Option<Engine>
+    ensures { result ≡ engine_of (rows_in matches.now) }
 {
     engine_named(text_of(matches, "engine")?)
 }

@@ -10,10 +10,10 @@ use Rattle.ac_automaton.specs.Automaton.{AnswersStart}
 use Rattle.aho_corasick.specs.declared.ahocorasick.AhoCorasickKind.TheVariants.{DFA}
 use Rattle.aho_corasick.specs.declared.engine.Engine.{Engine}
 use Rattle.aho_corasick.specs.declared.engine.Engine.TheVariants.{Noncontiguous, Contiguous, Dfa}
-use Rattle.aho_corasick.specs.Engine.{IsRead, built_as, kind_of, supported_by, HasStarts}
+use Rattle.aho_corasick.specs.Engine.{IsRead, built_as, kind_served, supported_by, HasStarts}
 
 -- a DFA looks at one state for a byte
-pub dfa-deterministic : (engine : Engine) → kind_of engine ≡ DFA → IsTrue (built_as engine).deterministic
+pub dfa-deterministic : (engine : Engine) → kind_served engine ≡ DFA → IsTrue (built_as engine).deterministic
 dfa-deterministic (Noncontiguous nfa) is = cc
 dfa-deterministic (Contiguous nfa) is = cc
 dfa-deterministic (Dfa dfa) is = refl

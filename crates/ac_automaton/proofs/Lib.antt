@@ -17,6 +17,7 @@ pub mod BufferLemmas
 pub mod OutputLemmas
 pub mod StreamTextLemmas
 pub mod PassLemmas
+pub mod ReadToMatchLemmas
 pub mod StreamLemmas
 pub mod SearchLemmas
 pub mod StreamCutLemmas

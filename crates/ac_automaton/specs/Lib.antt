@@ -19,6 +19,7 @@ pub mod Errors
 pub mod Automaton
 pub mod Named
 pub mod Starters
+pub mod Held
 pub mod Cursor
 pub mod Find
 pub mod Iter

@@ -8,16 +8,20 @@
 //! points: bytes that it skips cost no look at a state. Where the walk is back at the start of the automaton, nothing that was
 //! read can grow into a match any more, and the prefilter is asked again from there. Each walk ends further on than it began.
 //!
+//! Where a prefilter passes few bytes, to ask it costs more than it spares. Then a search of the standard kind leaves it for a while,
+//! and reads on to the next match: see [`Gain`].
+//!
 //! A prefilter may know the match itself. It is the best of the automaton's kind, so an earliest search, which stops at the first
 //! end, takes its place alone and walks from there.
-ghost use Rattle.std.specs.Prelude.{◌≡◌, ◌≢◌, ◌↔◌, ℕ, ◌≤◌, List, [], IfSome, IsTrue};
+ghost use Rattle.std.specs.Prelude.{◌≡◌, ◌≢◌, ◌↔◌, ℕ, ◌<◌, ◌≤◌, List, [], IfSome, IsTrue};
 ghost use Rattle.ac_automaton.specs.Automaton.{AnswersFind, CostsFind, IsFindCost, IsFound, IsState, kind_asked};
-ghost use Rattle.ac_automaton.specs.Cursor.{IsFirstAt, IsReachedWithin, IsTaken, IsWholeTaken, StandsIn};
+ghost use Rattle.ac_automaton.specs.Cursor.{IsFirstAt, IsReachedWithin, IsTaken, IsWholeTaken, ReadsFurther, StandsIn};
 ghost use Rattle.ac_automaton.specs.Find.{BackIsEmpty, CandidateEnds, IsCandidateCost, IsSearchCost, IsUsable, IsWalkCost, WalkSays};
 
 use crate::automaton::Automaton;
-use crate::cursor::{Cursor, End, read_on};
+use crate::cursor::{Cursor, End, read_on, read_to_match};
 use crate::error::MatchError;
+use crate::gain::Gain;
 use ac_input::primitives::StateID;
 use ac_input::search::{Anchored, Candidate, Input, Match, MatchKind, Span};
 use ac_input::steps::Steps;
@@ -92,12 +96,35 @@ pub(crate) fn is_back<A: Automaton>(automaton: &A, input: &Input<'_>, sid: State
     }
 }
 
-/// Walks from the start state on, over what is left of the span from a place on.
+/// Reads on to the next special state, or to the end of the span. Under the standard kind a start is none up to a place.
+fn read_past_starts<A: Automaton>(
+    automaton: &A,
+    input: &Input<'_>,
+    cursor: Cursor,
+    until: usize,
+    steps: &mut Steps,
+) -> Cursor
+    requires stands { StandsIn (A.built automaton.now) (A.Reaches automaton.now) input.now cursor }
+    requires open { cursor.at < input.now.span.end }
+    ensures stands { StandsIn (A.built automaton.now) (A.Reaches automaton.now) input.now result }
+    ensures from { result.from ≡ cursor.from }
+    ensures on { ReadsFurther (A.built automaton.now) input.now cursor result steps.old steps.new }
+{
+    let is_free = input.get_anchored() == Anchored::No;
+    if cursor.at < until && is_free && automaton.match_kind() == MatchKind::Standard {
+        return read_to_match(automaton, input, cursor, until, steps);
+    }
+    read_on(automaton, input, cursor, steps)
+}
+
+/// Walks from the start state on, over what is left of the span from a place on. Under the standard kind it doesn't stop at a start
+/// before `until`.
 fn walk<A: Automaton>(
     automaton: &A,
     input: &Input<'_>,
     start: StateID,
     at: usize,
+    until: usize,
     steps: &mut Steps,
 ) -> End<Option<Match>>
     requires starts { A.Reaches automaton.now input.now.anchored [] start }
@@ -124,7 +151,7 @@ fn walk<A: Automaton>(
         if best.is_none() && cursor.at > at && is_back(automaton, input, cursor.sid) {
             return End::Idle(cursor.at);
         }
-        cursor = read_on(automaton, input, cursor, steps);
+        cursor = read_past_starts(automaton, input, cursor, until, steps);
     }
 }
 
@@ -191,6 +218,7 @@ fn search_from_candidate<A: Automaton>(
     input: &Input<'_>,
     start: StateID,
     at: usize,
+    gain: &mut Gain,
     steps: &mut Steps,
 ) -> End<Option<Match>>
     requires made { IfSome prefilter (λ p. p.now.dictionary ≡ (A.built automaton.now).dictionary) }
@@ -203,11 +231,17 @@ fn search_from_candidate<A: Automaton>(
     ensures work { IsSearchCost (A.built automaton.now) input.now at result steps.old steps.new }
 {
     let Some(prefilter) = prefilter else {
-        return walk(automaton, input, start, at, steps);
+        return walk(automaton, input, start, at, at, steps);
     };
+    if let Some(until) = gain.leaves(at) {
+        return walk(automaton, input, start, at, until, steps);
+    }
     match candidate(automaton, prefilter, input, at, steps) {
         End::Found(found) => End::Found(found),
-        End::Idle(place) => walk(automaton, input, start, place, steps),
+        End::Idle(place) => {
+            gain.passed(place.saturating_sub(at));
+            walk(automaton, input, start, place, place, steps)
+        }
     }
 }
 
@@ -227,8 +261,9 @@ fn search<A: Automaton>(
     ensures cost { IsFindCost (A.built automaton.now) input.now steps.old steps.new result }
 {
     let mut at = input.start();
+    let mut gain = Gain::new(automaton.match_kind());
     loop {
-        match search_from_candidate(automaton, prefilter, input, start, at, steps) {
+        match search_from_candidate(automaton, prefilter, input, start, at, &mut gain, steps) {
             End::Found(found) => return found,
             End::Idle(place) => at = place,
         }

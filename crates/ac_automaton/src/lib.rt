@@ -6,6 +6,8 @@ mod buffer;
 mod cursor;
 pub mod error;
 mod find;
+mod gain;
+pub mod held;
 pub mod iter;
 pub mod output;
 pub mod overlapping;

@@ -19,7 +19,7 @@ use Rattle.ac_input.proofs.SomeLemmas.{owns-some}
 -- ---- bytes between boundaries
 
 -- a class rises, from a byte to a later one
-class-later : (boundaries : List Bool) (classes : List ℕ) → AreClassesOf boundaries classes → (more b : ℕ) → b + more < 256 → class classes b ≤ class classes (b + more)
+pub class-later : (boundaries : List Bool) (classes : List ℕ) → AreClassesOf boundaries classes → (more b : ℕ) → b + more < 256 → class classes b ≤ class classes (b + more)
 class-later boundaries classes h zero b small =
     let e : b + 0 ≡ b = omega arith in
     let same : class classes (b + 0) ≡ class classes b = ap (class classes) e in
@@ -90,7 +90,7 @@ take-among (suc n) (x ∷ xs) y c =
     (Contains-cases x (take n xs) y c)
 
 -- no entered pattern begins with a text that ends in a byte of none
-unknown-ends : (m : Dictionary) (text : List ℕ) (b : ℕ) → IsOwnInverse m.pairing → (¬ IsByteOf m b) → ¬ BeginsEntered m (text ++ b ∷ [])
+pub unknown-ends : (m : Dictionary) (text : List ℕ) (b : ℕ) → IsOwnInverse m.pairing → (¬ IsByteOf m b) → ¬ BeginsEntered m (text ++ b ∷ [])
 unknown-ends m [] b inverse none begins =
     let r = last-same m.pairing [] b (take 1 begins.1) begins.3.1 in
     none (begins.0, begins.1, r.0, begins.2, take-among 1 begins.1 r.0 r.1, same-back m.pairing inverse b r.0 r.2)

@@ -16,7 +16,7 @@ use Rattle.ac_noncontiguous.specs.declared.trie.State.{State}
 use Rattle.ac_noncontiguous.specs.declared.compiler.numbering.Listed.{Listed}
 use Rattle.ac_noncontiguous.specs.Tree.{IsTree, depth}
 use Rattle.ac_noncontiguous.specs.Order.{ComesBefore, IsBreadthFirst}
-use Rattle.ac_noncontiguous.specs.Numbering.{range_len, is_chosen, chosen, numbered, AreListed, ArePlaces, AreFirstNumbers, AreNumbers, IsLastMatch}
+use Rattle.ac_noncontiguous.specs.Numbering.{range_len, is_chosen, chosen, numbered, AreListed, ArePlaces, AreFirstNumbers, AreTrieNumbers, IsLastMatch}
 use Rattle.ac_noncontiguous.proofs.OrderLemmas.{index-last}
 
 -- ---- the order
@@ -293,7 +293,7 @@ last-listed ranges order places max listed matching none_there =
     }
 
 -- the numbers of the trie states
-pub numbers-first : (states : ℕ) (at of : List ℕ) (start : ℕ) → 0 < states → ArePlaces states at start → length of ≡ states → AreFirstNumbers at 2 of → AreNumbers states at of start
+pub numbers-first : (states : ℕ) (at of : List ℕ) (start : ℕ) → 0 < states → ArePlaces states at start → length of ≡ states → AreFirstNumbers at 2 of → AreTrieNumbers states at of start
 numbers-first states at of start some p counted f =
     record {
       counted = counted;

@@ -1,11 +1,13 @@
 -- What the read calls take from the tables.
-use Rattle.std.proofs.Common.{◌≡◌, ◌≢◌, ℕ, zero, suc, ◌+◌, ◌-◌, ◌<◌, ◌≤◌, map, List, [], ◌∷◌, ◌++◌, length, take, drop, get_or, slice_get, Some, None, refl, sym, ap, subst, ◌∙◌, inl, inr, ⊎_elim, arith, length-drop}
+use Rattle.std.proofs.Common.{◌≡◌, ◌≢◌, ℕ, zero, suc, ◌+◌, ◌-◌, ◌<◌, ◌≤◌, map, List, [], ◌∷◌, ◌++◌, length, take, drop, get_or, slice_get, Option, Some, None, refl, sym, ap, subst, ◌∙◌, inl, inr, ⊎_elim, arith, length-drop}
 use Rattle.std.specs.Coded.{le_prop, Coded-set, coded_ℕ, coded_list, coded_option}
 use Rattle.std.proofs.Math.Logic.{∥∥₁_elim, ∥∥₁_map}
 use Rattle.std.proofs.lemmas.Bool.{cases_lt, cases_eq}
 use Rattle.std.proofs.lemmas.List.{nil_from_length, length-take-le, get_or-take, get_or-drop, length-map}
 use Rattle.std.proofs.lemmas.Option.{slice_get_within, slice_get-get_or, slice_get-map, same_Some}
 use Rattle.std.specs.Prelude.{option_map}
+use Rattle.ac_automaton.specs.Held.{last_special_of}
+use Rattle.ac_input.specs.Candidate.{Filter}
 use Rattle.ac_input.specs.declared.search.Anchored.{Anchored}
 use Rattle.ac_input.specs.declared.search.Anchored.TheVariants.{No, Yes}
 use Rattle.ac_input.specs.declared.steps.Steps.{Steps}
@@ -27,7 +29,7 @@ use Rattle.ac_noncontiguous.specs.declared.nfa.NFA.{NFA}
 use Rattle.ac_noncontiguous.specs.declared.nfa.tables.State.{State}
 use Rattle.ac_noncontiguous.specs.declared.nfa.tables.Transition.{Transition}
 use Rattle.ac_noncontiguous.specs.declared.nfa.tables.Tables.{Tables}
-use Rattle.ac_noncontiguous.specs.Nfa.{state_of, transitions_from, matches_from, matches_len, no_transition, byte_at, next_at, edge_of, IsEdge, AreTexts, AreTransitions, AreRows, AreFailures, AreLists, AreTablesOf, last_special}
+use Rattle.ac_noncontiguous.specs.Nfa.{state_of, transitions_from, matches_from, matches_len, no_transition, byte_at, next_at, edge_of, IsEdge, AreTexts, AreTransitions, AreRows, AreFailures, AreLists, AreTablesOf}
 use Rattle.ac_noncontiguous.specs.Lookups.{IsKept, IsVisited, other_start, naming_of, IsNamingOf, LeadsNext, AreSame}
 use Rattle.ac_noncontiguous.specs.Reads.{dictionary, built_as, matches_at, is_start_at, is_special_at, IsRead}
 use Rattle.ac_noncontiguous.specs.ReadCalls.{state_len, fail_in, depth_in, edges_in, special_in, CountsIn, StandFor, TextsBegin, FailsIn, ListsIn, IsFull, AreLeading, EdgesLeadIn, MayBeMet, LeadsIn, AreRead, OrderedIn, AlikeIn, SpecialIn}
@@ -260,8 +262,8 @@ special-in nfa text t =
           let some = t.lists.some sid past (kept sid below) in
           ((λ has. some.0 (omega (arith, long))), (λ low. omega (arith, long, some.1 low)));
       last_match = t.lists.greatest;
-      without_prefilter = λ none. nfa.special ∙ ap (last_special nfa.tables) none;
-      with_prefilter = λ f held. nfa.special ∙ ap (last_special nfa.tables) held;
+      without_prefilter = λ none. nfa.special ∙ ap (λ (f : Option Filter). last_special_of f (nfa.tables.start + 1) nfa.tables.max_match) none;
+      with_prefilter = λ f held. nfa.special ∙ ap (λ (f : Option Filter). last_special_of f (nfa.tables.start + 1) nfa.tables.max_match) held;
     }
 
 -- ---- the order of the states

@@ -7,6 +7,7 @@ use Rattle.std.proofs.lemmas.Bool.{cases_lt, cases_eq, or_cases, eqb-true}
 use Rattle.std.proofs.lemmas.Bool.Decides.{nat_tests}
 use Rattle.std.proofs.lemmas.List.{length-take-le, get_or-take, get_or-drop}
 use Rattle.std.proofs.lemmas.Option.{slice_get_read}
+use Rattle.ac_automaton.specs.Held.{last_special_of}
 use Rattle.ac_input.specs.declared.primitives.number.TheConstants.{GREATEST}
 use Rattle.ac_input.specs.declared.search.Anchored.{Anchored}
 use Rattle.ac_input.specs.declared.steps.Steps.{Steps}
@@ -22,7 +23,7 @@ use Rattle.ac_automaton.proofs.NamedLemmas.{reached-met, state-met, read-start, 
 use Rattle.ac_noncontiguous.specs.declared.nfa.NFA.{NFA}
 use Rattle.ac_noncontiguous.specs.declared.nfa.tables.State.{State}
 use Rattle.ac_noncontiguous.specs.declared.nfa.tables.Tables.{Tables}
-use Rattle.ac_noncontiguous.specs.Nfa.{state_of, matches_from, matches_len, list_of, last_special, AreTables, AreTablesOf}
+use Rattle.ac_noncontiguous.specs.Nfa.{state_of, matches_from, matches_len, list_of, AreTables, AreTablesOf}
 use Rattle.ac_noncontiguous.specs.Lookups.{IsKept, IsVisited, other_start, naming_of, IsNamingOf, LeadsNext}
 use Rattle.ac_noncontiguous.specs.Reads.{dictionary, built_as, matches_at, is_start_at, is_special_at, IsRead}
 use Rattle.ac_noncontiguous.proofs.NextLemmas.{state-some, state-none, is-dead, is-text, is-met, met-is, of-names}
@@ -108,11 +109,11 @@ start-is nfa sid h =
     (or_cases (sid == nfa.tables.start) (sid == nfa.tables.start + 1) h)
 
 -- what the last special state is without a prefilter and with one
-pub last-matches : (tables : Tables) (held : Option Filter) (max : ℕ) → max ≡ last_special tables held → held ≡ None → max ≡ tables.max_match
+pub last-matches : (tables : Tables) (held : Option Filter) (max : ℕ) → max ≡ last_special_of held (tables.start + 1) tables.max_match → held ≡ None → max ≡ tables.max_match
 last-matches tables None max is none = is
 last-matches tables (Some f) max is none = absurd (let e : Some f ≡ None = none in cc)
 
-pub last-start : (tables : Tables) (held : Option Filter) (max : ℕ) → max ≡ last_special tables held → held ≢ None → max ≡ tables.start + 1
+pub last-start : (tables : Tables) (held : Option Filter) (max : ℕ) → max ≡ last_special_of held (tables.start + 1) tables.max_match → held ≢ None → max ≡ tables.start + 1
 last-start tables None max is some = absurd (some refl)
 last-start tables (Some f) max is some = is
 

@@ -162,12 +162,6 @@ pub record AreTables (m : Dictionary) (text : ℕ → List ℕ) (tables : Tables
 abbrev pub AreTablesOf : Dictionary → Tables → Type 0
 AreTablesOf m tables = (text : ℕ → List ℕ) × AreTables m text tables
 
--- The greatest state at which a search has more to do than to read on: the anchored start, where a prefilter is held, else the last
--- one that matches.
-abbrev pub last_special : Tables → Option Filter → ℕ
-last_special tables None = tables.max_match
-last_special tables (Some f) = tables.start + 1
-
 -- The prefilter, if one is held, is made for the automaton's dictionary.
 abbrev pub IsHeldFor : Dictionary → Option Filter → Type 0
 IsHeldFor m held = (f : Filter) → held ≡ Some f → f.dictionary ≡ m

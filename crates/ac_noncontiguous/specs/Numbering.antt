@@ -58,7 +58,7 @@ pub record AreFirstNumbers (at : List ℕ) (from : ℕ) (of : List ℕ) : Type 0
   pub least : (j : ℕ) → from ≤ j → j < length at → (from ≤ slice_index of (slice_index at j)) × (slice_index of (slice_index at j) ≤ j)
 
 -- The numbers of so many trie states. The start has that of the unanchored one.
-pub record AreNumbers (states : ℕ) (at of : List ℕ) (start : ℕ) : Type 0 where
+pub record AreTrieNumbers (states : ℕ) (at of : List ℕ) (start : ℕ) : Type 0 where
   pub counted : length of ≡ states
   pub numbers : (i : ℕ) → i < states → (1 < slice_index of i) × (slice_index of i < length at) × (slice_index of i ≢ start + 1) × (slice_index at (slice_index of i) ≡ i)
 
@@ -70,4 +70,4 @@ pub record IsLastMatch (ranges : List Range) (at : List ℕ) (start max_match : 
 -- The states in the order of their numbers, and the numbers of so many trie states.
 pub record IsNumbering (states : ℕ) (numbering : Numbering) : Type 0 where
   pub places : ArePlaces states numbering.at.items numbering.start
-  pub numbers : AreNumbers states numbering.at.items numbering.of.items numbering.start
+  pub numbers : AreTrieNumbers states numbering.at.items numbering.of.items numbering.start

@@ -11,19 +11,20 @@ pub mod pattern_lens;
 pub mod read;
 pub(crate) mod tables;
 
-ghost use Rattle.std.specs.Prelude.{◌≡◌, ◌≤◌, ◌+◌, if◌then◌else◌};
+ghost use Rattle.std.specs.Prelude.{◌≡◌, ◌+◌};
 ghost use Rattle.std.proofs.Props.{props};
+ghost use Rattle.ac_automaton.specs.Held.{last_special_of};
 ghost use Rattle.ac_automaton.specs.Starters.{SkipsIdle};
 ghost use Rattle.ac_input.specs.Classes.{AreByteClasses};
 ghost use Rattle.ac_input.specs.Dictionary.{dictionary_of};
 ghost use Rattle.ac_input.specs.Limits.{IsWithinLimits};
 ghost use Rattle.ac_input.specs.Pairing.{IsPairing};
-ghost use Rattle.ac_input.specs.declared.primitives.number.TheConstants.{GREATEST};
-ghost use Rattle.ac_noncontiguous.specs.Nfa.{AreTablesOf, last_special, IsHeldFor, AreParts};
+ghost use Rattle.ac_noncontiguous.specs.Nfa.{AreTablesOf, IsHeldFor, AreParts};
 ghost use Rattle.ac_noncontiguous.specs.Lookups.{IsIdle};
 
 use crate::nfa::pattern_lens::PatternLens;
 use crate::nfa::tables::Tables;
+use ac_automaton::held::last_special;
 use ac_automaton::starters::Starters;
 use ac_input::pairing::Pairing;
 use ac_input::primitives::StateID;
@@ -45,21 +46,9 @@ pub struct NFA {
     ghost within: { ∥ IsWithinLimits (dictionary_of lens pairing kind) ∥₁ },
     ghost stands: { ∥ AreTablesOf (dictionary_of lens pairing kind) tables ∥₁ },
     ghost classed: { ∥ AreByteClasses (dictionary_of lens pairing kind) tables.classes ∥₁ },
-    ghost special: { max_special ≡ last_special tables prefilter },
+    ghost special: { max_special ≡ last_special_of prefilter (tables.start + 1) tables.max_match },
     ghost skips: { ∥ SkipsIdle (IsIdle tables) starters ∥₁ },
     ghost held: { IsHeldFor (dictionary_of lens pairing kind) prefilter } by { Prim.hlevel props },
-}
-
-/// The last state at which a search has more to do than to read on.
-fn last_special_of(tables: &Tables, held: bool) -> StateID
-    requires { tables.now.start + 1 ≤ GREATEST }
-    ensures { result ≡ (if held then tables.now.start + 1 else tables.now.max_match) }
-{
-    if held {
-        StateID::must(tables.start.one_more())
-    } else {
-        tables.max_match
-    }
 }
 
 impl NFA {
@@ -76,7 +65,8 @@ impl NFA {
         requires { AreParts (dictionary_of lens pairing kind) tables prefilter }
         ensures { IsMadeOf (dictionary_of lens pairing kind) tables prefilter result }
     {
-        let max_special = last_special_of(&tables, prefilter.is_some());
+        let start_anchored = StateID::must(tables.start.one_more());
+        let max_special = last_special(&prefilter, start_anchored, tables.max_match);
         let starters = tables.starters();
         NFA {
             tables,

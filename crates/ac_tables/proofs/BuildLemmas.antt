@@ -7,14 +7,14 @@ use Rattle.std.proofs.lemmas.List.{append-nil, drop_all, drop_more, take_more, m
 use Rattle.std.proofs.lemmas.List.Elements.{All-map, All-from_get_or}
 use Rattle.std.proofs.lemmas.Option.{slice_get-get_or}
 use Rattle.ac_input.specs.Alphabet.{class, alphabet_len, IsClasses}
+use Rattle.ac_input.proofs.AlphabetLemmas.{class-within}
 use Rattle.ac_noncontiguous.specs.declared.nfa.NFA.{NFA}
 use Rattle.ac_noncontiguous.specs.Reads.{matches_at}
 use Rattle.ac_noncontiguous.specs.ReadCalls.{fail_in, depth_in, edges_in, EdgesLeadIn}
 use Rattle.ac_tables.specs.Words.{StateParts, words_of}
-use Rattle.ac_tables.specs.ContiguousTable.{placed, parts_of, place_in, words_at, words_before}
+use Rattle.ac_tables.specs.ContiguousTable.{placed_edge, parts_of, place_in, words_at, words_before}
 use Rattle.ac_tables.specs.ContiguousBuild.{ArePlacesIn, AreReadTo, IsKnown, AreKnown, IsStateWritten}
 use Rattle.ac_tables.proofs.LenLemmas.{not-equal}
-use Rattle.ac_tables.proofs.EntryLemmas.{class-fits}
 
 -- ---- the transitions, one after another
 
@@ -36,20 +36,20 @@ read-more classes place edges done old new byte next own at h is is_own is_at =
     let n = length done in
     let first = left-first edges n (byte, next) new (sym is ∙ h.rest) in
     let long : length (done ++ (own, at) ∷ []) ≡ n + 1 = length-append done ((own, at) ∷ []) in
-    let one : (own, at) ≡ placed classes place (byte, next) = ap (λ (c : ℕ). (c, at)) is_own ∙ ap (λ (p : ℕ). (class classes byte, p)) is_at in
-    let both : done ++ (own, at) ∷ [] ≡ map (placed classes place) (take (n + 1) edges) =
+    let one : (own, at) ≡ placed_edge classes place (byte, next) = ap (λ (c : ℕ). (c, at)) is_own ∙ ap (λ (p : ℕ). (class classes byte, p)) is_at in
+    let both : done ++ (own, at) ∷ [] ≡ map (placed_edge classes place) (take (n + 1) edges) =
     ap (λ (es : List (ℕ × ℕ)). es ++ (own, at) ∷ []) h.read
-    ∙ ap (λ (e : ℕ × ℕ). map (placed classes place) (take n edges) ++ e ∷ []) one
-    ∙ sym (ap (map (placed classes place)) first.3 ∙ map-append (placed classes place) (take n edges) ((byte, next) ∷ [])) in
+    ∙ ap (λ (e : ℕ × ℕ). map (placed_edge classes place) (take n edges) ++ e ∷ []) one
+    ∙ sym (ap (map (placed_edge classes place)) first.3 ∙ map-append (placed_edge classes place) (take n edges) ((byte, next) ∷ [])) in
     subst (λ (k : ℕ). AreReadTo classes place edges k (done ++ (own, at) ∷ []) new) (sym long)
     (record { read = both; rest = first.2; within = let lt = first.0 in omega (arith, lt) })
 
 -- where none is left all are read
-pub read-all : (classes : List ℕ) (place : ℕ → ℕ) (edges done old : List (ℕ × ℕ)) (n : ℕ) → AreReadTo classes place edges n done old → old ≡ [] → done ≡ map (placed classes place) edges
+pub read-all : (classes : List ℕ) (place : ℕ → ℕ) (edges done old : List (ℕ × ℕ)) (n : ℕ) → AreReadTo classes place edges n done old → old ≡ [] → done ≡ map (placed_edge classes place) edges
 read-all classes place edges done old n h none =
     ⊎_elim
     (λ (lt : n < length edges). absurd (by lt))
-    (λ (ge : length edges ≤ n). h.read ∙ ap (map (placed classes place)) (take_all n edges ge))
+    (λ (ge : length edges ≤ n). h.read ∙ ap (map (placed_edge classes place)) (take_all n edges ge))
     (cases_lt n (length edges))
   where
     by : n < length edges → ⊥
@@ -61,28 +61,28 @@ read-all classes place edges done old n h none =
 -- ---- the words of a state
 
 -- by places that are the same for the next states
-map-same : (classes : List ℕ) (f g : ℕ → ℕ) (edges : List (ℕ × ℕ)) → ((k b n : ℕ) → slice_get edges k ≡ Some (b, n) → f n ≡ g n) → map (placed classes f) edges ≡ map (placed classes g) edges
+map-same : (classes : List ℕ) (f g : ℕ → ℕ) (edges : List (ℕ × ℕ)) → ((k b n : ℕ) → slice_get edges k ≡ Some (b, n) → f n ≡ g n) → map (placed_edge classes f) edges ≡ map (placed_edge classes g) edges
 map-same classes f g [] h = refl
 map-same classes f g (edge ∷ edges) h =
-    ap (λ (p : ℕ). (class classes edge.0, p) ∷ map (placed classes f) edges) (h 0 edge.0 edge.1 refl)
-    ∙ ap (λ (es : List (ℕ × ℕ)). placed classes g edge ∷ es) (map-same classes f g edges (λ k b n is. h (suc k) b n is))
+    ap (λ (p : ℕ). (class classes edge.0, p) ∷ map (placed_edge classes f) edges) (h 0 edge.0 edge.1 refl)
+    ∙ ap (λ (es : List (ℕ × ℕ)). placed_edge classes g edge ∷ es) (map-same classes f g edges (λ k b n is. h (suc k) b n is))
 
 -- what is known of a state, part by part
 abbrev parts_by : Bool → ℕ → List (ℕ × ℕ) → List ℕ → StateParts
 parts_by shallow fail edges matches = record { shallow = shallow; fail = fail; edges = edges; matches = matches }
 
 -- what was read of a state are its words
-pub state-written : (nfa : NFA) (dense_depth sid alphabet fail : ℕ) (classes places before after matches : List ℕ) (edges : List (ℕ × ℕ)) (shallow : Bool) → ArePlacesIn nfa dense_depth classes places → sid ≢ 1 → IsKnown nfa sid → alphabet ≡ alphabet_len classes → shallow ≡ nat_lt (depth_in nfa sid) dense_depth → fail ≡ slice_index places (fail_in nfa sid) → edges ≡ map (placed classes (slice_index places)) (edges_in nfa sid) → matches ≡ matches_at nfa sid → after ≡ before ++ words_of alphabet (parts_by shallow fail edges matches) → IsStateWritten nfa dense_depth classes sid before after
+pub state-written : (nfa : NFA) (dense_depth sid alphabet fail : ℕ) (classes places before after matches : List ℕ) (edges : List (ℕ × ℕ)) (shallow : Bool) → ArePlacesIn nfa dense_depth classes places → sid ≢ 1 → IsKnown nfa sid → alphabet ≡ alphabet_len classes → shallow ≡ nat_lt (depth_in nfa sid) dense_depth → fail ≡ slice_index places (fail_in nfa sid) → edges ≡ map (placed_edge classes (slice_index places)) (edges_in nfa sid) → matches ≡ matches_at nfa sid → after ≡ before ++ words_of alphabet (parts_by shallow fail edges matches) → IsStateWritten nfa dense_depth classes sid before after
 state-written nfa dense_depth sid alphabet fail classes places before after matches edges shallow h stands known is_alphabet is_shallow is_fail is_edges is_matches is =
     let place = place_in nfa dense_depth classes in
     let own_fail : fail ≡ place (fail_in nfa sid) = is_fail ∙ h.at (fail_in nfa sid) known.fails.within in
-    let own_edges : edges ≡ map (placed classes place) (edges_in nfa sid) = is_edges ∙ map-same classes (slice_index places) place (edges_in nfa sid) (λ k b n e. h.at n (known.edges.within k b n e).1) in
+    let own_edges : edges ≡ map (placed_edge classes place) (edges_in nfa sid) = is_edges ∙ map-same classes (slice_index places) place (edges_in nfa sid) (λ k b n e. h.at n (known.edges.within k b n e).1) in
     let own = parts_of nfa dense_depth classes place sid in
     let same : parts_by shallow fail edges matches ≡ own =
     ap (λ (b : Bool). parts_by b fail edges matches) is_shallow
     ∙ ap (λ (f : ℕ). parts_by (nat_lt (depth_in nfa sid) dense_depth) f edges matches) own_fail
     ∙ ap (λ (es : List (ℕ × ℕ)). parts_by (nat_lt (depth_in nfa sid) dense_depth) (place (fail_in nfa sid)) es matches) own_edges
-    ∙ ap (λ (ns : List ℕ). parts_by (nat_lt (depth_in nfa sid) dense_depth) (place (fail_in nfa sid)) (map (placed classes place) (edges_in nfa sid)) ns) is_matches in
+    ∙ ap (λ (ns : List ℕ). parts_by (nat_lt (depth_in nfa sid) dense_depth) (place (fail_in nfa sid)) (map (placed_edge classes place) (edges_in nfa sid)) ns) is_matches in
     let words : words_of alphabet (parts_by shallow fail edges matches) ≡ words_at nfa dense_depth classes sid =
     ap (λ (a : ℕ). words_of a (parts_by shallow fail edges matches)) is_alphabet
     ∙ ap (words_of (alphabet_len classes)) same
@@ -97,13 +97,13 @@ fail-written nfa dense_depth sid classes words is =
     record { words = sym (ap (λ (ws : List ℕ). words ++ ws) none ∙ append-nil words); known = λ stands. absurd (stands is) }
 
 -- its classes are of the alphabet
-pub read-fits : (nfa : NFA) (sid alphabet : ℕ) (classes : List ℕ) (place : ℕ → ℕ) → IsClasses classes → EdgesLeadIn nfa sid → alphabet ≡ alphabet_len classes → All (λ edge. edge.0 < alphabet) (map (placed classes place) (edges_in nfa sid))
+pub read-fits : (nfa : NFA) (sid alphabet : ℕ) (classes : List ℕ) (place : ℕ → ℕ) → IsClasses classes → EdgesLeadIn nfa sid → alphabet ≡ alphabet_len classes → All (λ edge. edge.0 < alphabet) (map (placed_edge classes place) (edges_in nfa sid))
 read-fits nfa sid alphabet classes place are edges is =
-    All-map (λ (edge : ℕ × ℕ). edge.0 < alphabet) (placed classes place) (edges_in nfa sid)
+    All-map (λ (edge : ℕ × ℕ). edge.0 < alphabet) (placed_edge classes place) (edges_in nfa sid)
     (All-from_get_or (λ (edge : ℕ × ℕ). class classes edge.0 < alphabet) (edges_in nfa sid) (0, 0) (λ i lt.
     let edge = get_or (edges_in nfa sid) i (0, 0) in
     let small = (edges.within i edge.0 edge.1 (slice_get-get_or (edges_in nfa sid) i (0, 0) lt)).0 in
-    let fits = class-fits classes are edge.0 small in
+    let fits = class-within classes edge.0 are small in
     omega (arith, fits, is)))
 
 -- ---- all states

@@ -1,5 +1,5 @@
 -- How large the table of an automaton is, and what is built of it.
-use Rattle.std.proofs.Common.{◌≡◌, ℕ, zero, suc, ◌+◌, ◌-◌, ◌*◌, ◌^◌, ◌<◌, ◌≤◌, Bool, true, false, List, length, Option, inl, inr, ⊎_elim, refl, sym, ap, ap₂, subst, ◌∙◌, arith}
+use Rattle.std.proofs.Common.{◌≡◌, ℕ, ◌+◌, ◌-◌, ◌*◌, ◌^◌, ◌<◌, ◌≤◌, Bool, true, false, List, length, Option, inl, inr, ⊎_elim, refl, sym, ap, ap₂, subst, ◌∙◌, arith}
 use Rattle.std.specs.Prelude.{◌/◌}
 use Rattle.std.specs.Coded.{le_prop}
 use Rattle.std.proofs.Math.Logic.{∥∥₁_elim, ∥∥₁_map, ∥∥₁_prop}
@@ -7,12 +7,13 @@ use Rattle.ac_input.specs.declared.primitives.number.TheConstants.{GREATEST}
 use Rattle.ac_input.specs.declared.search.Anchored.{Anchored}
 use Rattle.ac_input.specs.declared.search.StartKind.{StartKind}
 use Rattle.ac_input.specs.declared.search.StartKind.TheVariants as starts
-use Rattle.ac_input.specs.Alphabet.{class, alphabet_len, AreClassesOf, IsLeastExponent, IsLeastPowerOfTwo}
+use Rattle.ac_input.specs.Alphabet.{class, alphabet_len, IsLeastExponent, IsLeastPowerOfTwo}
 use Rattle.ac_input.specs.Candidate.{Filter}
 use Rattle.ac_input.specs.Classes.{AreByteClasses}
 use Rattle.ac_input.specs.Dfa.{dfa_states, IsDfaSize, IsDfaTooLarge}
 use Rattle.ac_input.specs.Dictionary.{Dictionary}
 use Rattle.ac_input.specs.Input.{is_anchored}
+use Rattle.ac_input.proofs.ClassLemmas.{class-later}
 use Rattle.ac_input.proofs.DfaLemmas.{dfa-one}
 use Rattle.ac_noncontiguous.specs.declared.error.BuildErrorKind.{BuildErrorKind}
 use Rattle.ac_noncontiguous.specs.declared.error.BuildErrorKind.TheVariants.{StateIDOverflow, PatternIDOverflow, PatternTooLong, Memory}
@@ -26,8 +27,9 @@ use Rattle.ac_tables.specs.declared.dfa.DFA.{DFA}
 use Rattle.ac_tables.specs.DfaBuild.{Settings, IsDfaOf, IsDfaRefused, IsTooLargeOr}
 use Rattle.ac_tables.specs.DfaLists.{AreListsOf}
 use Rattle.ac_tables.specs.DfaReads.{IsMadeOf}
-use Rattle.ac_tables.specs.DfaMade.{AreChosen, nfa_start_of, IsDfaTableOf, IsTableFor, IsTableRefused}
+use Rattle.ac_tables.specs.DfaMade.{nfa_start_of, IsDfaTableOf, IsTableFor, IsTableRefused}
 use Rattle.ac_tables.specs.DfaTable.{dfa_number_of, stride_of, AreTransitionsOf, AreSomeRows, AreDfaParts}
+use Rattle.ac_tables.specs.TableClasses.{AreClassesFor}
 use Rattle.ac_tables.specs.Filling.{RowPlan, IsFit, IsOverflow, AreRowsUpTo}
 use Rattle.ac_tables.proofs.CellLemmas.{starts-of}
 use Rattle.ac_tables.proofs.FilledLemmas.{number-small}
@@ -43,7 +45,7 @@ rows-some nfa starts.Anchored = let s = starts-of nfa in omega (arith, s.0, s.1)
 rows-some nfa starts.Both = let s = starts-of nfa in omega (arith, s.0, s.1)
 
 -- the table's size is that of the dictionary's
-pub size-some : (nfa : NFA) (kind : StartKind) (classed : Bool) (classes : List ℕ) (stride : ℕ) → AreChosen classed nfa classes → IsLeastPowerOfTwo (alphabet_len classes) stride → ∥ IsDfaSize (dictionary nfa) kind classed ((dfa_states kind (state_len nfa) - 1) * stride) ∥₁
+pub size-some : (nfa : NFA) (kind : StartKind) (classed : Bool) (classes : List ℕ) (stride : ℕ) → AreClassesFor nfa classed classes → IsLeastPowerOfTwo (alphabet_len classes) stride → ∥ IsDfaSize (dictionary nfa) kind classed ((dfa_states kind (state_len nfa) - 1) * stride) ∥₁
 size-some nfa kind true classes stride chosen least =
     ∥∥₁_elim (counts-in nfa (state_len nfa) refl).counted ∥∥₁_prop (λ states.
     ∥∥₁_map nfa.classed (λ (are : AreByteClasses (dictionary nfa) (classes_in nfa)).
@@ -53,14 +55,14 @@ size-some nfa kind false classes stride chosen least =
     (state_len nfa, alphabet_len classes, stride, states, (let last = chosen 255 (omega arith) in omega (arith, last)), least, refl))
 
 -- where the last row has no number it is too large
-pub size-refused : (nfa : NFA) (kind : StartKind) (classed : Bool) (classes : List ℕ) (stride : ℕ) (error : BuildErrorKind) → AreChosen classed nfa classes → IsLeastPowerOfTwo (alphabet_len classes) stride → IsOverflow ((dfa_states kind (state_len nfa) - 1) * stride) error → IsTableRefused nfa kind classed error
+pub size-refused : (nfa : NFA) (kind : StartKind) (classed : Bool) (classes : List ℕ) (stride : ℕ) (error : BuildErrorKind) → AreClassesFor nfa classed classes → IsLeastPowerOfTwo (alphabet_len classes) stride → IsOverflow ((dfa_states kind (state_len nfa) - 1) * stride) error → IsTableRefused nfa kind classed error
 size-refused nfa kind classed classes stride (StateIDOverflow max requested) chosen least over = (over.0, over.1, ∥∥₁_map (size-some nfa kind classed classes stride chosen least) (λ size. ((dfa_states kind (state_len nfa) - 1) * stride, size, over.2)))
 size-refused nfa kind classed classes stride (PatternIDOverflow max requested) chosen least over = over
 size-refused nfa kind classed classes stride (PatternTooLong pattern len) chosen least over = over
 size-refused nfa kind classed classes stride Memory chosen least over = absurd over
 
 -- and where it has one it isn't
-pub size-within : (nfa : NFA) (kind : StartKind) (classed : Bool) (classes : List ℕ) (stride : ℕ) → AreChosen classed nfa classes → IsLeastPowerOfTwo (alphabet_len classes) stride → (dfa_states kind (state_len nfa) - 1) * stride ≤ GREATEST → ¬ IsDfaTooLarge (dictionary nfa) kind classed
+pub size-within : (nfa : NFA) (kind : StartKind) (classed : Bool) (classes : List ℕ) (stride : ℕ) → AreClassesFor nfa classed classes → IsLeastPowerOfTwo (alphabet_len classes) stride → (dfa_states kind (state_len nfa) - 1) * stride ≤ GREATEST → ¬ IsDfaTooLarge (dictionary nfa) kind classed
 size-within nfa kind classed classes stride chosen least fits large =
     ∥∥₁_elim (size-some nfa kind classed classes stride chosen least) (λ x y. absurd x) (λ mine.
     let same : large.0 ≡ (dfa_states kind (state_len nfa) - 1) * stride = dfa-one (dictionary nfa) kind classed large.0 ((dfa_states kind (state_len nfa) - 1) * stride) large.1 mine in
@@ -78,26 +80,16 @@ stride-is n stride exponent g h =
 -- ---- classes
 
 -- bytes of one chosen class are in one class of the automaton's
-chosen-finer : (classed : Bool) (nfa : NFA) (classes : List ℕ) → AreChosen classed nfa classes → (b c : ℕ) → b < 256 → c < 256 → class classes b ≡ class classes c → class (classes_in nfa) b ≡ class (classes_in nfa) c
+chosen-finer : (classed : Bool) (nfa : NFA) (classes : List ℕ) → AreClassesFor nfa classed classes → (b c : ℕ) → b < 256 → c < 256 → class classes b ≡ class classes c → class (classes_in nfa) b ≡ class (classes_in nfa) c
 chosen-finer true nfa classes chosen b c b_in c_in same = ap (λ (xs : List ℕ). class xs b) (sym chosen) ∙ (same ∙ ap (λ (xs : List ℕ). class xs c) chosen)
 chosen-finer false nfa classes chosen b c b_in c_in same = ap (class (classes_in nfa)) (sym (chosen b b_in) ∙ (same ∙ chosen c c_in))
 
--- classes rise with their bytes
-class-up : (boundaries : List Bool) (classes : List ℕ) (b n : ℕ) → AreClassesOf boundaries classes → b + n ≤ 255 → class classes b ≤ class classes (b + n)
-class-up boundaries classes b zero are le = let e : b + 0 ≡ b = omega arith in let f = ap (class classes) e in omega (arith, f)
-class-up boundaries classes b (suc n) are le =
-    let e : b + suc n ≡ (b + n) + 1 = omega arith in
-    let next = are.next (b + n) (omega (arith, le)) in
-    let before = class-up boundaries classes b n are (omega (arith, le)) in
-    let f = ap (class classes) e in
-    omega (arith, f, next, before)
-
 -- the class of a byte is one of those that are chosen
-chosen-within : (classed : Bool) (nfa : NFA) (classes : List ℕ) → AreChosen classed nfa classes → (byte : ℕ) → byte < 256 → class classes byte < alphabet_len classes
+chosen-within : (classed : Bool) (nfa : NFA) (classes : List ℕ) → AreClassesFor nfa classed classes → (byte : ℕ) → byte < 256 → class classes byte < alphabet_len classes
 chosen-within true nfa classes chosen byte small =
     let le : class (classes_in nfa) byte ≤ class (classes_in nfa) 255 = ∥∥₁_elim nfa.classed le_prop (λ (are : AreByteClasses (dictionary nfa) (classes_in nfa)).
     let e : byte + (255 - byte) ≡ 255 = omega (arith, small) in
-    subst (λ (n : ℕ). class (classes_in nfa) byte ≤ class (classes_in nfa) n) e (class-up are.0 (classes_in nfa) byte (255 - byte) are.1 (omega (arith, small)))) in
+    subst (λ (n : ℕ). class (classes_in nfa) byte ≤ class (classes_in nfa) n) e (class-later are.0 (classes_in nfa) are.1 (255 - byte) byte (omega (arith, small)))) in
     let b = ap (λ (xs : List ℕ). class xs byte) chosen in
     let l = ap (λ (xs : List ℕ). class xs 255) chosen in
     omega (arith, le, b, l)
@@ -107,7 +99,7 @@ chosen-within false nfa classes chosen byte small =
     omega (arith, b, l, small)
 
 -- so rows may be filled by them
-pub chosen-fit : (classed : Bool) (nfa : NFA) (kind : StartKind) (classes : List ℕ) (stride : ℕ) → AreChosen classed nfa classes → IsLeastPowerOfTwo (alphabet_len classes) stride → stride ≤ 256 → (dfa_states kind (state_len nfa) - 1) * stride ≤ GREATEST → IsFit (record { nfa = nfa; kind = kind; classes = classes; stride = stride })
+pub chosen-fit : (classed : Bool) (nfa : NFA) (kind : StartKind) (classes : List ℕ) (stride : ℕ) → AreClassesFor nfa classed classes → IsLeastPowerOfTwo (alphabet_len classes) stride → stride ≤ 256 → (dfa_states kind (state_len nfa) - 1) * stride ≤ GREATEST → IsFit (record { nfa = nfa; kind = kind; classes = classes; stride = stride })
 chosen-fit classed nfa kind classes stride chosen least wide fits =
     let enough = least.1.enough in
     let is = least.2 in
@@ -121,7 +113,7 @@ chosen-fit classed nfa kind classes stride chosen least wide fits =
 -- ---- the table
 
 -- what is made of an automaton
-pub table-for : (nfa : NFA) (table : Table) (classed : Bool) (stride : ℕ) → AreChosen classed nfa table.classes → stride ≡ stride_of table → table.stride2 ≤ 8 → IsLeastExponent (alphabet_len table.classes) table.stride2 → IsFit (record { nfa = nfa; kind = table.kind; classes = table.classes; stride = stride }) → AreRowsUpTo (record { nfa = nfa; kind = table.kind; classes = table.classes; stride = stride }) (state_len nfa) (state_len nfa) table.trans.items → AreListsOf nfa table.lists → table.start ≡ dfa_number_of table.kind (nfa_start_of nfa) stride false (nfa_start_of nfa) → table.start_anchored ≡ dfa_number_of table.kind (nfa_start_of nfa) stride true (nfa_start_of nfa + 1) → table.max_match ≡ dfa_number_of table.kind (nfa_start_of nfa) stride true (special_in nfa).max_match_id → IsTableFor nfa table.kind classed table
+pub table-for : (nfa : NFA) (table : Table) (classed : Bool) (stride : ℕ) → AreClassesFor nfa classed table.classes → stride ≡ stride_of table → table.stride2 ≤ 8 → IsLeastExponent (alphabet_len table.classes) table.stride2 → IsFit (record { nfa = nfa; kind = table.kind; classes = table.classes; stride = stride }) → AreRowsUpTo (record { nfa = nfa; kind = table.kind; classes = table.classes; stride = stride }) (state_len nfa) (state_len nfa) table.trans.items → AreListsOf nfa table.lists → table.start ≡ dfa_number_of table.kind (nfa_start_of nfa) stride false (nfa_start_of nfa) → table.start_anchored ≡ dfa_number_of table.kind (nfa_start_of nfa) stride true (nfa_start_of nfa + 1) → table.max_match ≡ dfa_number_of table.kind (nfa_start_of nfa) stride true (special_in nfa).max_match_id → IsTableFor nfa table.kind classed table
 table-for nfa table classed stride chosen is wide least fit rows lists first second last = record {
   made = record {
     fit = subst (λ (s : ℕ). IsFit (record { nfa = nfa; kind = table.kind; classes = table.classes; stride = s })) is fit;
@@ -166,7 +158,7 @@ dfa-of s nfa table dfa h made =
     record {
       built = ap₂ (λ (m : Dictionary) (f : Option Filter). record { dictionary = m; deterministic = true; prefilter = f }) made.dictionary made.prefilter;
       starts = ap (λ (t : Table). t.kind) made.table ∙ h.kind;
-      classes = subst (λ (t : Table). AreChosen s.byte_classes nfa t.classes) back h.classes;
+      classes = subst (λ (t : Table). AreClassesFor nfa s.byte_classes t.classes) back h.classes;
       states = subst (λ (t : Table). length t.trans.items / stride_of t ≡ dfa_states s.start_kind (state_len nfa)) back (subst (λ (k : StartKind). length table.trans.items / stride_of table ≡ dfa_states k (state_len nfa)) h.kind (made-states nfa table h.made));
       laid = subst (λ (t : Table). AreTransitionsOf nfa s.start_kind t.classes (stride_of t) t.trans.items) back (subst (λ (k : StartKind). AreTransitionsOf nfa k table.classes (stride_of table) table.trans.items) h.kind (made-laid nfa table h.made));
       within = size-within nfa s.start_kind s.byte_classes table.classes (stride_of table) h.classes (table.stride2, h.made.least, refl) (subst (λ (k : StartKind). (dfa_states k (state_len nfa) - 1) * stride_of table ≤ GREATEST) h.kind h.made.fit.few);

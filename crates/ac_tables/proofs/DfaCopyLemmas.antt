@@ -11,7 +11,7 @@ use Rattle.ac_automaton.specs.Named.{Naming, IsStep}
 use Rattle.ac_tables.specs.declared.dfa.lists.Lists.{Lists}
 use Rattle.ac_tables.specs.declared.dfa.table.Table.{Table}
 use Rattle.ac_tables.specs.DfaCopy.{AreSameLists, IsSameDfaTable}
-use Rattle.ac_tables.specs.DfaTable.{list_start, list_end, dfa_list_of, list_index, stride_of, matches_by, AreDfaRows, AreSomeRows}
+use Rattle.ac_tables.specs.DfaTable.{list_start, list_end, dfa_list_of, list_index, stride_of, dfa_matches_by, AreDfaRows, AreSomeRows}
 
 -- ---- lists
 
@@ -35,7 +35,7 @@ abbrev moved : Table → Table → Table
 moved old new = record old { trans = new.trans; lists = new.lists }
 
 -- the patterns of a number are the same
-matches-same : (old new : Table) (sid : ℕ) → IsSameDfaTable old new → matches_by (moved old new) sid ≡ matches_by old sid
+matches-same : (old new : Table) (sid : ℕ) → IsSameDfaTable old new → dfa_matches_by (moved old new) sid ≡ dfa_matches_by old sid
 matches-same old new sid s = ap (λ (list : List ℕ). if not (sid == 0) && nat_le sid old.max_match then list else []) (list-same old.lists new.lists (list_index old.kind (sid / stride_of old)) s.lists)
 
 -- so it is that of the dictionary

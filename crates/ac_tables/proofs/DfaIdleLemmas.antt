@@ -20,7 +20,7 @@ use Rattle.ac_noncontiguous.specs.Reads.{is_between}
 use Rattle.ac_noncontiguous.proofs.IdleLemmas.{between}
 use Rattle.ac_tables.specs.declared.dfa.DFA.{DFA}
 use Rattle.ac_tables.specs.declared.dfa.table.Table.{Table}
-use Rattle.ac_tables.specs.DfaTable.{AreSomeRows, matches_by}
+use Rattle.ac_tables.specs.DfaTable.{AreSomeRows, dfa_matches_by}
 use Rattle.ac_tables.specs.DfaLookups.{HasRow, IsIdleIn}
 use Rattle.ac_tables.specs.DfaReads.{dictionary, built_as, matches_at, is_start_at, is_special_at, IsNamingFor, IsRead}
 use Rattle.ac_tables.proofs.DfaReadLemmas.{all-names, listed-within, state-matches}
@@ -34,10 +34,10 @@ start-row m table h serves =
     }
 
 -- nothing matches past the last number that does
-past-none : (table : Table) (sid : ℕ) → table.max_match < sid → matches_by table sid ≡ []
-past-none table sid past = by (matches_by table sid) refl
+past-none : (table : Table) (sid : ℕ) → table.max_match < sid → dfa_matches_by table sid ≡ []
+past-none table sid past = by (dfa_matches_by table sid) refl
   where
-    by : (ns : List ℕ) → matches_by table sid ≡ ns → matches_by table sid ≡ []
+    by : (ns : List ℕ) → dfa_matches_by table sid ≡ ns → dfa_matches_by table sid ≡ []
     by [] is = is
     by (n ∷ ns) is =
         let le = (listed-within table sid (λ none. let e : n ∷ ns ≡ [] = sym is ∙ none in cc)).1 in

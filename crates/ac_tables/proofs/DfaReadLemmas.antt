@@ -1,11 +1,10 @@
 -- What the numbers of a DFA tell, and where one look-up leads.
 use Rattle.std.proofs.Common.{◌≡◌, ◌≢◌, ◌⊎◌, ◌↔◌, ℕ, zero, suc, ◌+◌, ◌-◌, ◌*◌, ◌<◌, ◌≤◌, Bool, true, false, IsTrue, List, [], ◌∷◌, length, slice_get, Option, None, Some, inl, inr, ⊎_elim, refl, sym, ap, subst, ◌∙◌, arith}
-use Rattle.std.specs.Prelude.{◌==◌, ◌&&◌, ◌||◌, nat_le, not, slice_index}
+use Rattle.std.specs.Prelude.{◌==◌, ◌&&◌, nat_le, not, slice_index}
 use Rattle.std.specs.Coded.{le_prop}
 use Rattle.std.proofs.Math.Logic.{∥∥₁_elim, ∥∥₁_map}
 use Rattle.std.proofs.Math.Nat.{add-mul, mul-le-mul_right, le_of_mul-le-mul_right}
-use Rattle.std.proofs.lemmas.Bool.{cases_lt, cases_eq, cases_Bool, and_parts, and_from, ne_eqb, cond-true, cond-false, or_cases, eqb-true, eq-eqb, leb-true, le-leb, false≢true}
-use Rattle.std.proofs.lemmas.Bool.Decides.{nat_tests}
+use Rattle.std.proofs.lemmas.Bool.{cases_lt, cases_eq, cases_Bool, and_parts, and_from, ne_eqb, cond-true, cond-false, eq-eqb, leb-true, le-leb, false≢true}
 use Rattle.std.proofs.lemmas.Nat.{pow_pos}
 use Rattle.ac_input.specs.declared.search.Anchored.{Anchored}
 use Rattle.ac_input.specs.Alphabet.{class, alphabet_len, IsClasses}
@@ -14,15 +13,17 @@ use Rattle.ac_input.specs.Dfa.{Serves}
 use Rattle.ac_input.specs.Dictionary.{Dictionary}
 use Rattle.ac_input.specs.Input.{is_anchored}
 use Rattle.ac_input.proofs.SameLemmas.{own_inverse-pairing}
+use Rattle.ac_automaton.specs.Held.{last_special_of}
 use Rattle.ac_automaton.specs.Automaton.{IsReached, IsState, AtEach, Leads, TellsDead, TellsStart}
 use Rattle.ac_automaton.specs.Named.{Naming, AreNames, IsSpecialState, IsStep}
 use Rattle.ac_automaton.specs.Named.{AllNames}
 use Rattle.ac_automaton.proofs.NamedLemmas.{reached-met, read-met, read-next, read-start, read-dead, read-starts, read-known}
 use Rattle.ac_tables.specs.declared.dfa.DFA.{DFA}
 use Rattle.ac_tables.specs.declared.dfa.table.Table.{Table}
-use Rattle.ac_tables.specs.DfaTable.{AreDfaRows, stride_of, dfa_list_of, list_start, list_end, matches_by, start_by, last_special_by}
+use Rattle.ac_tables.specs.DfaTable.{AreDfaRows, stride_of, dfa_list_of, list_start, list_end, dfa_matches_by, start_by}
 use Rattle.ac_tables.specs.DfaLookups.{list_at, ArePlain, HasRow, HasDfaList}
 use Rattle.ac_tables.specs.DfaReads.{dictionary, built_as, matches_at, is_start_at, is_special_at, IsNamingFor, IsRead}
+use Rattle.ac_tables.proofs.TestLemmas.{start-has, start-is, start-none}
 
 -- ---- where the starts stand
 
@@ -54,39 +55,10 @@ between-starts sid row q stride start next max some at first second last past le
     (λ (other : row ≢ q). let is : row ≡ q + 1 = omega (arith, low, high, other) in inr (at ∙ (ap (λ (r : ℕ). r * stride) is ∙ sym second)))
     (cases_eq row q)
 
--- ---- the tests of a number
-
--- the first of the two starts has the test,
-start-first : (sid start next : ℕ) → sid ≡ start → IsTrue ((sid == start) || (sid == next))
-start-first sid start next a = grind (arith, nat_tests)
-
--- each has,
-pub start-has : (sid start next : ℕ) → (sid ≡ start) ⊎ (sid ≡ next) → IsTrue ((sid == start) || (sid == next))
-start-has sid start next (inl a) = start-first sid start next a
-start-has sid start next (inr b) =
-    ⊎_elim
-    (λ (same : sid ≡ start). start-first sid start next same)
-    (λ (other : sid ≢ start). grind (arith, nat_tests))
-    (cases_eq sid start)
-
--- and no other
-pub start-is : (sid start next : ℕ) → IsTrue ((sid == start) || (sid == next)) → (sid ≡ start) ⊎ (sid ≡ next)
-start-is sid start next h =
-    ⊎_elim
-    (λ (a : (sid == start) ≡ true). inl (eqb-true sid start a))
-    (λ (b : (sid == next) ≡ true). inr (eqb-true sid next b))
-    (or_cases (sid == start) (sid == next) h)
-
--- the dead state hasn't
-start-none : (sid start next : ℕ) → sid ≡ 0 → 0 < start → 0 < next → ((sid == start) || (sid == next)) ≡ false
-start-none sid start next is some more = by ((sid == start) || (sid == next)) refl
-  where
-    by : (r : Bool) → ((sid == start) || (sid == next)) ≡ r → ((sid == start) || (sid == next)) ≡ false
-    by true e = absurd (⊎_elim (λ (a : sid ≡ start). omega (arith, a, is, some)) (λ (b : sid ≡ next). omega (arith, b, is, more)) (start-is sid start next e))
-    by false e = e
+-- ---- the patterns and the tests of a number
 
 -- a number with patterns isn't the dead state's, and at most the last that matches
-pub listed-within : (table : Table) (sid : ℕ) → matches_by table sid ≢ [] → (sid ≢ 0) × (sid ≤ table.max_match)
+pub listed-within : (table : Table) (sid : ℕ) → dfa_matches_by table sid ≢ [] → (sid ≢ 0) × (sid ≤ table.max_match)
 listed-within table sid some =
     ⊎_elim
     (λ (yes : (not (sid == 0) && nat_le sid table.max_match) ≡ true).
@@ -97,7 +69,7 @@ listed-within table sid some =
     (cases_Bool (not (sid == 0) && nat_le sid table.max_match))
 
 -- the last special number is no less than the last that matches
-last-past : (m : Dictionary) (table : Table) (names : Naming) (held : Option Filter) → AreDfaRows m table names → table.max_match ≤ last_special_by table held
+last-past : (m : Dictionary) (table : Table) (names : Naming) (held : Option Filter) → AreDfaRows m table names → table.max_match ≤ last_special_of held table.start_anchored table.max_match
 last-past m table names None rows = omega arith
 last-past m table names (Some f) rows =
     let placed = starts-placed m table names rows in
@@ -107,14 +79,14 @@ last-past m table names (Some f) rows =
     rows.greatest
 
 -- where a prefilter is held, it is no less than the starts
-last-starts : (m : Dictionary) (table : Table) (names : Naming) (held : Option Filter) (sid : ℕ) → AreDfaRows m table names → held ≢ None → (sid ≡ table.start) ⊎ (sid ≡ table.start_anchored) → sid ≤ last_special_by table held
+last-starts : (m : Dictionary) (table : Table) (names : Naming) (held : Option Filter) (sid : ℕ) → AreDfaRows m table names → held ≢ None → (sid ≡ table.start) ⊎ (sid ≡ table.start_anchored) → sid ≤ last_special_of held table.start_anchored table.max_match
 last-starts m table names None sid rows some is = absurd (some refl)
 last-starts m table names (Some f) sid rows some is =
     let placed = starts-placed m table names rows in
     ⊎_elim (λ (a : sid ≡ table.start). omega (arith, a, placed)) (λ (b : sid ≡ table.start_anchored). omega (arith, b)) is
 
 -- a special number of a text matches, or is a start with a prefilter to ask
-special-some : (m : Dictionary) (table : Table) (names : Naming) (held : Option Filter) (anchored : Bool) (sid : ℕ) → AreDfaRows m table names → IsTrue (names.met anchored sid) → sid ≢ 0 → sid ≤ last_special_by table held → (matches_by table sid ≢ []) ⊎ (((sid ≡ table.start) ⊎ (sid ≡ table.start_anchored)) × (held ≢ None))
+special-some : (m : Dictionary) (table : Table) (names : Naming) (held : Option Filter) (anchored : Bool) (sid : ℕ) → AreDfaRows m table names → IsTrue (names.met anchored sid) → sid ≢ 0 → sid ≤ last_special_of held table.start_anchored table.max_match → (dfa_matches_by table sid ≢ []) ⊎ (((sid ≡ table.start) ⊎ (sid ≡ table.start_anchored)) × (held ≢ None))
 special-some m table names None anchored sid rows met some le = inl ((rows.matching anchored sid met some).1 le)
 special-some m table names (Some f) anchored sid rows met some le =
     ⊎_elim
@@ -140,7 +112,7 @@ are-names dfa names rows =
       lists = rows.lists;
       none = λ anchored sid met none.
           let zero = (rows.dead anchored sid met).0 none in
-          (ap (matches_by dfa.table) zero, start-none sid dfa.table.start dfa.table.start_anchored zero (omega (arith, placed)) (omega (arith, placed)));
+          (ap (dfa_matches_by dfa.table) zero, start-none sid dfa.table.start dfa.table.start_anchored zero (omega (arith, placed)) (omega (arith, placed)));
       starting = λ anchored sid text met is. (
         λ yes.
             let empty = (rows.starting anchored sid met).1 (start-is sid dfa.table.start dfa.table.start_anchored yes) in
@@ -163,7 +135,7 @@ are-names dfa names rows =
         (λ (zero : sid ≡ 0). inl ((rows.dead anchored sid met).1 zero))
         (λ (some : sid ≢ 0).
         ⊎_elim
-        (λ (match : matches_by dfa.table sid ≢ []). inr (inl match))
+        (λ (match : dfa_matches_by dfa.table sid ≢ []). inr (inl match))
         (λ (start : ((sid ≡ dfa.table.start) ⊎ (sid ≡ dfa.table.start_anchored)) × (dfa.prefilter ≢ None)). inr (inr (start-has sid dfa.table.start dfa.table.start_anchored start.0, start.1)))
         (special-some (dictionary dfa) dfa.table names dfa.prefilter anchored sid rows met some (subst (λ (n : ℕ). sid ≤ n) dfa.special le)))
         (cases_eq sid 0)
@@ -232,7 +204,7 @@ some-within [] index within = absurd (omega (arith, within))
 some-within (n ∷ ns) index within = λ e. let d : n ∷ ns ≡ [] = e in cc
 
 -- and is the list of its state
-pub state-listed : (table : Table) (sid : ℕ) → matches_by table sid ≢ [] → matches_by table sid ≡ dfa_list_of table.lists (list_at table sid)
+pub state-listed : (table : Table) (sid : ℕ) → dfa_matches_by table sid ≢ [] → dfa_matches_by table sid ≡ dfa_list_of table.lists (list_at table sid)
 state-listed table sid match =
     let w = listed-within table sid match in
     cond-true (not (sid == 0) && nat_le sid table.max_match) (dfa_list_of table.lists (list_at table sid)) [] (and_from (not (sid == 0)) (nat_le sid table.max_match) (ap (λ (b : Bool). not b) (ne_eqb sid 0 w.0)) (le-leb sid table.max_match w.1))

@@ -10,12 +10,13 @@ use Rattle.ac_input.specs.Candidate.{Filter}
 use Rattle.ac_input.specs.Dictionary.{Dictionary}
 use Rattle.ac_input.specs.Failure.{IsList}
 use Rattle.ac_input.specs.Input.{is_anchored}
+use Rattle.ac_automaton.specs.Held.{last_special_of}
 use Rattle.ac_automaton.specs.Automaton.{IsReached, IsState}
 use Rattle.ac_automaton.specs.Named.{Naming, IsFirst, AllNames, OfNames, IsSpecialState}
 use Rattle.ac_automaton.proofs.NamedLemmas.{reached-met, state-met, read-start, read-known}
 use Rattle.ac_tables.specs.declared.contiguous.NFA.{NFA}
 use Rattle.ac_tables.specs.declared.contiguous.table.Table.{Table}
-use Rattle.ac_tables.specs.ContiguousTable.{AreStates, last_special_in}
+use Rattle.ac_tables.specs.ContiguousTable.{AreStates}
 use Rattle.ac_tables.specs.ContiguousReads.{dictionary, built_as, matches_at, is_start_at, is_special_at, IsLaidOut, IsRead, IsMet}
 use Rattle.ac_tables.specs.WordReads.{HasWordList, list_place, listed_at, matches_by}
 use Rattle.ac_tables.specs.Words.{StateParts, one_pattern}
@@ -81,7 +82,7 @@ module _ (m : Dictionary) (table : Table) (names : Naming) (parts : ℕ → Stat
   -- ---- special states
 
   -- a special state matches, or is a start with a prefilter to ask
-  special-some : (held : Option Filter) (anchored : Bool) (sid : ℕ) → IsTrue (names.met anchored sid) → sid ≢ 0 → sid ≤ last_special_in table held → (matches_by table sid ≢ []) ⊎ (((sid ≡ table.start) ⊎ (sid ≡ table.start_anchored)) × (held ≢ None))
+  special-some : (held : Option Filter) (anchored : Bool) (sid : ℕ) → IsTrue (names.met anchored sid) → sid ≢ 0 → sid ≤ last_special_of held table.start_anchored table.max_match → (matches_by table sid ≢ []) ⊎ (((sid ≡ table.start) ⊎ (sid ≡ table.start_anchored)) × (held ≢ None))
   special-some None anchored sid met some le =
       let apart = a.linked.numbers.apart anchored sid met in
       inl ((list-some anchored sid met).1 (omega (arith, some, apart), le))
@@ -102,14 +103,14 @@ module _ (m : Dictionary) (table : Table) (names : Naming) (parts : ℕ → Stat
       (cases_lt table.max_match sid)
 
   -- the last special state is no less than the last that matches,
-  last-past : (held : Option Filter) → table.max_match ≤ last_special_in table held
+  last-past : (held : Option Filter) → table.max_match ≤ last_special_of held table.start_anchored table.max_match
   last-past None = omega arith
   last-past (Some f) =
       let past = a.past in
       ⊎_elim (λ (less : table.max_match < table.start). omega (arith, less, past)) (λ (at : table.max_match ≡ table.start_anchored). omega (arith, at)) a.greatest
 
   -- nor than the starts, where a prefilter is held
-  last-starts : (held : Option Filter) (sid : ℕ) → held ≢ None → (sid ≡ table.start) ⊎ (sid ≡ table.start_anchored) → sid ≤ last_special_in table held
+  last-starts : (held : Option Filter) (sid : ℕ) → held ≢ None → (sid ≡ table.start) ⊎ (sid ≡ table.start_anchored) → sid ≤ last_special_of held table.start_anchored table.max_match
   last-starts None sid some is = absurd (some refl)
   last-starts (Some f) sid some is =
       let past = a.past in
@@ -125,7 +126,7 @@ names-stop nfa names fits anchored sid met =
     let dead = a.dead anchored sid met in
     let special = nfa.special in (
       λ is_true.
-          let le : sid ≤ last_special_in nfa.table nfa.prefilter = (test-le sid (last_special_in nfa.table nfa.prefilter)).0 (subst (λ (n : ℕ). IsTrue (nat_le sid n)) special is_true) in
+          let le : sid ≤ last_special_of nfa.prefilter nfa.table.start_anchored nfa.table.max_match = (test-le sid (last_special_of nfa.prefilter nfa.table.start_anchored nfa.table.max_match)).0 (subst (λ (n : ℕ). IsTrue (nat_le sid n)) special is_true) in
           ⊎_elim
           (λ (zero : sid ≡ 0). inl (dead.1 zero))
           (λ (some : sid ≢ 0).
@@ -136,7 +137,7 @@ names-stop nfa names fits anchored sid met =
           (cases_eq sid 0),
       λ is.
           let last = last-past m nfa.table names fits.0 a nfa.prefilter in
-          let le : sid ≤ last_special_in nfa.table nfa.prefilter =
+          let le : sid ≤ last_special_of nfa.prefilter nfa.table.start_anchored nfa.table.max_match =
           ⊎_elim
           (λ (none : names.text sid ≡ None). let zero = dead.0 none in omega (arith, zero))
           (λ (more : (matches_at nfa sid ≢ []) ⊎ (IsTrue (is_start_at nfa sid) × (nfa.prefilter ≢ None))).
@@ -145,7 +146,7 @@ names-stop nfa names fits anchored sid met =
           (λ (start : IsTrue (is_start_at nfa sid) × (nfa.prefilter ≢ None)). last-starts m nfa.table names fits.0 a nfa.prefilter sid start.1 (start-is sid nfa.table.start nfa.table.start_anchored start.0))
           more)
           is in
-          subst (λ (n : ℕ). IsTrue (nat_le sid n)) (sym special) ((test-le sid (last_special_in nfa.table nfa.prefilter)).1 le),
+          subst (λ (n : ℕ). IsTrue (nat_le sid n)) (sym special) ((test-le sid (last_special_of nfa.prefilter nfa.table.start_anchored nfa.table.max_match)).1 le),
     )
 
 -- the lists and tests of the automaton are those of its names

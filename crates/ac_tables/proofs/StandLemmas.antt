@@ -8,7 +8,7 @@ use Rattle.ac_input.specs.Alphabet.{alphabet_len}
 use Rattle.ac_noncontiguous.specs.declared.nfa.NFA.{NFA}
 use Rattle.ac_noncontiguous.specs.ReadCalls.{edges_in}
 use Rattle.ac_tables.specs.Words.{StateParts, Form, Dense, One, Sparse, most_sparse, form_of, next_by, packed, classes_of, nexts_of, transition_words, match_words, words_of, AreWordsAt}
-use Rattle.ac_tables.specs.ContiguousTable.{placed, parts_of, len_at, len_before, place_in, words_at, words_before}
+use Rattle.ac_tables.specs.ContiguousTable.{placed_edge, parts_of, len_at, len_before, place_in, words_at, words_before}
 use Rattle.ac_tables.proofs.LenLemmas.{not-equal, packed-long, form-long}
 
 -- ---- as many words, wherever the states stand
@@ -53,7 +53,7 @@ at-long nfa dense_depth classes sid =
     ap length (cond-true (sid == 1) [] (words_of (alphabet_len classes) own) (eq-eqb sid 1 fail)) ∙ sym (cond-true (sid == 1) 0 (length (words_of (alphabet_len classes) plain)) (eq-eqb sid 1 fail)))
     (λ (stands : sid ≢ 1).
     ap length (cond-false (sid == 1) [] (words_of (alphabet_len classes) own) (not-equal sid 1 stands))
-    ∙ (long-alike (alphabet_len classes) own plain refl (length-map (edges_in nfa sid) (placed classes place) ∙ sym (length-map (edges_in nfa sid) (placed classes (λ (i : ℕ). i)))) refl
+    ∙ (long-alike (alphabet_len classes) own plain refl (length-map (edges_in nfa sid) (placed_edge classes place) ∙ sym (length-map (edges_in nfa sid) (placed_edge classes (λ (i : ℕ). i)))) refl
     ∙ sym (cond-false (sid == 1) 0 (length (words_of (alphabet_len classes) plain)) (not-equal sid 1 stands))))
     (cases_eq sid 1)
 

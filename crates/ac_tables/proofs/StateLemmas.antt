@@ -11,7 +11,7 @@ use Rattle.ac_input.specs.declared.primitives.number.TheConstants.{GREATEST}
 use Rattle.ac_input.specs.Alphabet.{alphabet_len}
 use Rattle.ac_tables.specs.declared.contiguous.table.Table.{Table}
 use Rattle.ac_tables.specs.Words.{StateParts, form_of, next_by, packed, classes_of, nexts_of, kind_word, first_class}
-use Rattle.ac_tables.specs.WordReads.{unpacked, IsFirstPlace, IsStateAt, HoldsState, IsSparseAt, StepsTo, IsFailOf}
+use Rattle.ac_tables.specs.WordReads.{unpacked, IsFirstPlace, IsStateAt, HoldsState, IsSparseAt, ByteLeadsTo, IsFailOf}
 use Rattle.ac_tables.proofs.DecodeLemmas.{state-kind, state-fail, form-dense, form-one, form-sparse, kind-one, dense-next, one-next, sparse-classes, sparse-nexts, stands-item}
 use Rattle.ac_tables.proofs.PackedLemmas.{AreBytes, unpack-packed, unpack-long, first-hit, no-hit}
 
@@ -155,7 +155,7 @@ sparse-some_place table sid len wanted i part h sparse is found = ∥∥₁_elim
 -- ---- where it leads at all
 
 -- a byte leads to a number that fits, also to that of nowhere
-pub step-small : (table : Table) (sid byte next : ℕ) → HoldsState table sid → byte < 256 → StepsTo table sid byte next → next ≤ GREATEST
+pub step-small : (table : Table) (sid byte next : ℕ) → HoldsState table sid → byte < 256 → ByteLeadsTo table sid byte next → next ≤ GREATEST
 step-small table sid byte next h small leads = ∥∥₁_elim h le_prop (λ w. let fits = w.1.nexts byte small in omega (arith, leads w.0 w.1, fits))
 
 -- the class of a byte is one of the alphabet

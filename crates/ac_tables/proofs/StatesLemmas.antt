@@ -7,6 +7,7 @@ use Rattle.ac_input.specs.declared.primitives.number.TheConstants.{GREATEST}
 use Rattle.ac_input.specs.Alphabet.{class, alphabet_len, IsClasses}
 use Rattle.ac_input.specs.Failure.{IsList}
 use Rattle.ac_automaton.specs.Named.{IsFirst, AreLinked}
+use Rattle.ac_input.proofs.AlphabetLemmas.{class-within}
 use Rattle.ac_noncontiguous.specs.declared.nfa.NFA.{NFA}
 use Rattle.ac_noncontiguous.specs.Nfa.{state_of}
 use Rattle.ac_noncontiguous.specs.Reads.{dictionary, matches_at}
@@ -14,23 +15,22 @@ use Rattle.ac_noncontiguous.specs.ReadCalls.{state_len, edges_in, special_in, Ar
 use Rattle.ac_tables.specs.declared.contiguous.table.Table.{Table}
 use Rattle.ac_tables.specs.Places.{is_met}
 use Rattle.ac_tables.specs.Words.{StateParts, next_by, words_of, AreWordsAt}
-use Rattle.ac_tables.specs.ContiguousTable.{placed, parts_of, place_in, AreStates}
+use Rattle.ac_tables.specs.ContiguousTable.{placed_edge, parts_of, place_in, AreStates}
 use Rattle.ac_tables.specs.ContiguousBuild.{IsWordTableOf}
 use Rattle.ac_tables.proofs.PlacesLemmas.{met-stands, met-other, met-start, met-start_anchored}
 use Rattle.ac_tables.proofs.StandLemmas.{stands, place-rises, place-one, place-later}
-use Rattle.ac_tables.proofs.EntryLemmas.{class-fits}
 use Rattle.ac_tables.proofs.LayLemmas.{Laid, start_in, names_in, parts_in, text-past, text-some, text-none, zero-or-past, parts-at, at-met, met-at, text-at, linked}
 
 -- the class of a transition is one of the alphabet
-placed-fits : (classes : List ℕ) (place : ℕ → ℕ) (edges : List (ℕ × ℕ)) (k : ℕ) (edge : ℕ × ℕ) → IsClasses classes → ((byte next : ℕ) → slice_get edges k ≡ Some (byte, next) → byte < 256) → slice_get (map (placed classes place) edges) k ≡ Some edge → edge.0 < alphabet_len classes
+placed-fits : (classes : List ℕ) (place : ℕ → ℕ) (edges : List (ℕ × ℕ)) (k : ℕ) (edge : ℕ × ℕ) → IsClasses classes → ((byte next : ℕ) → slice_get edges k ≡ Some (byte, next) → byte < 256) → slice_get (map (placed_edge classes place) edges) k ≡ Some edge → edge.0 < alphabet_len classes
 placed-fits classes place edges k edge are small is = by (slice_get edges k) refl
   where
     by : (r : Option (ℕ × ℕ)) → slice_get edges k ≡ r → edge.0 < alphabet_len classes
-    by None e = absurd (let none : None ≡ Some edge = sym (slice_get-map (placed classes place) edges k ∙ ap (option_map (placed classes place)) e) ∙ is in cc)
+    by None e = absurd (let none : None ≡ Some edge = sym (slice_get-map (placed_edge classes place) edges k ∙ ap (option_map (placed_edge classes place)) e) ∙ is in cc)
     by (Some own) e =
-        let same = same_Some (placed classes place own) edge (sym (slice_get-map (placed classes place) edges k ∙ ap (option_map (placed classes place)) e) ∙ is) in
+        let same = same_Some (placed_edge classes place own) edge (sym (slice_get-map (placed_edge classes place) edges k ∙ ap (option_map (placed_edge classes place)) e) ∙ is) in
         let first = ap (λ (x : ℕ × ℕ). x.0) same in
-        omega (arith, class-fits classes are own.0 (small own.0 own.1 e), first)
+        omega (arith, class-within classes own.0 are (small own.0 own.1 e), first)
 
 -- a list that isn't empty has a length
 some-long : (ns : List ℕ) → (ns ≢ []) ↔ (0 < length ns)
@@ -76,7 +76,7 @@ states nfa dense_depth table text h t =
           (stands nfa dense_depth classes table.words.items i (state_len nfa) t.words i_in (met-stands start anchored i i_met))));
       fits = λ anchored sid k edge met. each anchored (λ n. slice_get (parts n).edges k ≡ Some edge → edge.0 < table.alphabet_len) (λ i i_in i_met is.
           let known = h.known i i_in (met-stands start anchored i i_met) in
-          let own : slice_get (map (placed classes place) (edges_in nfa i)) k ≡ Some edge = ap (λ (s : StateParts). slice_get s.edges k) (sym (at i i_in)) ∙ is in
+          let own : slice_get (map (placed_edge classes place) (edges_in nfa i)) k ≡ Some edge = ap (λ (s : StateParts). slice_get s.edges k) (sym (at i i_in)) ∙ is in
           let alphabet = t.alphabet in
           omega (arith, alphabet, placed-fits classes place (edges_in nfa i) k edge t.classes (λ byte next e. (known.edges.within k byte next e).0) own)) sid met;
       linked = subst (λ (n : ℕ). AreLinked (dictionary nfa) names n (λ sid byte. next_by (parts sid).edges (class classes byte)) (λ sid. (parts sid).fail)) (sym start_is) (linked nfa dense_depth classes text h);

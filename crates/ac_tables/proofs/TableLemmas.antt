@@ -22,7 +22,7 @@ use Rattle.ac_noncontiguous.proofs.NextLemmas.{state-some, state-none}
 use Rattle.ac_noncontiguous.proofs.ReadCallLemmas.{lists-in, special-in}
 use Rattle.ac_tables.specs.declared.dfa.table.Table.{Table}
 use Rattle.ac_tables.specs.DfaMade.{nfa_start_of, number_by, IsDfaTableOf}
-use Rattle.ac_tables.specs.DfaTable.{dfa_row_of, stride_of, list_index, dfa_list_of, matches_by, start_by, AreDfaRows}
+use Rattle.ac_tables.specs.DfaTable.{dfa_row_of, stride_of, list_index, dfa_list_of, dfa_matches_by, start_by, AreDfaRows}
 use Rattle.ac_tables.specs.Places.{is_met, named_by, AreApartInTable}
 use Rattle.ac_tables.proofs.PlacesLemmas.{named-met, named-state, named-text, met-stands, met-unanchored, met-anchored, met-start, met-start_anchored}
 use Rattle.ac_tables.proofs.RowLemmas.{row-first, row-below, row-past, row-room, row-one, row-le, row-starts, row-before_starts, scale-one, scale-le, number-row, index-is}
@@ -215,7 +215,7 @@ some-at : (nfa : NFA) (text : ℕ → List ℕ) (i : ℕ) → StandFor nfa text 
 some-at nfa text i t past within = (special-in nfa text t).matching i past within
 
 -- the list of a number up to the last one that matches
-matches-low : (nfa : NFA) (table : Table) (text : ℕ → List ℕ) (a : Bool) (sid i : ℕ) → IsDfaTableOf nfa table → StandFor nfa text → 1 < i → IsNumber nfa table text a sid i → i ≤ (special_in nfa).max_match_id → (j : ℕ) × IsListed nfa table text a i j × (matches_by table sid ≡ matches_at nfa j)
+matches-low : (nfa : NFA) (table : Table) (text : ℕ → List ℕ) (a : Bool) (sid i : ℕ) → IsDfaTableOf nfa table → StandFor nfa text → 1 < i → IsNumber nfa table text a sid i → i ≤ (special_in nfa).max_match_id → (j : ℕ) × IsListed nfa table text a i j × (dfa_matches_by table sid ≡ matches_at nfa j)
 matches-low nfa table text a sid i h t past n low =
     let l = listed-of nfa table text a i h t past n.met low in
     let some = number-past nfa table a i past n.met in
@@ -229,11 +229,11 @@ matches-low nfa table text a sid i h t past n low =
     let j_past = l.1.past in
     let k = list_index table.kind (number_by nfa table a i / stride_of table) in
     let counted = h.lists.1 in
-    let shown : matches_by table sid ≡ dfa_list_of table.lists k = cond-true (not (sid == 0) && nat_le sid table.max_match) (dfa_list_of table.lists (list_index table.kind (sid / stride_of table))) [] test ∙ ap (λ (m : ℕ). dfa_list_of table.lists (list_index table.kind (m / stride_of table))) is in
+    let shown : dfa_matches_by table sid ≡ dfa_list_of table.lists k = cond-true (not (sid == 0) && nat_le sid table.max_match) (dfa_list_of table.lists (list_index table.kind (sid / stride_of table))) [] test ∙ ap (λ (m : ℕ). dfa_list_of table.lists (list_index table.kind (m / stride_of table))) is in
     (l.0, l.1, shown ∙ (h.lists.2.each k (omega (arith, index, top, counted)) ∙ ap (matches_at nfa) index))
 
 -- and of one past it
-matches-high : (nfa : NFA) (table : Table) (text : ℕ → List ℕ) (a : Bool) (sid i : ℕ) → IsDfaTableOf nfa table → IsNumber nfa table text a sid i → (special_in nfa).max_match_id < i → matches_by table sid ≡ []
+matches-high : (nfa : NFA) (table : Table) (text : ℕ → List ℕ) (a : Bool) (sid i : ℕ) → IsDfaTableOf nfa table → IsNumber nfa table text a sid i → (special_in nfa).max_match_id < i → dfa_matches_by table sid ≡ []
 matches-high nfa table text a sid i h n high =
     let is = n.number in
     let past : table.max_match < sid =
@@ -253,12 +253,12 @@ list-some : (xs : List ℕ) → 0 < length xs → xs ≢ []
 list-some xs some e = let n = ap length e in omega (arith, n, some)
 
 -- each list is that of the text
-table-lists : (nfa : NFA) (table : Table) (text : ℕ → List ℕ) → IsDfaTableOf nfa table → StandFor nfa text → (a : Bool) (sid : ℕ) (of : List ℕ) → IsTrue ((names_of nfa table text).met a sid) → (names_of nfa table text).text sid ≡ Some of → IsList (dictionary nfa) of (matches_by table sid)
+table-lists : (nfa : NFA) (table : Table) (text : ℕ → List ℕ) → IsDfaTableOf nfa table → StandFor nfa text → (a : Bool) (sid : ℕ) (of : List ℕ) → IsTrue ((names_of nfa table text).met a sid) → (names_of nfa table text).text sid ≡ Some of → IsList (dictionary nfa) of (dfa_matches_by table sid)
 table-lists nfa table text h t a sid of met some =
     let n = number-of nfa table text a sid h met in
     let i = n.0 in
     let s = text-some text i of (met-stands (nfa_start_of nfa) a i n.1.met) (sym n.1.named ∙ some) in
-    subst (λ (u : List ℕ). IsList (dictionary nfa) u (matches_by table sid)) (sym s.1)
+    subst (λ (u : List ℕ). IsList (dictionary nfa) u (dfa_matches_by table sid)) (sym s.1)
     (⊎_elim
     (λ (high : (special_in nfa).max_match_id < i).
     let list = (lists-in nfa i n.1.within).list text t s.0 in
@@ -276,7 +276,7 @@ table-lists nfa table text h t a sid of met some =
     (cases_lt (special_in nfa).max_match_id i))
 
 -- a number has patterns exactly up to the last one that matches
-table-matching : (nfa : NFA) (table : Table) (text : ℕ → List ℕ) → IsDfaTableOf nfa table → StandFor nfa text → (a : Bool) (sid : ℕ) → IsTrue ((names_of nfa table text).met a sid) → sid ≢ 0 → ((matches_by table sid ≢ []) ↔ (sid ≤ table.max_match)) × (sid ≤ table.max_match → list_index table.kind (sid / stride_of table) < length table.lists.ends.items)
+table-matching : (nfa : NFA) (table : Table) (text : ℕ → List ℕ) → IsDfaTableOf nfa table → StandFor nfa text → (a : Bool) (sid : ℕ) → IsTrue ((names_of nfa table text).met a sid) → sid ≢ 0 → ((dfa_matches_by table sid ≢ []) ↔ (sid ≤ table.max_match)) × (sid ≤ table.max_match → list_index table.kind (sid / stride_of table) < length table.lists.ends.items)
 table-matching nfa table text h t a sid met not_zero =
     let n = number-of nfa table text a sid h met in
     let i = n.0 in

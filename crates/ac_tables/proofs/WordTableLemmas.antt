@@ -16,7 +16,8 @@ use Rattle.ac_tables.specs.declared.contiguous.table.Table.{Table}
 use Rattle.ac_automaton.specs.Named.{Naming}
 use Rattle.ac_tables.specs.Words.{StateParts, words_of, AreWordsAt}
 use Rattle.ac_tables.specs.ContiguousTable.{AreStates, AreSomeStates, ArePlacesTooGreat}
-use Rattle.ac_tables.specs.ContiguousBuild.{ArePlacesIn, AreKnown, AreServing, IsWordTableOf, IsCopiedTable}
+use Rattle.ac_tables.specs.TableClasses.{AreServing}
+use Rattle.ac_tables.specs.ContiguousBuild.{ArePlacesIn, AreKnown, IsWordTableOf, IsCopiedTable}
 use Rattle.ac_tables.proofs.LayLemmas.{Laid, names_in, parts_in}
 use Rattle.ac_tables.proofs.StatesLemmas.{states}
 

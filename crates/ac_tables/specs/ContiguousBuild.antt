@@ -2,15 +2,13 @@
 use Rattle.std.specs.Prelude.{◌≡◌, ◌≢◌, ℕ, ◌<◌, ◌≤◌, Bool, List, ◌++◌, map, take, drop, length, slice_index, ◌==◌, if◌then◌else◌}
 use Rattle.ac_input.specs.declared.primitives.number.TheConstants.{GREATEST}
 use Rattle.ac_input.specs.Alphabet.{alphabet_len, IsClasses}
-use Rattle.ac_input.specs.Classes.{IsByteOf, IsAlone, ClassesLeadAlike}
-use Rattle.ac_input.specs.Dictionary.{Dictionary}
 use Rattle.ac_noncontiguous.specs.declared.error.BuildErrorKind.{BuildErrorKind}
 use Rattle.ac_noncontiguous.specs.declared.error.BuildErrorKind.TheVariants.{StateIDOverflow, PatternIDOverflow, PatternTooLong, Memory}
 use Rattle.ac_noncontiguous.specs.declared.nfa.NFA.{NFA}
 use Rattle.ac_noncontiguous.specs.ReadCalls.{state_len, fail_in, special_in, FailsIn, EdgesLeadIn, ListsIn, edges_in}
 use Rattle.ac_noncontiguous.specs.Reads.{matches_at}
 use Rattle.ac_tables.specs.Words.{StateParts, words_of}
-use Rattle.ac_tables.specs.ContiguousTable.{placed, place_in, words_at, AreWordsOf, ArePlacesTooGreat}
+use Rattle.ac_tables.specs.ContiguousTable.{placed_edge, place_in, words_at, AreWordsOf, ArePlacesTooGreat}
 use Rattle.ac_tables.specs.declared.contiguous.table.Table.{Table}
 
 -- ---- how many words
@@ -58,13 +56,6 @@ pub record IsKnown (nfa : NFA) (sid : ℕ) : Type 0 where
 abbrev pub AreKnown : NFA → ℕ → Type 0
 AreKnown nfa n = (sid : ℕ) → sid < n → sid ≢ 1 → IsKnown nfa sid
 
--- ---- classes
-
--- The classes serve a dictionary: each byte that stands in an entered pattern is a class alone, and bytes of one class lead alike.
-pub record AreServing (m : Dictionary) (classes : List ℕ) : Type 0 where
-  pub alone : (b : ℕ) → b < 256 → IsByteOf m b → IsAlone classes b
-  pub alike : ClassesLeadAlike m classes
-
 -- ---- the table
 
 -- The table is that of an automaton: its words, and the places of its starts and of its last state that matches.
@@ -84,11 +75,11 @@ pub record IsStateWritten (nfa : NFA) (dense_depth : ℕ) (classes : List ℕ) (
 
 -- all of them were
 abbrev pub AreReadBy : NFA → List ℕ → List ℕ → ℕ → List (ℕ × ℕ) → Type 0
-AreReadBy nfa classes places sid edges = edges ≡ map (placed classes (slice_index places)) (edges_in nfa sid)
+AreReadBy nfa classes places sid edges = edges ≡ map (placed_edge classes (slice_index places)) (edges_in nfa sid)
 
 -- The first so many transitions of a state were read, and these are left.
 pub record AreReadTo (classes : List ℕ) (place : ℕ → ℕ) (edges : List (ℕ × ℕ)) (n : ℕ) (done left : List (ℕ × ℕ)) : Type 0 where
-  pub read : done ≡ map (placed classes place) (take n edges)
+  pub read : done ≡ map (placed_edge classes place) (take n edges)
   pub rest : left ≡ drop n edges
   pub within : n ≤ length edges
 

@@ -1,20 +1,20 @@
 -- What a builder of contiguous automata is told, and what is built.
-use Rattle.std.specs.Prelude.{◌≡◌, ◌⊎◌, ℕ, ◌<◌, Bool, true, false, List}
+use Rattle.std.specs.Prelude.{◌≡◌, ◌⊎◌, ℕ, ◌<◌, Bool, true, List}
 use Rattle.std.specs.Borrow.{Bor}
 use Rattle.ac_input.specs.declared.primitives.number.TheConstants.{GREATEST}
 use Rattle.ac_input.specs.declared.search.MatchKind.{MatchKind}
 use Rattle.ac_input.specs.declared.search.MatchKind.TheVariants.{Standard}
-use Rattle.ac_input.specs.Alphabet.{class}
 use Rattle.ac_input.specs.Same.{IsUnpaired}
 use Rattle.ac_noncontiguous.specs.declared.error.BuildErrorKind.{BuildErrorKind}
 use Rattle.ac_noncontiguous.specs.declared.error.BuildErrorKind.TheVariants.{StateIDOverflow, PatternIDOverflow, PatternTooLong, Memory}
 use Rattle.ac_noncontiguous.specs.declared.nfa.NFA.{NFA as Noncontiguous}
 use Rattle.ac_noncontiguous.specs.Builder as noncontiguous
-use Rattle.ac_noncontiguous.specs.ReadCalls.{classes_in, IsWithin}
+use Rattle.ac_noncontiguous.specs.ReadCalls.{IsWithin}
 use Rattle.ac_noncontiguous.specs.Reads as reads
 use Rattle.ac_noncontiguous.specs.Standing.{IsBuildRefused}
 use Rattle.ac_tables.specs.declared.contiguous.NFA.{NFA}
 use Rattle.ac_tables.specs.declared.contiguous.table.Table.{Table}
+use Rattle.ac_tables.specs.TableClasses.{AreClassesFor}
 use Rattle.ac_tables.specs.ContiguousTable.{AreWordsOf, ArePlacesTooGreat, AreSomeStates}
 use Rattle.ac_tables.specs.ContiguousReads.{built_as}
 
@@ -42,11 +42,6 @@ noncontiguous_of s = record { kind = s.kind; pairing = s.pairing; dense_depth = 
 -- the words of an automaton
 abbrev pub words_in : NFA → List ℕ
 words_in nfa = nfa.table.words.items
-
--- The classes of bytes: those of the noncontiguous automaton, or each byte alone.
-abbrev pub AreClassesFor : Noncontiguous → Bool → List ℕ → Type 0
-AreClassesFor from true classes = classes ≡ classes_in from
-AreClassesFor from false classes = (b : ℕ) → b < 256 → class classes b ≡ b
 
 -- ---- from a noncontiguous automaton
 

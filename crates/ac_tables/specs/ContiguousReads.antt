@@ -55,8 +55,8 @@ IsMet nfa anchored sid = ∥ ((names : Naming) × IsLaidOut nfa names × IsTrue 
 
 -- Whatever the places stand for: the state to which a byte leads in a search, and how many states were looked at to find it, after
 -- so many for the same byte.
-abbrev pub LeadsNext : NFA → Bool → ℕ → ℕ → ℕ → ℕ → Steps → Steps → Type 0
-LeadsNext nfa anchored done sid byte next before after = OfNames (IsLaidOut nfa) anchored sid (λ names. IsPaidStep (dictionary nfa) names anchored done sid byte next before after)
+abbrev pub LooksUp : NFA → Bool → ℕ → ℕ → ℕ → ℕ → Steps → Steps → Type 0
+LooksUp nfa anchored done sid byte next before after = OfNames (IsLaidOut nfa) anchored sid (λ names. IsPaidStep (dictionary nfa) names anchored done sid byte next before after)
 
 -- ---- how it is made
 

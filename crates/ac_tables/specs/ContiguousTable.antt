@@ -18,15 +18,15 @@ use Rattle.ac_tables.specs.declared.contiguous.table.Table.{Table}
 -- ---- the words as they are made of an automaton
 
 -- a transition, with its byte's class and the place of the next state
-abbrev pub placed : List ℕ → (ℕ → ℕ) → ℕ × ℕ → ℕ × ℕ
-placed classes place edge = (class classes edge.0, place edge.1)
+abbrev pub placed_edge : List ℕ → (ℕ → ℕ) → ℕ × ℕ → ℕ × ℕ
+placed_edge classes place edge = (class classes edge.0, place edge.1)
 
 -- what is known of a state, where the states have these places
 abbrev pub parts_of : NFA → ℕ → List ℕ → (ℕ → ℕ) → ℕ → StateParts
 parts_of nfa dense_depth classes place sid = record {
   shallow = nat_lt (depth_in nfa sid) dense_depth;
   fail = place (fail_in nfa sid);
-  edges = map (placed classes place) (edges_in nfa sid);
+  edges = map (placed_edge classes place) (edges_in nfa sid);
   matches = matches_at nfa sid;
 }
 
@@ -88,12 +88,6 @@ abbrev pub AreSomeStates : Dictionary → Table → Type 0
 AreSomeStates m table = ∥ ((names : Naming) × (parts : ℕ → StateParts) × AreStates m table names parts) ∥₁
 
 -- ---- what the automaton keeps beside them
-
--- The last state at which a search has more to do than to read on: the anchored start, where a prefilter is held, else the last one
--- that matches.
-abbrev pub last_special_in : Table → Option Filter → ℕ
-last_special_in table None = table.max_match
-last_special_in table (Some f) = table.start_anchored
 
 -- the words of an automaton, its prefilter, if it holds one, its limits and its pairing
 pub record AreContiguousParts (m : Dictionary) (table : Table) (prefilter : Option Filter) : Type 0 where

@@ -18,7 +18,7 @@ use Rattle.ac_noncontiguous.specs.Reads as reads
 use Rattle.ac_noncontiguous.specs.ReadCalls.{state_len}
 use Rattle.ac_noncontiguous.specs.Standing.{IsBuildRefused}
 use Rattle.ac_tables.specs.declared.dfa.DFA.{DFA}
-use Rattle.ac_tables.specs.DfaMade.{AreChosen}
+use Rattle.ac_tables.specs.TableClasses.{AreClassesFor}
 use Rattle.ac_tables.specs.DfaReads.{built_as}
 use Rattle.ac_tables.specs.DfaTable.{AreTransitionsOf, stride_of}
 
@@ -55,8 +55,8 @@ states_in dfa = length (transitions_in dfa) / stride_in dfa
 abbrev pub start_kind_in : DFA → StartKind
 start_kind_in dfa = dfa.table.kind
 
-abbrev pub classes_in : DFA → List ℕ
-classes_in dfa = dfa.table.classes
+abbrev pub row_classes_in : DFA → List ℕ
+row_classes_in dfa = dfa.table.classes
 
 -- ---- made of an automaton
 
@@ -69,9 +69,9 @@ determined built = record built { deterministic = true }
 pub record IsDfaOf (s : Settings) (nfa : NFA) (dfa : DFA) : Type 0 where
   pub built : built_as dfa ≡ determined (reads.built_as nfa)
   pub starts : start_kind_in dfa ≡ s.start_kind
-  pub classes : AreChosen s.byte_classes nfa (classes_in dfa)
+  pub classes : AreClassesFor nfa s.byte_classes (row_classes_in dfa)
   pub states : states_in dfa ≡ dfa_states s.start_kind (state_len nfa)
-  pub laid : AreTransitionsOf nfa s.start_kind (classes_in dfa) (stride_in dfa) (transitions_in dfa)
+  pub laid : AreTransitionsOf nfa s.start_kind (row_classes_in dfa) (stride_in dfa) (transitions_in dfa)
   pub within : ¬ IsDfaTooLarge (reads.dictionary nfa) s.start_kind s.byte_classes
 
 -- the table of a dictionary would be too large, or memory has ended
@@ -92,19 +92,19 @@ abbrev pub parts_by : Settings → noncontiguous.Settings
 parts_by s = record { kind = s.kind; pairing = s.pairing; dense_depth = 0; prefilter = s.prefilter }
 
 -- a DFA is made of an automaton that was built of these patterns
-abbrev pub IsBuiltFrom : Settings → List (Bor (List ℕ)) → DFA → Type 0
-IsBuiltFrom s patterns dfa = (nfa : NFA) × noncontiguous.IsBuiltOf (parts_by s) patterns (reads.built_as nfa) × IsDfaOf s nfa dfa
+abbrev pub IsBuiltOf : Settings → List (Bor (List ℕ)) → DFA → Type 0
+IsBuiltOf s patterns dfa = (nfa : NFA) × noncontiguous.IsBuiltOf (parts_by s) patterns (reads.built_as nfa) × IsDfaOf s nfa dfa
 
 -- why there is none of these patterns
-abbrev pub IsRefusedFrom : Settings → List (Bor (List ℕ)) → BuildErrorKind → Type 0
-IsRefusedFrom s patterns error = IsTooLargeOr s (noncontiguous.dictionary_by (parts_by s) patterns) (IsBuildRefused (noncontiguous.dictionary_by (parts_by s) patterns)) error
+abbrev pub IsRefusedOf : Settings → List (Bor (List ℕ)) → BuildErrorKind → Type 0
+IsRefusedOf s patterns error = IsTooLargeOr s (noncontiguous.dictionary_by (parts_by s) patterns) (IsBuildRefused (noncontiguous.dictionary_by (parts_by s) patterns)) error
 
 -- by the settings that a builder has at first
 abbrev pub IsBuiltAtFirst : List (Bor (List ℕ)) → DFA → Type 0
-IsBuiltAtFirst patterns dfa = (s : Settings) × AreFirst s × IsBuiltFrom s patterns dfa
+IsBuiltAtFirst patterns dfa = (s : Settings) × AreFirst s × IsBuiltOf s patterns dfa
 
 abbrev pub IsRefusedAtFirst : List (Bor (List ℕ)) → BuildErrorKind → Type 0
-IsRefusedAtFirst patterns error = (s : Settings) × AreFirst s × IsRefusedFrom s patterns error
+IsRefusedAtFirst patterns error = (s : Settings) × AreFirst s × IsRefusedOf s patterns error
 
 -- ---- copies
 
@@ -112,6 +112,6 @@ IsRefusedAtFirst patterns error = (s : Settings) × AreFirst s × IsRefusedFrom 
 pub record IsCopy (old new : DFA) : Type 0 where
   pub built : built_as new ≡ built_as old
   pub starts : start_kind_in new ≡ start_kind_in old
-  pub classes : classes_in new ≡ classes_in old
+  pub classes : row_classes_in new ≡ row_classes_in old
   pub stride : stride_in new ≡ stride_in old
   pub transitions : transitions_in new ≡ transitions_in old

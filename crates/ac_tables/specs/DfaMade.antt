@@ -1,23 +1,19 @@
 -- The table of a DFA as it is made of a noncontiguous automaton.
-use Rattle.std.specs.Prelude.{◌≡◌, ℕ, ◌+◌, ◌<◌, ◌≤◌, Bool, true, false, List}
+use Rattle.std.specs.Prelude.{◌≡◌, ℕ, ◌+◌, ◌<◌, ◌≤◌, Bool, true, false}
 use Rattle.ac_input.specs.declared.search.StartKind.{StartKind}
-use Rattle.ac_input.specs.Alphabet.{class, alphabet_len, IsLeastExponent}
+use Rattle.ac_input.specs.Alphabet.{alphabet_len, IsLeastExponent}
 use Rattle.ac_input.specs.declared.primitives.number.TheConstants.{GREATEST}
 use Rattle.ac_input.specs.Dfa.{IsDfaTooLarge}
 use Rattle.ac_noncontiguous.specs.declared.error.BuildErrorKind.{BuildErrorKind}
 use Rattle.ac_noncontiguous.specs.declared.error.BuildErrorKind.TheVariants.{StateIDOverflow, PatternIDOverflow, PatternTooLong, Memory}
 use Rattle.ac_noncontiguous.specs.declared.nfa.NFA.{NFA}
 use Rattle.ac_noncontiguous.specs.Reads.{dictionary}
-use Rattle.ac_noncontiguous.specs.ReadCalls.{state_len, special_in, classes_in}
+use Rattle.ac_noncontiguous.specs.ReadCalls.{state_len, special_in}
 use Rattle.ac_tables.specs.declared.dfa.table.Table.{Table}
 use Rattle.ac_tables.specs.DfaLists.{AreListsOf}
 use Rattle.ac_tables.specs.DfaTable.{dfa_number_of, stride_of}
+use Rattle.ac_tables.specs.TableClasses.{AreClassesFor}
 use Rattle.ac_tables.specs.Filling.{RowPlan, IsFit, AreRowsUpTo}
-
--- the classes of bytes: those of the automaton, or each byte a class alone where bytes aren't put into classes
-abbrev pub AreChosen : Bool → NFA → List ℕ → Type 0
-AreChosen true nfa classes = classes ≡ classes_in nfa
-AreChosen false nfa classes = (b : ℕ) → b < 256 → class classes b ≡ b
 
 -- where the rows of a table stand
 abbrev pub plan_by : NFA → Table → RowPlan
@@ -46,7 +42,7 @@ pub record IsDfaTableOf (nfa : NFA) (table : Table) : Type 0 where
 pub record IsTableFor (nfa : NFA) (start_kind : StartKind) (classed : Bool) (table : Table) : Type 0 where
   pub made : IsDfaTableOf nfa table
   pub kind : table.kind ≡ start_kind
-  pub classes : AreChosen classed nfa table.classes
+  pub classes : AreClassesFor nfa classed table.classes
 
 -- why there is no such table: it would be too large, or memory has ended
 abbrev pub IsTableRefused : NFA → StartKind → Bool → BuildErrorKind → Type 0

@@ -11,7 +11,7 @@ use Rattle.ac_automaton.specs.Named.{Naming, IsReadBy}
 use Rattle.ac_noncontiguous.specs.Reads.{is_between}
 use Rattle.ac_tables.specs.declared.dfa.DFA.{DFA}
 use Rattle.ac_tables.specs.declared.dfa.table.Table.{Table}
-use Rattle.ac_tables.specs.DfaTable.{AreDfaRows, matches_by}
+use Rattle.ac_tables.specs.DfaTable.{AreDfaRows, dfa_matches_by}
 
 -- what the automaton is made from
 abbrev pub dictionary : DFA → Dictionary
@@ -27,7 +27,7 @@ supported_by dfa anchored = Serves dfa.table.kind anchored
 
 -- the patterns that match at a number
 abbrev pub matches_at : DFA → ℕ → List ℕ
-matches_at dfa sid = matches_by dfa.table sid
+matches_at dfa sid = dfa_matches_by dfa.table sid
 
 -- the two starts
 abbrev pub is_start_at : DFA → ℕ → Bool

@@ -74,8 +74,8 @@ list_index starts.Unanchored row = row - 2
 list_index starts.Anchored row = row - 2
 
 -- the patterns that match at a number; none at the dead state, and none past the last state that matches
-abbrev pub matches_by : Table → ℕ → List ℕ
-matches_by table sid = if not (sid == 0) && nat_le sid table.max_match then dfa_list_of table.lists (list_index table.kind (sid / stride_of table)) else []
+abbrev pub dfa_matches_by : Table → ℕ → List ℕ
+dfa_matches_by table sid = if not (sid == 0) && nat_le sid table.max_match then dfa_list_of table.lists (list_index table.kind (sid / stride_of table)) else []
 
 -- the start of searches of this anchoring
 abbrev pub start_by : Table → Bool → ℕ
@@ -92,8 +92,8 @@ pub record AreDfaRows (m : Dictionary) (table : Table) (names : Naming) : Type 0
   pub steps : (anchored : Anchored) (sid byte : ℕ) → Serves table.kind anchored → IsTrue (names.met (is_anchored anchored) sid) → byte < 256 → IsStep m names (is_anchored anchored) sid byte (slice_index table.trans.items (sid + class table.classes byte))
   pub first : (anchored : Anchored) → Serves table.kind anchored → IsFirst names (is_anchored anchored) (start_by table (is_anchored anchored))
   pub starting : (anchored : Bool) (sid : ℕ) → IsTrue (names.met anchored sid) → (names.text sid ≡ Some []) ↔ ((sid ≡ table.start) ⊎ (sid ≡ table.start_anchored))
-  pub lists : (anchored : Bool) (sid : ℕ) (text : List ℕ) → IsTrue (names.met anchored sid) → names.text sid ≡ Some text → IsList m text (matches_by table sid)
-  pub matching : (anchored : Bool) (sid : ℕ) → IsTrue (names.met anchored sid) → sid ≢ 0 → (matches_by table sid ≢ []) ↔ (sid ≤ table.max_match)
+  pub lists : (anchored : Bool) (sid : ℕ) (text : List ℕ) → IsTrue (names.met anchored sid) → names.text sid ≡ Some text → IsList m text (dfa_matches_by table sid)
+  pub matching : (anchored : Bool) (sid : ℕ) → IsTrue (names.met anchored sid) → sid ≢ 0 → (dfa_matches_by table sid ≢ []) ↔ (sid ≤ table.max_match)
   pub listed : (anchored : Bool) (sid : ℕ) → IsTrue (names.met anchored sid) → sid ≢ 0 → sid ≤ table.max_match → list_index table.kind (sid / stride_of table) < length table.lists.ends.items
   pub ranges : AreListRanges table.lists
   pub unanchored : names.met true table.start ≡ false
@@ -107,12 +107,6 @@ abbrev pub AreSomeRows : Dictionary → Table → Type 0
 AreSomeRows m table = ∥ ((names : Naming) × AreDfaRows m table names) ∥₁
 
 -- ---- what the automaton keeps beside it
-
--- The last number at which a search has more to do than to read on: that of the anchored start, where a prefilter is held, else the
--- last one that matches.
-abbrev pub last_special_by : Table → Option Filter → ℕ
-last_special_by table None = table.max_match
-last_special_by table (Some f) = table.start_anchored
 
 -- the table of an automaton, its prefilter, if it holds one, and its pairing
 pub record AreDfaParts (m : Dictionary) (table : Table) (prefilter : Option Filter) : Type 0 where

@@ -43,13 +43,13 @@ abbrev pub ClassLeadsTo : Table → ℕ → ℕ → ℕ → Type 0
 ClassLeadsTo table sid wanted next = (s : StateParts) → IsStateAt table sid s → next ≡ next_by s.edges wanted
 
 -- where a byte leads from a state by its transitions
-abbrev pub StepsTo : Table → ℕ → ℕ → ℕ → Type 0
-StepsTo table sid byte next = ClassLeadsTo table sid (class table.classes byte) next
+abbrev pub ByteLeadsTo : Table → ℕ → ℕ → ℕ → Type 0
+ByteLeadsTo table sid byte next = ClassLeadsTo table sid (class table.classes byte) next
 
 -- Over this byte a search that stands in the unanchored start stays there, and the start matches nothing.
 pub record IsIdleAt (table : Table) (byte : ℕ) : Type 0 where
   pub plain : table.max_match < table.start
-  pub stays : StepsTo table table.start byte table.start
+  pub stays : ByteLeadsTo table table.start byte table.start
 
 -- to which state one fails
 abbrev pub IsFailOf : Table → ℕ → ℕ → Type 0

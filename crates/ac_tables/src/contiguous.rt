@@ -41,17 +41,19 @@ mod states;
 mod table;
 mod words;
 
-ghost use Rattle.std.specs.Prelude.{◌≡◌, if◌then◌else◌};
+ghost use Rattle.std.specs.Prelude.{◌≡◌};
 ghost use Rattle.std.proofs.Props.{props};
 ghost use Rattle.ac_input.specs.Dictionary.{dictionary_of};
 ghost use Rattle.ac_input.specs.Limits.{IsWithinLimits};
 ghost use Rattle.ac_input.specs.Pairing.{IsPairing};
 ghost use Rattle.ac_noncontiguous.specs.Nfa.{IsHeldFor};
+ghost use Rattle.ac_automaton.specs.Held.{last_special_of};
 ghost use Rattle.ac_automaton.specs.Starters.{SkipsIdle};
-ghost use Rattle.ac_tables.specs.ContiguousTable.{AreSomeStates, AreContiguousParts, last_special_in};
+ghost use Rattle.ac_tables.specs.ContiguousTable.{AreSomeStates, AreContiguousParts};
 ghost use Rattle.ac_tables.specs.WordReads.{IsIdleAt};
 
 use crate::contiguous::table::Table;
+use ac_automaton::held::last_special;
 use ac_automaton::starters::Starters;
 use ac_input::pairing::Pairing;
 use ac_input::primitives::StateID;
@@ -75,19 +77,8 @@ pub struct NFA {
     ghost within: { ∥ IsWithinLimits (dictionary_of lens pairing kind) ∥₁ },
     ghost stands: { AreSomeStates (dictionary_of lens pairing kind) table },
     ghost skips: { ∥ SkipsIdle (IsIdleAt table) starters ∥₁ },
-    ghost special: { max_special ≡ last_special_in table prefilter },
+    ghost special: { max_special ≡ last_special_of prefilter table.start_anchored table.max_match },
     ghost held: { IsHeldFor (dictionary_of lens pairing kind) prefilter } by { Prim.hlevel props },
-}
-
-/// The last state at which a search has more to do than to read on.
-fn last_special_of(table: &Table, held: bool) -> StateID
-    ensures { result ≡ (if held then table.now.start_anchored else table.now.max_match) }
-{
-    if held {
-        table.start_anchored
-    } else {
-        table.max_match
-    }
 }
 
 impl NFA {
@@ -104,7 +95,7 @@ impl NFA {
         requires { AreContiguousParts (dictionary_of lens pairing kind) table prefilter }
         ensures { IsMadeOf (dictionary_of lens pairing kind) table prefilter result }
     {
-        let max_special = last_special_of(&table, prefilter.is_some());
+        let max_special = last_special(&prefilter, table.start_anchored, table.max_match);
         let starters = table.starters();
         NFA {
             table,

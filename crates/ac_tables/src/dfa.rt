@@ -40,16 +40,18 @@ mod numbers;
 mod read;
 mod table;
 
-ghost use Rattle.std.specs.Prelude.{◌≡◌, if◌then◌else◌};
+ghost use Rattle.std.specs.Prelude.{◌≡◌};
 ghost use Rattle.std.proofs.Props.{props};
 ghost use Rattle.ac_input.specs.Dictionary.{dictionary_of};
 ghost use Rattle.ac_input.specs.Pairing.{IsPairing};
 ghost use Rattle.ac_noncontiguous.specs.Nfa.{IsHeldFor};
+ghost use Rattle.ac_automaton.specs.Held.{last_special_of};
 ghost use Rattle.ac_automaton.specs.Starters.{SkipsIdle};
 ghost use Rattle.ac_tables.specs.DfaLookups.{IsIdleIn};
-ghost use Rattle.ac_tables.specs.DfaTable.{AreSomeRows, AreDfaParts, last_special_by};
+ghost use Rattle.ac_tables.specs.DfaTable.{AreSomeRows, AreDfaParts};
 
 use crate::dfa::table::Table;
+use ac_automaton::held::last_special;
 use ac_automaton::starters::Starters;
 use ac_input::pairing::Pairing;
 use ac_input::primitives::StateID;
@@ -71,20 +73,9 @@ pub struct DFA {
     kind: MatchKind,
     ghost paired: { IsPairing pairing },
     ghost stands: { AreSomeRows (dictionary_of lens pairing kind) table },
-    ghost special: { max_special ≡ last_special_by table prefilter },
+    ghost special: { max_special ≡ last_special_of prefilter table.start_anchored table.max_match },
     ghost skips: { ∥ SkipsIdle (IsIdleIn table) starters ∥₁ },
     ghost held: { IsHeldFor (dictionary_of lens pairing kind) prefilter } by { Prim.hlevel props },
-}
-
-/// The last state at which a search has more to do than to read on.
-fn last_special_of(table: &Table, held: bool) -> StateID
-    ensures { result ≡ (if held then table.now.start_anchored else table.now.max_match) }
-{
-    if held {
-        table.start_anchored
-    } else {
-        table.max_match
-    }
 }
 
 impl DFA {
@@ -101,7 +92,7 @@ impl DFA {
         requires { AreDfaParts (dictionary_of lens pairing kind) table prefilter }
         ensures { IsMadeOf (dictionary_of lens pairing kind) table prefilter result }
     {
-        let max_special = last_special_of(&table, prefilter.is_some());
+        let max_special = last_special(&prefilter, table.start_anchored, table.max_match);
         let starters = table.starters();
         DFA {
             table,

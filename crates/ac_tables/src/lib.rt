@@ -7,3 +7,4 @@
 
 pub mod contiguous;
 pub mod dfa;
+mod source;

@@ -14,12 +14,12 @@ use Rattle.aho_corasick.specs.declared.engine.Engine.{Engine}
 use Rattle.aho_corasick.specs.Engine as engines
 
 -- the automaton that serves
-abbrev pub engine_of : AhoCorasick → Engine
-engine_of ac = ac.engine.value
+abbrev pub serving_engine : AhoCorasick → Engine
+serving_engine ac = ac.engine.value
 
 -- what it was built as
 abbrev pub built_as : AhoCorasick → Built
-built_as ac = engines.built_as (engine_of ac)
+built_as ac = engines.built_as (serving_engine ac)
 
 -- for which searches it has a start: those of the start kind that was asked for, whichever automaton serves
 abbrev pub supported_by : AhoCorasick → Anchored → Type 0
@@ -27,19 +27,19 @@ supported_by ac anchored = Serves ac.start_kind anchored
 
 -- a number is read by a search
 abbrev pub IsRead : AhoCorasick → Anchored → List ℕ → ℕ → Type 0
-IsRead ac anchored text sid = engines.IsRead (engine_of ac) anchored text sid
+IsRead ac anchored text sid = engines.IsRead (serving_engine ac) anchored text sid
 
 -- the patterns that match at a number
 abbrev pub matches_at : AhoCorasick → ℕ → List ℕ
-matches_at ac sid = engines.matches_at (engine_of ac) sid
+matches_at ac sid = engines.matches_at (serving_engine ac) sid
 
 -- the starts
 abbrev pub is_start_at : AhoCorasick → ℕ → Bool
-is_start_at ac sid = engines.is_start_at (engine_of ac) sid
+is_start_at ac sid = engines.is_start_at (serving_engine ac) sid
 
 -- the states at which a search has more to do than to read on
 abbrev pub is_special_at : AhoCorasick → ℕ → Bool
-is_special_at ac sid = engines.is_special_at (engine_of ac) sid
+is_special_at ac sid = engines.is_special_at (serving_engine ac) sid
 
 -- how many patterns it was made from
 abbrev pub pattern_count : AhoCorasick → ℕ
@@ -51,7 +51,7 @@ CameFromCalls ac asked state = overlapping.CameFrom (built_as ac) (IsRead ac) (m
 
 -- one means the same as another: the same automaton serves both, for the same searches
 pub record MeansSame (ac other : AhoCorasick) : Type 0 where
-  pub engine : engine_of other ≡ engine_of ac
+  pub engine : serving_engine other ≡ serving_engine ac
   pub starts : other.start_kind ≡ ac.start_kind
 
 -- some pattern occurs in the search

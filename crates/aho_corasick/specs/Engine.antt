@@ -13,10 +13,10 @@ use Rattle.aho_corasick.specs.declared.engine.Engine.{Engine}
 use Rattle.aho_corasick.specs.declared.engine.Engine.TheVariants.{Noncontiguous, Contiguous, Dfa}
 
 -- which one it is
-abbrev pub kind_of : Engine → AhoCorasickKind
-kind_of (Noncontiguous nfa) = kinds.NoncontiguousNFA
-kind_of (Contiguous nfa) = kinds.ContiguousNFA
-kind_of (Dfa dfa) = kinds.DFA
+abbrev pub kind_served : Engine → AhoCorasickKind
+kind_served (Noncontiguous nfa) = kinds.NoncontiguousNFA
+kind_served (Contiguous nfa) = kinds.ContiguousNFA
+kind_served (Dfa dfa) = kinds.DFA
 
 -- what it was built as
 abbrev pub built_as : Engine → Built

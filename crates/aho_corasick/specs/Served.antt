@@ -13,6 +13,7 @@ use Rattle.ac_noncontiguous.specs.declared.nfa.NFA.{NFA}
 use Rattle.ac_tables.specs.ContiguousBuilder as contiguous
 use Rattle.ac_tables.specs.ContiguousTable.{ArePlacesTooGreat}
 use Rattle.ac_tables.specs.DfaBuild as dfas
+use Rattle.ac_tables.specs.TableClasses.{AreClassesFor}
 use Rattle.ac_tables.specs.declared.contiguous.NFA.{NFA as Contiguous}
 use Rattle.ac_tables.specs.declared.dfa.DFA.{DFA as Deterministic}
 use Rattle.aho_corasick.specs.declared.ahocorasick.AhoCorasick.{AhoCorasick}
@@ -20,9 +21,9 @@ use Rattle.aho_corasick.specs.declared.ahocorasick.AhoCorasickKind.{AhoCorasickK
 use Rattle.aho_corasick.specs.declared.ahocorasick.AhoCorasickKind.TheVariants.{NoncontiguousNFA, ContiguousNFA, DFA}
 use Rattle.aho_corasick.specs.declared.ahocorasick.builder.TheConstants.{MOST_FOR_DFA}
 use Rattle.aho_corasick.specs.declared.engine.Engine.{Engine}
-use Rattle.aho_corasick.specs.AhoCorasick.{engine_of}
+use Rattle.aho_corasick.specs.AhoCorasick.{serving_engine}
 use Rattle.aho_corasick.specs.Builder.{Settings, AreFirst, dictionary_by, noncontiguous_by, depth_or}
-use Rattle.aho_corasick.specs.Engine.{built_as, kind_of, HasStarts}
+use Rattle.aho_corasick.specs.Engine.{built_as, kind_served, HasStarts}
 
 -- ---- the settings of each automaton
 
@@ -40,10 +41,10 @@ IsDfaTooLargeFor s from = IsDfaTooLarge (reads.dictionary from) s.start_kind s.b
 
 -- the contiguous NFA of an automaton is too large for the settings, or isn't
 abbrev pub IsContiguousTooLargeFor : Settings → NFA → Type 0
-IsContiguousTooLargeFor s from = (classes : List ℕ) × contiguous.AreClassesFor from s.byte_classes classes × ArePlacesTooGreat from (contiguous_by s).dense_depth classes
+IsContiguousTooLargeFor s from = (classes : List ℕ) × AreClassesFor from s.byte_classes classes × ArePlacesTooGreat from (contiguous_by s).dense_depth classes
 
 abbrev pub IsContiguousWithinFor : Settings → NFA → Type 0
-IsContiguousWithinFor s from = (classes : List ℕ) × contiguous.AreClassesFor from s.byte_classes classes × ¬ ArePlacesTooGreat from (contiguous_by s).dense_depth classes
+IsContiguousWithinFor s from = (classes : List ℕ) × AreClassesFor from s.byte_classes classes × ¬ ArePlacesTooGreat from (contiguous_by s).dense_depth classes
 
 -- a DFA is taken where none is named: for one start kind and few patterns, where it isn't too large
 abbrev pub TakesDfa : Settings → NFA → Type 0
@@ -51,10 +52,10 @@ TakesDfa s from = (s.start_kind ≢ Both) × (length (reads.dictionary from).pat
 
 -- which automaton serves where none is named: the DFA where one is taken, else the contiguous NFA where it isn't too large, else the
 -- noncontiguous one
-abbrev pub IsTaken : Settings → NFA → AhoCorasickKind → Type 0
-IsTaken s from DFA = TakesDfa s from
-IsTaken s from ContiguousNFA = (¬ TakesDfa s from) × IsContiguousWithinFor s from
-IsTaken s from NoncontiguousNFA = (¬ TakesDfa s from) × IsContiguousTooLargeFor s from
+abbrev pub ServesUnnamed : Settings → NFA → AhoCorasickKind → Type 0
+ServesUnnamed s from DFA = TakesDfa s from
+ServesUnnamed s from ContiguousNFA = (¬ TakesDfa s from) × IsContiguousWithinFor s from
+ServesUnnamed s from NoncontiguousNFA = (¬ TakesDfa s from) × IsContiguousTooLargeFor s from
 
 -- what a try of the DFA gives: one is taken, or none is
 abbrev pub IsTriedDfa : Settings → NFA → Option Deterministic → Type 0
@@ -74,7 +75,7 @@ IsWithinFor s from NoncontiguousNFA = Unit {0}
 
 -- which automaton serves where this one is named, or none is
 abbrev pub IsServedBy : Option AhoCorasickKind → Settings → NFA → AhoCorasickKind → Type 0
-IsServedBy None s from kind = IsTaken s from kind
+IsServedBy None s from kind = ServesUnnamed s from kind
 IsServedBy (Some named) s from kind = (kind ≡ named) × IsWithinFor s from kind
 
 -- which automaton serves by the settings
@@ -91,23 +92,23 @@ pub record Follows (s : Settings) (from : NFA) (engine : Engine) : Type 0 where
 
 -- it is the one that serves, made of the noncontiguous NFA
 abbrev pub IsEngineOf : Settings → NFA → Engine → Type 0
-IsEngineOf s from engine = Follows s from engine × IsServed s from (kind_of engine)
+IsEngineOf s from engine = Follows s from engine × IsServed s from (kind_served engine)
 
 -- it is the one that is taken where none is named
 abbrev pub IsEngineTaken : Settings → NFA → Engine → Type 0
-IsEngineTaken s from engine = Follows s from engine × IsTaken s from (kind_of engine)
+IsEngineTaken s from engine = Follows s from engine × ServesUnnamed s from (kind_served engine)
 
 -- the automaton is made over the one that serves
 abbrev pub IsMadeOf : Settings → NFA → AhoCorasick → Type 0
-IsMadeOf s from ac = (ac.start_kind ≡ s.start_kind) × IsEngineOf s from (engine_of ac)
+IsMadeOf s from ac = (ac.start_kind ≡ s.start_kind) × IsEngineOf s from (serving_engine ac)
 
 -- The automaton is built of the patterns: it has their dictionary, a prefilter as one is wanted, and the start kind; and one serves
 -- that is made of a noncontiguous NFA that was built of them.
 pub record IsBuiltOf (s : Settings) (patterns : List (Bor (List ℕ))) (ac : AhoCorasick) : Type 0 where
-  pub dictionary : (built_as (engine_of ac)).dictionary ≡ dictionary_by s patterns
-  pub prefilter : IsHeld s.prefilter (dictionary_by s patterns) (built_as (engine_of ac)).prefilter
+  pub dictionary : (built_as (serving_engine ac)).dictionary ≡ dictionary_by s patterns
+  pub prefilter : IsHeld s.prefilter (dictionary_by s patterns) (built_as (serving_engine ac)).prefilter
   pub start_kind : ac.start_kind ≡ s.start_kind
-  pub served : (from : NFA) × noncontiguous.IsBuiltOf (noncontiguous_by s) patterns (reads.built_as from) × IsEngineOf s from (engine_of ac)
+  pub served : (from : NFA) × noncontiguous.IsBuiltOf (noncontiguous_by s) patterns (reads.built_as from) × IsEngineOf s from (serving_engine ac)
 
 -- ---- what is refused
 

@@ -7,7 +7,7 @@ mod stream;
 
 ghost use Rattle.std.specs.Prelude.{◌≡◌, ◌↔◌, IfOk, IsTrue};
 ghost use Rattle.ac_input.specs.Work.{longest, shortest};
-ghost use Rattle.aho_corasick.specs.Engine.{HasStarts, kind_of};
+ghost use Rattle.aho_corasick.specs.Engine.{HasStarts, kind_served};
 
 use crate::engine::Engine;
 use ac_automaton::automaton::Automaton;
@@ -64,11 +64,9 @@ pub type FindOverlappingIter<'a, 'h> = overlapping::FindOverlappingIter<'a, 'h, 
 pub type StreamFindIter<'a, R> = streams::StreamFindIter<'a, AhoCorasick, R>;
 
 impl AhoCorasick {
-    ghost use Rattle.aho_corasick.specs.AhoCorasick.{MeansSame, engine_of, built_as, pattern_count};
+    ghost use Rattle.aho_corasick.specs.AhoCorasick.{MeansSame, serving_engine, built_as, pattern_count};
 
     /// Another that means the same. They share one automaton.
-    ///
-    /// A caller: `uses::callers::front::copy`.
     pub fn clone(&self, _alloc: Global) -> Result<AhoCorasick, AllocError>
         ensures { IfOk result (MeansSame self.now) }
     {
@@ -79,10 +77,8 @@ impl AhoCorasick {
     }
 
     /// Which automaton serves.
-    ///
-    /// A caller: `uses::callers::front::named`.
     pub fn kind(&self) -> AhoCorasickKind
-        ensures kind { result ≡ kind_of (engine_of self.now) }
+        ensures kind { result ≡ kind_served (serving_engine self.now) }
         ensures looks { IsTrue (built_as self.now).deterministic ↔ (result ≡ AhoCorasickKind.DFA) }
     {
         match &*self.engine {
@@ -93,8 +89,6 @@ impl AhoCorasick {
     }
 
     /// Which searches it serves.
-    ///
-    /// A caller: `uses::callers::front::serves`.
     pub fn start_kind(&self) -> StartKind
         ensures { result ≡ self.now.start_kind }
     {
@@ -102,8 +96,6 @@ impl AhoCorasick {
     }
 
     /// Which of several overlapping occurrences is the match.
-    ///
-    /// A caller: `uses::callers::front::can_list`.
     pub fn match_kind(&self) -> MatchKind
         ensures { result ≡ (built_as self.now).dictionary.kind }
     {
@@ -111,8 +103,6 @@ impl AhoCorasick {
     }
 
     /// How many bytes the shortest pattern has; `usize::MAX` where there is none.
-    ///
-    /// A caller: `uses::callers::front::may_match`.
     pub fn min_pattern_len(&self) -> usize
         ensures { result ≡ shortest (built_as self.now).dictionary.patterns }
     {
@@ -120,8 +110,6 @@ impl AhoCorasick {
     }
 
     /// How many bytes the longest pattern has; 0 where there is none.
-    ///
-    /// A caller: `uses::callers::front::most_bytes`.
     pub fn max_pattern_len(&self) -> usize
         ensures { result ≡ longest (built_as self.now).dictionary.patterns }
     {
@@ -129,8 +117,6 @@ impl AhoCorasick {
     }
 
     /// How many patterns it was made from. Those that can't match count too.
-    ///
-    /// A caller: `uses::callers::front::numbered`.
     pub fn patterns_len(&self) -> usize
         ensures { result ≡ pattern_count self.now }
     {

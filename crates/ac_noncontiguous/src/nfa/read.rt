@@ -11,12 +11,12 @@ ghost use Rattle.std.specs.Prelude.{◌≡◌, ◌<◌, IfOk};
 use crate::nfa::NFA;
 use crate::nfa::pattern_lens::PatternLens;
 use crate::nfa::tables::{Transition, part};
+use ac_automaton::held::clone_held;
 use ac_input::alphabet::ByteClasses;
 use ac_input::pairing::Pairing;
 use ac_input::primitives::{PatternID, StateID};
 use ac_input::search::Anchored;
 use ac_input::steps::Steps;
-use ac_literal::prefilter::Prefilter;
 use std::alloc::{AllocError, Global};
 use std::marker::Model;
 
@@ -241,22 +241,12 @@ impl NFA {
         &self.pairing
     }
 
-    /// The prefilter once more, if one is held.
-    fn clone_prefilter(&self, alloc: Global) -> Result<Option<Prefilter>, AllocError>
-        ensures { IfOk result (λ copy. copy ≡ self.now.prefilter) }
-    {
-        match &self.prefilter {
-            Some(prefilter) => Ok(Some(prefilter.clone(alloc)?)),
-            None => Ok(None),
-        }
-    }
-
     /// The same automaton once more, in memory from `alloc`.
     /// A caller: `uses::callers::build::copy`.
     pub fn clone(&self, alloc: Global) -> Result<NFA, AllocError>
         ensures { IfOk result (IsCopy self.now) }
     {
-        let prefilter = self.clone_prefilter(alloc)?;
+        let prefilter = clone_held(alloc, self.prefilter.as_ref())?;
         let lens = self.lens.clone(alloc)?;
         let tables = self.tables.clone(alloc)?;
         Ok(NFA::from_parts(tables, lens, prefilter, self.pairing, self.kind))

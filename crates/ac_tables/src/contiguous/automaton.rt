@@ -7,8 +7,8 @@ ghost use Rattle.std.specs.Prelude.{◌≡◌, ◌<◌, false};
 ghost use Rattle.ac_automaton.specs.Automaton.{IsReached};
 ghost use Rattle.ac_input.specs.Input.{is_anchored};
 ghost use Rattle.ac_noncontiguous.specs.Reads.{is_between};
-ghost use Rattle.ac_tables.specs.ContiguousReads.{IsRead, ReadsTo, IsMet, LeadsNext};
-ghost use Rattle.ac_tables.specs.WordReads.{StepsTo, IsFailOf};
+ghost use Rattle.ac_tables.specs.ContiguousReads.{IsRead, ReadsTo, IsMet, LooksUp};
+ghost use Rattle.ac_tables.specs.WordReads.{ByteLeadsTo, IsFailOf};
 
 use crate::contiguous::NFA;
 use crate::contiguous::layout::NOWHERE;
@@ -44,8 +44,8 @@ impl NFA {
     #[inline(never)]
     fn follow(&self, sid: StateID, byte: u8, steps: &mut Steps) -> StateID
         requires met { IsMet self.now false sid }
-        requires stuck { StepsTo self.now.table sid byte 1 }
-        ensures { LeadsNext self.now false 1 sid byte result steps.old steps.new }
+        requires stuck { ByteLeadsTo self.now.table sid byte 1 }
+        ensures { LooksUp self.now false 1 sid byte result steps.old steps.new }
     {
         let mut from = sid;
         loop {
@@ -62,7 +62,7 @@ impl NFA {
     #[inline]
     fn next(&self, anchored: Anchored, sid: StateID, byte: u8, steps: &mut Steps) -> StateID
         requires { IsMet self.now (is_anchored anchored) sid }
-        ensures { LeadsNext self.now (is_anchored anchored) 0 sid byte result steps.old steps.new }
+        ensures { LooksUp self.now (is_anchored anchored) 0 sid byte result steps.old steps.new }
     {
         steps.look();
         let next = self.table.step(sid, byte);

@@ -5,39 +5,28 @@
 //! more for each dense state.
 ghost use Rattle.std.specs.Prelude.{◌≡◌, IfOk, IfErr};
 ghost use Rattle.ac_input.specs.Pairing.{IsPairing, IsFolded};
-ghost use Rattle.ac_automaton.specs.Automaton.{OwnsPrefilter};
-ghost use Rattle.ac_noncontiguous.specs.Reads.{dictionary, built_as};
-ghost use Rattle.ac_tables.specs.ContiguousBuild.{AreServing, IsRefusedFor};
-ghost use Rattle.ac_tables.specs.ContiguousBuilder.{AreFirst, AreClassesFor, IsTableFrom, IsMadeFrom, IsRefusedFrom, IsBuiltOf, IsRefusedOf, IsBuiltAtFirst, IsRefusedAtFirst, noncontiguous_of, words_in};
+ghost use Rattle.ac_noncontiguous.specs.Reads.{dictionary};
+ghost use Rattle.ac_tables.specs.ContiguousBuild.{IsRefusedFor};
+ghost use Rattle.ac_tables.specs.ContiguousBuilder.{AreFirst, IsTableFrom, IsMadeFrom, IsRefusedFrom, IsBuiltOf, IsRefusedOf, IsBuiltAtFirst, IsRefusedAtFirst, noncontiguous_of, words_in};
+ghost use Rattle.ac_tables.specs.TableClasses.{AreServing};
 
 use crate::contiguous::NFA;
 use crate::contiguous::places::lay_out;
 use crate::contiguous::states::words;
 use crate::contiguous::table::Table;
+use crate::source::classes_of;
 use ac_automaton::automaton::Automaton;
+use ac_automaton::held::clone_held;
 use ac_input::alphabet::ByteClasses;
 use ac_input::pairing::Pairing;
 use ac_input::search::MatchKind;
-use ac_literal::prefilter::Prefilter;
 use ac_noncontiguous::error::BuildError;
 use ac_noncontiguous::{builder, nfa};
-use std::alloc::{AllocError, Global};
+use std::alloc::Global;
 use std::marker::Model;
 
 /// To which depth states are dense where nothing else is set: the starts, and those of one byte.
 const DENSE_DEPTH: usize = 2;
-
-/// The classes that the words are laid out over: those of the automaton, or each byte alone.
-fn classes_of(nfa: &nfa::NFA, byte_classes: bool) -> Result<ByteClasses, AllocError>
-    ensures classes { IfOk result (AreClassesFor nfa.now byte_classes) }
-    ensures serve { IfOk result (AreServing (dictionary nfa.now)) }
-{
-    if byte_classes {
-        Ok(nfa.byte_classes().clone()?)
-    } else {
-        Ok(ByteClasses::singletons())
-    }
-}
 
 /// The table of the automaton. States less deep than this depth are dense.
 fn table_of(
@@ -70,17 +59,6 @@ fn table_of(
         words,
         classes,
     })
-}
-
-/// The automaton's prefilter once more, if it holds one.
-fn clone_prefilter(alloc: Global, nfa: &nfa::NFA) -> Result<Option<Prefilter>, AllocError>
-    ensures same { IfOk result (λ copy. copy ≡ (built_as nfa.now).prefilter) }
-    ensures own { OwnsPrefilter (built_as nfa.now) }
-{
-    match nfa.prefilter() {
-        Some(prefilter) => Ok(Some(prefilter.clone(alloc)?)),
-        None => Ok(None),
-    }
 }
 
 /// The settings of a contiguous automaton. A builder may build several times.
@@ -219,7 +197,7 @@ impl Builder {
         let pairing = *nfa.pairing();
         let table = table_of(alloc, nfa, self.dense_depth, classes)?;
         let lens = nfa.pattern_lens().clone(alloc)?;
-        let prefilter = clone_prefilter(alloc, nfa)?;
+        let prefilter = clone_held(alloc, nfa.prefilter())?;
         Ok(NFA::from_parts(table, lens, prefilter, pairing, nfa.match_kind()))
     }
 

@@ -5,7 +5,7 @@ ghost use Rattle.ac_tables.specs.ContiguousBuilder.{IsCopy};
 
 use crate::contiguous::NFA;
 use crate::contiguous::table::Table;
-use ac_literal::prefilter::Prefilter;
+use ac_automaton::held::clone_held;
 use std::alloc::{AllocError, Global};
 
 /// The table once more.
@@ -23,21 +23,11 @@ fn clone_table(alloc: Global, table: &Table) -> Result<Table, AllocError>
 }
 
 impl NFA {
-    /// The prefilter once more, if one is held.
-    fn clone_prefilter(&self, alloc: Global) -> Result<Option<Prefilter>, AllocError>
-        ensures { IfOk result (λ copy. copy ≡ self.now.prefilter) }
-    {
-        match &self.prefilter {
-            Some(prefilter) => Ok(Some(prefilter.clone(alloc)?)),
-            None => Ok(None),
-        }
-    }
-
     /// The same automaton once more, in memory from `alloc`.
     pub fn clone(&self, alloc: Global) -> Result<NFA, AllocError>
         ensures { IfOk result (IsCopy self.now) }
     {
-        let prefilter = self.clone_prefilter(alloc)?;
+        let prefilter = clone_held(alloc, self.prefilter.as_ref())?;
         let lens = self.lens.clone(alloc)?;
         let table = clone_table(alloc, &self.table)?;
         Ok(NFA::from_parts(table, lens, prefilter, self.pairing, self.kind))

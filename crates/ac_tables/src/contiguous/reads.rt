@@ -2,7 +2,7 @@
 ghost use Rattle.std.specs.Prelude.{◌≡◌, ◌<◌, ◌≤◌, ℕ, ◌+◌, length, take, drop, slice_get, Some};
 ghost use Rattle.ac_input.specs.declared.primitives.number.TheConstants.{GREATEST};
 ghost use Rattle.ac_automaton.specs.Starters.{SkipsIdle};
-ghost use Rattle.ac_tables.specs.WordReads.{unpacked, IsFirstPlace, HoldsState, IsSparseAt, ClassLeadsTo, StepsTo, IsIdleAt, HasWordList, list_place, listed_at, transitions_len};
+ghost use Rattle.ac_tables.specs.WordReads.{unpacked, IsFirstPlace, HoldsState, IsSparseAt, ClassLeadsTo, ByteLeadsTo, IsIdleAt, HasWordList, list_place, listed_at, transitions_len};
 
 use crate::contiguous::layout::{DENSE, HEAD, KIND, NOWHERE, ONE, ONE_PATTERN};
 use crate::contiguous::table::Table;
@@ -62,7 +62,7 @@ impl Table {
     #[inline]
     fn next_word(&self, sid: StateID, byte: u8) -> u32
         requires { HoldsState self.now sid }
-        ensures { StepsTo self.now sid byte result }
+        ensures { ByteLeadsTo self.now sid byte result }
     {
         let at = sid.as_usize();
         let word = self.words[at];
@@ -84,7 +84,7 @@ impl Table {
     #[inline]
     pub(super) fn step(&self, sid: StateID, byte: u8) -> StateID
         requires { HoldsState self.now sid }
-        ensures { StepsTo self.now sid byte result }
+        ensures { ByteLeadsTo self.now sid byte result }
     {
         StateID::must(self.next_word(sid, byte) as usize)
     }

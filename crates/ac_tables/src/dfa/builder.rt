@@ -5,24 +5,23 @@
 //! table: the number of states times the stride, twice that where there are both starts.
 ghost use Rattle.std.specs.Prelude.{◌≡◌, IfOk, IfErr};
 ghost use Rattle.ac_input.specs.Pairing.{IsFolded};
-ghost use Rattle.ac_noncontiguous.specs.Reads.{built_as};
-ghost use Rattle.ac_tables.specs.DfaBuild.{AreFirst, IsDfaOf, IsDfaRefused, IsBuiltFrom, IsRefusedFrom, IsBuiltAtFirst, IsRefusedAtFirst, parts_by};
-ghost use Rattle.ac_tables.specs.DfaMade.{AreChosen, IsTableFor, IsTableRefused};
+ghost use Rattle.ac_tables.specs.DfaBuild.{AreFirst, IsDfaOf, IsDfaRefused, IsBuiltOf, IsRefusedOf, IsBuiltAtFirst, IsRefusedAtFirst, parts_by};
+ghost use Rattle.ac_tables.specs.DfaMade.{IsTableFor, IsTableRefused};
 
 use crate::dfa::DFA;
 use crate::dfa::fill::Filler;
 use crate::dfa::lists::Lists;
 use crate::dfa::numbers::{Numbers, check_size, rows};
 use crate::dfa::table::Table;
+use crate::source::classes_of;
 use ac_automaton::automaton::Automaton;
-use ac_input::alphabet::ByteClasses;
+use ac_automaton::held::clone_held;
 use ac_input::pairing::Pairing;
 use ac_input::search::{Anchored, MatchKind, StartKind};
-use ac_literal::prefilter::Prefilter;
 use ac_noncontiguous::builder;
 use ac_noncontiguous::error::BuildError;
 use ac_noncontiguous::nfa::NFA;
-use std::alloc::{AllocError, Global};
+use std::alloc::Global;
 use std::marker::Model;
 
 /// The settings of a DFA. A builder may build several times.
@@ -73,34 +72,13 @@ impl Default for Builder {
     }
 }
 
-/// The classes of the automaton's bytes, or each byte a class alone.
-fn chosen_classes(nfa: &NFA, classed: bool) -> Result<ByteClasses, AllocError>
-    ensures { IfOk result (AreChosen classed nfa.now) }
-{
-    if classed {
-        nfa.byte_classes().clone()
-    } else {
-        Ok(ByteClasses::singletons())
-    }
-}
-
-/// The prefilter of the automaton once more, if it holds one.
-fn clone_prefilter(alloc: Global, nfa: &NFA) -> Result<Option<Prefilter>, AllocError>
-    ensures { IfOk result (λ copy. copy ≡ (built_as nfa.now).prefilter) }
-{
-    match nfa.prefilter() {
-        Some(prefilter) => Ok(Some(prefilter.clone(alloc)?)),
-        None => Ok(None),
-    }
-}
-
 impl Table {
     /// The table of an automaton, for these searches, with its classes of bytes or without.
     fn of(alloc: Global, nfa: &NFA, kind: StartKind, classed: bool) -> Result<Table, BuildError>
         ensures made { IfOk result (IsTableFor nfa.now kind classed) }
         ensures refused { IfErr result (IsTableRefused nfa.now kind classed) }
     {
-        let classes = chosen_classes(nfa, classed)?;
+        let classes = classes_of(nfa, classed)?;
         let stride = classes.stride();
         let rows = rows(kind, nfa.state_len());
         check_size(rows, stride)?;
@@ -216,7 +194,7 @@ impl Builder {
     {
         let table = Table::of(alloc, nfa, self.start_kind, self.byte_classes)?;
         let lens = nfa.pattern_lens().clone(alloc)?;
-        let prefilter = clone_prefilter(alloc, nfa)?;
+        let prefilter = clone_held(alloc, nfa.prefilter())?;
         Ok(DFA::from_parts(table, lens, prefilter, *nfa.pairing(), nfa.match_kind()))
     }
 
@@ -237,8 +215,8 @@ impl Builder {
     ///
     /// It is refused where the noncontiguous automaton is, and where the table would be too large.
     pub fn build(&self, alloc: Global, patterns: &[&[u8]]) -> Result<DFA, BuildError>
-        ensures built { IfOk result (IsBuiltFrom self.now patterns.now) }
-        ensures refused { IfErr result (IsRefusedFrom self.now patterns.now) }
+        ensures built { IfOk result (IsBuiltOf self.now patterns.now) }
+        ensures refused { IfErr result (IsRefusedOf self.now patterns.now) }
     {
         let nfa = self.noncontiguous().build(alloc, patterns)?;
         self.build_from_noncontiguous(alloc, &nfa)

@@ -6,9 +6,9 @@ ghost use Rattle.ac_tables.specs.DfaCopy.{AreSameLists, IsSameDfaTable};
 use crate::dfa::DFA;
 use crate::dfa::lists::Lists;
 use crate::dfa::table::Table;
+use ac_automaton::held::clone_held;
 use ac_input::primitives::StateID;
 use ac_input::search::StartKind;
-use ac_literal::prefilter::Prefilter;
 use std::alloc::{AllocError, Global};
 
 impl Lists {
@@ -70,23 +70,13 @@ impl DFA {
         self.table.kind
     }
 
-    /// The prefilter once more, if one is held.
-    fn clone_prefilter(&self, alloc: Global) -> Result<Option<Prefilter>, AllocError>
-        ensures { IfOk result (λ copy. copy ≡ self.now.prefilter) }
-    {
-        match &self.prefilter {
-            Some(prefilter) => Ok(Some(prefilter.clone(alloc)?)),
-            None => Ok(None),
-        }
-    }
-
     /// The same automaton once more, in memory from `alloc`.
     pub fn clone(&self, alloc: Global) -> Result<DFA, AllocError>
         ensures { IfOk result (IsCopy self.now) }
     {
         let table = self.table.clone(alloc)?;
         let lens = self.lens.clone(alloc)?;
-        let prefilter = self.clone_prefilter(alloc)?;
+        let prefilter = clone_held(alloc, self.prefilter.as_ref())?;
         Ok(DFA::from_parts(table, lens, prefilter, self.pairing, self.kind))
     }
 }

@@ -25,7 +25,7 @@ fn enforce_anchored_consistency(have: StartKind, want: Anchored) -> Result<(), M
 }
 
 impl Automaton for AhoCorasick {
-    ghost use Rattle.aho_corasick.specs.AhoCorasick.{engine_of, built_as, supported_by, IsRead, matches_at, is_start_at, is_special_at};
+    ghost use Rattle.aho_corasick.specs.AhoCorasick.{serving_engine, built_as, supported_by, IsRead, matches_at, is_start_at, is_special_at};
     ghost use Rattle.aho_corasick.specs.EngineLaws.{read-tells, read-lives, read-pairs, read-stops};
 
     ghost built = { built_as };
@@ -202,11 +202,11 @@ impl Automaton for AhoCorasick {
         }
     }
 
-    ghost tells = { λ ac anchored text sid reads. read-tells (engine_of ac) anchored text sid reads };
+    ghost tells = { λ ac anchored text sid reads. read-tells (serving_engine ac) anchored text sid reads };
 
-    ghost lives = { λ ac anchored text sid reads. read-lives (engine_of ac) anchored text sid reads };
+    ghost lives = { λ ac anchored text sid reads. read-lives (serving_engine ac) anchored text sid reads };
 
-    ghost pairs = { λ ac anchored text sid reads. read-pairs (engine_of ac) anchored text sid reads };
+    ghost pairs = { λ ac anchored text sid reads. read-pairs (serving_engine ac) anchored text sid reads };
 
-    ghost stops = { λ ac anchored text sid reads. read-stops (engine_of ac) anchored text sid reads };
+    ghost stops = { λ ac anchored text sid reads. read-stops (serving_engine ac) anchored text sid reads };
 }

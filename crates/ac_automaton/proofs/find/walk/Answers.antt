@@ -133,13 +133,13 @@ loop-best-preserved g c =
       | else-first_wins v ↦ v.won-is ∙ v.if-first_wins.false ∙ ap (λ (b : Bool). b && is_some c.or-best.result) (sym v.if-first_wins.false)
     ] in
     let alive = alive-from m _ _ lives.0 lives.1 (λ dead. false≢true (sym c.if-is_dead.false ∙ (c.is_dead.ensures asked.anchored _ stands.reads).1 dead)) in
-    let next = c.read_on-cursor.result in
-    let same = c.read_on-cursor.ensures.from in
-    let on = c.read_on-cursor.ensures.on in
-    let within = c.read_on-cursor.ensures.stands.within in (
-      c.read_on-cursor.ensures.stands,
+    let next = c.read_past_starts-cursor.result in
+    let same = c.read_past_starts-cursor.ensures.from in
+    let on = c.read_past_starts-cursor.ensures.on in
+    let within = c.read_past_starts-cursor.ensures.stands.within in (
+      c.read_past_starts-cursor.ensures.stands,
       same ∙ c.loop-best.invariant.1,
-      subst (λ (n : ℕ). HasWalked m asked.anchored asked.earliest b.deterministic asked.haystack (record { start = n; end = asked.span.end }) next.at c.or-best.result c.args.steps.now c.read_on-cursor.new.steps) (sym same)
-          (walked-on m asked.anchored asked.earliest b.deterministic asked.haystack span at next.at c.or-best.result c.args.steps.now c.loop-best.steps c.read_on-cursor.new.steps stands.inside inverse has
+      subst (λ (n : ℕ). HasWalked m asked.anchored asked.earliest b.deterministic asked.haystack (record { start = n; end = asked.span.end }) next.at c.or-best.result c.args.steps.now c.read_past_starts-cursor.new.steps) (sym same)
+          (walked-on m asked.anchored asked.earliest b.deterministic asked.haystack span at next.at c.or-best.result c.args.steps.now c.loop-best.steps c.read_past_starts-cursor.new.steps stands.inside inverse has
           (λ standard. not_won-none _ _ c.or-best.result won c.if-won.false (c.takes_first-first_wins.ensures.1 standard)) alive on.further within on.quiet on.lookups),
     )

@@ -17,6 +17,6 @@ from_parts-requires c =
       classed =
           subst (λ (patterns : List (List ℕ)). ∥ AreByteClasses (dictionary_of patterns a.pairing a.kind) c.in_ok-tables.tables.classes ∥₁) same
           (subst (λ (classes : List ℕ). ∥ AreByteClasses (dictionary a) classes ∥₁) (sym c.in_ok-tables.ensures.classes) a.classed);
-      held = λ f is. a.held f (sym c.in_ok-prefilter.ensures ∙ is) ∙ ap (λ (patterns : List (List ℕ)). dictionary_of patterns a.pairing a.kind) same;
+      held = λ f is. a.held f (sym (c.in_ok-prefilter.ensures ∙ c.as_ref.ensures.value) ∙ is) ∙ ap (λ (patterns : List (List ℕ)). dictionary_of patterns a.pairing a.kind) same;
       paired = a.paired;
     }

@@ -14,6 +14,6 @@ from_parts-requires c =
     record {
       within = subst (λ (patterns : List (List ℕ)). ∥ IsWithinLimits (dictionary_of patterns a.pairing a.kind) ∥₁) same a.within;
       stands = subst (λ (patterns : List (List ℕ)). AreSomeStates (dictionary_of patterns a.pairing a.kind) c.in_ok-table.table) same (states-copied (dictionary a) a.table c.in_ok-table.table c.in_ok-table.ensures a.stands);
-      held = λ f is. a.held f (sym c.in_ok-prefilter.ensures ∙ is) ∙ ap (λ (patterns : List (List ℕ)). dictionary_of patterns a.pairing a.kind) same;
+      held = λ f is. a.held f (sym (c.in_ok-prefilter.ensures ∙ c.as_ref.ensures.value) ∙ is) ∙ ap (λ (patterns : List (List ℕ)). dictionary_of patterns a.pairing a.kind) same;
       paired = a.paired;
     }

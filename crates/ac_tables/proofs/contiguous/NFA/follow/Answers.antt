@@ -1,7 +1,7 @@
 use Rattle.std.proofs.Common.{false, refl, ◌∙◌, sym, subst, arith}
 use Rattle.ac_automaton.proofs.LinkedLemmas.{followed-none, followed-more, followed-end, followed-few}
 use Rattle.ac_tables.specs.ContiguousReads.{dictionary, IsLaidOut}
-use Rattle.ac_tables.specs.WordReads.{StepsTo}
+use Rattle.ac_tables.specs.WordReads.{ByteLeadsTo}
 use Rattle.ac_tables.proofs.FollowLemmas.{met-place, met-fail, laid-numbers, laid-edge, laid-failure}
 use Rattle.ac_tables.proofs.contiguous.NFA.follow.Goals as goal
 
@@ -44,7 +44,7 @@ loop-from-preserved c =
     let nothing = sym c.as_u32.ensures.value ∙ c.if-as_u32-ne-NOWHERE.false in
     record {
       met = met-fail a c.loop-from.from c.fail-from.result c.loop-from.invariant.met c.fail-from.ensures;
-      stuck = subst (StepsTo a.table c.fail-from.result c.args.byte) nothing c.step-next.ensures;
+      stuck = subst (ByteLeadsTo a.table c.fail-from.result c.args.byte) nothing c.step-next.ensures;
       followed = followed-more (dictionary a) (IsLaidOut a) a.table.start c.args.sid c.args.byte c.loop-from.from c.fail-from.result c.step-next.result _ _ _ c.loop-from.invariant.followed (laid-numbers a)
           (laid-failure a c.loop-from.from c.fail-from.result c.fail-from.ensures) c.look.ensures
           (laid-edge a false c.fail-from.result c.args.byte c.step-next.result c.ranges.byte.fits c.step-next.ensures) nothing;

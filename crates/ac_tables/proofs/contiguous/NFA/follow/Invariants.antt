@@ -3,13 +3,13 @@ use Rattle.ac_input.specs.Steps.{looked_of}
 use Rattle.ac_input.specs.Work.{longest}
 use Rattle.ac_automaton.proofs.LinkedLemmas.{HasFollowed}
 use Rattle.ac_tables.specs.ContiguousReads.{dictionary, IsLaidOut, IsMet}
-use Rattle.ac_tables.specs.WordReads.{StepsTo}
+use Rattle.ac_tables.specs.WordReads.{ByteLeadsTo}
 use Rattle.ac_tables.proofs.contiguous.NFA.follow.Given as goal
 
 abbrev pub invariant-loop-from : goal.invariant-loop-from
 invariant-loop-from l = record {
   met : IsMet l.self false l.from;
-  stuck : StepsTo l.self.table l.from l.byte 1;
+  stuck : ByteLeadsTo l.self.table l.from l.byte 1;
   followed : HasFollowed (dictionary l.self) (IsLaidOut l.self) l.self.table.start l.fn.sid l.byte l.from l.initial.steps l.steps;
 }
 

@@ -1,7 +1,7 @@
 use Rattle.std.proofs.Common.{Bool, ◌∙◌, ap, sym, subst, refl}
 use Rattle.ac_input.specs.Input.{is_anchored}
 use Rattle.ac_tables.specs.ContiguousReads.{IsMet}
-use Rattle.ac_tables.specs.WordReads.{StepsTo}
+use Rattle.ac_tables.specs.WordReads.{ByteLeadsTo}
 use Rattle.ac_tables.proofs.FollowLemmas.{met-place, leads-straight, leads-to_dead, leads-followed}
 use Rattle.ac_tables.proofs.contiguous.NFA.next.Goals as goal
 
@@ -17,7 +17,7 @@ follow-requires c =
     let a = c.args.self.now in
     record {
       met = subst (λ (anchored : Bool). IsMet a anchored c.args.sid) (ap is_anchored c.in-No.is) c.requires;
-      stuck = subst (StepsTo a.table c.args.sid c.args.byte) (sym c.as_u32.ensures.value ∙ c.if-as_u32-ne-NOWHERE.false) c.step-next.ensures;
+      stuck = subst (ByteLeadsTo a.table c.args.sid c.args.byte) (sym c.as_u32.ensures.value ∙ c.if-as_u32-ne-NOWHERE.false) c.step-next.ensures;
     }
 
 pub returns-in-No : goal.returns-in-No

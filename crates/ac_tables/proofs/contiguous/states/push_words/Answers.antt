@@ -5,7 +5,7 @@ use Rattle.std.specs.List.{All}
 use Rattle.std.proofs.lemmas.List.{get_or_default}
 use Rattle.std.proofs.lemmas.Result.{IfOk-weaker}
 use Rattle.ac_noncontiguous.specs.ReadCalls.{edges_in, fail_in, FailsIn, ListsIn}
-use Rattle.ac_tables.specs.ContiguousTable.{placed}
+use Rattle.ac_tables.specs.ContiguousTable.{placed_edge}
 use Rattle.ac_tables.specs.ContiguousBuild.{IsKnown}
 use Rattle.ac_tables.proofs.BuildLemmas.{read-fits, state-written}
 use Rattle.ac_tables.proofs.contiguous.states.push_words.Goals as goal
@@ -15,7 +15,7 @@ push_state-requires c =
     let nfa = c.args.nfa.now in
     let classes = c.args.classes.now in
     let places = c.args.places.now in
-    let edges : c.deref.result.now ≡ map (placed classes (slice_index places)) (edges_in nfa c.args.sid) = c.deref.ensures.value ∙ c.in_ok-read_edges.ensures.read in
+    let edges : c.deref.result.now ≡ map (placed_edge classes (slice_index places)) (edges_in nfa c.args.sid) = c.deref.ensures.value ∙ c.in_ok-read_edges.ensures.read in
     record {
       fits = subst (All (λ (edge : ℕ × ℕ). edge.0 < c.alphabet_len.result)) (sym edges) (read-fits nfa c.args.sid c.alphabet_len.result classes (slice_index places) c.alphabet_len.ensures.classes c.in_ok-read_edges.ensures.lead c.alphabet_len.ensures.value);
       few = c.match_list.ensures.lists.few;
@@ -27,7 +27,7 @@ returns c =
     let sid = c.args.sid in
     let classes = c.args.classes.now in
     let places = c.args.places.now in
-    let edges : c.deref.result.now ≡ map (placed classes (slice_index places)) (edges_in nfa sid) = c.deref.ensures.value ∙ c.in_ok-read_edges.ensures.read in
+    let edges : c.deref.result.now ≡ map (placed_edge classes (slice_index places)) (edges_in nfa sid) = c.deref.ensures.value ∙ c.in_ok-read_edges.ensures.read in
     let stands : sid ≢ 1 = λ is. c.if-as_usize-eq-FAIL.false (c.as_usize.ensures.value ∙ is) in
     let known : IsKnown nfa sid = record {
       fails = subst (FailsIn nfa sid) c.fail.ensures.value c.fail.ensures.fails;

@@ -15,7 +15,7 @@ from_parts-requires c =
     subst (λ (m : Dictionary). AreDfaParts m c.in_ok-table.table c.in_ok-prefilter.prefilter) (sym same)
     (record {
       stands = copy-rows (dictionary a) a.table c.in_ok-table.table c.in_ok-table.ensures a.stands;
-      held = λ f is. a.held f (sym c.in_ok-prefilter.ensures ∙ is);
+      held = λ f is. a.held f (sym (c.in_ok-prefilter.ensures ∙ c.as_ref.ensures.value) ∙ is);
       paired = a.paired;
     })
 
@@ -26,7 +26,7 @@ returns c =
     let table = c.in_ok-table.ensures in
     let same : dictionary_of c.in_ok-lens.lens a.pairing a.kind ≡ dictionary a = ap (λ (patterns : List (List ℕ)). dictionary_of patterns a.pairing a.kind) c.in_ok-lens.ensures in
     record {
-      built = ap₂ (λ (m : Dictionary) (f : Option Filter). record { dictionary = m; deterministic = true; prefilter = f }) (made.dictionary ∙ same) (made.prefilter ∙ c.in_ok-prefilter.ensures);
+      built = ap₂ (λ (m : Dictionary) (f : Option Filter). record { dictionary = m; deterministic = true; prefilter = f }) (made.dictionary ∙ same) (made.prefilter ∙ (c.in_ok-prefilter.ensures ∙ c.as_ref.ensures.value));
       starts = ap (λ (t : Table). t.kind) made.table ∙ table.kind;
       classes = ap (λ (t : Table). t.classes) made.table ∙ table.classes;
       stride = ap (λ (t : Table). 2 ^ t.stride2) made.table ∙ ap (λ (e : ℕ). 2 ^ e) table.stride2;

@@ -18,7 +18,7 @@ from_parts-requires c =
     record {
       within = subst (λ (d : Dictionary). ∥ IsWithinLimits d ∥₁) (sym e) made.within;
       stands = subst (λ (d : Dictionary). AreSomeStates d c.in_ok-table.table) (sym e) made.stands;
-      held = λ f is. c.in_ok-prefilter.ensures.own f (sym c.in_ok-prefilter.ensures.same ∙ is) ∙ sym e;
+      held = λ f is. c.prefilter.ensures.made f (sym (c.in_ok-prefilter.ensures ∙ c.prefilter.ensures.value) ∙ is) ∙ sym e;
       paired = c.pairing-pairing.ensures.paired;
     }
 
@@ -32,7 +32,7 @@ returns-clause-made c =
     (record {
       built =
           ap (λ (d : Dictionary). record { dictionary = d; deterministic = false; prefilter = c.from_parts.result.prefilter }) (c.from_parts.ensures.dictionary ∙ e)
-          ∙ ap (λ (f : Option Filter). record { dictionary = reads.dictionary nfa; deterministic = false; prefilter = f }) (c.from_parts.ensures.prefilter ∙ c.in_ok-prefilter.ensures.same);
+          ∙ ap (λ (f : Option Filter). record { dictionary = reads.dictionary nfa; deterministic = false; prefilter = f }) (c.from_parts.ensures.prefilter ∙ (c.in_ok-prefilter.ensures ∙ c.prefilter.ensures.value));
       laid = record {
         classes = c.in_ok-classes.classes;
         serve = c.in_ok-classes.ensures.classes;

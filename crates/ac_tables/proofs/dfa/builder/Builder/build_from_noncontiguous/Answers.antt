@@ -22,7 +22,7 @@ from_parts-requires c =
     let same : dictionary_of c.in_ok-lens.lens c.pairing.result.now c.match_kind.result ≡ dictionary nfa =
     ap (λ (q : List (List ℕ)). dictionary_of q c.pairing.result.now c.match_kind.result) (c.in_ok-lens.ensures ∙ c.pattern_lens.ensures)
     ∙ (ap (λ (q : List ℕ). dictionary_of nfa.lens q c.match_kind.result) c.pairing.ensures.value ∙ ap (λ (k : MatchKind). dictionary_of nfa.lens nfa.pairing k) c.match_kind.ensures) in
-    parts-of nfa c.in_ok-table.table c.in_ok-prefilter.prefilter _ same c.in_ok-table.ensures.made.made c.in_ok-prefilter.ensures
+    parts-of nfa c.in_ok-table.table c.in_ok-prefilter.prefilter _ same c.in_ok-table.ensures.made.made (c.in_ok-prefilter.ensures ∙ c.prefilter.ensures.value)
 
 pub returns-clause-built : goal.returns-clause-built
 returns-clause-built c =
@@ -34,6 +34,6 @@ returns-clause-built c =
     let made : IsMadeOf (dictionary nfa) c.in_ok-table.table nfa.prefilter c.from_parts.result = record {
       dictionary = c.from_parts.ensures.dictionary ∙ same;
       table = c.from_parts.ensures.table;
-      prefilter = c.from_parts.ensures.prefilter ∙ c.in_ok-prefilter.ensures;
+      prefilter = c.from_parts.ensures.prefilter ∙ (c.in_ok-prefilter.ensures ∙ c.prefilter.ensures.value);
     } in
     dfa-of c.args.self.now nfa c.in_ok-table.table c.from_parts.result h made

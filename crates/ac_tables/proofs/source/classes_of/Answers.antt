@@ -3,7 +3,7 @@ use Rattle.std.proofs.Common.{◌≡◌, rules}
 use Rattle.ac_noncontiguous.specs.Reads.{dictionary}
 use Rattle.ac_noncontiguous.specs.ReadCalls.{classes_in}
 use Rattle.ac_tables.proofs.WordTableLemmas.{own-serve, singles-serve}
-use Rattle.ac_tables.proofs.contiguous.builder.classes_of.Goals as goal
+use Rattle.ac_tables.proofs.source.classes_of.Goals as goal
 
 pub returns-in_ok-clone-clause-serve : goal.returns-in_ok-clone-clause-serve
 returns-in_ok-clone-clause-serve c =

@@ -77,7 +77,7 @@ leads-same m anchored xs ys None inverse e h = live-same m xs ys anchored None i
 leads-same m anchored xs ys (Some x) inverse e h = (h.0, live-same m xs ys anchored (Some h.0) inverse (same_text-canonical m.pairing xs ys inverse e) h.1, h.2 ∙ same-stands m.pairing xs ys h.0 e)
 
 -- where what is live of a rest tells what is live of the text, both lead to one state
-leads-rest : (m : Dictionary) (text : List ℕ) (from : ℕ) → ((r : Option ℕ) → IsLive m false (drop from text) r → IsLive m false text (shifted_place from r)) → (r : Option (List ℕ)) → LeadsTo m false (drop from text) r → LeadsTo m false text r
+pub leads-rest : (m : Dictionary) (text : List ℕ) (from : ℕ) → ((r : Option ℕ) → IsLive m false (drop from text) r → IsLive m false text (shifted_place from r)) → (r : Option (List ℕ)) → LeadsTo m false (drop from text) r → LeadsTo m false text r
 leads-rest m text from forth None h = forth None h
 leads-rest m text from forth (Some x) h = (from + h.0, forth (Some h.0) h.1, h.2 ∙ ap (map (canonical m.pairing)) (drop-drop h.0 from text))
 

@@ -26,6 +26,7 @@ pub mod TrieLemmas
 pub mod StatesLemmas
 pub mod SomeLemmas
 pub mod LeadsLemmas
+pub mod OpeningLemmas
 pub mod Rows
 pub mod AlphabetLemmas
 pub mod LimitLemmas

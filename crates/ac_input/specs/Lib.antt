@@ -18,6 +18,7 @@ pub mod BeginningLaws
 pub mod LiveLaws
 pub mod Limits
 pub mod States
+pub mod Opening
 pub mod Number
 pub mod Steps
 pub mod Input

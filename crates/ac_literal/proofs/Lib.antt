@@ -18,3 +18,4 @@ pub mod OnlyLemmas
 pub mod LaneLemmas
 pub mod BucketLemmas
 pub mod TeddyLemmas
+pub mod OpeningLemmas

@@ -18,7 +18,7 @@ keeps-own : (old new : Probe) (pattern : List ℕ) (bucket : ℕ) → KeepsBucke
 keeps-own old new pattern bucket keeps has = keeps.has (get_or pattern new.offset 0) bucket (subst (λ k. HasBucket old (get_or pattern k 0) bucket) (sym keeps.offset) has)
 
 -- so a pattern stays in its bucket
-keeps-pattern : (old new : Teddy) (pattern : List ℕ) (bucket : ℕ) → KeepsPatterns old new → HasPattern old pattern bucket → HasPattern new pattern bucket
+pub keeps-pattern : (old new : Teddy) (pattern : List ℕ) (bucket : ℕ) → KeepsPatterns old new → HasPattern old pattern bucket → HasPattern new pattern bucket
 keeps-pattern old new pattern bucket keeps has = record {
   first = keeps-own old.first new.first pattern bucket keeps.first has.first;
   second = keeps-own old.second new.second pattern bucket keeps.second has.second;
@@ -61,7 +61,7 @@ four-have : (a b c d bucket : ℕ) → bit_at a bucket ≡ 1 → bit_at b bucket
 four-have a b c d bucket p q r s = both-have _ d bucket (three-have a b c bucket p q r) s
 
 -- a bucket that all four probes leave is left, whichever of them are asked, by low halves or by whole bytes
-all-leave : (whole few : Bool) (a b c d e f g h bucket : ℕ) → bit_at (bit_and a e) bucket ≡ 1 → bit_at (bit_and b f) bucket ≡ 1 → bit_at (bit_and c g) bucket ≡ 1 → bit_at (bit_and d h) bucket ≡ 1
+pub all-leave : (whole few : Bool) (a b c d e f g h bucket : ℕ) → bit_at (bit_and a e) bucket ≡ 1 → bit_at (bit_and b f) bucket ≡ 1 → bit_at (bit_and c g) bucket ≡ 1 → bit_at (bit_and d h) bucket ≡ 1
     → (if whole then (if few then bit_and (bit_and a e) (bit_and b f) else bit_and (bit_and (bit_and (bit_and a e) (bit_and b f)) (bit_and c g)) (bit_and d h)) else (if few then bit_and (bit_and a b) c else bit_and (bit_and (bit_and a b) c) d)) ≢ 0
 all-leave true true a b c d e f g h bucket p q r s = has-some _ bucket (both-have _ _ bucket p q)
 all-leave true false a b c d e f g h bucket p q r s = has-some _ bucket (four-have _ _ _ _ bucket p q r s)

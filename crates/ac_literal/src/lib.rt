@@ -1,9 +1,10 @@
 //! Searches for literals: for a few patterns at once, by one fast pass over the bytes.
 //!
-//! [`packed`] is a search of its own, for up to 128 patterns, that needs no automaton. [`prefilter`] finds the places at which
-//! an automaton need look at all.
+//! [`openings`] marks the places at which a pattern may begin, for an automaton that waits for one. [`packed`] is a search of its
+//! own, for up to 128 patterns, that needs no automaton. [`prefilter`] finds the places at which an automaton need look at all.
 #![tactic(auto)]
 
+pub mod openings;
 pub mod packed;
 pub mod prefilter;
 

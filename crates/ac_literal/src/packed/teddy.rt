@@ -172,7 +172,7 @@ fn bucket_of(patterns: &Patterns, number: PatternID) -> u8
 
 impl Teddy {
     /// With no pattern yet, to be told by their first `len` bytes.
-    fn empty(len: usize, count: usize) -> Teddy
+    pub(crate) fn empty(len: usize, count: usize) -> Teddy
         requires some { 0 < len }
         requires few { len ≤ 16 }
         ensures { LooksBefore len result }
@@ -192,7 +192,7 @@ impl Teddy {
     }
 
     /// One more pattern, in a bucket.
-    fn add(&mut self, pattern: &[u8], bucket: u8)
+    pub(crate) fn add(&mut self, pattern: &[u8], bucket: u8)
         requires bucket { bucket < 8 }
         requires long { LooksBefore (length pattern.now) self.old }
         ensures own { HasPattern self.new pattern.now bucket }

@@ -1,0 +1,166 @@
+-- Where a pattern opens, its bucket is left; and what passes no mark passes no opening.
+use Rattle.std.proofs.Common.{◌≡◌, ◌≢◌, ◌⊎◌, ⊎_elim, ℕ, zero, suc, ◌+◌, ◌-◌, ◌/◌, ◌<◌, ◌≤◌, inl, inr, List, [], ◌∷◌, length, take, drop, get_or, map, IsTrue, refl, sym, ap, subst, ◌∙◌, arith, get_or-take, length-take-le}
+use Rattle.std.specs.Int.{bit_at}
+use Rattle.std.specs.Prelude.{◌==◌}
+use Rattle.std.specs.Borrow.{Bor}
+use Rattle.std.proofs.lemmas.Bool.{cases_eq, cases_lt, and_parts, or_cases, eqb-true}
+use Rattle.std.proofs.lemmas.List.{get_or-drop}
+use Rattle.std.proofs.lemmas.Option.{get_or_from_slice_get, slice_get_within}
+use Rattle.ac_input.specs.declared.search.MatchKind.{MatchKind}
+use Rattle.ac_input.specs.Dictionary.{Dictionary, dictionary_of}
+use Rattle.ac_input.specs.Opening.{NoneIsShorter, IsOpening, OpensNotBefore}
+use Rattle.ac_input.specs.Same.{other, same, same_text}
+use Rattle.ac_literal.specs.declared.openings.Openings.{Openings}
+use Rattle.ac_literal.specs.declared.packed.teddy.Probe.{Probe}
+use Rattle.ac_literal.specs.declared.packed.teddy.Teddy.{Teddy}
+use Rattle.ac_literal.specs.Openings.{AreOpenings, HasPartners, HaveOpened}
+use Rattle.ac_literal.specs.Packed.{bytes_of, pattern_at, AreAsLong}
+use Rattle.ac_literal.specs.Teddy.{HasBucket, KeepsPatterns, LooksBefore, HasPattern, low_at, marked_at}
+use Rattle.ac_literal.proofs.TeddyLemmas.{all-leave, keeps-pattern}
+
+-- ---- bytes that are the same
+
+-- in texts that are the same the bytes are, one by one
+same_text-byte : (pairing xs ys : List ℕ) (k : ℕ) → k < length xs → IsTrue (same_text pairing xs ys) → IsTrue (same pairing (get_or xs k 0) (get_or ys k 0))
+same_text-byte pairing [] ys k within h = absurd (omega (arith, within))
+same_text-byte pairing (x ∷ xs) [] k within h = cc
+same_text-byte pairing (x ∷ xs) (y ∷ ys) zero within h = (and_parts (same pairing x y) (same_text pairing xs ys) h).0
+same_text-byte pairing (x ∷ xs) (y ∷ ys) (suc k) within h = same_text-byte pairing xs ys k (omega (arith, within)) (and_parts (same pairing x y) (same_text pairing xs ys) h).1
+
+-- two that are the same are equal, or partners
+same-cases : (pairing : List ℕ) (a b : ℕ) → IsTrue (same pairing a b) → (a ≡ b) ⊎ (other pairing a ≡ b)
+same-cases pairing a b h = ⊎_elim (λ e. inl (eqb-true a b e)) (λ e. inr (eqb-true (other pairing a) b e)) (or_cases (a == b) (other pairing a == b) h)
+
+-- a byte of a list to each of whose bytes another stands
+get_or-map_within : (f : ℕ → ℕ) (xs : List ℕ) (k : ℕ) → k < length xs → get_or (map f xs) k 0 ≡ f (get_or xs k 0)
+get_or-map_within f [] k within = absurd (omega (arith, within))
+get_or-map_within f (x ∷ xs) zero within = refl
+get_or-map_within f (x ∷ xs) (suc k) within = get_or-map_within f xs k (omega (arith, within))
+
+-- ---- what a bucket has
+
+-- a bucket that has a pattern keeps it, and its partners
+pub keeps-partners : (pairing : List ℕ) (len : ℕ) (old new : Teddy) (pattern : List ℕ) (bucket : ℕ) → KeepsPatterns old new → HasPartners pairing len old pattern bucket → HasPartners pairing len new pattern bucket
+keeps-partners pairing len old new pattern bucket keeps has = record {
+  own = keeps-pattern old new pattern bucket keeps has.own;
+  paired = keeps-pattern old new (map (other pairing) (take len pattern)) bucket keeps has.paired;
+}
+
+-- the patterns so far, and one more
+pub opened-more : (pairing : List ℕ) (len : ℕ) (patterns : List (List ℕ)) (count bucket : ℕ) (old new : Teddy) → HaveOpened pairing len patterns count old → KeepsPatterns old new → HasPartners pairing len new (pattern_at patterns count) bucket → HaveOpened pairing len patterns (count + 1) new
+opened-more pairing len patterns count bucket old new so_far keeps own number within = elim (cases_eq number count) [
+  | inl here ↦ (bucket, subst (λ k. HasPartners pairing len new (pattern_at patterns k) bucket) (sym here) own)
+  | inr apart ↦
+      let had = so_far number (omega (arith, within, apart)) in
+      (had.0, keeps-partners pairing len old new (pattern_at patterns number) had.0 keeps had.1)
+]
+
+-- ---- marks
+
+-- the byte that a probe looks at is in the bucket, as the pattern's or as its partner
+opened-left : (pairing : List ℕ) (len : ℕ) (p text : List ℕ) (at bucket : ℕ) (probe : Probe) → probe.offset < len → len ≤ length p
+    → HasBucket probe (get_or p probe.offset 0) bucket → HasBucket probe (get_or (map (other pairing) (take len p)) probe.offset 0) bucket
+    → IsTrue (same_text pairing (take len p) (take len (drop at text))) → HasBucket probe (get_or text (at + probe.offset) 0) bucket
+opened-left pairing len p text at bucket probe near long own paired h =
+    let k = probe.offset in
+    let size : length (take len p) ≡ len = length-take-le len p long in
+    let byte : IsTrue (same pairing (get_or (take len p) k 0) (get_or (take len (drop at text)) k 0)) = same_text-byte pairing (take len p) (take len (drop at text)) k (omega (arith, size, near)) h in
+    let mine : get_or (take len p) k 0 ≡ get_or p k 0 = get_or-take len p k 0 near in
+    let there : get_or (take len (drop at text)) k 0 ≡ get_or text (at + k) 0 = get_or-take len (drop at text) k 0 near ∙ get_or-drop at text k 0 in
+    let partner : get_or (map (other pairing) (take len p)) k 0 ≡ other pairing (get_or (take len p) k 0) = get_or-map_within (other pairing) (take len p) k (omega (arith, size, near)) in
+    ⊎_elim
+    (λ (e : get_or (take len p) k 0 ≡ get_or (take len (drop at text)) k 0). subst (λ b. HasBucket probe b bucket) (sym mine ∙ e ∙ there) own)
+    (λ (e : other pairing (get_or (take len p) k 0) ≡ get_or (take len (drop at text)) k 0). subst (λ b. HasBucket probe b bucket) (partner ∙ e ∙ there) paired)
+    (same-cases pairing (get_or (take len p) k 0) (get_or (take len (drop at text)) k 0) byte)
+
+-- so the place is marked
+pub opening-marked : (patterns : List (List ℕ)) (pairing : List ℕ) (kind : MatchKind) (len : ℕ) (t : Teddy) (text : List ℕ) (at : ℕ) → LooksBefore len t → AreAsLong len patterns → HaveOpened pairing len patterns (length patterns) t → IsOpening (dictionary_of patterns pairing kind) len text at → marked_at t text at ≢ 0
+opening-marked patterns pairing kind len t text at near long all h =
+    let within = slice_get_within patterns h.0 h.1 h.2 in
+    let pattern : pattern_at patterns h.0 ≡ h.1 = get_or_from_slice_get patterns h.0 h.1 [] h.2 in
+    let p = pattern_at patterns h.0 in
+    let has = all h.0 within in
+    let enough = long h.0 within in
+    let here : IsTrue (same_text pairing (take len p) (take len (drop at text))) = subst (λ xs. IsTrue (same_text pairing (take len xs) (take len (drop at text)))) (sym pattern) h.3 in
+    let left = λ (probe : Probe) (near : probe.offset < len) (own : HasBucket probe (get_or p probe.offset 0) has.0) (paired : HasBucket probe (get_or (map (other pairing) (take len p)) probe.offset 0) has.0). opened-left pairing len p text at has.0 probe near enough own paired here in
+    let high = λ (probe : Probe). get_or probe.high (get_or text (at + probe.offset) 0 / 16) 0 in
+    all-leave t.is_whole t.is_few (low_at t.first text at) (low_at t.second text at) (low_at t.third text at) (low_at t.fourth text at) (high t.first) (high t.second) (high t.third) (high t.fourth) has.0
+    (left t.first near.first has.1.own.first has.1.paired.first) (left t.second near.second has.1.own.second has.1.paired.second) (left t.third near.third has.1.own.third has.1.paired.third) (left t.fourth near.fourth has.1.own.fourth has.1.paired.fourth)
+
+-- no pattern is shorter than the length that all have
+pub none-shorter : (patterns : List (List ℕ)) (pairing : List ℕ) (kind : MatchKind) (len : ℕ) → AreAsLong len patterns → NoneIsShorter (dictionary_of patterns pairing kind) len
+none-shorter patterns pairing kind len long n p is =
+    let within = slice_get_within patterns n p is in
+    let pattern : pattern_at patterns n ≡ p = get_or_from_slice_get patterns n p [] is in
+    subst (λ xs. len ≤ length xs) pattern (long n within)
+
+-- ---- what is passed
+
+-- up to a place before which there is no mark
+pub passed-none : (openings : Openings) (text : List ℕ) (count : ℕ) → ((place : ℕ) → place < count → marked_at openings.teddy text place ≡ 0) → (m : Dictionary) → AreOpenings m openings → OpensNotBefore m openings.len text count
+passed-none openings text count none m are at within opens = are.marks text at opens (none at within)
+
+-- up to the lowest mark of a block
+pub below-lowest : (t : Teddy) (text : List ℕ) (block marks lowest : ℕ) → lowest < 32 → ((place : ℕ) → 0 ≤ place → place < block → marked_at t text place ≡ 0) → ((k : ℕ) → k < 32 → marked_at t text (block + k) ≢ 0 → bit_at marks k ≡ 1) → ((k : ℕ) → k < lowest → bit_at marks k ≡ 0) → (place : ℕ) → place < block + lowest → marked_at t text place ≡ 0
+below-lowest t text block marks lowest few before set below place within = elim (cases_lt place block) [
+  | inl early ↦ before place (omega arith) early
+  | inr late ↦
+      let k : ℕ = place - block in
+      let here : place ≡ block + k = omega (arith, late) in
+      elim (cases_eq (marked_at t text place) 0) [
+        | inl zero_mark ↦ zero_mark
+        | inr some ↦
+            let is = set k (omega (arith, late, within, few)) (subst (λ p. marked_at t text p ≢ 0) here some) in
+            let clear = below k (omega (arith, late, within)) in
+            absurd (omega (arith, is, clear))
+      ]
+]
+
+-- ---- patterns that are lent
+
+-- the text of the pattern of a number
+pub pattern-lent : (patterns : List (Bor (List ℕ))) (d : Bor (List ℕ)) (number : ℕ) → number < length patterns → pattern_at (bytes_of patterns) number ≡ (get_or patterns number d).now
+pattern-lent [] d number within = absurd (omega (arith, within))
+pattern-lent (p ∷ ps) d zero within = refl
+pattern-lent (p ∷ ps) d (suc number) within = pattern-lent ps d number (omega (arith, within))
+
+-- a length that the patterns so far have, and one more
+pub short-more : (patterns : List (List ℕ)) (count len less : ℕ) → ((number : ℕ) → number < count → len ≤ length (pattern_at patterns number)) → less ≤ len → less ≤ length (pattern_at patterns count) → (number : ℕ) → number < count + 1 → less ≤ length (pattern_at patterns number)
+short-more patterns count len less so_far le own number within = elim (cases_eq number count) [
+  | inl here ↦ subst (λ k. less ≤ length (pattern_at patterns k)) (sym here) own
+  | inr apart ↦ let had = so_far number (omega (arith, within, apart)) in omega (arith, had, le)
+]
+
+-- a probe has a byte in a bucket as another list has it at the offset
+moved-byte : (probe : Probe) (xs ys : List ℕ) (bucket : ℕ) → get_or xs probe.offset 0 ≡ get_or ys probe.offset 0 → HasBucket probe (get_or xs probe.offset 0) bucket → HasBucket probe (get_or ys probe.offset 0) bucket
+moved-byte probe xs ys bucket e has = subst (λ b. HasBucket probe b bucket) e has
+
+-- what has the partners, byte by byte, has them as one list
+pub partners-had : (pairing : List ℕ) (len : ℕ) (t : Teddy) (pattern bytes : List ℕ) (bucket : ℕ) → LooksBefore len t → len ≤ length pattern → ((k : ℕ) → k < len → get_or bytes k 0 ≡ other pairing (get_or pattern k 0)) → HasPattern t bytes bucket → HasPattern t (map (other pairing) (take len pattern)) bucket
+partners-had pairing len t pattern bytes bucket near long are has = record {
+  first = moved-byte t.first bytes partners bucket (same_at t.first.offset near.first) has.first;
+  second = moved-byte t.second bytes partners bucket (same_at t.second.offset near.second) has.second;
+  third = moved-byte t.third bytes partners bucket (same_at t.third.offset near.third) has.third;
+  fourth = moved-byte t.fourth bytes partners bucket (same_at t.fourth.offset near.fourth) has.fourth;
+}
+  where
+    partners : List ℕ
+    partners = map (other pairing) (take len pattern)
+
+    same_at : (k : ℕ) → k < len → get_or bytes k 0 ≡ get_or partners k 0
+    same_at k within =
+        let size : length (take len pattern) ≡ len = length-take-le len pattern long in
+        are k within ∙ ap (other pairing) (sym (get_or-take len pattern k 0 within)) ∙ sym (get_or-map_within (other pairing) (take len pattern) k (omega (arith, size, within)))
+
+-- the patterns so far stay
+pub opened-kept : (pairing : List ℕ) (len : ℕ) (patterns : List (List ℕ)) (count : ℕ) (old new : Teddy) → HaveOpened pairing len patterns count old → KeepsPatterns old new → HaveOpened pairing len patterns count new
+opened-kept pairing len patterns count old new so_far keeps number within =
+    let had = so_far number within in
+    (had.0, keeps-partners pairing len old new (pattern_at patterns number) had.0 keeps had.1)
+
+-- a pattern was put into a bucket, and then its partners
+pub has-both : (pairing : List ℕ) (len : ℕ) (once new : Teddy) (named pattern bytes : List ℕ) (bucket : ℕ) → named ≡ pattern → LooksBefore len new → len ≤ length pattern → ((k : ℕ) → k < len → get_or bytes k 0 ≡ other pairing (get_or pattern k 0)) → HasPattern once pattern bucket → KeepsPatterns once new → HasPattern new bytes bucket → HasPartners pairing len new named bucket
+has-both pairing len once new named pattern bytes bucket is near long are own keeps paired = subst (λ (p : List ℕ). HasPartners pairing len new p bucket) (sym is) (record {
+  own = keeps-pattern once new pattern bucket keeps own;
+  paired = partners-had pairing len new pattern bytes bucket near long are paired;
+})

@@ -124,6 +124,7 @@ impl Model for Builder {
 
 impl Builder {
     /// A builder of leftmost-first searchers. It takes no memory yet, and takes it from `alloc` later.
+    /// A caller: `uses::callers::packed::of_two`.
     pub fn new(alloc: Global) -> Builder
         ensures { result ≡ fresh MatchKind.LeftmostFirst }
     {
@@ -271,6 +272,7 @@ impl Searcher {
     }
 
     /// The same searcher once more, in memory from `alloc`.
+    /// A caller: `uses::callers::packed::copy_searcher`.
     pub fn clone(&self, alloc: Global) -> Result<Searcher, AllocError>
         ensures { IfOk result (λ copy. copy ≡ self.now) }
     {
@@ -340,6 +342,7 @@ impl Searcher {
     }
 
     /// The length from which a haystack is searched as it should be: any.
+    /// A caller: `uses::callers::packed::is_searched`.
     pub fn minimum_len(&self) -> usize
         ensures { result ≡ 0 }
     {

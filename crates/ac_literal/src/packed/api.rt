@@ -132,6 +132,7 @@ impl Builder {
     }
 
     /// The same builder once more, with copies of the patterns.
+    /// A caller: `uses::callers::packed::and`.
     pub fn clone(&self) -> Result<Builder, AllocError>
         ensures { IfOk result (λ copy. copy ≡ self.now) }
     {
@@ -202,6 +203,7 @@ impl Builder {
     }
 
     /// The length of the shortest pattern; `usize::MAX` where it has none.
+    /// A caller: `uses::callers::packed::is_long_enough`.
     pub fn minimum_len(&self) -> usize
         ensures { result ≡ shortest self.now.patterns }
     {
@@ -265,6 +267,7 @@ impl Searcher {
     }
 
     /// A builder of leftmost-first searchers. It takes no memory yet, and takes it from `alloc` later.
+    /// A caller: `uses::callers::packed::of_one`.
     pub fn builder(alloc: Global) -> Builder
         ensures { result ≡ fresh MatchKind.LeftmostFirst }
     {
@@ -334,6 +337,7 @@ impl Searcher {
     }
 
     /// Which occurrence is the match.
+    /// A caller: `uses::callers::packed::prefers_longest`.
     pub fn match_kind(&self) -> &MatchKind
         ensures value { result.now ≡ self.now.kind }
         ensures served { AreServed self.now.patterns }

@@ -125,6 +125,7 @@ impl Prefilter {
     }
 
     /// The same prefilter once more, in memory from `alloc`.
+    /// A caller: `uses::callers::packed::copy_prefilter`.
     pub fn clone(&self, alloc: Global) -> Result<Prefilter, AllocError>
         ensures { IfOk result (λ copy. copy ≡ self.now) }
     {

@@ -11,3 +11,4 @@ pub mod packed;
 pub mod replace;
 pub mod states;
 pub mod stream;
+pub mod tables;

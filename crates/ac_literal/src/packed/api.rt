@@ -124,6 +124,7 @@ impl Model for Builder {
 
 impl Builder {
     /// A builder of leftmost-first searchers. It takes no memory yet, and takes it from `alloc` later.
+    /// A caller: `uses::callers::packed::of_two`.
     pub fn new(alloc: Global) -> Builder
         ensures { result ≡ fresh MatchKind.LeftmostFirst }
     {
@@ -131,6 +132,7 @@ impl Builder {
     }
 
     /// The same builder once more, with copies of the patterns.
+    /// A caller: `uses::callers::packed::and`.
     pub fn clone(&self) -> Result<Builder, AllocError>
         ensures { IfOk result (λ copy. copy ≡ self.now) }
     {
@@ -201,6 +203,7 @@ impl Builder {
     }
 
     /// The length of the shortest pattern; `usize::MAX` where it has none.
+    /// A caller: `uses::callers::packed::is_long_enough`.
     pub fn minimum_len(&self) -> usize
         ensures { result ≡ shortest self.now.patterns }
     {
@@ -264,6 +267,7 @@ impl Searcher {
     }
 
     /// A builder of leftmost-first searchers. It takes no memory yet, and takes it from `alloc` later.
+    /// A caller: `uses::callers::packed::of_one`.
     pub fn builder(alloc: Global) -> Builder
         ensures { result ≡ fresh MatchKind.LeftmostFirst }
     {
@@ -271,6 +275,7 @@ impl Searcher {
     }
 
     /// The same searcher once more, in memory from `alloc`.
+    /// A caller: `uses::callers::packed::copy_searcher`.
     pub fn clone(&self, alloc: Global) -> Result<Searcher, AllocError>
         ensures { IfOk result (λ copy. copy ≡ self.now) }
     {
@@ -332,6 +337,7 @@ impl Searcher {
     }
 
     /// Which occurrence is the match.
+    /// A caller: `uses::callers::packed::prefers_longest`.
     pub fn match_kind(&self) -> &MatchKind
         ensures value { result.now ≡ self.now.kind }
         ensures served { AreServed self.now.patterns }
@@ -340,6 +346,7 @@ impl Searcher {
     }
 
     /// The length from which a haystack is searched as it should be: any.
+    /// A caller: `uses::callers::packed::is_searched`.
     pub fn minimum_len(&self) -> usize
         ensures { result ≡ 0 }
     {

@@ -337,6 +337,7 @@ impl PrefilterBuilder {
     }
 
     /// Adds a pattern. Where memory ends, the builder is as it was.
+    /// A caller: `uses::callers::packed::folded_prefilter`.
     pub fn add(&mut self, pattern: &[u8]) -> Result<&mut PrefilterBuilder, AllocError>
         ensures same { IfOk result (λ b. b.ghost_name ≡ self.entry.ghost_name) }
         ensures value { IfOk result (λ b. b.now ≡ with_pattern self.old pattern.now) }

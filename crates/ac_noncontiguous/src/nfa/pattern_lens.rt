@@ -71,6 +71,7 @@ impl PatternLens {
     }
 
     /// The same once more, in memory from `alloc`.
+    /// A caller: `uses::callers::nfa::copy_lens`.
     pub fn clone(&self, alloc: Global) -> Result<PatternLens, AllocError>
         ensures { IfOk result (λ copy. copy ≡ self.now) }
     {

@@ -209,6 +209,7 @@ impl NFA {
     }
 
     /// Each state from 2 on stands for a text: canonical bytes that begin an entered pattern. State 1 stands for none.
+    /// A caller: `uses::callers::nfa::last_pattern`.
     pub fn states_stand(&self)
         ensures some { StandForSome self.now }
         ensures begin { TextsBegin self.now }
@@ -216,11 +217,13 @@ impl NFA {
     {}
 
     /// Which states are read by searches: those from 2 on by their own texts, and the dead one by dead texts.
+    /// A caller: `uses::callers::nfa::anchored_end`.
     pub fn states_are_read(&self)
         ensures { AreRead self.now }
     {}
 
     /// In which order the states come.
+    /// A caller: `uses::callers::nfa::is_deeper`.
     pub fn states_are_ordered(&self)
         ensures { OrderedIn self.now }
     {}
@@ -234,6 +237,7 @@ impl NFA {
     }
 
     /// Which bytes stand for one another.
+    /// A caller: `uses::callers::nfa::partner`.
     pub fn pairing(&self) -> &Pairing
         ensures value { result.now ≡ (built_as self.now).dictionary.pairing }
         ensures paired { IsPairing result.now }

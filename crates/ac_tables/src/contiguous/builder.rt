@@ -111,6 +111,7 @@ impl Default for Builder {
 
 impl Builder {
     /// Standard matches, no byte paired, a prefilter wanted, dense states of less than two bytes, and bytes put into classes.
+    /// A caller: `uses::callers::tables::contiguous_plain`.
     pub fn new() -> Builder
         ensures { AreFirst result }
     {
@@ -124,6 +125,7 @@ impl Builder {
     }
 
     /// Sets which of several overlapping occurrences is the match.
+    /// A caller: `uses::callers::tables::contiguous_plain`.
     pub fn match_kind(&mut self, kind: MatchKind) -> &mut Builder
         ensures same { result.ghost_name ≡ self.entry.ghost_name }
         ensures value { result.now ≡ record self.old { kind = kind } }
@@ -134,6 +136,7 @@ impl Builder {
 
     /// Sets whether ASCII letters count as the same in their two cases. It sets the whole pairing: of this call and
     /// [`Builder::pairing`] the last one decides.
+    /// A caller: `uses::callers::tables::contiguous_folded`.
     pub fn ascii_case_insensitive(&mut self, yes: bool) -> &mut Builder
         ensures same { result.ghost_name ≡ self.entry.ghost_name }
         ensures rest { result.now ≡ record self.old { pairing = result.now.pairing } }
@@ -148,6 +151,7 @@ impl Builder {
     }
 
     /// Sets which bytes stand for one another. At first none does.
+    /// A caller: `uses::callers::tables::contiguous_plain`.
     pub fn pairing(&mut self, pairing: Pairing) -> &mut Builder
         ensures same { result.ghost_name ≡ self.entry.ghost_name }
         ensures value { result.now ≡ record self.old { pairing = pairing } }
@@ -157,6 +161,7 @@ impl Builder {
     }
 
     /// Sets whether searches have a prefilter, where one serves. It changes no answer.
+    /// A caller: `uses::callers::tables::contiguous_plain`.
     pub fn prefilter(&mut self, yes: bool) -> &mut Builder
         ensures same { result.ghost_name ≡ self.entry.ghost_name }
         ensures value { result.now ≡ record self.old { prefilter = yes } }
@@ -167,6 +172,7 @@ impl Builder {
 
     /// Sets to which depth states are dense: those to which fewer bytes lead. A dense state has an entry for each class of bytes,
     /// so that a look-up there takes two loads. It changes no answer.
+    /// A caller: `uses::callers::tables::contiguous_form`.
     pub fn dense_depth(&mut self, depth: usize) -> &mut Builder
         ensures same { result.ghost_name ≡ self.entry.ghost_name }
         ensures value { result.now ≡ record self.old { dense_depth = depth } }
@@ -177,6 +183,7 @@ impl Builder {
 
     /// Sets whether bytes are put into classes that no state tells apart. Without them a dense state has 256 entries. It changes no
     /// answer.
+    /// A caller: `uses::callers::tables::contiguous_form`.
     pub fn byte_classes(&mut self, yes: bool) -> &mut Builder
         ensures same { result.ghost_name ≡ self.entry.ghost_name }
         ensures value { result.now ≡ record self.old { byte_classes = yes } }
@@ -189,6 +196,7 @@ impl Builder {
     ///
     /// Of the settings only [`Builder::dense_depth`] and [`Builder::byte_classes`] count here. It is refused where the first word
     /// of a state would stand past the greatest number, before memory for the words is taken, and where memory ends.
+    /// A caller: `uses::callers::tables::contiguous_form`.
     pub fn build_from_noncontiguous(&self, alloc: Global, nfa: &nfa::NFA) -> Result<NFA, BuildError>
         ensures made { IfOk result (IsMadeFrom self.now nfa.now) }
         ensures refused { IfErr result (IsRefusedFrom self.now nfa.now) }
@@ -217,6 +225,7 @@ impl Builder {
     ///
     /// It is refused where a noncontiguous automaton of the patterns is, and where the first word of a state would stand past the
     /// greatest number.
+    /// A caller: `uses::callers::tables::contiguous_plain`.
     pub fn build(&self, alloc: Global, patterns: &[&[u8]]) -> Result<NFA, BuildError>
         ensures built { IfOk result (IsBuiltOf self.now patterns.now) }
         ensures refused { IfErr result (IsRefusedOf self.now patterns.now) }
@@ -228,6 +237,7 @@ impl Builder {
 
 impl NFA {
     /// The automaton of the patterns by the settings that a builder has at first: standard matches, no byte paired.
+    /// A caller: `uses::callers::tables::contiguous_of_bytes`.
     pub fn new(alloc: Global, patterns: &[&[u8]]) -> Result<NFA, BuildError>
         ensures built { IfOk result (IsBuiltAtFirst patterns.now) }
         ensures refused { IfErr result (IsRefusedAtFirst patterns.now) }
@@ -236,6 +246,7 @@ impl NFA {
     }
 
     /// A builder with the settings that it has at first.
+    /// A caller: `uses::callers::tables::contiguous_folded`.
     pub fn builder() -> Builder
         ensures { AreFirst result }
     {
@@ -243,6 +254,7 @@ impl NFA {
     }
 
     /// The words, one state after another. See [the module](crate::contiguous) for how they are laid out.
+    /// A caller: `uses::callers::tables::contiguous_len`.
     pub fn words(&self) -> &[u32]
         ensures { result.now ≡ words_in self.now }
     {

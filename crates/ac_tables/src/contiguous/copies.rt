@@ -24,6 +24,7 @@ fn clone_table(alloc: Global, table: &Table) -> Result<Table, AllocError>
 
 impl NFA {
     /// The same automaton once more, in memory from `alloc`.
+    /// A caller: `uses::callers::tables::contiguous_copy`.
     pub fn clone(&self, alloc: Global) -> Result<NFA, AllocError>
         ensures { IfOk result (IsCopy self.now) }
     {

@@ -110,6 +110,7 @@ impl Table {
 
 impl Builder {
     /// Standard matches, no byte paired, a prefilter wanted, a start for unanchored searches alone, and bytes in classes.
+    /// A caller: `uses::callers::tables::dfa_plain`.
     pub fn new() -> Builder
         ensures { AreFirst result }
     {
@@ -123,6 +124,7 @@ impl Builder {
     }
 
     /// Sets which of several overlapping occurrences is the match.
+    /// A caller: `uses::callers::tables::dfa_plain`.
     pub fn match_kind(&mut self, kind: MatchKind) -> &mut Builder
         ensures same { result.ghost_name ≡ self.entry.ghost_name }
         ensures value { result.now ≡ record self.old { kind = kind } }
@@ -133,6 +135,7 @@ impl Builder {
 
     /// Sets whether ASCII letters count as the same in their two cases. It sets the whole pairing: of this call and
     /// [`Builder::pairing`] the last one decides.
+    /// A caller: `uses::callers::tables::dfa_folded`.
     pub fn ascii_case_insensitive(&mut self, yes: bool) -> &mut Builder
         ensures same { result.ghost_name ≡ self.entry.ghost_name }
         ensures rest { result.now ≡ record self.old { pairing = result.now.pairing } }
@@ -147,6 +150,7 @@ impl Builder {
     }
 
     /// Sets which bytes stand for one another. At first none does.
+    /// A caller: `uses::callers::tables::dfa_plain`.
     pub fn pairing(&mut self, pairing: Pairing) -> &mut Builder
         ensures same { result.ghost_name ≡ self.entry.ghost_name }
         ensures value { result.now ≡ record self.old { pairing = pairing } }
@@ -156,6 +160,7 @@ impl Builder {
     }
 
     /// Sets whether searches have a prefilter, where one serves. It changes no answer.
+    /// A caller: `uses::callers::tables::dfa_plain`.
     pub fn prefilter(&mut self, yes: bool) -> &mut Builder
         ensures same { result.ghost_name ≡ self.entry.ghost_name }
         ensures value { result.now ≡ record self.old { prefilter = yes } }
@@ -165,6 +170,7 @@ impl Builder {
     }
 
     /// Sets for which searches there is a start. With both the table is about twice as large.
+    /// A caller: `uses::callers::tables::dfa_plain`.
     pub fn start_kind(&mut self, kind: StartKind) -> &mut Builder
         ensures same { result.ghost_name ≡ self.entry.ghost_name }
         ensures value { result.now ≡ record self.old { start_kind = kind } }
@@ -175,6 +181,7 @@ impl Builder {
 
     /// Sets whether bytes that lead alike share an entry of each row. Without, a row has 256 entries, and a look-up doesn't load
     /// the byte's class. It changes no answer.
+    /// A caller: `uses::callers::tables::dfa_form`.
     pub fn byte_classes(&mut self, yes: bool) -> &mut Builder
         ensures same { result.ghost_name ≡ self.entry.ghost_name }
         ensures value { result.now ≡ record self.old { byte_classes = yes } }
@@ -188,6 +195,7 @@ impl Builder {
     ///
     /// It is refused where the last row would begin past [`GREATEST`](ac_input::primitives::GREATEST), before it takes any memory,
     /// and where memory ends; and only then.
+    /// A caller: `uses::callers::tables::dfa_form`.
     pub fn build_from_noncontiguous(&self, alloc: Global, nfa: &NFA) -> Result<DFA, BuildError>
         ensures built { IfOk result (IsDfaOf self.now nfa.now) }
         ensures refused { IfErr result (IsDfaRefused self.now nfa.now) }
@@ -214,6 +222,7 @@ impl Builder {
     /// The DFA of the patterns, which are numbered from 0 in this order.
     ///
     /// It is refused where the noncontiguous automaton is, and where the table would be too large.
+    /// A caller: `uses::callers::tables::dfa_plain`.
     pub fn build(&self, alloc: Global, patterns: &[&[u8]]) -> Result<DFA, BuildError>
         ensures built { IfOk result (IsBuiltOf self.now patterns.now) }
         ensures refused { IfErr result (IsRefusedOf self.now patterns.now) }
@@ -225,6 +234,7 @@ impl Builder {
 
 impl DFA {
     /// The DFA of the patterns by the settings that a builder has at first: standard matches, no byte paired, unanchored searches.
+    /// A caller: `uses::callers::tables::dfa_of_bytes`.
     pub fn new(alloc: Global, patterns: &[&[u8]]) -> Result<DFA, BuildError>
         ensures built { IfOk result (IsBuiltAtFirst patterns.now) }
         ensures refused { IfErr result (IsRefusedAtFirst patterns.now) }
@@ -233,6 +243,7 @@ impl DFA {
     }
 
     /// A builder with the settings that it has at first.
+    /// A caller: `uses::callers::tables::dfa_folded`.
     pub fn builder() -> Builder
         ensures { AreFirst result }
     {

@@ -43,6 +43,7 @@ impl Table {
 
 impl DFA {
     /// The next states, a row for each state, and in it an entry for each class of bytes.
+    /// A caller: `uses::callers::tables::rows_by_entries`.
     pub fn transitions(&self) -> &[StateID]
         ensures { result.now ≡ transitions_in self.now }
     {
@@ -50,6 +51,7 @@ impl DFA {
     }
 
     /// How many entries a row has: the least power of two that is enough for the classes.
+    /// A caller: `uses::callers::tables::rows_by_entries`.
     pub fn stride(&self) -> usize
         ensures { result ≡ stride_in self.now }
     {
@@ -57,6 +59,7 @@ impl DFA {
     }
 
     /// How many rows there are.
+    /// A caller: `uses::callers::tables::has_row`.
     pub fn state_len(&self) -> usize
         ensures { result ≡ states_in self.now }
     {
@@ -64,6 +67,7 @@ impl DFA {
     }
 
     /// For which searches there is a start.
+    /// A caller: `uses::callers::tables::serves_anchored`.
     pub fn start_kind(&self) -> StartKind
         ensures { result ≡ start_kind_in self.now }
     {
@@ -71,6 +75,7 @@ impl DFA {
     }
 
     /// The same automaton once more, in memory from `alloc`.
+    /// A caller: `uses::callers::tables::dfa_copy`.
     pub fn clone(&self, alloc: Global) -> Result<DFA, AllocError>
         ensures { IfOk result (IsCopy self.now) }
     {

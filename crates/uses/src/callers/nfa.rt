@@ -1,13 +1,19 @@
 //! Reading the noncontiguous automaton, as one that is made of it does.
-ghost use Rattle.std.specs.Prelude.{◌≡◌, ◌-◌, ◌*◌, ◌<◌, [], length, get_or, IfSome, IsTrue};
+ghost use Rattle.std.specs.Prelude.{◌≡◌, ◌+◌, ◌-◌, ◌*◌, ◌<◌, [], length, get_or, IfOk, IfSome, IsTrue};
+ghost use Rattle.ac_automaton.specs.Automaton.{IsReached};
+ghost use Rattle.ac_input.specs.declared.search.Anchored.TheVariants.{Yes};
 ghost use Rattle.ac_input.specs.Classes.{BytesLeadAlike};
+ghost use Rattle.ac_input.specs.Same.{other};
 ghost use Rattle.ac_input.specs.Work.{longest, shortest};
-ghost use Rattle.ac_noncontiguous.specs.Reads.{built_as};
-ghost use Rattle.ac_noncontiguous.specs.ReadCalls.{MayBeMet, fail_in, state_len};
+ghost use Rattle.ac_noncontiguous.specs.Nfa.{InOneRun};
+ghost use Rattle.ac_noncontiguous.specs.Reads.{IsRead, built_as};
+ghost use Rattle.ac_noncontiguous.specs.ReadCalls.{MayBeMet, fail_in, special_in, state_len};
 
 use ac_input::primitives::{PatternID, StateID};
 use ac_input::search::Anchored;
 use ac_noncontiguous::nfa::NFA;
+use ac_noncontiguous::nfa::pattern_lens::PatternLens;
+use std::alloc::{AllocError, Global};
 
 /// The state of this number, if there is one.
 pub fn numbered(nfa: &NFA, number: usize) -> Option<StateID>
@@ -78,4 +84,51 @@ pub fn room_for_all(nfa: &NFA) -> Option<usize>
 {
     let lens = nfa.pattern_lens();
     lens.len().checked_mul(lens.longest())
+}
+
+/// How long each pattern is, to keep beside an automaton that is made of this one.
+pub fn copy_lens(nfa: &NFA, alloc: Global) -> Result<PatternLens, AllocError>
+    ensures { IfOk result (λ lens. lens ≡ (built_as nfa.now).dictionary.patterns) }
+{
+    nfa.pattern_lens().clone(alloc)
+}
+
+/// The byte that is taken for the same as this one; the byte itself where it stands in no pair.
+pub fn partner(nfa: &NFA, byte: u8) -> u8
+    ensures { result ≡ other (built_as nfa.now).dictionary.pairing byte }
+{
+    nfa.pairing().other(byte)
+}
+
+/// The number of the last pattern, if there is one. Whatever is built is within the limits, so it has a number.
+pub fn last_pattern(nfa: &NFA) -> Option<PatternID>
+    ensures { IfSome result
+        (λ last. last + 1 ≡ length (built_as nfa.now).dictionary.patterns) }
+{
+    nfa.states_stand();
+    let len = nfa.pattern_lens().len();
+    if len == 0 {
+        return None;
+    }
+    Some(PatternID::must(len - 1))
+}
+
+/// The state to which anchored searches come once nothing can match any more.
+pub fn anchored_end(nfa: &NFA) -> StateID
+    ensures { IsReached (IsRead nfa.now Yes) result }
+{
+    nfa.states_are_read();
+    StateID::ZERO
+}
+
+/// Whether a state is at least as deep as one that comes before it. It is, where both come before the starts, or both after them.
+pub fn is_deeper(nfa: &NFA, sid: StateID, before: StateID) -> bool
+    requires within { sid < state_len nfa.now }
+    requires before { before < sid }
+    requires run { InOneRun (special_in nfa.now).start_unanchored_id before sid }
+    ensures { IsTrue result }
+{
+    nfa.states_stand();
+    nfa.states_are_ordered();
+    nfa.depth(before) <= nfa.depth(sid)
 }

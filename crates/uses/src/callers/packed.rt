@@ -222,3 +222,36 @@ pub fn paired_prefilter(
     builder.pairing(pairing).add(pattern)?;
     builder.build()
 }
+
+/// A searcher for both patterns, of which the first is preferred. There is one, unless one of them is empty.
+pub fn of_two(alloc: Global, first: &[u8], second: &[u8]) -> Result<Option<Searcher>, AllocError>
+    requires first { 0 < length first.now }
+    requires second { 0 < length second.now }
+    ensures { IfOk result
+        (λ made. made ≡ Some (leftmost_first (first.now ∷ second.now ∷ []))) }
+{
+    let mut builder = Builder::new(alloc);
+    builder.add(first)?.add(second)?;
+    builder.build()
+}
+
+/// The searcher once more. It finds the same in every text.
+pub fn copy_searcher(searcher: &Searcher, alloc: Global) -> Result<Searcher, AllocError>
+    ensures { IfOk result (λ copy. copy ≡ searcher.now) }
+{
+    searcher.clone(alloc)
+}
+
+/// Whether the text is long enough to be searched. Each is.
+pub fn is_searched(searcher: &Searcher, text: &[u8]) -> bool
+    ensures { IsTrue result }
+{
+    searcher.minimum_len() <= text.len()
+}
+
+/// The prefilter once more. It is made for the same searches.
+pub fn copy_prefilter(prefilter: &Prefilter, alloc: Global) -> Result<Prefilter, AllocError>
+    ensures { IfOk result (λ copy. copy.dictionary ≡ prefilter.now.dictionary) }
+{
+    prefilter.clone(alloc)
+}

@@ -12,6 +12,7 @@ pub mod LenLemmas
 pub mod StandLemmas
 pub mod DfaReadLemmas
 pub mod DfaIdleLemmas
+pub mod DfaPassingLemmas
 pub mod EntryLemmas
 pub mod LayLemmas
 pub mod StatesLemmas

@@ -6,7 +6,7 @@ use Rattle.ac_input.specs.Candidate.{Filter}
 use Rattle.ac_input.specs.Dictionary.{Dictionary, dictionary_of}
 use Rattle.ac_automaton.specs.declared.automaton.Advance.{Advance}
 use Rattle.ac_automaton.specs.Automaton.{Built, Advances, IsReadCost}
-use Rattle.ac_noncontiguous.specs.Reads.{is_between}
+use Rattle.ac_automaton.specs.Passing.{is_between}
 use Rattle.ac_automaton.specs.Named.{Naming, OfNames, IsPaidStep, IsReadBy}
 use Rattle.ac_tables.specs.declared.contiguous.NFA.{NFA}
 use Rattle.ac_tables.specs.declared.contiguous.table.Table.{Table}

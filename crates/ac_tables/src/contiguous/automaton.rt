@@ -6,7 +6,7 @@
 ghost use Rattle.std.specs.Prelude.{◌≡◌, ◌<◌, false};
 ghost use Rattle.ac_automaton.specs.Automaton.{IsReached};
 ghost use Rattle.ac_input.specs.Input.{is_anchored};
-ghost use Rattle.ac_noncontiguous.specs.Reads.{is_between};
+ghost use Rattle.ac_automaton.specs.Passing.{is_between};
 ghost use Rattle.ac_tables.specs.ContiguousReads.{IsRead, ReadsTo, IsMet, LooksUp};
 ghost use Rattle.ac_tables.specs.WordReads.{ByteLeadsTo, IsFailOf};
 
@@ -14,19 +14,11 @@ use crate::contiguous::NFA;
 use crate::contiguous::layout::NOWHERE;
 use ac_automaton::automaton::{Advance, Automaton};
 use ac_automaton::error::MatchError;
+use ac_automaton::skip::is_between;
 use ac_input::primitives::{PatternID, StateID};
 use ac_input::search::{Anchored, MatchKind};
 use ac_input::steps::Steps;
 use ac_literal::prefilter::Prefilter;
-
-/// Whether the state is between two numbers, these included.
-#[inline(always)]
-fn is_between(first: u32, last: u32, sid: StateID) -> bool
-    ensures { result ≡ is_between first last sid }
-{
-    let at = sid.as_u32();
-    first <= at && at <= last
-}
 
 impl NFA {
     /// The state that is asked where no transition has the byte.

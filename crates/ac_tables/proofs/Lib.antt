@@ -7,6 +7,7 @@ pub mod TestLemmas
 pub mod FollowLemmas
 pub mod NameLemmas
 pub mod SkipLemmas
+pub mod WordPassingLemmas
 pub mod WordsLemmas
 pub mod LenLemmas
 pub mod StandLemmas

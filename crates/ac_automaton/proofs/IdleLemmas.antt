@@ -63,7 +63,7 @@ run-reads b Fits matches starts special start starters anchored bytes k all skip
 -- ---- reading on over it
 
 -- the front of a list, and the front of what follows
-take-both : (n k : ℕ) (xs : List ℕ) → take (n + k) xs ≡ take n xs ++ take k (drop n xs)
+pub take-both : (n k : ℕ) (xs : List ℕ) → take (n + k) xs ≡ take n xs ++ take k (drop n xs)
 take-both n k xs =
     sym (take-append-drop n (take (n + k) xs)) ∙ ap₂ (λ (a b : List ℕ). a ++ b) (take-take n (n + k) xs (omega arith)) (drop-take n k xs)
 

@@ -34,3 +34,5 @@ pub mod StreamWithReadLemmas
 pub mod NamedLemmas
 pub mod LinkedLemmas
 pub mod IdleLemmas
+pub mod PassingLemmas
+pub mod NamedPassingLemmas

@@ -1,19 +1,23 @@
 -- Where a byte leads in an automaton that follows failures: straight on, or over the numbers to which one fails.
-use Rattle.std.proofs.Common.{◌≡◌, ◌≢◌, ℕ, ◌+◌, ◌≤◌, Bool, true, false, IsTrue, List, [], ◌∷◌, ◌++◌, length, Option, None, Some, ⊎_elim, refl, sym, ap, subst, ◌∙◌, arith, length-append}
+use Rattle.std.proofs.Common.{◌≡◌, ◌≢◌, ℕ, zero, suc, ◌+◌, ◌<◌, ◌≤◌, Bool, true, false, IsTrue, List, [], ◌∷◌, ◌++◌, length, Option, None, Some, ⊎_elim, refl, sym, ap, subst, ◌∙◌, arith, length-append}
 use Rattle.std.specs.Coded.{le_prop}
+use Rattle.std.specs.Prelude.{◌==◌, if◌then◌else◌, slice_index}
 use Rattle.std.proofs.Math.Logic.{∥∥₁_elim}
-use Rattle.std.proofs.lemmas.Bool.{cases_eq, false≢true}
-use Rattle.std.proofs.lemmas.List.{nil_from_length}
+use Rattle.std.proofs.lemmas.Bool.{cases_eq, eqb-true, eq-eqb, false≢true}
+use Rattle.std.proofs.lemmas.List.{append_assoc, nil_from_length}
 use Rattle.std.proofs.lemmas.Option.{same_Some}
+use Rattle.ac_input.specs.declared.search.Anchored.TheVariants.{No}
 use Rattle.ac_input.specs.declared.steps.Steps.{Steps}
 use Rattle.ac_input.specs.Dictionary.{Dictionary, BeginsEntered}
-use Rattle.ac_input.specs.LiveLaws.{canonical}
+use Rattle.ac_input.specs.LiveLaws.{IsOwnInverse, canonical}
 use Rattle.ac_input.specs.States.{LeadsTo, FailsTo}
 use Rattle.ac_input.specs.Steps.{Done}
 use Rattle.ac_input.specs.Work.{longest}
 use Rattle.ac_input.proofs.LeadsLemmas.{leads-child, leads-dead, leads-failure, leads-failure_none, fails-state}
-use Rattle.ac_automaton.specs.Named.{Naming, OfNames, IsStep, text_len, IsPaidStep, nowhere, IsEdgeBy, IsFailureBy, AreNumbers}
-use Rattle.ac_automaton.proofs.NamedLemmas.{stands-for, begins-or-not}
+use Rattle.ac_automaton.specs.Automaton.{Built, Leads}
+use Rattle.ac_automaton.specs.Named.{Naming, AllNames, OfNames, IsStep, text_len, IsPaidStep, IsReadBy, nowhere, IsEdgeBy, IsFailureBy, AreNumbers, AreLinked}
+use Rattle.ac_automaton.proofs.CursorLemmas.{leads-none}
+use Rattle.ac_automaton.proofs.NamedLemmas.{stands-for, begins-or-not, read-next}
 use Rattle.ac_automaton.proofs.WalkLemmas.{begins-bound}
 
 -- ---- straight on
@@ -285,3 +289,87 @@ followed-few m Fits start sid byte from before after h numbers some =
     let apart : length f.1.text ≢ 0 = λ e. f.1.apart ((numbers w.0 w.1).only from f.0.met (f.1.is ∙ ap Some (nil_from_length f.1.text e))) in
     omega (arith, bound, long, here, apart, paid))
     (stands-for w.0 sid))
+
+-- ---- every text leads somewhere
+
+-- where a byte leads from a number, over so many numbers to which it fails at most
+pub follow_by : (ℕ → ℕ → ℕ) → (ℕ → ℕ) → ℕ → ℕ → ℕ → ℕ
+follow_by edge fail zero sid byte = edge sid byte
+follow_by edge fail (suc most) sid byte = if edge sid byte == nowhere then follow_by edge fail most (fail sid) byte else edge sid byte
+
+-- where a byte leads nowhere, it leads to where it does from the number to which it fails
+step-failed : (m : Dictionary) (names : Naming) (start sid byte fail next : ℕ) → IsOwnInverse m.pairing → IsStuck m names start sid byte → (names.text sid ≡ Some [] → sid ≡ start) → IsFailureBy m names sid fail → IsStep m names false fail byte next → IsStep m names false sid byte next
+step-failed m names start sid byte fail next inverse s only failure step =
+    let fails = failure.fails s.text s.is in
+    let some : s.text ≢ [] = λ e. s.apart (only (s.is ∙ ap Some e)) in
+    record {
+      met = step.met;
+      dead = λ none. absurd (not-both names sid s.text none s.is);
+      leads = λ text is.
+          subst (λ (v : List ℕ). LeadsTo m false (v ++ byte ∷ []) (names.text next)) (same_Some s.text text (sym s.is ∙ is))
+          (⊎_elim
+          (λ (none : names.text fail ≡ None). subst (LeadsTo m false (s.text ++ byte ∷ [])) (sym (step.dead none)) (leads-failure_none m s.text byte some (subst (FailsTo m s.text) none fails) s.none))
+          (λ (state : (v : List ℕ) × (names.text fail ≡ Some v)). (leads-failure m s.text state.0 byte (names.text next) inverse (subst (FailsTo m s.text) state.1 fails) s.none).0 (step.leads state.0 state.1))
+          (stands-for names fail));
+    }
+
+-- the number to which one fails that isn't the start stands for fewer bytes
+failure-less : (m : Dictionary) (names : Naming) (start sid byte fail : ℕ) → AreNumbers m names start → IsTrue (names.met false sid) → IsStuck m names start sid byte → IsFailureBy m names sid fail → text_len (names.text fail) + 1 ≤ text_len (names.text sid)
+failure-less m names start sid byte fail numbers met s failure =
+    let on = following-more m names start sid byte sid 0 fail numbers (following-none m names sid byte met) s failure in
+    let paid = on.paid in
+    omega (arith, paid)
+
+-- which is as many steps as are needed
+follow-step : (m : Dictionary) (names : Naming) (start : ℕ) (edge : ℕ → ℕ → ℕ) (fail : ℕ → ℕ) → AreLinked m names start edge fail → (most sid byte : ℕ) → byte < 256 → IsTrue (names.met false sid) → text_len (names.text sid) ≤ most → IsStep m names false sid byte (follow_by edge fail most sid byte)
+unfolding follow_by
+follow-step m names start edge fail linked zero sid byte small met few =
+    let e = linked.edges false sid byte met small in
+    ⊎_elim
+    (λ (nothing : edge sid byte ≡ nowhere).
+    let s = stuck m names start sid byte (edge sid byte) e nothing in
+    let less = failure-less m names start sid byte (fail sid) linked.numbers met s (linked.failures sid met) in
+    absurd (omega (arith, less, few)))
+    (λ (some : edge sid byte ≢ nowhere). (straight m names start false sid byte (edge sid byte) linked.numbers e met some).step)
+    (cases_eq (edge sid byte) nowhere)
+follow-step m names start edge fail linked (suc most) sid byte small met few = by (λ there less. follow-step m names start edge fail linked most (fail sid) byte small there less) (edge sid byte == nowhere) refl
+  where
+    by : (IsTrue (names.met false (fail sid)) → text_len (names.text (fail sid)) ≤ most → IsStep m names false (fail sid) byte (follow_by edge fail most (fail sid) byte)) → (nothing : Bool) → (edge sid byte == nowhere) ≡ nothing → IsStep m names false sid byte (if nothing then follow_by edge fail most (fail sid) byte else edge sid byte)
+    by on true is =
+        let s = stuck m names start sid byte (edge sid byte) (linked.edges false sid byte met small) (eqb-true (edge sid byte) nowhere is) in
+        let failure = linked.failures sid met in
+        let less = failure-less m names start sid byte (fail sid) linked.numbers met s failure in
+        step-failed m names start sid byte (fail sid) (follow_by edge fail most (fail sid) byte) linked.numbers.inverse s (linked.numbers.only sid met) failure
+        (on failure.met (omega (arith, less, few)))
+    by on false is = (straight m names start false sid byte (edge sid byte) linked.numbers (linked.edges false sid byte met small) met (λ e. false≢true (sym is ∙ eq-eqb (edge sid byte) nowhere e))).step
+
+-- the number to which bytes lead
+pub run_by : (ℕ → ℕ → ℕ) → (ℕ → ℕ) → ℕ → ℕ → List ℕ → ℕ
+run_by edge fail most sid [] = sid
+run_by edge fail most sid (b ∷ bs) = run_by edge fail most (follow_by edge fail most sid b) bs
+
+-- no number stands for more bytes than the longest pattern has
+named-few : (m : Dictionary) (names : Naming) (start sid : ℕ) → AreNumbers m names start → IsTrue (names.met false sid) → text_len (names.text sid) ≤ longest m.patterns
+named-few m names start sid numbers met =
+    ⊎_elim
+    (λ (none : names.text sid ≡ None). let e = long-none names sid none in omega (arith, e))
+    (λ (is : (text : List ℕ) × (names.text sid ≡ Some text)).
+    let bound = begins-bound m is.0 (numbers.begin false sid is.0 met is.1).0 in
+    let long = long-some names sid is.0 is.1 in
+    omega (arith, bound, long))
+    (stands-for names sid)
+
+-- so every text leads somewhere from any number
+pub run-leads : (b : Built) (Fits : Naming → Type 0) (matches : ℕ → List ℕ) (starts special : ℕ → Bool) (start : ℕ) (edge : ℕ → ℕ → ℕ) (fail : ℕ → ℕ) → AllNames b Fits matches starts special
+    → ((names : Naming) → Fits names → AreLinked b.dictionary names start edge fail)
+    → (sid : ℕ) (bytes : List ℕ) → ((k : ℕ) → slice_index bytes k < 256) → Leads (IsReadBy b Fits matches starts special No) sid bytes (run_by edge fail (longest b.dictionary.patterns) sid bytes)
+unfolding run_by
+run-leads b Fits matches starts special start edge fail all linked sid [] small = leads-none (IsReadBy b Fits matches starts special No) sid
+run-leads b Fits matches starts special start edge fail all linked sid (byte ∷ bytes) small = λ text reads.
+    let m = b.dictionary in
+    let most = longest m.patterns in
+    let next = follow_by edge fail most sid byte in
+    let steps : OfNames Fits false sid (λ names. IsStep m names false sid byte next) = λ names fits met. let l = linked names fits in follow-step m names start edge fail l most sid byte (small 0) met (named-few m names start sid l.numbers met) in
+    let there = read-next b Fits matches starts special No sid byte next all steps text reads in
+    subst (λ (l : List ℕ). IsReadBy b Fits matches starts special No l (run_by edge fail most next bytes)) (append_assoc text (byte ∷ []) bytes)
+    (run-leads b Fits matches starts special start edge fail all linked next bytes (λ k. small (suc k)) (text ++ byte ∷ []) there)

@@ -20,6 +20,7 @@ pub mod Automaton
 pub mod Named
 pub mod Starters
 pub mod Held
+pub mod Passing
 pub mod Cursor
 pub mod Find
 pub mod Iter

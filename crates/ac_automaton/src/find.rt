@@ -27,6 +27,9 @@ use ac_input::search::{Anchored, Candidate, Input, Match, MatchKind, Span};
 use ac_input::steps::Steps;
 use ac_literal::prefilter::Prefilter;
 
+/// How many bytes a prefilter has to pass, to pay.
+const COST: usize = 64;
+
 /// The first of the patterns that match at a state, where the search isn't anchored. It ends at the place.
 pub(crate) fn first_match<A: Automaton>(automaton: &A, sid: StateID, at: usize) -> Match
     requires reads { IsReachedWithin (A.Reaches automaton.now Anchored.No) sid at }
@@ -233,8 +236,10 @@ fn search_from_candidate<A: Automaton>(
     let Some(prefilter) = prefilter else {
         return walk(automaton, input, start, at, at, steps);
     };
-    if let Some(until) = gain.leaves(at) {
-        return walk(automaton, input, start, at, until, steps);
+    if automaton.match_kind() == MatchKind::Standard {
+        if let Some(until) = gain.leaves(at) {
+            return walk(automaton, input, start, at, until, steps);
+        }
     }
     match candidate(automaton, prefilter, input, at, steps) {
         End::Found(found) => End::Found(found),
@@ -261,7 +266,7 @@ fn search<A: Automaton>(
     ensures cost { IsFindCost (A.built automaton.now) input.now steps.old steps.new result }
 {
     let mut at = input.start();
-    let mut gain = Gain::new(automaton.match_kind());
+    let mut gain = Gain::new(COST);
     loop {
         match search_from_candidate(automaton, prefilter, input, start, at, &mut gain, steps) {
             End::Found(found) => return found,

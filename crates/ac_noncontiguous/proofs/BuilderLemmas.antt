@@ -1,10 +1,13 @@
 -- What the parts of a build say together.
-use Rattle.std.proofs.Common.{◌≡◌, Bool, true, false, Option, Some, None, Result, Ok, Err, IfOk, IfSome, IsSome, refl, sym, subst, ◌∙◌}
+use Rattle.std.proofs.Common.{◌≡◌, ℕ, List, Bool, true, false, Option, Some, None, Result, Ok, Err, IfOk, IfSome, IsSome, refl, sym, subst, ◌∙◌}
 use Rattle.std.proofs.lemmas.Bool.{false≢true}
 use Rattle.std.specs.declared.alloc.AllocError.{AllocError}
 use Rattle.ac_input.specs.Candidate.{Filter}
-use Rattle.ac_input.specs.Dictionary.{Dictionary}
+use Rattle.ac_input.specs.declared.search.MatchKind.{MatchKind}
+use Rattle.ac_input.specs.Dictionary.{Dictionary, dictionary_of}
 use Rattle.ac_input.specs.Limits.{IsWithinLimits}
+use Rattle.ac_literal.specs.declared.openings.Openings.{Openings}
+use Rattle.ac_literal.specs.Openings.{AreOpenings, OpenAll}
 use Rattle.ac_literal.specs.Prefilter.{IsDemanded, IsAdmissible, IsStrategyFor}
 use Rattle.ac_noncontiguous.specs.Builder.{Settings, AreCompiled, IsBuiltBy, IsHeld}
 use Rattle.ac_noncontiguous.specs.Nfa.{AreParts}
@@ -63,3 +66,8 @@ built-by s m from tables held nfa same made is within =
       prefilter = subst (λ (o : Option Filter). IsHeld s.prefilter m o) (sym made.prefilter) is;
       within = within;
     }
+
+-- openings of patterns are those of a dictionary of the patterns, of whichever kind
+pub opened-kind : (patterns : List (List ℕ)) (pairing : List ℕ) (kind : MatchKind) (openings : Option Openings) → IfSome openings (OpenAll patterns pairing) → IfSome openings (AreOpenings (dictionary_of patterns pairing kind))
+opened-kind patterns pairing kind None h = h
+opened-kind patterns pairing kind (Some o) h = h kind

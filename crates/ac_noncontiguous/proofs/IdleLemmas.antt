@@ -19,7 +19,8 @@ use Rattle.ac_noncontiguous.specs.declared.nfa.NFA.{NFA}
 use Rattle.ac_noncontiguous.specs.declared.nfa.tables.Tables.{Tables}
 use Rattle.ac_noncontiguous.specs.Nfa.{AreTablesOf}
 use Rattle.ac_noncontiguous.specs.Lookups.{IsKept, IsNamingOf, IsIdle}
-use Rattle.ac_noncontiguous.specs.Reads.{dictionary, built_as, matches_at, is_start_at, is_special_at, is_between, IsRead}
+use Rattle.ac_noncontiguous.specs.Reads.{dictionary, built_as, matches_at, is_start_at, is_special_at, IsRead}
+use Rattle.ac_automaton.specs.Passing.{is_between}
 use Rattle.ac_noncontiguous.proofs.NextLemmas.{names-numbers, names-edge}
 use Rattle.ac_noncontiguous.proofs.ReadLemmas.{tables-start, all-names, start-plain, state-matches, state-many}
 

@@ -17,6 +17,7 @@ pub mod LookupLemmas
 pub mod NextLemmas
 pub mod ReadLemmas
 pub mod IdleLemmas
+pub mod PassingLemmas
 pub mod BridgeLemmas
 pub mod FailLemmas
 pub mod FailsLemmas

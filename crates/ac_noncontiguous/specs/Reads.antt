@@ -1,5 +1,5 @@
 -- What the automaton is built as, and what is known of a state that a search has come to.
-use Rattle.std.specs.Prelude.{ℕ, ◌+◌, ◌==◌, ◌&&◌, ◌||◌, nat_le, Bool, false, List}
+use Rattle.std.specs.Prelude.{ℕ, ◌+◌, ◌==◌, ◌||◌, nat_le, Bool, false, List}
 use Rattle.ac_input.specs.declared.search.Anchored.{Anchored}
 use Rattle.ac_input.specs.Dictionary.{Dictionary, dictionary_of}
 use Rattle.ac_automaton.specs.Automaton.{Built}
@@ -27,10 +27,6 @@ is_start_at nfa sid = (sid == nfa.tables.start) || (sid == nfa.tables.start + 1)
 -- the states up to the last special one
 abbrev pub is_special_at : NFA → ℕ → Bool
 is_special_at nfa sid = nat_le sid nfa.max_special
-
--- the states between two, these included
-abbrev pub is_between : ℕ → ℕ → ℕ → Bool
-is_between first last sid = nat_le first sid && nat_le sid last
 
 -- a number is read by a search
 abbrev pub IsRead : NFA → Anchored → List ℕ → ℕ → Type 0

@@ -27,6 +27,7 @@ use crate::nfa::tables::Tables;
 use crate::trie::Trie;
 use ac_input::pairing::Pairing;
 use ac_input::search::MatchKind;
+use ac_literal::openings::Openings;
 use ac_literal::prefilter::{Prefilter, PrefilterBuilder};
 use std::alloc::{AllocError, Global};
 use std::marker::Model;
@@ -191,7 +192,8 @@ impl Builder {
         let tables = self.build_tables(alloc, patterns)?;
         let lens = PatternLens::of(alloc, patterns)?;
         let prefilter = self.build_prefilter(alloc, patterns)?;
-        Ok(NFA::from_parts(tables, lens, prefilter, self.pairing, self.kind))
+        let openings = Openings::new(patterns, &self.pairing);
+        Ok(NFA::from_parts(tables, lens, prefilter, openings, self.pairing, self.kind))
     }
 
     /// The tables of the patterns, which pass no limit.

@@ -19,7 +19,7 @@ ghost use Rattle.ac_input.specs.Classes.{AreByteClasses};
 ghost use Rattle.ac_input.specs.Dictionary.{dictionary_of};
 ghost use Rattle.ac_input.specs.Limits.{IsWithinLimits};
 ghost use Rattle.ac_input.specs.Pairing.{IsPairing};
-ghost use Rattle.ac_noncontiguous.specs.Nfa.{AreTablesOf, IsHeldFor, AreParts};
+ghost use Rattle.ac_noncontiguous.specs.Nfa.{AreTablesOf, AreOpenedBy, IsHeldFor, AreParts};
 ghost use Rattle.ac_noncontiguous.specs.Lookups.{IsIdle};
 
 use crate::nfa::pattern_lens::PatternLens;
@@ -29,6 +29,7 @@ use ac_automaton::starters::Starters;
 use ac_input::pairing::Pairing;
 use ac_input::primitives::StateID;
 use ac_input::search::MatchKind;
+use ac_literal::openings::Openings;
 use ac_literal::prefilter::Prefilter;
 
 /// A noncontiguous automaton.
@@ -40,6 +41,8 @@ pub struct NFA {
     /// The last state at which a search has more to do than to read on.
     max_special: StateID,
     prefilter: Option<Prefilter>,
+    /// Where a pattern may begin, if the patterns are few.
+    openings: Option<Openings>,
     pairing: Pairing,
     kind: MatchKind,
     ghost paired: { IsPairing pairing },
@@ -48,6 +51,7 @@ pub struct NFA {
     ghost classed: { ∥ AreByteClasses (dictionary_of lens pairing kind) tables.classes ∥₁ },
     ghost special: { max_special ≡ last_special_of prefilter (tables.start + 1) tables.max_match },
     ghost skips: { ∥ SkipsIdle (IsIdle tables) starters ∥₁ },
+    ghost opened: { ∥ AreOpenedBy (dictionary_of lens pairing kind) openings ∥₁ },
     ghost held: { IsHeldFor (dictionary_of lens pairing kind) prefilter } by { Prim.hlevel props },
 }
 
@@ -59,10 +63,12 @@ impl NFA {
         tables: Tables,
         lens: PatternLens,
         prefilter: Option<Prefilter>,
+        openings: Option<Openings>,
         pairing: Pairing,
         kind: MatchKind,
     ) -> NFA
-        requires { AreParts (dictionary_of lens pairing kind) tables prefilter }
+        requires parts { AreParts (dictionary_of lens pairing kind) tables prefilter }
+        requires opened { ∥ AreOpenedBy (dictionary_of lens pairing kind) openings ∥₁ }
         ensures { IsMadeOf (dictionary_of lens pairing kind) tables prefilter result }
     {
         let start_anchored = StateID::must(tables.start.one_more());
@@ -74,6 +80,7 @@ impl NFA {
             lens,
             max_special,
             prefilter,
+            openings,
             pairing,
             kind,
         }

@@ -16,7 +16,7 @@ use Rattle.ac_automaton.specs.Starters.{SkipsIdle, PassesIdle}
 use Rattle.ac_automaton.proofs.CursorLemmas.{HasAdvanced, reached-state}
 use Rattle.ac_automaton.proofs.IdleLemmas.{pass-advanced, advances-alike}
 use Rattle.ac_automaton.proofs.PassLemmas.{matching-some, some-matching}
-use Rattle.ac_noncontiguous.specs.Reads.{is_between}
+use Rattle.ac_automaton.specs.Passing.{is_between}
 use Rattle.ac_noncontiguous.proofs.IdleLemmas.{between}
 use Rattle.ac_tables.specs.declared.dfa.DFA.{DFA}
 use Rattle.ac_tables.specs.declared.dfa.table.Table.{Table}
@@ -34,7 +34,7 @@ start-row m table h serves =
     }
 
 -- nothing matches past the last number that does
-past-none : (table : Table) (sid : ℕ) → table.max_match < sid → dfa_matches_by table sid ≡ []
+pub past-none : (table : Table) (sid : ℕ) → table.max_match < sid → dfa_matches_by table sid ≡ []
 past-none table sid past = by (dfa_matches_by table sid) refl
   where
     by : (ns : List ℕ) → dfa_matches_by table sid ≡ ns → dfa_matches_by table sid ≡ []

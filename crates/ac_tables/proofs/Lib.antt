@@ -7,11 +7,13 @@ pub mod TestLemmas
 pub mod FollowLemmas
 pub mod NameLemmas
 pub mod SkipLemmas
+pub mod WordPassingLemmas
 pub mod WordsLemmas
 pub mod LenLemmas
 pub mod StandLemmas
 pub mod DfaReadLemmas
 pub mod DfaIdleLemmas
+pub mod DfaPassingLemmas
 pub mod EntryLemmas
 pub mod LayLemmas
 pub mod StatesLemmas

@@ -14,7 +14,7 @@ use Rattle.ac_automaton.proofs.CursorLemmas.{HasAdvanced, reached-state}
 use Rattle.ac_automaton.proofs.IdleLemmas.{pass-advanced, advances-alike}
 use Rattle.ac_automaton.proofs.LinkedLemmas.{straight}
 use Rattle.ac_automaton.proofs.PassLemmas.{matching-some, some-matching}
-use Rattle.ac_noncontiguous.specs.Reads.{is_between}
+use Rattle.ac_automaton.specs.Passing.{is_between}
 use Rattle.ac_noncontiguous.proofs.IdleLemmas.{between}
 use Rattle.ac_tables.specs.declared.contiguous.NFA.{NFA}
 use Rattle.ac_tables.specs.declared.contiguous.table.Table.{Table}

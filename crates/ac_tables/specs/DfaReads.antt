@@ -1,5 +1,5 @@
 -- What a DFA is built as, and what is known of a number that a search has come to.
-use Rattle.std.specs.Prelude.{◌≡◌, ℕ, ◌==◌, ◌||◌, nat_le, Bool, true, List, take, Option}
+use Rattle.std.specs.Prelude.{◌≡◌, ℕ, ◌<◌, ◌==◌, ◌||◌, nat_le, Bool, true, List, take, Option}
 use Rattle.ac_input.specs.declared.search.Anchored.{Anchored}
 use Rattle.ac_input.specs.declared.steps.Steps.{Steps}
 use Rattle.ac_input.specs.Candidate.{Filter}
@@ -8,7 +8,7 @@ use Rattle.ac_input.specs.Dictionary.{Dictionary, dictionary_of}
 use Rattle.ac_automaton.specs.Automaton.{Built, Advances, IsReadCost}
 use Rattle.ac_automaton.specs.declared.automaton.Advance.{Advance}
 use Rattle.ac_automaton.specs.Named.{Naming, IsReadBy}
-use Rattle.ac_noncontiguous.specs.Reads.{is_between}
+use Rattle.ac_automaton.specs.Passing.{is_between}
 use Rattle.ac_tables.specs.declared.dfa.DFA.{DFA}
 use Rattle.ac_tables.specs.declared.dfa.table.Table.{Table}
 use Rattle.ac_tables.specs.DfaTable.{AreDfaRows, dfa_matches_by}
@@ -53,6 +53,10 @@ CostsReading dfa anchored sid bytes before after = IsReadCost (built_as dfa) (Is
 pub record ReadsTo (dfa : DFA) (anchored : Anchored) (first last sid : ℕ) (bytes : List ℕ) (stop : Advance) (before after : Steps) : Type 0 where
   pub goes : Advances (IsRead dfa anchored) (is_between first last) sid bytes stop
   pub cost : CostsReading dfa anchored sid (take stop.taken bytes) before after
+
+-- A search whose last number to stop at is before the start stops last at the last one that matches.
+abbrev pub StopsBefore : DFA → ℕ → Type 0
+StopsBefore dfa last = last < dfa.table.start → last ≡ dfa.table.max_match
 
 -- the automaton is made of this table and this prefilter
 pub record IsMadeOf (m : Dictionary) (from : Table) (held : Option Filter) (dfa : DFA) : Type 0 where

@@ -46,7 +46,7 @@ ghost use Rattle.std.proofs.Props.{props};
 ghost use Rattle.ac_input.specs.Dictionary.{dictionary_of};
 ghost use Rattle.ac_input.specs.Limits.{IsWithinLimits};
 ghost use Rattle.ac_input.specs.Pairing.{IsPairing};
-ghost use Rattle.ac_noncontiguous.specs.Nfa.{IsHeldFor};
+ghost use Rattle.ac_noncontiguous.specs.Nfa.{AreOpenedBy, IsHeldFor};
 ghost use Rattle.ac_automaton.specs.Held.{last_special_of};
 ghost use Rattle.ac_automaton.specs.Starters.{SkipsIdle};
 ghost use Rattle.ac_tables.specs.ContiguousTable.{AreSomeStates, AreContiguousParts};
@@ -58,6 +58,7 @@ use ac_automaton::starters::Starters;
 use ac_input::pairing::Pairing;
 use ac_input::primitives::StateID;
 use ac_input::search::MatchKind;
+use ac_literal::openings::Openings;
 use ac_literal::prefilter::Prefilter;
 use ac_noncontiguous::nfa::pattern_lens::PatternLens;
 pub use builder::Builder;
@@ -71,6 +72,8 @@ pub struct NFA {
     /// The last state at which a search has more to do than to read on.
     max_special: StateID,
     prefilter: Option<Prefilter>,
+    /// Where a pattern may begin, if the patterns are few.
+    openings: Option<Openings>,
     pairing: Pairing,
     kind: MatchKind,
     ghost paired: { IsPairing pairing },
@@ -78,6 +81,7 @@ pub struct NFA {
     ghost stands: { AreSomeStates (dictionary_of lens pairing kind) table },
     ghost skips: { ∥ SkipsIdle (IsIdleAt table) starters ∥₁ },
     ghost special: { max_special ≡ last_special_of prefilter table.start_anchored table.max_match },
+    ghost opened: { ∥ AreOpenedBy (dictionary_of lens pairing kind) openings ∥₁ },
     ghost held: { IsHeldFor (dictionary_of lens pairing kind) prefilter } by { Prim.hlevel props },
 }
 
@@ -89,10 +93,12 @@ impl NFA {
         table: Table,
         lens: PatternLens,
         prefilter: Option<Prefilter>,
+        openings: Option<Openings>,
         pairing: Pairing,
         kind: MatchKind,
     ) -> NFA
-        requires { AreContiguousParts (dictionary_of lens pairing kind) table prefilter }
+        requires parts { AreContiguousParts (dictionary_of lens pairing kind) table prefilter }
+        requires opened { ∥ AreOpenedBy (dictionary_of lens pairing kind) openings ∥₁ }
         ensures { IsMadeOf (dictionary_of lens pairing kind) table prefilter result }
     {
         let max_special = last_special(&prefilter, table.start_anchored, table.max_match);
@@ -103,6 +109,7 @@ impl NFA {
             lens,
             max_special,
             prefilter,
+            openings,
             pairing,
             kind,
         }

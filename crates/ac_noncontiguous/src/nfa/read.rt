@@ -17,6 +17,7 @@ use ac_input::pairing::Pairing;
 use ac_input::primitives::{PatternID, StateID};
 use ac_input::search::Anchored;
 use ac_input::steps::Steps;
+use ac_literal::openings::Openings;
 use std::alloc::{AllocError, Global};
 use std::marker::Model;
 
@@ -98,6 +99,7 @@ impl NFA {
     ghost use Rattle.std.specs.Prelude.{List, ℕ};
     ghost use Rattle.ac_input.specs.Pairing.{IsPairing};
     ghost use Rattle.ac_noncontiguous.specs.Reads.{built_as, matches_at};
+    ghost use Rattle.ac_noncontiguous.specs.Nfa.{AreOpenedBy};
     ghost use Rattle.ac_noncontiguous.specs.ReadCalls.{AlikeIn, state_len, fail_in, depth_in, edges_in, classes_in, special_in, ClassesAreThose, CountsIn, IsWithin, FailsIn, IsDeepIn, ListsIn, EdgesLeadIn, MayBeMet, LeadsIn, SpecialIn, StandForSome, TextsBegin, AreRead, OrderedIn, IsCopy};
 
     /// How many states there are.
@@ -245,6 +247,13 @@ impl NFA {
         &self.pairing
     }
 
+    /// Where a pattern may begin, by its first bytes; none where the patterns are many, or one has less than two bytes.
+    pub fn openings(&self) -> Option<Openings>
+        ensures { ∥ AreOpenedBy (built_as self.now).dictionary result ∥₁ }
+    {
+        self.openings
+    }
+
     /// The same automaton once more, in memory from `alloc`.
     /// A caller: `uses::callers::build::copy`.
     pub fn clone(&self, alloc: Global) -> Result<NFA, AllocError>
@@ -253,7 +262,14 @@ impl NFA {
         let prefilter = clone_held(alloc, self.prefilter.as_ref())?;
         let lens = self.lens.clone(alloc)?;
         let tables = self.tables.clone(alloc)?;
-        Ok(NFA::from_parts(tables, lens, prefilter, self.pairing, self.kind))
+        Ok(NFA::from_parts(
+            tables,
+            lens,
+            prefilter,
+            self.openings,
+            self.pairing,
+            self.kind,
+        ))
     }
 
     /// How many bytes of memory it takes, beside itself.

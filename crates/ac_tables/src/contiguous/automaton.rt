@@ -2,31 +2,25 @@
 //!
 //! A look-up loads the kind of the state and the class of the byte, and then one word, or some more where the classes are packed.
 //! Where no transition has the byte, the failures are followed, out of the loop. One comparison tells all states at which there is more
-//! to do than to read on. Where few bytes lead out of the start, a search that stands there finds the next of them by `memchr`.
+//! to do than to read on. Where the patterns are few, a search that stands in the start finds the next place at which one may begin by
+//! its first bytes; where few bytes lead out of the start, it finds the next of these by `memchr`.
 ghost use Rattle.std.specs.Prelude.{◌≡◌, ◌<◌, false};
 ghost use Rattle.ac_automaton.specs.Automaton.{IsReached};
 ghost use Rattle.ac_input.specs.Input.{is_anchored};
-ghost use Rattle.ac_noncontiguous.specs.Reads.{is_between};
-ghost use Rattle.ac_tables.specs.ContiguousReads.{IsRead, ReadsTo, IsMet, LooksUp};
+ghost use Rattle.ac_automaton.specs.Passing.{is_between};
+ghost use Rattle.ac_tables.specs.ContiguousReads.{IsRead, ReadsTo, StopsBefore, IsMet, LooksUp};
 ghost use Rattle.ac_tables.specs.WordReads.{ByteLeadsTo, IsFailOf};
 
 use crate::contiguous::NFA;
 use crate::contiguous::layout::NOWHERE;
 use ac_automaton::automaton::{Advance, Automaton};
 use ac_automaton::error::MatchError;
+use ac_automaton::look::LookUp;
+use ac_automaton::skip::{is_between, skip};
 use ac_input::primitives::{PatternID, StateID};
 use ac_input::search::{Anchored, MatchKind};
 use ac_input::steps::Steps;
 use ac_literal::prefilter::Prefilter;
-
-/// Whether the state is between two numbers, these included.
-#[inline(always)]
-fn is_between(first: u32, last: u32, sid: StateID) -> bool
-    ensures { result ≡ is_between first last sid }
-{
-    let at = sid.as_u32();
-    first <= at && at <= last
-}
 
 impl NFA {
     /// The state that is asked where no transition has the byte.
@@ -143,6 +137,57 @@ impl NFA {
     }
 }
 
+impl NFA {
+    /// Reads on to the first state between two numbers, these included, in the way that is the fastest there.
+    #[inline(always)]
+    fn read_to(
+        &self,
+        anchored: Anchored,
+        sid: StateID,
+        bytes: &[u8],
+        first: u32,
+        last: u32,
+        steps: &mut Steps,
+    ) -> Advance
+        requires reached { IsReached (IsRead self.now anchored) sid }
+        requires stops { StopsBefore self.now last }
+        ensures { ReadsTo self.now anchored first last sid bytes.now result steps.old steps.new }
+    {
+        if last >= self.table.start.as_u32() {
+            return self.read_on(anchored, sid, bytes, first, last, steps);
+        }
+        if let (Some(openings), Anchored::No) = (&self.openings, anchored) {
+            let start = self.table.start;
+            return skip(self, openings, start, sid, bytes, first, last, steps);
+        }
+        if self.starters.are_few() {
+            return self.skip(anchored, sid, bytes, first, last, steps);
+        }
+        self.read_on(anchored, sid, bytes, first, last, steps)
+    }
+}
+
+impl LookUp for NFA {
+    ghost use Rattle.ac_tables.specs.ContiguousReads.{built_as, IsRead, matches_at};
+
+    ghost built = { built_as };
+
+    ghost Reaches = { IsRead };
+
+    ghost matches = { matches_at };
+
+    ghost tells = { λ nfa anchored text sid reads. reads.tells };
+
+    ghost lives = { λ nfa anchored text sid reads. reads.lives };
+
+    ghost pairs = { λ nfa anchored text sid reads. reads.inverse };
+
+    #[inline(always)]
+    fn look_up(&self, sid: StateID, byte: u8, steps: &mut Steps) -> StateID {
+        self.next(Anchored::No, sid, byte, steps)
+    }
+}
+
 impl Automaton for NFA {
     ghost use Rattle.ac_tables.specs.ContiguousReads.{built_as, IsRead, matches_at, is_start_at, is_special_at};
 
@@ -192,10 +237,7 @@ impl Automaton for NFA {
         steps: &mut Steps,
     ) -> Advance {
         let last_special = self.max_special.as_u32();
-        if self.starters.are_few() && last_special < self.table.start.as_u32() {
-            return self.skip(anchored, sid, bytes, 0, last_special, steps);
-        }
-        self.read_on(anchored, sid, bytes, 0, last_special, steps)
+        self.read_to(anchored, sid, bytes, 0, last_special, steps)
     }
 
     fn advance_to_match(
@@ -206,10 +248,7 @@ impl Automaton for NFA {
         steps: &mut Steps,
     ) -> Advance {
         let last_match = self.table.max_match.as_u32();
-        if self.starters.are_few() && last_match < self.table.start.as_u32() {
-            return self.skip(anchored, sid, bytes, 1, last_match, steps);
-        }
-        self.read_on(anchored, sid, bytes, 1, last_match, steps)
+        self.read_to(anchored, sid, bytes, 1, last_match, steps)
     }
 
     #[inline]

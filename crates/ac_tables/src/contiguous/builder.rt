@@ -206,7 +206,8 @@ impl Builder {
         let table = table_of(alloc, nfa, self.dense_depth, classes)?;
         let lens = nfa.pattern_lens().clone(alloc)?;
         let prefilter = clone_held(alloc, nfa.prefilter())?;
-        Ok(NFA::from_parts(table, lens, prefilter, pairing, nfa.match_kind()))
+        let openings = nfa.openings();
+        Ok(NFA::from_parts(table, lens, prefilter, openings, pairing, nfa.match_kind()))
     }
 
     /// The settings of the noncontiguous automaton, which needs no rows.

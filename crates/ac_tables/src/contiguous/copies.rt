@@ -31,6 +31,13 @@ impl NFA {
         let prefilter = clone_held(alloc, self.prefilter.as_ref())?;
         let lens = self.lens.clone(alloc)?;
         let table = clone_table(alloc, &self.table)?;
-        Ok(NFA::from_parts(table, lens, prefilter, self.pairing, self.kind))
+        Ok(NFA::from_parts(
+            table,
+            lens,
+            prefilter,
+            self.openings,
+            self.pairing,
+            self.kind,
+        ))
     }
 }

@@ -2,30 +2,22 @@
 //!
 //! Nearly all the time goes into one loop: the class of a byte, an addition, a load, and one comparison for all states at which there
 //! is more to do than to read on. Where each byte is a class of its own, no class is loaded. An anchored search runs the same loop:
-//! its start leads to rows of its own. Where few bytes lead out of the start, a search that stands there finds the next of them by
-//! `memchr`.
+//! its start leads to rows of its own. Where the patterns are few, a search that stands in the start finds the next place at which one
+//! may begin by its first bytes; where few bytes lead out of the start, it finds the next of these by `memchr`.
 ghost use Rattle.std.specs.Prelude.{◌≡◌, ◌<◌, [], ◌∷◌, IsTrue};
 ghost use Rattle.ac_automaton.specs.Automaton.{IsReached, Leads};
-ghost use Rattle.ac_noncontiguous.specs.Reads.{is_between};
 ghost use Rattle.ac_tables.specs.DfaLookups.{ArePlain};
-ghost use Rattle.ac_tables.specs.DfaReads.{IsRead, CostsReading, ReadsTo};
+ghost use Rattle.ac_tables.specs.DfaReads.{IsRead, CostsReading, ReadsTo, StopsBefore};
 
 use crate::dfa::DFA;
 use ac_automaton::automaton::{Advance, Automaton};
 use ac_automaton::error::MatchError;
+use ac_automaton::look::LookUp;
+use ac_automaton::skip::{is_between, skip};
 use ac_input::primitives::{PatternID, StateID};
 use ac_input::search::{Anchored, MatchKind};
 use ac_input::steps::Steps;
 use ac_literal::prefilter::Prefilter;
-
-/// Whether the state is between two numbers, these included.
-#[inline(always)]
-fn is_between(first: u32, last: u32, sid: StateID) -> bool
-    ensures { result ≡ is_between first last sid }
-{
-    let at = sid.as_u32();
-    first <= at && at <= last
-}
 
 impl DFA {
     /// The state after one more byte; it counts one look. Where each byte is a class of its own, a caller may say so.
@@ -116,6 +108,57 @@ impl DFA {
     }
 }
 
+impl DFA {
+    /// Reads on to the first state between two numbers, these included, in the way that is the fastest there.
+    #[inline(always)]
+    fn read_to(
+        &self,
+        anchored: Anchored,
+        sid: StateID,
+        bytes: &[u8],
+        first: u32,
+        last: u32,
+        steps: &mut Steps,
+    ) -> Advance
+        requires reached { IsReached (IsRead self.now anchored) sid }
+        requires stops { StopsBefore self.now last }
+        ensures { ReadsTo self.now anchored first last sid bytes.now result steps.old steps.new }
+    {
+        if last >= self.table.start.as_u32() {
+            return self.read_on(anchored, sid, bytes, first, last, steps);
+        }
+        if let (Some(openings), Anchored::No) = (&self.openings, anchored) {
+            let start = self.table.start;
+            return skip(self, openings, start, sid, bytes, first, last, steps);
+        }
+        if self.starters.are_few() {
+            return self.skip(anchored, sid, bytes, first, last, steps);
+        }
+        self.read_on(anchored, sid, bytes, first, last, steps)
+    }
+}
+
+impl LookUp for DFA {
+    ghost use Rattle.ac_tables.specs.DfaReads.{built_as, IsRead, matches_at};
+
+    ghost built = { built_as };
+
+    ghost Reaches = { IsRead };
+
+    ghost matches = { matches_at };
+
+    ghost tells = { λ dfa anchored text sid reads. reads.tells };
+
+    ghost lives = { λ dfa anchored text sid reads. reads.lives };
+
+    ghost pairs = { λ dfa anchored text sid reads. reads.inverse };
+
+    #[inline(always)]
+    fn look_up(&self, sid: StateID, byte: u8, steps: &mut Steps) -> StateID {
+        self.step(false, Anchored::No, sid, byte, steps)
+    }
+}
+
 impl Automaton for DFA {
     ghost use Rattle.ac_tables.specs.DfaReads.{built_as, supported_by, IsRead, matches_at, is_start_at, is_special_at};
 
@@ -173,10 +216,7 @@ impl Automaton for DFA {
         steps: &mut Steps,
     ) -> Advance {
         let last_special = self.max_special.as_u32();
-        if self.starters.are_few() && last_special < self.table.start.as_u32() {
-            return self.skip(anchored, sid, bytes, 0, last_special, steps);
-        }
-        self.read_on(anchored, sid, bytes, 0, last_special, steps)
+        self.read_to(anchored, sid, bytes, 0, last_special, steps)
     }
 
     fn advance_to_match(
@@ -187,10 +227,7 @@ impl Automaton for DFA {
         steps: &mut Steps,
     ) -> Advance {
         let last_match = self.table.max_match.as_u32();
-        if self.starters.are_few() && last_match < self.table.start.as_u32() {
-            return self.skip(anchored, sid, bytes, 1, last_match, steps);
-        }
-        self.read_on(anchored, sid, bytes, 1, last_match, steps)
+        self.read_to(anchored, sid, bytes, 1, last_match, steps)
     }
 
     #[inline]

@@ -203,7 +203,15 @@ impl Builder {
         let table = Table::of(alloc, nfa, self.start_kind, self.byte_classes)?;
         let lens = nfa.pattern_lens().clone(alloc)?;
         let prefilter = clone_held(alloc, nfa.prefilter())?;
-        Ok(DFA::from_parts(table, lens, prefilter, *nfa.pairing(), nfa.match_kind()))
+        let openings = nfa.openings();
+        Ok(DFA::from_parts(
+            table,
+            lens,
+            prefilter,
+            openings,
+            *nfa.pairing(),
+            nfa.match_kind(),
+        ))
     }
 
     /// The builder of the automaton of which the DFA is made.

@@ -82,6 +82,13 @@ impl DFA {
         let table = self.table.clone(alloc)?;
         let lens = self.lens.clone(alloc)?;
         let prefilter = clone_held(alloc, self.prefilter.as_ref())?;
-        Ok(DFA::from_parts(table, lens, prefilter, self.pairing, self.kind))
+        Ok(DFA::from_parts(
+            table,
+            lens,
+            prefilter,
+            self.openings,
+            self.pairing,
+            self.kind,
+        ))
     }
 }

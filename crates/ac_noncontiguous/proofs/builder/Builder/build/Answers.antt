@@ -1,13 +1,22 @@
 -- The automaton is made of the tables, the lengths and the prefilter of the patterns.
-use Rattle.std.proofs.Common.{◌≡◌, ℕ, List, ap, ◌∙◌}
+use Rattle.std.proofs.Common.{◌≡◌, ℕ, List, ap, subst, sym, ◌∙◌}
 use Rattle.ac_input.specs.Dictionary.{dictionary_of}
+use Rattle.ac_literal.specs.Packed.{bytes_of}
+use Rattle.ac_noncontiguous.specs.Nfa.{AreOpenedBy}
 use Rattle.ac_noncontiguous.specs.Builder.{Settings, dictionary_by}
-use Rattle.ac_noncontiguous.proofs.BuilderLemmas.{parts-of}
+use Rattle.ac_noncontiguous.proofs.BuilderLemmas.{opened-kind, parts-of}
 use Rattle.ac_noncontiguous.proofs.builder.Builder.build.Goals as goal
 
-pub from_parts-requires : goal.from_parts-requires
-from_parts-requires c =
+pub from_parts-requires-clause-parts : goal.from_parts-requires-clause-parts
+from_parts-requires-clause-parts c =
     let ps = c.args.patterns.now in
     let same : dictionary_of c.in_ok-lens.lens c.self.inside.pairing c.self.inside.kind ≡ dictionary_by c.args.self.now ps =
     ap (λ (q : List (List ℕ)). dictionary_of q c.self.inside.pairing c.self.inside.kind) c.in_ok-lens.ensures ∙ ap (λ (s : Settings). dictionary_by s ps) c.self.view_is in
     parts-of (dictionary_by c.args.self.now ps) _ c.args.self.now.prefilter c.in_ok-tables.tables c.in_ok-prefilter.prefilter same c.in_ok-tables.ensures.made c.in_ok-tables.ensures.within c.in_ok-prefilter.ensures
+
+pub from_parts-requires-clause-opened : goal.from_parts-requires-clause-opened
+from_parts-requires-clause-opened c =
+    let pairing = c.self.inside.pairing in
+    let kind = c.self.inside.kind in
+    subst (λ (q : List (List ℕ)). ∥ AreOpenedBy (dictionary_of q pairing kind) c.new-openings.result ∥₁) (sym c.in_ok-lens.ensures)
+    ∣ opened-kind (bytes_of c.args.patterns.now) pairing kind c.new-openings.result c.new-openings.ensures ∣₁

@@ -2,13 +2,13 @@ use Rattle.std.proofs.Common.{sym, subst, ap, ◌∙◌, List, ℕ}
 use Rattle.ac_input.specs.Classes.{AreByteClasses}
 use Rattle.ac_input.specs.Dictionary.{dictionary_of}
 use Rattle.ac_input.specs.Limits.{IsWithinLimits}
-use Rattle.ac_noncontiguous.specs.Nfa.{AreTablesOf}
+use Rattle.ac_noncontiguous.specs.Nfa.{AreOpenedBy, AreTablesOf}
 use Rattle.ac_noncontiguous.specs.Reads.{dictionary}
 use Rattle.ac_noncontiguous.proofs.ReadCallLemmas.{same-tables}
 use Rattle.ac_noncontiguous.proofs.nfa.NFA.clone.Goals as goal
 
-pub from_parts-requires : goal.from_parts-requires
-from_parts-requires c =
+pub from_parts-requires-clause-parts : goal.from_parts-requires-clause-parts
+from_parts-requires-clause-parts c =
     let a = c.args.self.now in
     let same = sym c.in_ok-lens.ensures in
     record {
@@ -20,3 +20,8 @@ from_parts-requires c =
       held = λ f is. a.held f (sym (c.in_ok-prefilter.ensures ∙ c.as_ref.ensures.value) ∙ is) ∙ ap (λ (patterns : List (List ℕ)). dictionary_of patterns a.pairing a.kind) same;
       paired = a.paired;
     }
+
+pub from_parts-requires-clause-opened : goal.from_parts-requires-clause-opened
+from_parts-requires-clause-opened c =
+    let a = c.args.self.now in
+    subst (λ (patterns : List (List ℕ)). ∥ AreOpenedBy (dictionary_of patterns a.pairing a.kind) a.openings ∥₁) (sym c.in_ok-lens.ensures) a.opened

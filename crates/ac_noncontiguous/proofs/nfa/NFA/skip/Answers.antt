@@ -3,7 +3,8 @@ use Rattle.std.proofs.Common.{◌≡◌, ℕ, ◌+◌, ◌≤◌, List, length, 
 use Rattle.std.proofs.lemmas.List.{take_rest}
 use Rattle.std.proofs.lemmas.Option.{slice_get-get_or}
 use Rattle.ac_automaton.proofs.CursorLemmas.{HasAdvanced, advanced-none, advanced-cost, advanced-more, reached-on}
-use Rattle.ac_noncontiguous.specs.Reads.{built_as, is_between, IsRead}
+use Rattle.ac_noncontiguous.specs.Reads.{built_as, IsRead}
+use Rattle.ac_automaton.specs.Passing.{is_between}
 use Rattle.ac_noncontiguous.proofs.IdleLemmas.{between, pass-advanced}
 use Rattle.ac_noncontiguous.proofs.nfa.NFA.skip.Goals as goal
 use Rattle.ac_noncontiguous.proofs.nfa.NFA.skip.Goals.{else-first-as_usize-via-then-first-as_usize+else-as_u32, else-first-as_usize-via-else-first-as_usize}

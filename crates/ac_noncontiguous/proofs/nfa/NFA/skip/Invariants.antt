@@ -1,6 +1,7 @@
 use Rattle.std.proofs.Common.{length, ◌-◌, ◌≤◌}
 use Rattle.ac_automaton.proofs.CursorLemmas.{HasAdvanced}
-use Rattle.ac_noncontiguous.specs.Reads.{built_as, is_between, IsRead}
+use Rattle.ac_noncontiguous.specs.Reads.{built_as, IsRead}
+use Rattle.ac_automaton.specs.Passing.{is_between}
 use Rattle.ac_noncontiguous.proofs.nfa.NFA.skip.Given as goal
 
 abbrev pub invariant-loop-read : goal.invariant-loop-read

@@ -2,13 +2,14 @@
 use Rattle.std.proofs.Common.{List, ℕ, sym, subst, ap, ◌∙◌}
 use Rattle.ac_input.specs.Dictionary.{dictionary_of}
 use Rattle.ac_input.specs.Limits.{IsWithinLimits}
+use Rattle.ac_noncontiguous.specs.Nfa.{AreOpenedBy}
 use Rattle.ac_tables.specs.ContiguousTable.{AreSomeStates}
 use Rattle.ac_tables.specs.ContiguousReads.{dictionary}
 use Rattle.ac_tables.proofs.WordTableLemmas.{states-copied}
 use Rattle.ac_tables.proofs.contiguous.NFA.clone.Goals as goal
 
-pub from_parts-requires : goal.from_parts-requires
-from_parts-requires c =
+pub from_parts-requires-clause-parts : goal.from_parts-requires-clause-parts
+from_parts-requires-clause-parts c =
     let a = c.args.self.now in
     let same = sym c.in_ok-lens.ensures in
     record {
@@ -17,3 +18,8 @@ from_parts-requires c =
       held = λ f is. a.held f (sym (c.in_ok-prefilter.ensures ∙ c.as_ref.ensures.value) ∙ is) ∙ ap (λ (patterns : List (List ℕ)). dictionary_of patterns a.pairing a.kind) same;
       paired = a.paired;
     }
+
+pub from_parts-requires-clause-opened : goal.from_parts-requires-clause-opened
+from_parts-requires-clause-opened c =
+    let a = c.args.self.now in
+    subst (λ (patterns : List (List ℕ)). ∥ AreOpenedBy (dictionary_of patterns a.pairing a.kind) a.openings ∥₁) (sym c.in_ok-lens.ensures) a.opened

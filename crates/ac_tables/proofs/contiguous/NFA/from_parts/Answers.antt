@@ -3,7 +3,7 @@ use Rattle.ac_tables.proofs.SkipLemmas.{start-place}
 use Rattle.ac_tables.proofs.contiguous.NFA.from_parts.Goals as goal
 
 pub starters-starters-requires : goal.starters-starters-requires
-starters-starters-requires c = start-place (dictionary_of c.args.lens c.args.pairing c.args.kind) c.args.table c.requires.stands
+starters-starters-requires c = start-place (dictionary_of c.args.lens c.args.pairing c.args.kind) c.args.table c.requires.parts.stands
 
 pub invariant_of-result-clause-skips : goal.invariant_of-result-clause-skips
 invariant_of-result-clause-skips c = ∣ c.starters-starters.ensures ∣₁

@@ -1,6 +1,6 @@
 use Rattle.std.proofs.Common.{length, ◌-◌, ◌≤◌}
 use Rattle.ac_automaton.proofs.CursorLemmas.{HasAdvanced}
-use Rattle.ac_noncontiguous.specs.Reads.{is_between}
+use Rattle.ac_automaton.specs.Passing.{is_between}
 use Rattle.ac_tables.specs.ContiguousReads.{built_as, IsRead}
 use Rattle.ac_tables.proofs.contiguous.NFA.skip.Given as goal
 

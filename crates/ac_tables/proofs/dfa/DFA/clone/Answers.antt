@@ -2,14 +2,15 @@
 use Rattle.std.proofs.Common.{◌≡◌, ◌^◌, ℕ, true, List, Option, sym, ap, ap₂, subst, ◌∙◌}
 use Rattle.ac_input.specs.Candidate.{Filter}
 use Rattle.ac_input.specs.Dictionary.{Dictionary, dictionary_of}
+use Rattle.ac_noncontiguous.specs.Nfa.{AreOpenedBy}
 use Rattle.ac_tables.specs.declared.dfa.table.Table.{Table}
 use Rattle.ac_tables.specs.DfaReads.{dictionary}
 use Rattle.ac_tables.specs.DfaTable.{AreDfaParts}
 use Rattle.ac_tables.proofs.DfaCopyLemmas.{copy-rows}
 use Rattle.ac_tables.proofs.dfa.DFA.clone.Goals as goal
 
-pub from_parts-requires : goal.from_parts-requires
-from_parts-requires c =
+pub from_parts-requires-clause-parts : goal.from_parts-requires-clause-parts
+from_parts-requires-clause-parts c =
     let a = c.args.self.now in
     let same : dictionary_of c.in_ok-lens.lens a.pairing a.kind ≡ dictionary a = ap (λ (patterns : List (List ℕ)). dictionary_of patterns a.pairing a.kind) c.in_ok-lens.ensures in
     subst (λ (m : Dictionary). AreDfaParts m c.in_ok-table.table c.in_ok-prefilter.prefilter) (sym same)
@@ -18,6 +19,11 @@ from_parts-requires c =
       held = λ f is. a.held f (sym (c.in_ok-prefilter.ensures ∙ c.as_ref.ensures.value) ∙ is);
       paired = a.paired;
     })
+
+pub from_parts-requires-clause-opened : goal.from_parts-requires-clause-opened
+from_parts-requires-clause-opened c =
+    let a = c.args.self.now in
+    subst (λ (patterns : List (List ℕ)). ∥ AreOpenedBy (dictionary_of patterns a.pairing a.kind) a.openings ∥₁) (sym c.in_ok-lens.ensures) a.opened
 
 pub returns : goal.returns
 returns c =

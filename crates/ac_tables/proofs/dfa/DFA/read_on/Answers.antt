@@ -2,7 +2,7 @@ use Rattle.std.proofs.Common.{ℕ, List, IsTrue, sym, ◌∙◌, arith}
 use Rattle.std.proofs.lemmas.Bool.{false≢true}
 use Rattle.std.proofs.lemmas.Option.{slice_get-get_or}
 use Rattle.ac_automaton.proofs.CursorLemmas.{advanced-none, advanced-cost, advanced-more, advances-there, advances-all, advanced-all_cost, reached-on}
-use Rattle.ac_noncontiguous.specs.Reads.{is_between}
+use Rattle.ac_automaton.specs.Passing.{is_between}
 use Rattle.ac_tables.specs.DfaReads.{built_as, IsRead}
 use Rattle.ac_tables.proofs.dfa.DFA.read_on.Goals as goal
 

@@ -1,5 +1,5 @@
 use Rattle.ac_automaton.proofs.CursorLemmas.{HasAdvanced}
-use Rattle.ac_noncontiguous.specs.Reads.{is_between}
+use Rattle.ac_automaton.specs.Passing.{is_between}
 use Rattle.ac_tables.specs.DfaReads.{built_as, IsRead}
 use Rattle.ac_tables.proofs.dfa.DFA.read_on.Given as goal
 

@@ -4,7 +4,7 @@ use Rattle.std.proofs.lemmas.Bool.{false≢true}
 use Rattle.std.proofs.lemmas.List.{take_rest}
 use Rattle.std.proofs.lemmas.Option.{slice_get-get_or}
 use Rattle.ac_automaton.proofs.CursorLemmas.{HasAdvanced, advanced-none, advanced-cost, advanced-more, advances-there, advances-all, reached-on}
-use Rattle.ac_noncontiguous.specs.Reads.{is_between}
+use Rattle.ac_automaton.specs.Passing.{is_between}
 use Rattle.ac_tables.specs.DfaReads.{built_as, IsRead}
 use Rattle.ac_tables.proofs.DfaIdleLemmas.{passed-on, start-plain}
 use Rattle.ac_tables.proofs.dfa.DFA.skip.Goals as goal

@@ -10,8 +10,8 @@ use Rattle.ac_noncontiguous.proofs.ReadLemmas.{state-matches}
 use Rattle.ac_noncontiguous.proofs.nfa.automaton.NFAAutomaton.advance_to_match.Goals as goal
 use Rattle.ac_noncontiguous.proofs.nfa.automaton.NFAAutomaton.advance_to_match.Goals.{else-as_u32-last_match-via-then-as_u32-last_match+else-is_match, else-as_u32-last_match-via-else-as_u32-last_match}
 
-pub returns-then-as_u32-clause-goes : goal.returns-then-as_u32-clause-goes
-returns-then-as_u32-clause-goes c = let a = c.args.self.now in between-matching a 2 a.tables.max_match c.args.anchored c.args.sid c.args.bytes.now c.skip.result refl refl c.requires c.skip.ensures.goes
+pub returns-then-skips-clause-goes : goal.returns-then-skips-clause-goes
+returns-then-skips-clause-goes c = let a = c.args.self.now in between-matching a 2 a.tables.max_match c.args.anchored c.args.sid c.args.bytes.now c.skip_to.result refl refl c.requires c.skip_to.ensures.goes
 
 pub next_state_counted-current-requires : goal.next_state_counted-current-requires
 next_state_counted-current-requires c = reached-on (IsRead c.args.self.now c.args.anchored) c.args.sid _ c.loop-read.current c.requires c.loop-read.invariant.reads
@@ -40,7 +40,7 @@ loop-read-preserved c =
     let a = c.args.self.now in
     let next = c.next_state_counted-current.result in
     let is = slice_get-get_or c.args.bytes.now c.loop-read.read 0 c.loop-read-test.true in
-    let at = c.as_u32-in-loop-read.ensures.value in
+    let at = c.as_u32.ensures.value in
     let last = c.as_u32-last_match.ensures.value in
     let current = reached-on (IsRead a c.args.anchored) c.args.sid _ c.loop-read.current c.requires c.loop-read.invariant.reads in
     let read = reached-state (IsRead a) c.args.anchored next (reached-on (IsRead a c.args.anchored) c.loop-read.current _ next current c.next_state_counted-current.ensures.next) in

@@ -3,6 +3,7 @@ use Rattle.std.proofs.Common.{◌≡◌, false, Option, ap, sym, subst, ◌∙�
 use Rattle.ac_input.specs.Candidate.{Filter}
 use Rattle.ac_input.specs.Dictionary.{Dictionary}
 use Rattle.ac_input.specs.Limits.{IsWithinLimits}
+use Rattle.ac_noncontiguous.specs.Nfa.{AreOpenedBy}
 use Rattle.ac_noncontiguous.specs.Reads as reads
 use Rattle.ac_tables.specs.declared.contiguous.table.Table.{Table}
 use Rattle.ac_tables.specs.ContiguousTable.{AreWordsOf, AreSomeStates}
@@ -10,8 +11,8 @@ use Rattle.ac_tables.specs.ContiguousBuilder.{Settings, IsMadeFrom}
 use Rattle.ac_tables.proofs.WordTableLemmas.{same-dictionary}
 use Rattle.ac_tables.proofs.contiguous.builder.Builder.build_from_noncontiguous.Goals as goal
 
-pub from_parts-requires : goal.from_parts-requires
-from_parts-requires c =
+pub from_parts-requires-clause-parts : goal.from_parts-requires-clause-parts
+from_parts-requires-clause-parts c =
     let nfa = c.args.nfa.now in
     let made = c.in_ok-table.ensures.made in
     let e = same-dictionary (reads.dictionary nfa) c.in_ok-lens.lens c.pairing-pairing.result.now c.match_kind.result (c.in_ok-lens.ensures ∙ c.pattern_lens.ensures) c.pairing-pairing.ensures.value c.match_kind.ensures in
@@ -21,6 +22,12 @@ from_parts-requires c =
       held = λ f is. c.prefilter.ensures.made f (sym (c.in_ok-prefilter.ensures ∙ c.prefilter.ensures.value) ∙ is) ∙ sym e;
       paired = c.pairing-pairing.ensures.paired;
     }
+
+pub from_parts-requires-clause-opened : goal.from_parts-requires-clause-opened
+from_parts-requires-clause-opened c =
+    let nfa = c.args.nfa.now in
+    let e = same-dictionary (reads.dictionary nfa) c.in_ok-lens.lens c.pairing-pairing.result.now c.match_kind.result (c.in_ok-lens.ensures ∙ c.pattern_lens.ensures) c.pairing-pairing.ensures.value c.match_kind.ensures in
+    subst (λ (d : Dictionary). ∥ AreOpenedBy d c.openings-openings.result ∥₁) (sym e) c.openings-openings.ensures
 
 pub returns-clause-made : goal.returns-clause-made
 returns-clause-made c =

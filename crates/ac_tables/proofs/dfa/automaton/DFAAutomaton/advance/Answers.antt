@@ -1,9 +1,10 @@
 use Rattle.std.proofs.Common.{refl}
 use Rattle.ac_tables.proofs.DfaIdleLemmas.{between-special}
+use Rattle.ac_tables.proofs.DfaPassingLemmas.{special-below}
 use Rattle.ac_tables.proofs.dfa.automaton.DFAAutomaton.advance.Goals as goal
 
-pub returns-then-last_special-as_u32-clause-goes : goal.returns-then-last_special-as_u32-clause-goes
-returns-then-last_special-as_u32-clause-goes c = let a = c.args.self.now in between-special a 0 c.as_u32-last_special.result c.args.anchored c.args.sid c.args.bytes.now c.skip.result refl c.as_u32-last_special.ensures.value c.requires c.skip.ensures.goes
+pub read_to-requires-clause-stops : goal.read_to-requires-clause-stops
+read_to-requires-clause-stops c = special-below c.args.self.now c.as_u32-last_special.result c.as_u32-last_special.ensures.value
 
 pub returns-clause-goes : goal.returns-clause-goes
-returns-clause-goes c = let a = c.args.self.now in between-special a 0 c.as_u32-last_special.result c.args.anchored c.args.sid c.args.bytes.now c.read_on.result refl c.as_u32-last_special.ensures.value c.requires c.read_on.ensures.goes
+returns-clause-goes c = let a = c.args.self.now in between-special a 0 c.as_u32-last_special.result c.args.anchored c.args.sid c.args.bytes.now c.read_to.result refl c.as_u32-last_special.ensures.value c.requires c.read_to.ensures.goes

@@ -1,8 +1,9 @@
 -- The table, and what the automaton is built as.
-use Rattle.std.proofs.Common.{◌≡◌, ℕ, List, ap, subst, ◌∙◌}
+use Rattle.std.proofs.Common.{◌≡◌, ℕ, List, ap, sym, subst, ◌∙◌}
 use Rattle.std.proofs.lemmas.Result.{err_from_is_err_and}
 use Rattle.ac_input.specs.declared.search.MatchKind.{MatchKind}
-use Rattle.ac_input.specs.Dictionary.{dictionary_of}
+use Rattle.ac_input.specs.Dictionary.{Dictionary, dictionary_of}
+use Rattle.ac_noncontiguous.specs.Nfa.{AreOpenedBy}
 use Rattle.ac_noncontiguous.specs.Reads.{dictionary}
 use Rattle.ac_tables.specs.DfaBuild.{Settings}
 use Rattle.ac_tables.specs.DfaMade.{IsTableFor, IsTableRefused}
@@ -16,13 +17,21 @@ returns-in_err-table-clause-refused c =
     let h = subst (λ (s : Settings). IsTableRefused c.args.nfa.now s.start_kind s.byte_classes c.in_err-table.field-0.0) c.self.view_is c.in_err-table.ensures.refused in
     rw (p.1, p.2) (refused-of c.args.self.now c.args.nfa.now c.in_err-table.field-0.0 h)
 
-pub from_parts-requires : goal.from_parts-requires
-from_parts-requires c =
+pub from_parts-requires-clause-parts : goal.from_parts-requires-clause-parts
+from_parts-requires-clause-parts c =
     let nfa = c.args.nfa.now in
     let same : dictionary_of c.in_ok-lens.lens c.pairing.result.now c.match_kind.result ≡ dictionary nfa =
     ap (λ (q : List (List ℕ)). dictionary_of q c.pairing.result.now c.match_kind.result) (c.in_ok-lens.ensures ∙ c.pattern_lens.ensures)
     ∙ (ap (λ (q : List ℕ). dictionary_of nfa.lens q c.match_kind.result) c.pairing.ensures.value ∙ ap (λ (k : MatchKind). dictionary_of nfa.lens nfa.pairing k) c.match_kind.ensures) in
     parts-of nfa c.in_ok-table.table c.in_ok-prefilter.prefilter _ same c.in_ok-table.ensures.made.made (c.in_ok-prefilter.ensures ∙ c.prefilter.ensures.value)
+
+pub from_parts-requires-clause-opened : goal.from_parts-requires-clause-opened
+from_parts-requires-clause-opened c =
+    let nfa = c.args.nfa.now in
+    let same : dictionary_of c.in_ok-lens.lens c.pairing.result.now c.match_kind.result ≡ dictionary nfa =
+    ap (λ (q : List (List ℕ)). dictionary_of q c.pairing.result.now c.match_kind.result) (c.in_ok-lens.ensures ∙ c.pattern_lens.ensures)
+    ∙ (ap (λ (q : List ℕ). dictionary_of nfa.lens q c.match_kind.result) c.pairing.ensures.value ∙ ap (λ (k : MatchKind). dictionary_of nfa.lens nfa.pairing k) c.match_kind.ensures) in
+    subst (λ (m : Dictionary). ∥ AreOpenedBy m c.openings-openings.result ∥₁) (sym same) c.openings-openings.ensures
 
 pub returns-clause-built : goal.returns-clause-built
 returns-clause-built c =

@@ -1,0 +1,30 @@
+-- Nothing was passed, or all but the last bytes, which were read.
+use Rattle.std.proofs.Common.{◌≡◌, ◌∙◌, ℕ, ◌+◌, ◌-◌, ◌≤◌, List, take, drop, inl, inr, refl, ap, subst, sym, arith}
+use Rattle.ac_input.specs.declared.search.Anchored.TheVariants.{No}
+use Rattle.ac_automaton.specs.Automaton.{Leads, IsReadCost}
+use Rattle.ac_automaton.proofs.skip.pass.Goals as goal
+
+pub returns-then-passed-end : goal.returns-then-passed-end
+returns-then-passed-end g c = inl (refl, refl, refl)
+
+pub returns : goal.returns
+returns g c =
+    let a = c.args.automaton.now in
+    let skipped = c.pass-passed.result - (c.len-end.result - 1) in
+    let more = c.if-passed-end.false in
+    let size = c.len-end.ensures in
+    inr (
+      refl,
+      record {
+        skipped = skipped;
+        end = c.pass-passed.result - skipped;
+        taken = omega (arith, more);
+        within = c.pass-passed.ensures.within;
+        enough = omega (arith, more, size);
+        none = c.pass-passed.ensures.passed;
+        reads = c.read_all.ensures.reads;
+        between = c.looks.new.self;
+        looks = c.looks.ensures;
+        cost = c.read_all.ensures.cost;
+      },
+    )

@@ -1,0 +1,124 @@
+-- What a search passes in the start: places at which no pattern opens.
+use Rattle.std.proofs.Common.{◌≡◌, ◌≢◌, ℕ, zero, suc, ◌+◌, ◌-◌, ◌<◌, ◌≤◌, Bool, true, false, IsTrue, List, [], Option, None, Some, inl, inr, ⊎_elim, refl, sym, subst, ◌∙◌, arith}
+use Rattle.std.specs.Coded.{le_prop}
+use Rattle.std.proofs.Math.Logic.{∥∥₁_elim}
+use Rattle.std.specs.Prelude.{◌==◌, if◌then◌else◌, slice_index}
+use Rattle.std.proofs.lemmas.Bool.{cases_lt, cases_eq, eqb-true, eq-eqb, false≢true}
+use Rattle.ac_input.specs.declared.search.Anchored.TheVariants.{No}
+use Rattle.ac_input.specs.Candidate.{Filter}
+use Rattle.ac_input.specs.Dictionary.{Dictionary, IsLive}
+use Rattle.ac_input.specs.Opening.{NoneIsShorter}
+use Rattle.ac_input.proofs.SameLemmas.{own_inverse-pairing}
+use Rattle.ac_literal.specs.declared.openings.Openings.{Openings}
+use Rattle.ac_literal.specs.Openings.{AreOpenings}
+use Rattle.ac_automaton.specs.Held.{last_special_of}
+use Rattle.ac_automaton.specs.Named.{Naming, AreLinked}
+use Rattle.ac_automaton.specs.Passing.{is_between, MayPass}
+use Rattle.ac_automaton.proofs.LinkedLemmas.{run-leads}
+use Rattle.ac_automaton.proofs.NamedPassingLemmas.{may-pass}
+use Rattle.ac_noncontiguous.specs.declared.nfa.NFA.{NFA}
+use Rattle.ac_noncontiguous.specs.declared.nfa.tables.Tables.{Tables}
+use Rattle.ac_noncontiguous.specs.declared.nfa.tables.Transition.{Transition}
+use Rattle.ac_noncontiguous.specs.Nfa.{AreOpenedBy, transitions_from, fail_of, byte_at, next_at}
+use Rattle.ac_noncontiguous.specs.Lookups.{StepsTo, IsNextIn, IsNamingOf}
+use Rattle.ac_noncontiguous.specs.Reads.{dictionary, built_as, matches_at, is_start_at, is_special_at, IsRead}
+use Rattle.ac_noncontiguous.proofs.IdleLemmas.{between}
+use Rattle.ac_noncontiguous.proofs.LookupLemmas.{kept-ordered, leads-range}
+use Rattle.ac_noncontiguous.proofs.NextLemmas.{names-numbers, names-edge, names-failure}
+use Rattle.ac_noncontiguous.proofs.ReadLemmas.{all-names, dead-said, start-has, start-plain, start-read, state-holds, state-many}
+
+-- ---- every text leads somewhere
+
+-- the next state of the first of so many transitions that has the byte; 1 where none has it
+pub next_in : List Transition → ℕ → ℕ → ℕ → ℕ
+next_in transitions from zero byte = 1
+next_in transitions from (suc n) byte = if byte_at transitions from == byte then next_at transitions from else next_in transitions (from + 1) n byte
+
+next_in-is : (transitions : List Transition) (from n byte : ℕ) → IsNextIn transitions from (from + n) byte (next_in transitions from n byte)
+unfolding next_in
+next_in-is transitions from zero byte = inr (refl, λ k ge lt. absurd (omega (arith, ge, lt)))
+next_in-is transitions from (suc n) byte = by (next_in-is transitions (from + 1) n byte) (byte_at transitions from == byte) refl
+  where
+    by : IsNextIn transitions (from + 1) (from + 1 + n) byte (next_in transitions (from + 1) n byte) → (here : Bool) → (byte_at transitions from == byte) ≡ here → IsNextIn transitions from (from + suc n) byte (if here then next_at transitions from else next_in transitions (from + 1) n byte)
+    by rest true is = inl (from, omega arith, omega arith, eqb-true (byte_at transitions from) byte is, refl)
+    by rest false is =
+        ⊎_elim
+        (λ w. inl (w.0, let ge = w.1 in omega (arith, ge), let lt = w.2 in omega (arith, lt), w.3, w.4))
+        (λ none. inr (
+          none.0,
+          λ k ge lt.
+              ⊎_elim
+              (λ (here : k ≡ from). λ e. false≢true (sym is ∙ eq-eqb (byte_at transitions from) byte (subst (λ (i : ℕ). byte_at transitions i ≡ byte) here e)))
+              (λ (past : k ≢ from). none.1 k (omega (arith, ge, past)) (omega (arith, lt)))
+              (cases_eq k from),
+        ))
+        rest
+
+-- where a byte leads from a state by its transitions
+abbrev pub edge_by : Tables → ℕ → ℕ → ℕ
+edge_by tables i byte = next_in tables.transitions.items (transitions_from tables.states.items i) (transitions_from tables.states.items (i + 1) - transitions_from tables.states.items i) byte
+
+edge-steps : (tables : Tables) (i byte : ℕ) → byte < 256 → StepsTo tables i byte (edge_by tables i byte)
+edge-steps tables i byte small = λ m text t within.
+    let from = transitions_from tables.states.items i in
+    let end = transitions_from tables.states.items (i + 1) in
+    let ordered = kept-ordered tables i ∣ (m, text, t, within) ∣₁ in
+    let whole : from + (end - from) ≡ end = omega (arith, ordered) in
+    leads-range tables i byte (edge_by tables i byte) small (subst (λ (e : ℕ). IsNextIn tables.transitions.items from e byte (edge_by tables i byte)) whole (next_in-is tables.transitions.items from (end - from) byte)) m text t within
+
+-- by its transitions and failures the automaton is one that follows failures
+pub linked-by : (nfa : NFA) (names : Naming) → IsNamingOf (dictionary nfa) nfa.tables names → AreLinked (dictionary nfa) names nfa.tables.start (edge_by nfa.tables) (fail_of nfa.tables.states.items)
+linked-by nfa names fits =
+    let m = dictionary nfa in
+    let inverse = own_inverse-pairing nfa.pairing nfa.paired in
+    record {
+      numbers = names-numbers m nfa.tables inverse names fits;
+      edges = λ anchored sid byte met small. names-edge m nfa.tables anchored sid byte (edge_by nfa.tables sid byte) (edge-steps nfa.tables sid byte small) names fits met;
+      failures = λ sid met. names-failure m nfa.tables sid (fail_of nfa.tables.states.items sid) refl names fits met;
+    }
+
+-- ---- the start
+
+-- it passes places at which no pattern opens, where nothing matches in the start
+pub nfa-may-pass : (nfa : NFA) (len : ℕ) → 0 < len → NoneIsShorter (dictionary nfa) len → nfa.tables.max_match < nfa.tables.start → MayPass (dictionary nfa) len (IsRead nfa No) nfa.tables.start
+nfa-may-pass nfa len some long past =
+    let start = nfa.tables.start in
+    let Fits = IsNamingOf (dictionary nfa) nfa.tables in
+    may-pass (built_as nfa) Fits (matches_at nfa) (is_start_at nfa) (is_special_at nfa) len start (all-names nfa) some long
+    (start-read nfa No start refl)
+    (start-has nfa start (inl refl)) (start-plain nfa past)
+    (λ bytes small. (_, run-leads (built_as nfa) Fits (matches_at nfa) (is_start_at nfa) (is_special_at nfa) start (edge_by nfa.tables) (fail_of nfa.tables.states.items) (all-names nfa) (linked-by nfa) start bytes small))
+
+-- a state at which nothing matches and that isn't dead is none between those at which a search stops
+pub nfa-quiet : (nfa : NFA) (first last sid : ℕ) (text : List ℕ) → last ≤ nfa.tables.max_match → IsRead nfa No text sid → matches_at nfa sid ≡ [] → ¬ IsLive (dictionary nfa) false text None → ¬ IsTrue (is_between first last sid)
+nfa-quiet nfa first last sid text below reads none alive e =
+    let w = (between first last sid).0 e in
+    let state = ∣ (No, text, reads) ∣₁ in
+    let apart : sid ≢ 1 = λ one. state-holds ⊥ nfa sid (λ x y. absurd x) (λ texts t within other. other one) state in
+    ⊎_elim
+    (λ (more : 1 < sid). state-many nfa sid state more (omega (arith, w.1, below)) none)
+    (λ (few : sid ≤ 1). alive ((dead-said nfa sid true (λ _. omega (arith, few, apart), λ _. refl) No text reads).0 refl))
+    (cases_lt 1 sid)
+
+-- ---- up to which state a search stops
+
+-- the last special state is past the last that matches only where a prefilter is held; then the starts are special
+pub special-matches : (nfa : NFA) → nfa.max_special < nfa.tables.start → nfa.max_special ≡ nfa.tables.max_match
+special-matches nfa lt = by nfa.prefilter nfa.special
+  where
+    by : (held : Option Filter) → nfa.max_special ≡ last_special_of held (nfa.tables.start + 1) nfa.tables.max_match → nfa.max_special ≡ nfa.tables.max_match
+    by None at = at
+    by (Some f) at = absurd (omega (arith, at, lt))
+
+-- ---- its openings
+
+-- the openings that an automaton has are those of its dictionary
+pub opened : (m : Dictionary) (held : Option Openings) (openings : Openings) → held ≡ Some openings → ∥ AreOpenedBy m held ∥₁ → AreOpenings m openings
+opened m held openings is h =
+    record {
+      short = λ n p pattern. ∥∥₁_elim there le_prop (λ w. w.short n p pattern);
+      marks = λ text at opens none. ∥∥₁_elim there (λ x y. absurd x) (λ w. w.marks text at opens none);
+    }
+  where
+    there : ∥ AreOpenings m openings ∥₁
+    there = subst (λ (o : Option Openings). ∥ AreOpenedBy m o ∥₁) is h

@@ -1,0 +1,85 @@
+-- What a DFA passes in the start: places at which no pattern opens.
+use Rattle.std.proofs.Common.{◌≡◌, ⊎_elim, inl, ℕ, suc, ◌+◌, ◌<◌, ◌≤◌, Bool, true, false, IsTrue, List, [], ◌∷◌, ◌++◌, Option, None, Some, refl, subst, ◌∙◌, arith}
+use Rattle.std.specs.Coded.{le_prop}
+use Rattle.std.specs.Prelude.{slice_index}
+use Rattle.std.proofs.Math.Logic.{∥∥₁_elim, ∥∥₁_map, ∥∥₁_prop}
+use Rattle.std.proofs.lemmas.Bool.{cases_eq}
+use Rattle.std.proofs.lemmas.List.{append_assoc}
+use Rattle.ac_input.specs.Alphabet.{class}
+use Rattle.ac_input.specs.declared.search.Anchored.TheVariants.{No, Yes}
+use Rattle.ac_input.specs.declared.search.StartKind.{StartKind}
+use Rattle.ac_input.specs.declared.search.StartKind.TheVariants.{Both, Unanchored, Anchored}
+use Rattle.ac_input.specs.Candidate.{Filter}
+use Rattle.ac_input.specs.Dfa.{Serves}
+use Rattle.ac_input.specs.Dictionary.{IsLive}
+use Rattle.ac_input.specs.Opening.{NoneIsShorter}
+use Rattle.ac_automaton.specs.Automaton.{IsReached, Leads}
+use Rattle.ac_automaton.specs.Held.{last_special_of}
+use Rattle.ac_automaton.specs.Passing.{is_between, MayPass}
+use Rattle.ac_automaton.proofs.CursorLemmas.{leads-none}
+use Rattle.ac_automaton.proofs.NamedPassingLemmas.{may-pass}
+use Rattle.ac_noncontiguous.proofs.IdleLemmas.{between}
+use Rattle.ac_tables.specs.declared.dfa.DFA.{DFA}
+use Rattle.ac_tables.specs.declared.dfa.table.Table.{Table}
+use Rattle.ac_tables.specs.DfaReads.{dictionary, built_as, matches_at, is_start_at, is_special_at, IsNamingFor, IsRead, StopsBefore}
+use Rattle.ac_tables.proofs.DfaIdleLemmas.{past-none}
+use Rattle.ac_tables.proofs.DfaReadLemmas.{all-names, dead-said, row-leads, start-read, starts-placed, state-matches}
+use Rattle.ac_tables.proofs.TestLemmas.{start-has}
+
+-- ---- every text leads somewhere
+
+-- the number to which bytes lead by the table
+pub run : Table → ℕ → List ℕ → ℕ
+run table sid [] = sid
+run table sid (b ∷ bs) = run table (slice_index table.trans.items (sid + class table.classes b)) bs
+
+run-leads : (dfa : DFA) (sid : ℕ) (bytes : List ℕ) → ((k : ℕ) → slice_index bytes k < 256) → Leads (IsRead dfa No) sid bytes (run dfa.table sid bytes)
+unfolding run
+run-leads dfa sid [] small = leads-none (IsRead dfa No) sid
+run-leads dfa sid (b ∷ bs) small = λ text reads.
+    let next = slice_index dfa.table.trans.items (sid + class dfa.table.classes b) in
+    let there = row-leads dfa No sid b next (small 0) refl text reads in
+    subst (λ (l : List ℕ). IsRead dfa No l (run dfa.table next bs)) (append_assoc text (b ∷ []) bs) (run-leads dfa next bs (λ k. small (suc k)) (text ++ b ∷ []) there)
+
+-- ---- the start
+
+-- where some start serves unanchored searches, it is told which
+serves-told : (kind : StartKind) → ∥ Serves kind No ∥₁ → Serves kind No
+serves-told Both h = tt
+serves-told Unanchored h = refl
+serves-told Anchored h = absurd (∥∥₁_elim h (λ x y. absurd x) (λ (e : No ≡ Yes). let r : ⊥ = cc in r))
+
+-- where an unanchored search has come to a number, there is a start for it
+reached-serves : (dfa : DFA) (sid : ℕ) → IsReached (IsRead dfa No) sid → Serves dfa.table.kind No
+reached-serves dfa sid h = serves-told dfa.table.kind (∥∥₁_elim h ∥∥₁_prop (λ w. ∥∥₁_map w.1.reached (λ v. v.1.0)))
+
+-- it passes places at which no pattern opens, where nothing matches in the start
+pub dfa-may-pass : (dfa : DFA) (len sid : ℕ) → 0 < len → NoneIsShorter (dictionary dfa) len → IsReached (IsRead dfa No) sid → dfa.table.max_match < dfa.table.start → MayPass (dictionary dfa) len (IsRead dfa No) dfa.table.start
+dfa-may-pass dfa len sid some long h past =
+    let start = dfa.table.start in
+    may-pass (built_as dfa) (IsNamingFor dfa No) (matches_at dfa) (is_start_at dfa) (is_special_at dfa) len start (all-names dfa No) some long
+    (start-read dfa No start (reached-serves dfa sid h) refl)
+    (start-has start start dfa.table.start_anchored (inl refl)) (past-none dfa.table start past) (λ bytes small. (run dfa.table start bytes, run-leads dfa start bytes small))
+
+-- a number at which nothing matches and that isn't dead is none between those at which a search stops
+pub dfa-quiet : (dfa : DFA) (first last sid : ℕ) (text : List ℕ) → last ≤ dfa.table.max_match → IsRead dfa No text sid → matches_at dfa sid ≡ [] → ¬ IsLive (dictionary dfa) false text None → ¬ IsTrue (is_between first last sid)
+dfa-quiet dfa first last sid text below reads none alive e =
+    let w = (between first last sid).0 e in
+    ⊎_elim
+    (λ (zero : sid ≡ 0). alive ((dead-said dfa sid true (λ _. zero, λ _. refl) No text reads).0 refl))
+    (λ some. state-matches dfa sid ∣ (No, text, reads) ∣₁ some (omega (arith, w.1, below)) none)
+    (cases_eq sid 0)
+
+-- ---- up to which number a search stops
+
+-- the unanchored start stands before the anchored one
+starts-ordered : (dfa : DFA) → dfa.table.start ≤ dfa.table.start_anchored
+starts-ordered dfa = ∥∥₁_elim dfa.stands le_prop (λ w. let placed = starts-placed (dictionary dfa) dfa.table w.0 w.1 in omega (arith, placed))
+
+-- the last special number is past the last that matches only where a prefilter is held; then the starts are special
+pub special-below : (dfa : DFA) (last : ℕ) → last ≡ dfa.max_special → StopsBefore dfa last
+special-below dfa last is lt = by dfa.prefilter dfa.special
+  where
+    by : (held : Option Filter) → dfa.max_special ≡ last_special_of held dfa.table.start_anchored dfa.table.max_match → last ≡ dfa.table.max_match
+    by None at = is ∙ at
+    by (Some f) at = absurd (let e = starts-ordered dfa in omega (arith, at, is, e, lt))

@@ -48,8 +48,8 @@ rows-some nfa starts.Both = let s = starts-of nfa in omega (arith, s.0, s.1)
 pub size-some : (nfa : NFA) (kind : StartKind) (classed : Bool) (classes : List ℕ) (stride : ℕ) → AreClassesFor nfa classed classes → IsLeastPowerOfTwo (alphabet_len classes) stride → ∥ IsDfaSize (dictionary nfa) kind classed ((dfa_states kind (state_len nfa) - 1) * stride) ∥₁
 size-some nfa kind true classes stride chosen least =
     ∥∥₁_elim (counts-in nfa (state_len nfa) refl).counted ∥∥₁_prop (λ states.
-    ∥∥₁_map nfa.classed (λ (are : AreByteClasses (dictionary nfa) (classes_in nfa)).
-    (state_len nfa, alphabet_len classes, stride, states, (classes_in nfa, are, ap alphabet_len chosen), least, refl)))
+    ∥∥₁_map chosen.1 (λ (are : AreByteClasses (dictionary nfa) (classes_in nfa)).
+    (state_len nfa, alphabet_len classes, stride, states, (classes_in nfa, are, ap alphabet_len chosen.0), least, refl)))
 size-some nfa kind false classes stride chosen least =
     ∥∥₁_map (counts-in nfa (state_len nfa) refl).counted (λ states.
     (state_len nfa, alphabet_len classes, stride, states, (let last = chosen 255 (omega arith) in omega (arith, last)), least, refl))
@@ -81,17 +81,17 @@ stride-is n stride exponent g h =
 
 -- bytes of one chosen class are in one class of the automaton's
 chosen-finer : (classed : Bool) (nfa : NFA) (classes : List ℕ) → AreClassesFor nfa classed classes → (b c : ℕ) → b < 256 → c < 256 → class classes b ≡ class classes c → class (classes_in nfa) b ≡ class (classes_in nfa) c
-chosen-finer true nfa classes chosen b c b_in c_in same = ap (λ (xs : List ℕ). class xs b) (sym chosen) ∙ (same ∙ ap (λ (xs : List ℕ). class xs c) chosen)
+chosen-finer true nfa classes chosen b c b_in c_in same = ap (λ (xs : List ℕ). class xs b) (sym chosen.0) ∙ (same ∙ ap (λ (xs : List ℕ). class xs c) chosen.0)
 chosen-finer false nfa classes chosen b c b_in c_in same = ap (class (classes_in nfa)) (sym (chosen b b_in) ∙ (same ∙ chosen c c_in))
 
 -- the class of a byte is one of those that are chosen
 chosen-within : (classed : Bool) (nfa : NFA) (classes : List ℕ) → AreClassesFor nfa classed classes → (byte : ℕ) → byte < 256 → class classes byte < alphabet_len classes
 chosen-within true nfa classes chosen byte small =
-    let le : class (classes_in nfa) byte ≤ class (classes_in nfa) 255 = ∥∥₁_elim nfa.classed le_prop (λ (are : AreByteClasses (dictionary nfa) (classes_in nfa)).
+    let le : class (classes_in nfa) byte ≤ class (classes_in nfa) 255 = ∥∥₁_elim chosen.1 le_prop (λ (are : AreByteClasses (dictionary nfa) (classes_in nfa)).
     let e : byte + (255 - byte) ≡ 255 = omega (arith, small) in
     subst (λ (n : ℕ). class (classes_in nfa) byte ≤ class (classes_in nfa) n) e (class-later are.0 (classes_in nfa) are.1 (255 - byte) byte (omega (arith, small)))) in
-    let b = ap (λ (xs : List ℕ). class xs byte) chosen in
-    let l = ap (λ (xs : List ℕ). class xs 255) chosen in
+    let b = ap (λ (xs : List ℕ). class xs byte) chosen.0 in
+    let l = ap (λ (xs : List ℕ). class xs 255) chosen.0 in
     omega (arith, le, b, l)
 chosen-within false nfa classes chosen byte small =
     let b = chosen byte small in

@@ -4,11 +4,12 @@ use Rattle.ac_input.specs.Alphabet.{class}
 use Rattle.ac_input.specs.Classes.{IsByteOf, IsAlone, ClassesLeadAlike}
 use Rattle.ac_input.specs.Dictionary.{Dictionary}
 use Rattle.ac_noncontiguous.specs.declared.nfa.NFA.{NFA}
-use Rattle.ac_noncontiguous.specs.ReadCalls.{classes_in}
+use Rattle.ac_noncontiguous.specs.ReadCalls.{classes_in, ClassesAreThose}
 
--- They are those of the noncontiguous automaton, or each byte is a class alone where bytes aren't put into classes.
+-- They are those of the noncontiguous automaton, which are those of its dictionary, or each byte is a class alone where bytes aren't
+-- put into classes.
 abbrev pub AreClassesFor : NFA → Bool → List ℕ → Type 0
-AreClassesFor nfa true classes = classes ≡ classes_in nfa
+AreClassesFor nfa true classes = (classes ≡ classes_in nfa) × ClassesAreThose nfa
 AreClassesFor nfa false classes = (b : ℕ) → b < 256 → class classes b ≡ b
 
 -- They serve a dictionary: each byte that stands in an entered pattern is a class alone, and bytes of one class lead alike.

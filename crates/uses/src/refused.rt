@@ -1,8 +1,10 @@
 //! Searches that are refused, in which order the reasons count, and that nothing else is refused.
 use crate::answers::same;
 use crate::engines::{Asked, Case, Letters, all};
+use crate::front::{OwnCase, each_own};
 use ac_input::search::{Anchored, Input, MatchKind, StartKind};
 use ac_noncontiguous::{Automaton, MatchError, MatchErrorKind, OverlappingState, ReplaceError};
+use aho_corasick::AhoCorasick;
 use std::alloc::Global;
 use std::process::Abort;
 use std::test::Fail;
@@ -39,6 +41,21 @@ fn refusals_of<A: Automaton>(automaton: &A, input: &Input<'_>) -> Result<Refusal
         walk: automaton.try_find_iter(input.clone()?).err().map(reason),
         overlap: overlap.map(reason),
         list: automaton
+            .try_find_overlapping_iter(input.clone()?)
+            .err()
+            .map(reason),
+    })
+}
+
+/// Why a search is refused by the front's own calls.
+fn own_refusals_of(ac: &AhoCorasick, input: &Input<'_>) -> Result<Refusals, Fail> {
+    let mut state = OverlappingState::start();
+    let overlap = ac.try_find_overlapping(input.clone()?, &mut state).err();
+    Ok(Refusals {
+        find: ac.try_find(input.clone()?).err().map(reason),
+        walk: ac.try_find_iter(input.clone()?).err().map(reason),
+        overlap: overlap.map(reason),
+        list: ac
             .try_find_overlapping_iter(input.clone()?)
             .err()
             .map(reason),
@@ -94,6 +111,20 @@ impl Case for Row {
             return Ok(());
         }
         is_refused(rt, alloc, automaton, self)
+    }
+}
+
+impl OwnCase for Row {
+    fn built_of(&self) -> Asked<'_> {
+        self.asked()
+    }
+
+    fn check_own<T: Abort>(&self, rt: &T, _alloc: Global, ac: &AhoCorasick) -> Result<(), Fail> {
+        let input = Input::new(b"a").anchored(self.anchored);
+        let found = own_refusals_of(ac, &input)?;
+        let over = own_refusals_of(ac, &input.range(1..0))?;
+        same(rt, &[found, over], &[self.refused; 2], self.shows);
+        Ok(())
     }
 }
 
@@ -222,5 +253,9 @@ const ROWS: &[Row] = &[
 
 #[test]
 fn what_is_refused(rt: HostRuntime) -> Result<(), Fail> {
-    all(&rt, rt.alloc(), ROWS)
+    all(&rt, rt.alloc(), ROWS)?;
+    for row in ROWS {
+        each_own(&rt, rt.alloc(), row, &[row.starts])?;
+    }
+    Ok(())
 }

@@ -1,18 +1,18 @@
 -- What is known of the front that was built of patterns.
-use Rattle.std.proofs.Common.{◌≡◌, ℕ, List, Option, Some, None, map, sym, ap, ◌∙◌, subst}
-use Rattle.std.specs.Prelude.{◌≢◌}
+use Rattle.std.proofs.Common.{◌≡◌, ℕ, List, Result, Ok, Err, map, sym, ap, ◌∙◌, subst}
+use Rattle.std.specs.Prelude.{OnOk}
 use Rattle.std.specs.Borrow.{Bor}
+use Rattle.std.specs.Global.{Vec}
+use Rattle.std.specs.declared.alloc.AllocError.{AllocError}
 use Rattle.ac_input.specs.declared.search.MatchKind.{MatchKind}
-use Rattle.ac_input.specs.declared.search.StartKind.TheVariants.{Both, Unanchored}
+use Rattle.ac_input.specs.declared.search.StartKind.TheVariants.{Unanchored}
 use Rattle.ac_input.specs.Dictionary.{Dictionary}
 use Rattle.ac_input.specs.Same.{IsUnpaired}
+use Rattle.ac_automaton.specs.Replace.{MemoryReplacer, IsReplacedWith, matches_in}
 use Rattle.aho_corasick.specs.declared.ahocorasick.AhoCorasick.{AhoCorasick}
-use Rattle.aho_corasick.specs.declared.ahocorasick.AhoCorasickKind.{AhoCorasickKind}
-use Rattle.aho_corasick.specs.declared.ahocorasick.AhoCorasickKind.TheVariants.{DFA}
-use Rattle.aho_corasick.specs.AhoCorasick.{built_as, engine_of}
-use Rattle.aho_corasick.specs.Builder.{Settings}
-use Rattle.aho_corasick.specs.Engine.{kind_of}
-use Rattle.aho_corasick.specs.Served.{IsBuiltAtFirst, IsBuiltOf, IsServedBy, IsTaken}
+use Rattle.aho_corasick.specs.AhoCorasick.{built_as}
+use Rattle.aho_corasick.specs.Served.{IsBuiltAtFirst}
+use Rattle.aho_corasick.specs.Replaced.{AppendsBytes}
 use Rattle.uses.specs.Callers.{FindsBytes}
 
 -- by the first settings the patterns are found byte for byte, from any place
@@ -24,15 +24,7 @@ front-bytes patterns ac (s, first, built) =
 pub front-starts : (patterns : List (Bor (List ℕ))) (ac : AhoCorasick) → IsBuiltAtFirst patterns ac → ac.start_kind ≡ Unanchored
 front-starts patterns ac (s, first, built) = built.start_kind ∙ first.start_kind
 
--- the automaton that was named serves
-pub named-serves : (s : Settings) (patterns : List (Bor (List ℕ))) (ac : AhoCorasick) (kind served : AhoCorasickKind) → IsBuiltOf s patterns ac → s.kind ≡ Some kind → served ≡ kind_of (engine_of ac) → served ≡ kind
-named-serves s patterns ac kind served built named is =
-    is ∙ (subst (λ (k : Option AhoCorasickKind). IsServedBy k s built.served.0 (kind_of (engine_of ac))) named built.served.2.1).0
-
--- where none was named, no DFA serves both anchorings
-pub both-none : (s : Settings) (patterns : List (Bor (List ℕ))) (ac : AhoCorasick) (served : AhoCorasickKind) → IsBuiltOf s patterns ac → s.kind ≡ None → s.start_kind ≡ Both → served ≡ kind_of (engine_of ac) → served ≢ DFA
-both-none s patterns ac served built none both is =
-    λ dfa.
-    let from = built.served.0 in
-    let taken = subst (λ (k : Option AhoCorasickKind). IsServedBy k s from (kind_of (engine_of ac))) none built.served.2.1 in
-    (subst (λ (k : AhoCorasickKind). IsTaken s from k) (sym is ∙ dfa) taken).0 both
+-- what a replacement that succeeds has appended
+pub if-appended : {F : Type 0} (g : MemoryReplacer F (Vec ℕ)) (ac : AhoCorasick) (bytes : List ℕ) (f : F) (old new : Vec ℕ) (r : Result (Unit {0}) AllocError) → AppendsBytes g ac bytes f old new r → OnOk r (IsReplacedWith (λ v. v.items) g bytes (matches_in (built_as ac) bytes) f old new)
+if-appended {F} g ac bytes f old new (Ok done) appends = appends
+if-appended {F} g ac bytes f old new (Err error) appends = tt

@@ -188,13 +188,6 @@ impl OwnCase for Table<'_> {
     }
 }
 
-#[test]
-fn searches_of_the_front(rt: HostRuntime) -> Result<(), Fail> {
-    all_own(&rt, rt.alloc(), inside::TABLES)?;
-    all_own(&rt, rt.alloc(), several::TABLES)?;
-    all_own(&rt, rt.alloc(), words::TABLES)
-}
-
 /// Some patterns, which automaton serves them, and how many they are, the shortest and the longest.
 struct Served {
     shows: &'static str,
@@ -334,9 +327,13 @@ const SERVED: &[Served] = &[
 ];
 
 #[test]
-fn which_automaton_serves(rt: HostRuntime) -> Result<(), Fail> {
+fn the_front_by_its_own_calls(rt: HostRuntime) -> Result<(), Fail> {
+    let alloc = rt.alloc();
     for row in SERVED {
-        serves_so(&rt, rt.alloc(), row)?;
+        serves_so(&rt, alloc, row)?;
     }
-    Ok(())
+    all_own(&rt, alloc, inside::TABLES)?;
+    all_own(&rt, alloc, several::TABLES)?;
+    all_own(&rt, alloc, words::TABLES)?;
+    streams::hold(&rt, alloc)
 }

@@ -62,6 +62,43 @@ fn own_refusals_of(ac: &AhoCorasick, input: &Input<'_>) -> Result<Refusals, Fail
     })
 }
 
+/// Why the error refuses a replacement, if it isn't for memory.
+fn not_memory(error: ReplaceError) -> Option<MatchErrorKind> {
+    match error {
+        ReplaceError::Match(error) => Some(reason(error)),
+        ReplaceError::Memory => None,
+    }
+}
+
+/// Why each replacement by the front's own calls is refused, other than for memory.
+fn own_replacing(ac: &AhoCorasick, alloc: Global) -> Result<[Option<MatchErrorKind>; 4], Fail> {
+    if ac.patterns_len() != 1 {
+        return Err("a replacement for each pattern".into());
+    }
+    let mut text = String::new(alloc);
+    let texts = ac.try_replace_all_with(alloc, "a", &mut text, |_, _, _| Ok(true));
+    let mut bytes = Vec::new(alloc);
+    let all = ac.try_replace_all_with_bytes(alloc, b"a", &mut bytes, |_, _, _| Ok(true));
+    Ok([
+        ac.try_replace_all(alloc, "a", &["b"])
+            .err()
+            .and_then(not_memory),
+        ac.try_replace_all_bytes(alloc, b"a", &[b"b"])
+            .err()
+            .and_then(not_memory),
+        texts.err().and_then(not_memory),
+        all.err().and_then(not_memory),
+    ])
+}
+
+/// Why a replacement, which is never anchored, is refused by an automaton with these starts.
+fn unstarted(starts: StartKind) -> Option<MatchErrorKind> {
+    match starts {
+        StartKind::Anchored => Some(MatchErrorKind::InvalidInputUnanchored),
+        _ => None,
+    }
+}
+
 /// Why a replacement is refused, other than for memory.
 fn replacing<A: Automaton>(automaton: &A, alloc: Global) -> Option<MatchErrorKind> {
     let mut dst = Vec::new(alloc);
@@ -79,11 +116,7 @@ fn is_refused<T: Abort, A: Automaton>(
     automaton: &A,
     row: &Row,
 ) -> Result<(), Fail> {
-    let unstarted = match row.starts {
-        StartKind::Anchored => Some(MatchErrorKind::InvalidInputUnanchored),
-        _ => None,
-    };
-    assert!(rt; replacing(automaton, alloc) == unstarted);
+    assert!(rt; replacing(automaton, alloc) == unstarted(row.starts));
     let input = Input::new(b"a").anchored(row.anchored);
     let found = refusals_of(automaton, &input)?;
     let over = refusals_of(automaton, &input.range(1..0))?;
@@ -119,7 +152,9 @@ impl OwnCase for Row {
         self.asked()
     }
 
-    fn check_own<T: Abort>(&self, rt: &T, _alloc: Global, ac: &AhoCorasick) -> Result<(), Fail> {
+    fn check_own<T: Abort>(&self, rt: &T, alloc: Global, ac: &AhoCorasick) -> Result<(), Fail> {
+        let replacing = own_replacing(ac, alloc)?;
+        same(rt, &replacing, &[unstarted(self.starts); 4], self.shows);
         let input = Input::new(b"a").anchored(self.anchored);
         let found = own_refusals_of(ac, &input)?;
         let over = own_refusals_of(ac, &input.range(1..0))?;

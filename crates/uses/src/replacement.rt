@@ -462,11 +462,7 @@ const ROWS: &[Row] = &[
 ];
 
 #[test]
-fn replaced_by_the_front(rt: HostRuntime) -> Result<(), Fail> {
-    all_own(&rt, rt.alloc(), ROWS)
-}
-
-#[test]
 fn replaced(rt: HostRuntime) -> Result<(), Fail> {
-    all(&rt, rt.alloc(), ROWS)
+    all(&rt, rt.alloc(), ROWS)?;
+    all_own(&rt, rt.alloc(), ROWS)
 }

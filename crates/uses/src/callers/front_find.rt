@@ -15,6 +15,7 @@ ghost use Rattle.uses.specs.Callers.{BeginsWithPattern, first_in};
 use ac_input::search::{Anchored, Input, Match};
 use ac_input::steps::Steps;
 use ac_literal::packed::Searcher;
+use aho_corasick::laws::packed_walks_alike;
 use aho_corasick::{AhoCorasick, MatchError, OverlappingState};
 use std::alloc::{AllocError, Global};
 
@@ -78,6 +79,7 @@ pub fn count_by_both(ac: &AhoCorasick, searcher: &Searcher, text: &[u8]) -> (usi
     requires unpaired { IsUnpaired (built_as ac.now).dictionary.pairing }
     ensures { result.0 ≡ result.1 }
 {
+    packed_walks_alike();
     let found = ac.find_iter(Input::new(text)).count();
     (searcher.find_iter(text).count(), found)
 }

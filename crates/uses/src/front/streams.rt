@@ -269,18 +269,13 @@ const REFUSED: &[Refused] = &[
     },
 ];
 
-#[test]
-fn streams_by_the_front(rt: HostRuntime) -> Result<(), Fail> {
+/// Asserts what is found and written in each stream, and which streams are refused.
+pub fn hold<T: Abort>(rt: &T, alloc: Global) -> Result<(), Fail> {
     for row in ROWS {
-        each_own(
-            &rt,
-            rt.alloc(),
-            row,
-            &[StartKind::Unanchored, StartKind::Both],
-        )?;
+        each_own(rt, alloc, row, &[StartKind::Unanchored, StartKind::Both])?;
     }
     for row in REFUSED {
-        each_own(&rt, rt.alloc(), row, &[row.starts])?;
+        each_own(rt, alloc, row, &[row.starts])?;
     }
     Ok(())
 }

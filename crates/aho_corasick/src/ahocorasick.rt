@@ -67,6 +67,8 @@ impl AhoCorasick {
     ghost use Rattle.aho_corasick.specs.AhoCorasick.{MeansSame, serving_engine, built_as, pattern_count};
 
     /// Another that means the same. They share one automaton.
+    ///
+    /// A caller: `uses::callers::front::copy`.
     pub fn clone(&self, _alloc: Global) -> Result<AhoCorasick, AllocError>
         ensures { IfOk result (MeansSame self.now) }
     {
@@ -77,6 +79,8 @@ impl AhoCorasick {
     }
 
     /// Which automaton serves.
+    ///
+    /// A caller: `uses::callers::front::named`.
     pub fn kind(&self) -> AhoCorasickKind
         ensures kind { result ≡ kind_served (serving_engine self.now) }
         ensures looks { IsTrue (built_as self.now).deterministic ↔ (result ≡ AhoCorasickKind.DFA) }
@@ -89,6 +93,8 @@ impl AhoCorasick {
     }
 
     /// Which searches it serves.
+    ///
+    /// A caller: `uses::callers::front::serves`.
     pub fn start_kind(&self) -> StartKind
         ensures { result ≡ self.now.start_kind }
     {
@@ -96,6 +102,8 @@ impl AhoCorasick {
     }
 
     /// Which of several overlapping occurrences is the match.
+    ///
+    /// A caller: `uses::callers::front::can_list`.
     pub fn match_kind(&self) -> MatchKind
         ensures { result ≡ (built_as self.now).dictionary.kind }
     {
@@ -103,6 +111,8 @@ impl AhoCorasick {
     }
 
     /// How many bytes the shortest pattern has; `usize::MAX` where there is none.
+    ///
+    /// A caller: `uses::callers::front::may_match`.
     pub fn min_pattern_len(&self) -> usize
         ensures { result ≡ shortest (built_as self.now).dictionary.patterns }
     {
@@ -110,6 +120,8 @@ impl AhoCorasick {
     }
 
     /// How many bytes the longest pattern has; 0 where there is none.
+    ///
+    /// A caller: `uses::callers::front::most_bytes`.
     pub fn max_pattern_len(&self) -> usize
         ensures { result ≡ longest (built_as self.now).dictionary.patterns }
     {
@@ -117,6 +129,8 @@ impl AhoCorasick {
     }
 
     /// How many patterns it was made from. Those that can't match count too.
+    ///
+    /// A caller: `uses::callers::front::numbered`.
     pub fn patterns_len(&self) -> usize
         ensures { result ≡ pattern_count self.now }
     {

@@ -18,7 +18,7 @@ use Rattle.ac_automaton.specs.Automaton.{Built}
 use Rattle.ac_automaton.specs.Replace.{AnswersReplaceAll, AnswersReplaceAllWith, IsReplacedWith, LieInOrder, MemoryReplacer, calls_of, cuts_none, matches_in, text_matches_in, with_replaced}
 use Rattle.ac_automaton.specs.declared.error.ReplaceError.{ReplaceError}
 use Rattle.ac_automaton.proofs.ReplaceLemmas.{matches-lie}
-use Rattle.uses.specs.Callers.{HasOccurrence}
+use Rattle.aho_corasick.specs.AhoCorasick.{HasOccurrence}
 
 -- what a replacement that succeeds gives
 pub if-replaced : {D : Type 0} (held : D → List ℕ) (matches : Built → List ℕ → List Occurrence) (b : Built) (supports : Anchored → Type 0) (text : List ℕ) (replacements : List (Bor (List ℕ))) (r : Result D ReplaceError) → AnswersReplaceAll held matches b supports text replacements r → IfOk r (λ d. held d ≡ with_replaced text (map (λ p. p.now) replacements) (matches b text))

@@ -7,10 +7,7 @@ use Rattle.ac_input.specs.Dictionary.{Dictionary, IsPattern, Begins, whole}
 use Rattle.ac_input.specs.Occurrence.{Search, Occurrence, Occurs}
 use Rattle.ac_input.specs.Pairing.{IsFolded}
 use Rattle.ac_input.specs.Same.{IsUnpaired}
-
--- the search has an occurrence
-abbrev pub HasOccurrence : Search → Type 0
-HasOccurrence s = (o : Occurrence) × Occurs s o
+use Rattle.aho_corasick.specs.AhoCorasick.{HasOccurrence}
 
 -- the match of a text
 abbrev pub first_in : Dictionary → List ℕ → Option Occurrence

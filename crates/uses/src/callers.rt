@@ -4,6 +4,10 @@
 //! definitions. So a reader sees how a call is used, and what is known after it.
 pub mod build;
 pub mod find;
+pub mod front;
+pub mod front_find;
+pub mod front_replace;
+pub mod front_stream;
 pub mod iterate;
 pub mod nfa;
 pub mod overlap;

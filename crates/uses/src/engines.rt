@@ -4,7 +4,7 @@
 //! the automata and their settings, a line each, and [`all`] runs cases by each of them. A function that owns an automaton is slow
 //! to prove, so there is one such function for each automaton, and all others are handed a reference.
 use crate::engines::Alphabet::{Bytes, Classes};
-use crate::engines::Engine::{Contiguous, Dfa, Noncontiguous};
+use crate::engines::Engine::{Contiguous, Dfa, Front, Noncontiguous};
 use crate::engines::Prefiltering::{Off, On};
 use ac_input::pairing::Pairing;
 use ac_input::search::StartKind::{Both, Unanchored};
@@ -13,6 +13,8 @@ use ac_noncontiguous::builder::Builder;
 use ac_noncontiguous::nfa::NFA;
 use ac_noncontiguous::{Automaton, BuildError, BuildErrorKind};
 use ac_tables::{contiguous, dfa};
+use aho_corasick::AhoCorasickKind::{ContiguousNFA, DFA, NoncontiguousNFA};
+use aho_corasick::{AhoCorasickBuilder, AhoCorasickKind};
 use std::alloc::Global;
 use std::process::Abort;
 use std::test::Fail;
@@ -59,6 +61,8 @@ pub enum Engine {
     Contiguous(Prefiltering, usize, Alphabet),
     /// The DFA, with these starts.
     Dfa(Prefiltering, Alphabet, StartKind),
+    /// The front with these starts, served by the automaton that is named or by the one that it takes, with its depth where it is set.
+    Front(Option<AhoCorasickKind>, StartKind, Prefiltering, Option<usize>, Alphabet),
 }
 
 /// The automata and their settings, none of which changes an answer.
@@ -78,6 +82,14 @@ pub const ENGINES: &[Engine] = &[
     Dfa(Off, Classes, Both),
     Dfa(On, Bytes, Both),
     Dfa(Off, Classes, StartKind::Anchored),
+    Front(None, Unanchored, On, None, Classes),
+    Front(None, Both, Off, Some(0), Bytes),
+    Front(Some(NoncontiguousNFA), Unanchored, Off, Some(1), Bytes),
+    Front(Some(NoncontiguousNFA), Both, On, None, Classes),
+    Front(Some(ContiguousNFA), StartKind::Anchored, On, None, Classes),
+    Front(Some(ContiguousNFA), Both, Off, Some(100), Classes),
+    Front(Some(DFA), Unanchored, Off, None, Bytes),
+    Front(Some(DFA), Both, On, Some(0), Classes),
 ];
 
 /// Those that run a row which takes long.
@@ -88,6 +100,10 @@ pub const FEW: &[Engine] = &[
     Contiguous(Off, 0, Bytes),
     Dfa(On, Classes, Unanchored),
     Dfa(Off, Bytes, Both),
+    Front(None, Unanchored, On, None, Classes),
+    Front(Some(NoncontiguousNFA), Both, Off, Some(0), Classes),
+    Front(Some(ContiguousNFA), Unanchored, On, None, Bytes),
+    Front(Some(DFA), Both, Off, None, Classes),
 ];
 
 /// Those that run a row which takes very long: each automaton as it is built at first.
@@ -95,6 +111,7 @@ pub const FIRST: &[Engine] = &[
     Noncontiguous(On, 3),
     Contiguous(On, 2, Classes),
     Dfa(On, Classes, Unanchored),
+    Front(None, Unanchored, On, None, Classes),
 ];
 
 /// A row of a table, which any automaton built of what it asks must pass.
@@ -254,6 +271,50 @@ fn by_dfa<T: Abort, C: Case>(
     }
 }
 
+/// What builds the front.
+pub fn front_builder(
+    asked: Asked<'_>,
+    named: Option<AhoCorasickKind>,
+    starts: StartKind,
+) -> Result<AhoCorasickBuilder, Fail> {
+    let mut builder = AhoCorasickBuilder::new();
+    builder
+        .match_kind(asked.kind)
+        .pairing(pairing(asked.letters)?)
+        .start_kind(starts)
+        .kind(named);
+    Ok(builder)
+}
+
+/// Checks the case by what the builder builds, which has these starts.
+fn by_front<T: Abort, C: Case>(
+    rt: &T,
+    alloc: Global,
+    case: &C,
+    builder: &AhoCorasickBuilder,
+    starts: StartKind,
+) -> Result<(), Fail> {
+    match builder.build(alloc, case.asked().patterns) {
+        Ok(ac) => case.check(rt, alloc, &ac, starts),
+        Err(error) => unbuilt(case, error),
+    }
+}
+
+/// Checks the case by the front in these settings.
+fn by_set_front<T: Abort, C: Case>(
+    rt: &T,
+    alloc: Global,
+    case: &C,
+    mut builder: AhoCorasickBuilder,
+    starts: StartKind,
+    depth: Option<usize>,
+) -> Result<(), Fail> {
+    if let Some(depth) = depth {
+        builder.dense_depth(depth);
+    }
+    by_front(rt, alloc, case, &builder, starts)
+}
+
 /// Checks the case by this automaton.
 fn by<T: Abort, C: Case>(rt: &T, alloc: Global, case: &C, engine: Engine) -> Result<(), Fail> {
     match engine {
@@ -262,6 +323,13 @@ fn by<T: Abort, C: Case>(rt: &T, alloc: Global, case: &C, engine: Engine) -> Res
             by_contiguous(rt, alloc, case, prefilter, depth, alphabet)
         }
         Dfa(prefilter, alphabet, starts) => by_dfa(rt, alloc, case, prefilter, alphabet, starts),
+        Front(named, starts, prefilter, depth, alphabet) => {
+            let mut builder = front_builder(case.asked(), named, starts)?;
+            builder
+                .prefilter(prefilter == On)
+                .byte_classes(alphabet == Classes);
+            by_set_front(rt, alloc, case, builder, starts, depth)
+        }
     }
 }
 

@@ -18,6 +18,8 @@ mod devices;
 #[cfg(test)]
 mod engines;
 #[cfg(test)]
+mod front;
+#[cfg(test)]
 mod memory;
 #[cfg(test)]
 mod packed;

@@ -1,8 +1,10 @@
 //! Searches that are refused, in which order the reasons count, and that nothing else is refused.
 use crate::answers::same;
 use crate::engines::{Asked, Case, Letters, all};
+use crate::front::{OwnCase, each_own};
 use ac_input::search::{Anchored, Input, MatchKind, StartKind};
 use ac_noncontiguous::{Automaton, MatchError, MatchErrorKind, OverlappingState, ReplaceError};
+use aho_corasick::AhoCorasick;
 use std::alloc::Global;
 use std::process::Abort;
 use std::test::Fail;
@@ -45,6 +47,58 @@ fn refusals_of<A: Automaton>(automaton: &A, input: &Input<'_>) -> Result<Refusal
     })
 }
 
+/// Why a search is refused by the front's own calls.
+fn own_refusals_of(ac: &AhoCorasick, input: &Input<'_>) -> Result<Refusals, Fail> {
+    let mut state = OverlappingState::start();
+    let overlap = ac.try_find_overlapping(input.clone()?, &mut state).err();
+    Ok(Refusals {
+        find: ac.try_find(input.clone()?).err().map(reason),
+        walk: ac.try_find_iter(input.clone()?).err().map(reason),
+        overlap: overlap.map(reason),
+        list: ac
+            .try_find_overlapping_iter(input.clone()?)
+            .err()
+            .map(reason),
+    })
+}
+
+/// Why the error refuses a replacement, if it isn't for memory.
+fn not_memory(error: ReplaceError) -> Option<MatchErrorKind> {
+    match error {
+        ReplaceError::Match(error) => Some(reason(error)),
+        ReplaceError::Memory => None,
+    }
+}
+
+/// Why each replacement by the front's own calls is refused, other than for memory.
+fn own_replacing(ac: &AhoCorasick, alloc: Global) -> Result<[Option<MatchErrorKind>; 4], Fail> {
+    if ac.patterns_len() != 1 {
+        return Err("a replacement for each pattern".into());
+    }
+    let mut text = String::new(alloc);
+    let texts = ac.try_replace_all_with(alloc, "a", &mut text, |_, _, _| Ok(true));
+    let mut bytes = Vec::new(alloc);
+    let all = ac.try_replace_all_with_bytes(alloc, b"a", &mut bytes, |_, _, _| Ok(true));
+    Ok([
+        ac.try_replace_all(alloc, "a", &["b"])
+            .err()
+            .and_then(not_memory),
+        ac.try_replace_all_bytes(alloc, b"a", &[b"b"])
+            .err()
+            .and_then(not_memory),
+        texts.err().and_then(not_memory),
+        all.err().and_then(not_memory),
+    ])
+}
+
+/// Why a replacement, which is never anchored, is refused by an automaton with these starts.
+fn unstarted(starts: StartKind) -> Option<MatchErrorKind> {
+    match starts {
+        StartKind::Anchored => Some(MatchErrorKind::InvalidInputUnanchored),
+        _ => None,
+    }
+}
+
 /// Why a replacement is refused, other than for memory.
 fn replacing<A: Automaton>(automaton: &A, alloc: Global) -> Option<MatchErrorKind> {
     let mut dst = Vec::new(alloc);
@@ -62,11 +116,7 @@ fn is_refused<T: Abort, A: Automaton>(
     automaton: &A,
     row: &Row,
 ) -> Result<(), Fail> {
-    let unstarted = match row.starts {
-        StartKind::Anchored => Some(MatchErrorKind::InvalidInputUnanchored),
-        _ => None,
-    };
-    assert!(rt; replacing(automaton, alloc) == unstarted);
+    assert!(rt; replacing(automaton, alloc) == unstarted(row.starts));
     let input = Input::new(b"a").anchored(row.anchored);
     let found = refusals_of(automaton, &input)?;
     let over = refusals_of(automaton, &input.range(1..0))?;
@@ -94,6 +144,22 @@ impl Case for Row {
             return Ok(());
         }
         is_refused(rt, alloc, automaton, self)
+    }
+}
+
+impl OwnCase for Row {
+    fn built_of(&self) -> Asked<'_> {
+        self.asked()
+    }
+
+    fn check_own<T: Abort>(&self, rt: &T, alloc: Global, ac: &AhoCorasick) -> Result<(), Fail> {
+        let replacing = own_replacing(ac, alloc)?;
+        same(rt, &replacing, &[unstarted(self.starts); 4], self.shows);
+        let input = Input::new(b"a").anchored(self.anchored);
+        let found = own_refusals_of(ac, &input)?;
+        let over = own_refusals_of(ac, &input.range(1..0))?;
+        same(rt, &[found, over], &[self.refused; 2], self.shows);
+        Ok(())
     }
 }
 
@@ -222,5 +288,9 @@ const ROWS: &[Row] = &[
 
 #[test]
 fn what_is_refused(rt: HostRuntime) -> Result<(), Fail> {
-    all(&rt, rt.alloc(), ROWS)
+    all(&rt, rt.alloc(), ROWS)?;
+    for row in ROWS {
+        each_own(&rt, rt.alloc(), row, &[row.starts])?;
+    }
+    Ok(())
 }

@@ -1,12 +1,17 @@
 //! What replacement in memory makes: of a text and of its bytes, by a list and by a closure that appends the same.
 //!
 //! A match within a character of a text is passed over there, and replaced among bytes.
+ghost use Rattle.aho_corasick.specs.AhoCorasick.{supported_by};
+
+use crate::callers::front::serves as serves_own;
 use crate::engines::Letters::{Cased, Folded, Paired};
 use crate::engines::{Asked, Case, Letters, all, serves};
+use crate::front::{OwnCase, all_own};
 use ac_automaton::error::ReplaceError;
 use ac_input::search::MatchKind::{LeftmostFirst, LeftmostLongest, Standard};
 use ac_input::search::{Anchored, Match, MatchKind, StartKind};
 use ac_noncontiguous::Automaton;
+use aho_corasick::AhoCorasick;
 use std::alloc::{AllocError, Global};
 use std::process::Abort;
 use std::test::Fail;
@@ -172,6 +177,115 @@ impl Case for Row {
             self.is_made(rt, alloc, automaton)?;
         }
         self.is_appended(rt, alloc, automaton)
+    }
+}
+
+/// Appends the text by the front's own call, with a closure that appends the replacement of each match's pattern.
+fn own_append<'a>(
+    ac: &AhoCorasick,
+    alloc: Global,
+    text: &str,
+    replacements: &'a [&'a str],
+    until: Option<At>,
+    dst: &mut String,
+) -> Result<(), AllocError>
+    requires { supported_by ac.now Anchored.No }
+{
+    ac.replace_all_with(
+        alloc,
+        text,
+        dst,
+        |found: &Match, _text: &str, dst: &mut String| -> Result<bool, AllocError> {
+            let number = found.pattern().as_usize();
+            if until == Some(At::Fails(number)) {
+                return Err(AllocError);
+            }
+            dst.push_str(replacements.get(number).ok_or(AllocError)?)?;
+            Ok(until != Some(At::Stops(number)))
+        },
+    )
+}
+
+/// The same among bytes.
+fn own_append_bytes<'a>(
+    ac: &AhoCorasick,
+    alloc: Global,
+    bytes: &[u8],
+    replacements: &'a [&'a str],
+    until: Option<At>,
+    dst: &mut Vec<u8>,
+) -> Result<(), AllocError>
+    requires { supported_by ac.now Anchored.No }
+{
+    ac.replace_all_with_bytes(
+        alloc,
+        bytes,
+        dst,
+        |found: &Match, _bytes: &[u8], dst: &mut Vec<u8>| -> Result<bool, AllocError> {
+            let number = found.pattern().as_usize();
+            if until == Some(At::Fails(number)) {
+                return Err(AllocError);
+            }
+            dst.extend_from_slice(replacements.get(number).ok_or(AllocError)?.as_bytes())?;
+            Ok(until != Some(At::Stops(number)))
+        },
+    )
+}
+
+impl Row {
+    /// Asserts what is made by a list, by the front's own calls.
+    fn is_made_by<T: Abort>(&self, rt: &T, alloc: Global, ac: &AhoCorasick) -> Result<(), Fail>
+        requires { supported_by ac.now Anchored.No }
+    {
+        let shows = self.shows;
+        assert_eq!(rt; ac.patterns_len(), self.replacements.len(), "{shows}");
+        let made = ac.replace_all(alloc, self.text, self.replacements)?;
+        assert_eq!(rt; made.as_str(), self.makes, "{shows}");
+        let made = ac.try_replace_all(alloc, self.text, self.replacements)?;
+        assert_eq!(rt; made.as_str(), self.makes, "{shows}");
+        let replacements = bytes_of(alloc, self.replacements)?;
+        assert_eq!(rt; ac.patterns_len(), replacements.len(), "{shows}");
+        let bytes = self.text.as_bytes();
+        let made = ac.replace_all_bytes(alloc, bytes, replacements.as_slice())?;
+        assert_eq!(rt; made.as_slice(), self.bytes, "{shows}");
+        let made = ac.try_replace_all_bytes(alloc, bytes, replacements.as_slice())?;
+        assert_eq!(rt; made.as_slice(), self.bytes, "{shows}");
+        Ok(())
+    }
+
+    /// Asserts what is made by a closure, by the front's own calls.
+    fn is_appended_by<T: Abort>(&self, rt: &T, alloc: Global, ac: &AhoCorasick) -> Result<(), Fail>
+        requires { supported_by ac.now Anchored.No }
+    {
+        let shows = self.shows;
+        let fails = matches!(self.until, Some(At::Fails(_)));
+        let mut made = String::new(alloc);
+        let list = self.replacements;
+        let answer = own_append(ac, alloc, self.text, list, self.until, &mut made);
+        assert_eq!(rt; answer.is_err(), fails, "{shows}");
+        assert_eq!(rt; made.as_str(), self.makes, "{shows}");
+        let mut made = Vec::new(alloc);
+        let bytes = self.text.as_bytes();
+        let answer = own_append_bytes(ac, alloc, bytes, list, self.until, &mut made);
+        assert_eq!(rt; answer.is_err(), fails, "{shows}");
+        assert_eq!(rt; made.as_slice(), self.bytes, "{shows}");
+        Ok(())
+    }
+}
+
+impl OwnCase for Row {
+    fn built_of(&self) -> Asked<'_> {
+        self.asked()
+    }
+
+    fn check_own<T: Abort>(&self, rt: &T, alloc: Global, ac: &AhoCorasick) -> Result<(), Fail> {
+        if !serves_own(ac, Anchored::No) {
+            return Ok(());
+        }
+        if self.until.is_none() {
+            self.is_made_by(rt, alloc, ac)?;
+        }
+        self.is_appended_by(rt, alloc, ac)
     }
 }
 
@@ -349,5 +463,6 @@ const ROWS: &[Row] = &[
 
 #[test]
 fn replaced(rt: HostRuntime) -> Result<(), Fail> {
-    all(&rt, rt.alloc(), ROWS)
+    all(&rt, rt.alloc(), ROWS)?;
+    all_own(&rt, rt.alloc(), ROWS)
 }

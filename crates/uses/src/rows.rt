@@ -15,10 +15,11 @@ use std::test::Fail;
 
 mod bytes;
 mod empty;
-mod inside;
+pub mod inside;
 mod layouts;
-mod several;
-mod words;
+pub mod several;
+mod vectors;
+pub mod words;
 
 /// Some patterns, and what searches for them give.
 #[derive(Drop)]

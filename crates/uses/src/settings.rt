@@ -7,6 +7,8 @@ use ac_input::pairing::Pairing;
 use ac_input::search::{MatchKind, StartKind};
 use ac_noncontiguous::{Automaton, Builder, NFA};
 use ac_tables::{contiguous, dfa};
+use aho_corasick::AhoCorasickKind::{ContiguousNFA, DFA, NoncontiguousNFA};
+use aho_corasick::{AhoCorasick, AhoCorasickBuilder, AhoCorasickKind};
 use std::alloc::Global;
 use std::process::Abort;
 use std::test::Fail;
@@ -187,4 +189,78 @@ fn the_last_setting_decides_of_dfa(rt: HostRuntime) -> Result<(), Fail> {
     let dfa = &dfa::DFA::new(alloc, &[b"A0"])?;
     is_built(&rt, alloc, dfa, standard, true, FOLDED)?;
     is_built(&rt, alloc, &dfa.clone(alloc)?, standard, true, FOLDED)
+}
+
+/// Asserts which automaton serves, for which searches, and what else there is of the front that the builder builds.
+fn front_builds<T: Abort>(
+    rt: &T,
+    alloc: Global,
+    builder: &AhoCorasickBuilder,
+    served: (AhoCorasickKind, StartKind),
+    kind: MatchKind,
+    held: bool,
+    want: &[Pick],
+) -> Result<(), Fail> {
+    let ac = &builder.build(alloc, &[b"a0"])?;
+    assert_eq!(rt; (ac.kind(), ac.start_kind()), served);
+    is_built(rt, alloc, ac, kind, held, want)
+}
+
+/// How much memory the front takes that the builder builds of two words.
+fn memory_by(alloc: Global, builder: &AhoCorasickBuilder) -> Result<usize, Fail> {
+    Ok(
+        builder
+            .build(alloc, &[b"samwise", b"frodo"])?
+            .memory_usage(),
+    )
+}
+
+/// Asserts whether the settings of rows and classes reach the automaton that is named: with more rows, and without classes, it takes
+/// more memory.
+fn reaches<T: Abort>(
+    rt: &T,
+    alloc: Global,
+    named: AhoCorasickKind,
+    rows: bool,
+    classes: bool,
+) -> Result<(), Fail> {
+    let mut builder = AhoCorasickBuilder::new();
+    builder.kind(Some(named)).dense_depth(0);
+    let few = memory_by(alloc, &builder)?;
+    builder.dense_depth(100);
+    let more = memory_by(alloc, &builder)?;
+    builder.dense_depth(0).byte_classes(false);
+    let wide = memory_by(alloc, &builder)?;
+    assert_eq!(rt; (more > few, wide > few), (rows, classes));
+    Ok(())
+}
+
+/// The same of the front.
+#[test]
+fn the_last_setting_decides_of_front(rt: HostRuntime) -> Result<(), Fail> {
+    let alloc = rt.alloc();
+    let standard = MatchKind::Standard;
+    let first = MatchKind::LeftmostFirst;
+    let small = (DFA, StartKind::Unanchored);
+    let both = (ContiguousNFA, StartKind::Both);
+    let mut builder = AhoCorasickBuilder::default();
+    front_builds(&rt, alloc, &builder, small, standard, true, &[])?;
+    builder.ascii_case_insensitive(true);
+    builder.pairing(Pairing::new(&[(b'0', b'1')])?);
+    front_builds(&rt, alloc, &builder, small, standard, true, PAIRED)?;
+    builder.ascii_case_insensitive(true).prefilter(false);
+    builder.match_kind(first).start_kind(StartKind::Both);
+    let copy = builder.clone()?;
+    builder.kind(Some(NoncontiguousNFA)).kind(None);
+    builder.match_kind(standard).pairing(Pairing::ascii());
+    front_builds(&rt, alloc, &builder, both, standard, false, FOLDED)?;
+    builder.ascii_case_insensitive(false).prefilter(true);
+    front_builds(&rt, alloc, &builder, both, standard, true, &[])?;
+    front_builds(&rt, alloc, &copy, both, first, false, FOLDED)?;
+    let ac = &AhoCorasick::new(alloc, &[b"A0"])?;
+    is_built(&rt, alloc, ac, standard, true, FOLDED)?;
+    is_built(&rt, alloc, &ac.clone(alloc)?, standard, true, FOLDED)?;
+    reaches(&rt, alloc, NoncontiguousNFA, true, false)?;
+    reaches(&rt, alloc, ContiguousNFA, true, true)?;
+    reaches(&rt, alloc, DFA, false, true)
 }

@@ -96,6 +96,8 @@ impl Default for AhoCorasickBuilder {
 impl AhoCorasickBuilder {
     /// Standard matches, unanchored searches, no byte paired, the automaton left to the builder, a prefilter wanted, and classes of
     /// bytes.
+    ///
+    /// A caller: `uses::callers::front::thrifty`.
     pub fn new() -> AhoCorasickBuilder
         ensures { AreFirst result }
     {
@@ -111,6 +113,8 @@ impl AhoCorasickBuilder {
     }
 
     /// Sets which of several overlapping occurrences is the match. Streams and overlapping matches need the standard kind.
+    ///
+    /// A caller: `uses::callers::front::folded`.
     pub fn match_kind(&mut self, kind: MatchKind) -> &mut AhoCorasickBuilder
         ensures same { result.ghost_name ≡ self.entry.ghost_name }
         ensures value { result.now ≡ record self.old { match_kind = kind } }
@@ -121,6 +125,8 @@ impl AhoCorasickBuilder {
 
     /// Sets which searches are served; others are refused, whichever automaton serves. A DFA for both kinds takes about twice the
     /// memory and time to build. Replacement and streams are unanchored.
+    ///
+    /// A caller: `uses::callers::front::thrifty`.
     pub fn start_kind(&mut self, kind: StartKind) -> &mut AhoCorasickBuilder
         ensures same { result.ghost_name ≡ self.entry.ghost_name }
         ensures value { result.now ≡ record self.old { start_kind = kind } }
@@ -131,6 +137,8 @@ impl AhoCorasickBuilder {
 
     /// Sets whether ASCII letters count as the same in their two cases. It sets the whole pairing: of this call and
     /// [`AhoCorasickBuilder::pairing`] the last one decides.
+    ///
+    /// A caller: `uses::callers::front::folded`.
     pub fn ascii_case_insensitive(&mut self, yes: bool) -> &mut AhoCorasickBuilder
         ensures same { result.ghost_name ≡ self.entry.ghost_name }
         ensures rest { result.now ≡ record self.old { pairing = result.now.pairing } }
@@ -145,6 +153,8 @@ impl AhoCorasickBuilder {
     }
 
     /// Sets which bytes stand for one another. At first none does.
+    ///
+    /// A caller: `uses::callers::front::thrifty`.
     pub fn pairing(&mut self, pairing: Pairing) -> &mut AhoCorasickBuilder
         ensures same { result.ghost_name ≡ self.entry.ghost_name }
         ensures value { result.now ≡ record self.old { pairing = pairing } }
@@ -155,6 +165,8 @@ impl AhoCorasickBuilder {
 
     /// Sets which automaton serves. With none, which is so at first, the builder takes a DFA for up to 100 patterns and one start
     /// kind, else a contiguous NFA, where it isn't too large. It changes no answer.
+    ///
+    /// A caller: `uses::callers::front::named`.
     pub fn kind(&mut self, kind: Option<AhoCorasickKind>) -> &mut AhoCorasickBuilder
         ensures same { result.ghost_name ≡ self.entry.ghost_name }
         ensures value { result.now ≡ record self.old { kind = kind } }
@@ -164,6 +176,8 @@ impl AhoCorasickBuilder {
     }
 
     /// Sets whether searches have a prefilter, where one serves. It changes no answer.
+    ///
+    /// A caller: `uses::callers::front::thrifty`.
     pub fn prefilter(&mut self, yes: bool) -> &mut AhoCorasickBuilder
         ensures same { result.ghost_name ≡ self.entry.ghost_name }
         ensures value { result.now ≡ record self.old { prefilter = yes } }
@@ -175,6 +189,8 @@ impl AhoCorasickBuilder {
     /// Sets to which depth the states of either NFA keep a row: those to which fewer bytes lead. Where it isn't set, it is 3 for the
     /// noncontiguous one and 2 for the contiguous one. A row makes a look-up fast, and takes four bytes for each class of bytes. It
     /// changes no answer.
+    ///
+    /// A caller: `uses::callers::front::thrifty`.
     pub fn dense_depth(&mut self, depth: usize) -> &mut AhoCorasickBuilder
         ensures same { result.ghost_name ≡ self.entry.ghost_name }
         ensures value { result.now ≡ record self.old { dense_depth = Some depth } }
@@ -185,6 +201,8 @@ impl AhoCorasickBuilder {
 
     /// Sets whether bytes that lead alike from every state are one class, in the contiguous NFA and the DFA. Without classes a state
     /// takes more memory, and a look-up one load less. It changes no answer.
+    ///
+    /// A caller: `uses::callers::front::thrifty`.
     pub fn byte_classes(&mut self, yes: bool) -> &mut AhoCorasickBuilder
         ensures same { result.ghost_name ≡ self.entry.ghost_name }
         ensures value { result.now ≡ record self.old { byte_classes = yes } }
@@ -310,6 +328,8 @@ impl AhoCorasickBuilder {
     ///
     /// It is refused where the patterns pass a limit of the noncontiguous NFA, where the automaton that was named would be too large,
     /// and where memory ends; and only then.
+    ///
+    /// A caller: `uses::callers::front::folded`.
     pub fn build(&self, alloc: Global, patterns: &[&[u8]]) -> Result<AhoCorasick, BuildError>
         ensures built { IfOk result (IsBuiltOf self.now patterns.now) }
         ensures refused { IfErr result (IsRefusedOf self.now patterns.now) }
@@ -322,6 +342,8 @@ impl AhoCorasickBuilder {
 impl AhoCorasick {
     /// The automaton of the patterns by the settings that a builder has at first: standard matches, unanchored searches, no byte
     /// paired.
+    ///
+    /// A caller: `uses::callers::front::of_bytes`.
     pub fn new(alloc: Global, patterns: &[&[u8]]) -> Result<AhoCorasick, BuildError>
         ensures built { IfOk result (IsBuiltAtFirst patterns.now) }
         ensures refused { IfErr result (IsRefusedAtFirst patterns.now) }
@@ -330,6 +352,8 @@ impl AhoCorasick {
     }
 
     /// A builder with the settings that it has at first.
+    ///
+    /// A caller: `uses::callers::front::folded`.
     pub fn builder() -> AhoCorasickBuilder
         ensures { AreFirst result }
     {

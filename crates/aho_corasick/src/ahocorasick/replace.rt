@@ -32,6 +32,8 @@ impl AhoCorasick {
     /// let text = ac.replace_all(alloc, "The quick brown fox.", &["sloth", "grey", "slow"])?;
     /// assert_eq!(text.as_str(), "The slow grey sloth.");
     /// ```
+    ///
+    /// A caller: `uses::callers::front_replace::replaced_text`.
     pub fn replace_all(
         &self,
         alloc: Global,
@@ -50,6 +52,8 @@ impl AhoCorasick {
     }
 
     /// The same of bytes: there every match is replaced.
+    ///
+    /// A caller: `uses::callers::front_replace::replaced_by_itself`.
     pub fn replace_all_bytes(
         &self,
         alloc: Global,
@@ -69,6 +73,8 @@ impl AhoCorasick {
 
     /// Appends the text to the destination, and in place of each match what the closure appends: see
     /// [`AhoCorasick::try_replace_all_with`].
+    ///
+    /// A caller: `uses::callers::front_replace::append_first_replaced`.
     pub fn replace_all_with<F>(
         &self,
         alloc: Global,
@@ -90,6 +96,8 @@ impl AhoCorasick {
     }
 
     /// The same of bytes: there the closure is called for every match.
+    ///
+    /// A caller: `uses::callers::front_replace::append_matched`.
     pub fn replace_all_with_bytes<F>(
         &self,
         alloc: Global,
@@ -112,6 +120,8 @@ impl AhoCorasick {
 
     /// The text with each match exchanged for the replacement of its pattern. There is one replacement for each pattern. A match
     /// that begins or ends within a character is passed over: its bytes stay.
+    ///
+    /// A caller: `uses::callers::front_replace::try_replaced_text`.
     pub fn try_replace_all(
         &self,
         alloc: Global,
@@ -126,6 +136,8 @@ impl AhoCorasick {
     }
 
     /// The same of bytes: there every match is replaced.
+    ///
+    /// A caller: `uses::callers::front_replace::try_replaced_by_itself`.
     pub fn try_replace_all_bytes(
         &self,
         alloc: Global,
@@ -144,6 +156,8 @@ impl AhoCorasick {
     /// called again, and the rest is copied.
     ///
     /// Where memory is refused, what was appended stays. The destination grows by the allocator that it was made with.
+    ///
+    /// A caller: `uses::callers::front_replace::try_append_first_replaced`.
     pub fn try_replace_all_with<F>(
         &self,
         alloc: Global,
@@ -161,6 +175,8 @@ impl AhoCorasick {
     }
 
     /// The same of bytes: there the closure is called for every match.
+    ///
+    /// A caller: `uses::callers::front_replace::try_append_matched`.
     pub fn try_replace_all_with_bytes<F>(
         &self,
         alloc: Global,

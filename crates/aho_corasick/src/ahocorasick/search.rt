@@ -25,6 +25,8 @@ impl AhoCorasick {
     /// assert!(ac.is_match(Input::from("xxx bar xxx")));
     /// assert!(!ac.is_match(Input::from("xxx qux xxx")));
     /// ```
+    ///
+    /// A caller: `uses::callers::front_find::contains_any`.
     pub fn is_match(&self, input: Input<'_>) -> bool
         requires { supported_by self.now input.anchored }
         ensures { IsTrue result ↔ HasOccurrence (searched (built_as self.now) input.entry) }
@@ -33,6 +35,8 @@ impl AhoCorasick {
     }
 
     /// The match of the input, if it has one: the best of the automaton's kind, or of the standard one in an earliest search.
+    ///
+    /// A caller: `uses::callers::front_find::first_match`.
     pub fn find(&self, input: Input<'_>) -> Option<Match>
         requires { supported_by self.now input.anchored }
         ensures { IsFound (built_as self.now) input.entry result }
@@ -41,6 +45,8 @@ impl AhoCorasick {
     }
 
     /// Shows the next occurrence of the input: see [`AhoCorasick::try_find_overlapping`].
+    ///
+    /// A caller: `uses::callers::front_find::occurrence`.
     pub fn find_overlapping(&self, input: Input<'_>, state: &mut OverlappingState)
         requires can { CanOverlap (built_as self.now) (supported_by self.now) input }
         requires came { CameFromCalls self.now input
@@ -53,6 +59,8 @@ impl AhoCorasick {
     }
 
     /// All matches of the input, one after another: see [`FindIter`].
+    ///
+    /// A caller: `uses::callers::front_find::all_matches`.
     pub fn find_iter<'a, 'h>(&'a self, input: Input<'h>) -> FindIter<'a, 'h>
         requires { supported_by self.now input.anchored }
         ensures { IsWalkOver (built_as self.now) input.entry result }
@@ -61,6 +69,8 @@ impl AhoCorasick {
     }
 
     /// All occurrences in the input, one after another: see [`FindOverlappingIter`]. The input isn't anchored.
+    ///
+    /// A caller: `uses::callers::front_find::all_occurrences`.
     pub fn find_overlapping_iter<'a, 'h>(&'a self, input: Input<'h>) -> FindOverlappingIter<'a, 'h>
         requires { CanRun (built_as self.now) (supported_by self.now) input }
         ensures { IsRunOver (built_as self.now) input.entry result }
@@ -69,6 +79,8 @@ impl AhoCorasick {
     }
 
     /// The match of the input, if it has one: the best of the automaton's kind, or of the standard one in an earliest search.
+    ///
+    /// A caller: `uses::callers::front_find::begins_with_any`.
     pub fn try_find(&self, input: Input<'_>) -> Result<Option<Match>, MatchError>
         ensures { AnswersFind (built_as self.now) (supported_by self.now) input.entry result }
     {
@@ -76,6 +88,8 @@ impl AhoCorasick {
     }
 
     /// The same, and counts what it does.
+    ///
+    /// A caller: `uses::callers::front_find::first_match_counted`.
     pub fn try_find_counted(
         &self,
         input: Input<'_>,
@@ -96,6 +110,8 @@ impl AhoCorasick {
     /// ac.try_find_overlapping(Input::from("append the app to the appendage"), &mut state)?;
     /// let first = state.get_match();
     /// ```
+    ///
+    /// A caller: `uses::callers::front_find::first_occurrence`.
     pub fn try_find_overlapping(
         &self,
         input: Input<'_>,
@@ -112,6 +128,8 @@ impl AhoCorasick {
     }
 
     /// All matches of the input, one after another: see [`FindIter`].
+    ///
+    /// A caller: `uses::callers::front_find::count_matches`.
     pub fn try_find_iter<'a, 'h>(&'a self, input: Input<'h>) -> Result<FindIter<'a, 'h>, MatchError>
         ensures { AnswersFindIter (built_as self.now) (supported_by self.now) input.entry result }
     {
@@ -119,6 +137,8 @@ impl AhoCorasick {
     }
 
     /// All occurrences in the input, one after another: see [`FindOverlappingIter`]. It is refused for an anchored input too.
+    ///
+    /// A caller: `uses::callers::front_find::has_listing`.
     pub fn try_find_overlapping_iter<'a, 'h>(
         &'a self,
         input: Input<'h>,

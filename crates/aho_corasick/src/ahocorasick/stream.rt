@@ -34,6 +34,8 @@ fn out_of_memory(error: StreamError) -> AllocError
 
 impl AhoCorasick {
     /// All matches of a stream, one after another: see [`AhoCorasick::try_stream_find_iter`].
+    ///
+    /// A caller: `uses::callers::front_stream::search_of`.
     pub fn stream_find_iter<'a, R>(
         &'a self,
         alloc: Global,
@@ -54,6 +56,8 @@ impl AhoCorasick {
     ///
     /// It is refused where the automaton has no start for an unanchored search, or isn't of the standard kind, or has an empty
     /// pattern, in that order, and then where there is no memory for the buffer. Nothing was read then.
+    ///
+    /// A caller: `uses::callers::front_stream::all_matches`.
     pub fn try_stream_find_iter<'a, R>(
         &'a self,
         alloc: Global,
@@ -72,6 +76,8 @@ impl AhoCorasick {
     ///
     /// It is refused as [`AhoCorasick::try_stream_find_iter`] is; the reader and the writer are then as they were. Where a read or a
     /// write fails, nothing is tried again.
+    ///
+    /// A caller: `uses::callers::front_stream::replaced`.
     pub fn try_stream_replace_all<R: Read, W: Write>(
         &self,
         alloc: Global,
@@ -90,6 +96,8 @@ impl AhoCorasick {
     }
 
     /// The same, and counts what it does.
+    ///
+    /// A caller: `uses::callers::front_stream::replaced_counted`.
     pub fn try_stream_replace_all_counted<R: Read, W: Write>(
         &self,
         alloc: Global,
@@ -116,6 +124,8 @@ impl AhoCorasick {
     ///
     /// It reads, writes and is refused as [`AhoCorasick::try_stream_replace_all`]. The closure's first error ends the call and is
     /// returned unchanged.
+    ///
+    /// A caller: `uses::callers::front_stream::copied`.
     pub fn try_stream_replace_all_with<R: Read, W: Write, F>(
         &self,
         alloc: Global,

@@ -4,7 +4,8 @@ ghost use Rattle.ac_input.specs.Dictionary.{Dictionary, dictionary_of, whole};
 ghost use Rattle.ac_literal.specs.Packed.{bytes_of};
 ghost use Rattle.ac_noncontiguous.specs.Reads.{built_as};
 ghost use Rattle.ac_noncontiguous.specs.declared.error.BuildErrorKind.TheVariants.{Memory};
-ghost use Rattle.uses.specs.Callers.{FindsBytes, FindsFolded, HasOccurrence};
+ghost use Rattle.aho_corasick.specs.AhoCorasick.{HasOccurrence};
+ghost use Rattle.uses.specs.Callers.{FindsBytes, FindsFolded};
 
 use ac_automaton::automaton::Automaton;
 use ac_input::pairing::Pairing;

@@ -5,7 +5,8 @@ ghost use Rattle.ac_input.specs.Dictionary.{whole};
 ghost use Rattle.ac_input.specs.Input.{IsSpanOf};
 ghost use Rattle.ac_input.specs.Occurrence.{Occurrence, Occurs};
 ghost use Rattle.ac_input.specs.Steps.{looked_of};
-ghost use Rattle.uses.specs.Callers.{BeginsWithPattern, HasOccurrence, IsFirstEnd, LiesIn, first_in};
+ghost use Rattle.aho_corasick.specs.AhoCorasick.{HasOccurrence};
+ghost use Rattle.uses.specs.Callers.{BeginsWithPattern, IsFirstEnd, LiesIn, first_in};
 
 use ac_automaton::automaton::Automaton;
 use ac_automaton::error::MatchError;

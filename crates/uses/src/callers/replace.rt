@@ -4,7 +4,8 @@ ghost use Rattle.std.specs.String.{string_bytes};
 ghost use Rattle.ac_input.specs.Dictionary.{whole};
 ghost use Rattle.ac_input.specs.Same.{IsUnpaired};
 ghost use Rattle.ac_automaton.specs.Replace.{text_matches_in};
-ghost use Rattle.uses.specs.Callers.{HasOccurrence, with_first};
+ghost use Rattle.aho_corasick.specs.AhoCorasick.{HasOccurrence};
+ghost use Rattle.uses.specs.Callers.{with_first};
 
 use ac_automaton::automaton::Automaton;
 use ac_automaton::error::ReplaceError;

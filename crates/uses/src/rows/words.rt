@@ -13,6 +13,25 @@ const APPLES: &[u8] = b"Nobody likes maple in their apple flavored Snapple.";
 
 pub const TABLES: &[Table<'static>] = &[
     Table {
+        patterns: &[b"foo", b"bar", b"quux", b"baz"],
+        kind: Standard,
+        letters: Cased,
+        rows: &[
+            Row {
+                shows: "one of the words occurs",
+                asks: Walk,
+                text: Whole(b"xxx bar xxx"),
+                gives: &[(1, 4, 7)],
+            },
+            Row {
+                shows: "a part of a word is none",
+                asks: Walk,
+                text: Whole(b"xxx qux xxx"),
+                gives: &[],
+            },
+        ],
+    },
+    Table {
         patterns: APPEND,
         kind: Standard,
         letters: Cased,

@@ -1,5 +1,5 @@
 -- A DFA is tried for one start kind and few patterns.
-use Rattle.std.proofs.Common.{ℕ, ◌≤◌, rules, subst, length}
+use Rattle.std.proofs.Common.{◌≤◌, arith, rules, length}
 use Rattle.std.specs.Prelude.{◌≢◌}
 use Rattle.ac_input.specs.declared.search.StartKind.TheVariants.{Both}
 use Rattle.ac_noncontiguous.specs.Reads as reads
@@ -12,5 +12,5 @@ returns-clause-tried c =
     let s = c.args.self.now in
     let nfa = c.args.nfa.now in
     let one : s.start_kind ≢ Both = search rules in
-    let few : length (reads.dictionary nfa).patterns ≤ MOST_FOR_DFA = subst (λ (n : ℕ). n ≤ MOST_FOR_DFA) c.patterns_len.ensures c.if-patterns_len-gt-MOST_FOR_DFA.false in
+    let few : length (reads.dictionary nfa).patterns ≤ MOST_FOR_DFA = omega (arith, c.patterns_len.ensures) in
     tries-dfa s nfa c.dfa.result c.build_from_noncontiguous.result c.fitting.result c.dfa.ensures one few c.build_from_noncontiguous.ensures.built c.build_from_noncontiguous.ensures.refused c.fitting.ensures

@@ -1,0 +1,132 @@
+//! The front: how it is built, and what it says of itself.
+ghost use Rattle.std.specs.Prelude.{◌≡◌, ◌≢◌, ◌↔◌, ◌+◌, ◌<◌, ◌≤◌, ℕ, List, Some, None, false, IfOk, IfSome, IsTrue};
+ghost use Rattle.ac_input.specs.Dictionary.{dictionary_of, whole};
+ghost use Rattle.ac_input.specs.Occurrence.{Occurrence, Occurs};
+ghost use Rattle.ac_literal.specs.Packed.{bytes_of};
+ghost use Rattle.ac_input.specs.declared.search.MatchKind.TheVariants.{Standard};
+ghost use Rattle.ac_input.specs.declared.search.StartKind.TheVariants.{Unanchored};
+ghost use Rattle.aho_corasick.specs.AhoCorasick.{HasOccurrence, MeansSame, built_as, supported_by, pattern_count};
+ghost use Rattle.uses.specs.Callers.{FindsBytes, FindsFolded};
+
+use ac_input::pairing::Pairing;
+use ac_input::primitives::PatternID;
+use ac_input::search::{Anchored, MatchKind, StartKind};
+use aho_corasick::{AhoCorasick, AhoCorasickBuilder, AhoCorasickKind, BuildError};
+use std::alloc::{AllocError, Global};
+
+/// The automaton of the patterns by the settings that a builder has at first: standard matches, byte for byte, from any place.
+pub fn of_bytes(alloc: Global, patterns: &[&[u8]]) -> Result<AhoCorasick, BuildError>
+    ensures dictionary { IfOk result
+        (λ ac. FindsBytes (bytes_of patterns.now) (built_as ac).dictionary) }
+    ensures starts { IfOk result (λ ac. ac.start_kind ≡ Unanchored) }
+{
+    AhoCorasick::new(alloc, patterns)
+}
+
+/// One that prefers the pattern that was given first, and takes the two cases of an ASCII letter for the same.
+pub fn folded(alloc: Global, patterns: &[&[u8]]) -> Result<AhoCorasick, BuildError>
+    ensures { IfOk result
+        (λ ac. FindsFolded (bytes_of patterns.now) (built_as ac).dictionary) }
+{
+    let mut builder = AhoCorasick::builder();
+    builder
+        .match_kind(MatchKind::LeftmostFirst)
+        .ascii_case_insensitive(true);
+    builder.build(alloc, patterns)
+}
+
+/// One that takes little memory, whichever automaton serves: with no rows but those of the starts, and no prefilter. It finds the same.
+pub fn thrifty(
+    alloc: Global,
+    patterns: &[&[u8]],
+    pairing: Pairing,
+    starts: StartKind,
+) -> Result<AhoCorasick, BuildError>
+    ensures dictionary { IfOk result (λ ac. (built_as ac).dictionary
+        ≡ dictionary_of (bytes_of patterns.now) pairing Standard) }
+    ensures starts { IfOk result (λ ac. ac.start_kind ≡ starts) }
+    ensures prefilter { IfOk result (λ ac. (built_as ac).prefilter ≡ None) }
+{
+    let mut builder = AhoCorasickBuilder::new();
+    builder
+        .pairing(pairing)
+        .start_kind(starts)
+        .prefilter(false)
+        .dense_depth(0)
+        .byte_classes(true);
+    builder.build(alloc, patterns)
+}
+
+/// Which automaton serves where one is named: that one.
+pub fn named(
+    alloc: Global,
+    patterns: &[&[u8]],
+    kind: AhoCorasickKind,
+) -> Result<AhoCorasickKind, BuildError>
+    ensures { IfOk result (λ served. served ≡ kind) }
+{
+    let mut builder = AhoCorasickBuilder::new();
+    builder.kind(Some(kind));
+    Ok(builder.build(alloc, patterns)?.kind())
+}
+
+/// Which automaton serves both anchorings where none is named: no DFA, since that would be twice as large.
+pub fn taken_for_both(alloc: Global, patterns: &[&[u8]]) -> Result<AhoCorasickKind, BuildError>
+    ensures { IfOk result (λ served. served ≢ AhoCorasickKind.DFA) }
+{
+    let mut builder = AhoCorasickBuilder::new();
+    builder.start_kind(StartKind::Both);
+    Ok(builder.build(alloc, patterns)?.kind())
+}
+
+/// A second handle of the automaton, which both share.
+pub fn copy(ac: &AhoCorasick, alloc: Global) -> Result<AhoCorasick, AllocError>
+    ensures { IfOk result (MeansSame ac.now) }
+{
+    ac.clone(alloc)
+}
+
+/// Whether the automaton has a start for searches of this anchoring.
+pub fn serves(ac: &AhoCorasick, anchored: Anchored) -> bool
+    ensures { IsTrue result ↔ supported_by ac.now anchored }
+{
+    match ac.start_kind() {
+        StartKind::Both => true,
+        StartKind::Unanchored => !anchored.is_anchored(),
+        StartKind::Anchored => anchored.is_anchored(),
+    }
+}
+
+/// Whether the automaton is of the kind that can show all occurrences.
+pub fn can_list(ac: &AhoCorasick) -> bool
+    ensures { IsTrue result ↔ ((built_as ac.now).dictionary.kind ≡ Standard) }
+{
+    matches!(ac.match_kind(), MatchKind::Standard)
+}
+
+/// Whether the text is long enough for a match: no pattern occurs in a text that is shorter than the shortest one.
+pub fn may_match(ac: &AhoCorasick, text: &[u8]) -> bool
+    ensures { HasOccurrence (whole (built_as ac.now).dictionary text.now false)
+        → IsTrue result }
+{
+    text.len() >= ac.min_pattern_len()
+}
+
+/// How many bytes an occurrence has at most.
+pub fn most_bytes(ac: &AhoCorasick) -> usize
+    ensures { (text : List ℕ) (o : Occurrence)
+        → Occurs (whole (built_as ac.now).dictionary text false) o → o.end ≤ o.start + result }
+{
+    ac.max_pattern_len()
+}
+
+/// The pattern of this number, if there is one.
+pub fn numbered(ac: &AhoCorasick, number: usize) -> Option<PatternID>
+    ensures { IfSome result (λ p. p < pattern_count ac.now) }
+{
+    if number < ac.patterns_len() {
+        PatternID::new(number).ok()
+    } else {
+        None
+    }
+}

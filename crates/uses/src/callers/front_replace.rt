@@ -1,0 +1,136 @@
+//! The front: replacement in memory.
+ghost use Rattle.std.specs.Prelude.{◌≡◌, ◌++◌, false, length, map, IfOk, OnOk};
+ghost use Rattle.std.specs.String.{string_bytes};
+ghost use Rattle.ac_input.specs.Dictionary.{whole};
+ghost use Rattle.ac_input.specs.Same.{IsUnpaired};
+ghost use Rattle.ac_automaton.specs.Replace.{text_matches_in};
+ghost use Rattle.aho_corasick.specs.AhoCorasick.{HasOccurrence, built_as, supported_by, pattern_count};
+ghost use Rattle.uses.specs.Callers.{with_first};
+
+use ac_input::search::Anchored;
+use aho_corasick::{AhoCorasick, ReplaceError};
+use std::alloc::{AllocError, Global};
+
+/// The text with each match replaced. A text in which no pattern occurs stays as it is.
+pub fn replaced_text(
+    ac: &AhoCorasick,
+    alloc: Global,
+    text: &str,
+    replacements: &[&str],
+) -> Result<String, AllocError>
+    requires supports { supported_by ac.now Anchored.No }
+    requires one_each { length replacements.now ≡ pattern_count ac.now }
+    ensures { ¬ HasOccurrence (whole (built_as ac.now).dictionary text.now false)
+        → IfOk result (λ replaced. string_bytes replaced ≡ text.now) }
+{
+    ac.replace_all(alloc, text, replacements)
+}
+
+/// The same, where the automaton may serve anchored searches alone.
+pub fn try_replaced_text(
+    ac: &AhoCorasick,
+    alloc: Global,
+    text: &str,
+    replacements: &[&str],
+) -> Result<String, ReplaceError>
+    requires { length replacements.now ≡ pattern_count ac.now }
+    ensures { ¬ HasOccurrence (whole (built_as ac.now).dictionary text.now false)
+        → IfOk result (λ replaced. string_bytes replaced ≡ text.now) }
+{
+    ac.try_replace_all(alloc, text, replacements)
+}
+
+/// The bytes with each match exchanged for its pattern. Where no byte is paired, they stay as they are.
+pub fn replaced_by_itself(
+    ac: &AhoCorasick,
+    alloc: Global,
+    bytes: &[u8],
+    patterns: &[&[u8]],
+) -> Result<Vec<u8>, AllocError>
+    requires supports { supported_by ac.now Anchored.No }
+    requires same { map (λ p. p.now) patterns.now ≡ (built_as ac.now).dictionary.patterns }
+    requires unpaired { IsUnpaired (built_as ac.now).dictionary.pairing }
+    ensures { IfOk result (λ replaced. replaced.items ≡ bytes.now) }
+{
+    ac.replace_all_bytes(alloc, bytes, patterns)
+}
+
+/// The same, where the automaton may serve anchored searches alone.
+pub fn try_replaced_by_itself(
+    ac: &AhoCorasick,
+    alloc: Global,
+    bytes: &[u8],
+    patterns: &[&[u8]],
+) -> Result<Vec<u8>, ReplaceError>
+    requires same { map (λ p. p.now) patterns.now ≡ (built_as ac.now).dictionary.patterns }
+    requires unpaired { IsUnpaired (built_as ac.now).dictionary.pairing }
+    ensures { IfOk result (λ replaced. replaced.items ≡ bytes.now) }
+{
+    ac.try_replace_all_bytes(alloc, bytes, patterns)
+}
+
+/// Appends the text to the destination, with its first match exchanged for the replacement: the closure ends the replacement there.
+pub fn append_first_replaced(
+    ac: &AhoCorasick,
+    alloc: Global,
+    text: &str,
+    replacement: &str,
+    dst: &mut String,
+) -> Result<(), AllocError>
+    requires { supported_by ac.now Anchored.No }
+    ensures { OnOk result (string_bytes dst.new ≡ string_bytes dst.old
+        ++ with_first text.now replacement.now (text_matches_in (built_as ac.now) text.now)) }
+{
+    ac.replace_all_with(alloc, text, dst, |_, _, dst| {
+        dst.push_str(replacement)?;
+        Ok(false)
+    })
+}
+
+/// The same, where the automaton may serve anchored searches alone.
+pub fn try_append_first_replaced(
+    ac: &AhoCorasick,
+    alloc: Global,
+    text: &str,
+    replacement: &str,
+    dst: &mut String,
+) -> Result<(), ReplaceError>
+    ensures { OnOk result (string_bytes dst.new ≡ string_bytes dst.old
+        ++ with_first text.now replacement.now (text_matches_in (built_as ac.now) text.now)) }
+{
+    ac.try_replace_all_with(alloc, text, dst, |_, _, dst| {
+        dst.push_str(replacement)?;
+        Ok(false)
+    })
+}
+
+/// Appends the bytes to the destination, each match by a closure that appends what matched.
+pub fn append_matched(
+    ac: &AhoCorasick,
+    alloc: Global,
+    bytes: &[u8],
+    dst: &mut Vec<u8>,
+) -> Result<(), AllocError>
+    requires { supported_by ac.now Anchored.No }
+    ensures { OnOk result (dst.new.items ≡ dst.old.items ++ bytes.now) }
+{
+    ac.replace_all_with_bytes(alloc, bytes, dst, |_, matched, dst| {
+        dst.extend_from_slice(matched)?;
+        Ok(true)
+    })
+}
+
+/// The same, where the automaton may serve anchored searches alone.
+pub fn try_append_matched(
+    ac: &AhoCorasick,
+    alloc: Global,
+    bytes: &[u8],
+    dst: &mut Vec<u8>,
+) -> Result<(), ReplaceError>
+    ensures { OnOk result (dst.new.items ≡ dst.old.items ++ bytes.now) }
+{
+    ac.try_replace_all_with_bytes(alloc, bytes, dst, |_, matched, dst| {
+        dst.extend_from_slice(matched)?;
+        Ok(true)
+    })
+}

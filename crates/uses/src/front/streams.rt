@@ -1,0 +1,281 @@
+//! Streams by the front's own calls: what is found, what is written, and what is refused before the first read.
+ghost use Rattle.std.specs.Prelude.{◌≡◌, false};
+ghost use Rattle.ac_automaton.specs.Stream.{CanStream};
+ghost use Rattle.ac_automaton.specs.Watched.{has_ended};
+ghost use Rattle.aho_corasick.specs.AhoCorasick.{built_as, supported_by};
+
+use super::{OwnCase, each_own};
+use crate::answers::same;
+use crate::callers::front::{can_list, serves};
+use crate::devices::{AMPLE, Given, Outcome, Sink, Source, Tally};
+use crate::engines::Letters::{Cased, Folded};
+use crate::engines::{Asked, Letters, Pick, pick};
+use ac_input::search::{Anchored, Match, MatchKind, StartKind};
+use ac_input::steps::Steps;
+use aho_corasick::{
+    AhoCorasick, MatchErrorKind, StreamError, StreamFindIter, Watched, write_whole,
+};
+use std::alloc::{AllocError, Global};
+use std::io::{Read, Write};
+use std::process::Abort;
+use std::test::Fail;
+
+/// A text, its matches, and what is written of it: with a replacement for each match, and with the number of its pattern.
+struct Row {
+    patterns: &'static [&'static [u8]],
+    letters: Letters,
+    text: &'static [u8],
+    finds: &'static [Pick],
+    replacements: &'static [&'static [u8]],
+    writes: &'static [u8],
+    numbered: &'static [u8],
+}
+
+/// The matches that are left to come of a stream.
+fn rest<R: Read>(
+    alloc: Global,
+    matches: &mut StreamFindIter<'_, R>,
+) -> Result<Vec<Pick>, StreamError> {
+    let mut picks = Vec::new(alloc);
+    while let Some(found) = matches.next() {
+        if let Some(found) = pick(Some(found?)) {
+            picks.push(found).map_err(AllocError::from)?;
+        }
+    }
+    Ok(picks)
+}
+
+/// Which call replaces.
+#[derive(Clone, Copy, Debug)]
+enum Way {
+    List,
+    Counted,
+    Closure,
+}
+
+/// The numbers of patterns.
+const NUMBERS: &[&[u8]] = &[b"0", b"1", b"2"];
+
+/// Writes the text of each match's pattern by a closure.
+fn write_numbers<R: Read, W: Write>(
+    ac: &AhoCorasick,
+    alloc: Global,
+    reader: &mut Watched<R>,
+    writer: &mut Watched<W>,
+    numbers: &[&[u8]],
+) -> Result<(), StreamError>
+    requires { has_ended reader.old ≡ false }
+{
+    ac.try_stream_replace_all_with(
+        alloc,
+        reader,
+        writer,
+        |found: &Match, _matched: &[u8], writer: &mut Watched<W>| -> Result<(), StreamError> {
+            let number = found.pattern().as_usize();
+            write_whole(writer, numbers.get(number).ok_or(StreamError::Position)?)
+        },
+    )
+}
+
+/// Replaces by this call what a reader gives, at most so many bytes a read: what that comes to, and what was written.
+fn replaces(
+    alloc: Global,
+    ac: &AhoCorasick,
+    row: &Row,
+    way: Way,
+    most: usize,
+    tally: &Tally,
+) -> Result<(Outcome, Vec<u8>), Fail> {
+    let list = row.replacements;
+    if ac.patterns_len() != list.len() {
+        return Err("a replacement for each pattern".into());
+    }
+    let mut reader = Watched::new(Source::new(Given::Whole(row.text), most, &[], tally));
+    let mut writer = Watched::new(Sink::new(alloc, AMPLE, tally)?);
+    let answer = match way {
+        Way::List => ac.try_stream_replace_all(alloc, &mut reader, &mut writer, list),
+        Way::Counted => {
+            let mut steps = Steps::new();
+            ac.try_stream_replace_all_counted(alloc, &mut reader, &mut writer, list, &mut steps)
+        }
+        Way::Closure => write_numbers(ac, alloc, &mut reader, &mut writer, NUMBERS),
+    };
+    Ok((Outcome::of(&answer), writer.into_inner().taken))
+}
+
+/// Asserts what is found, by so many bytes a read.
+fn is_found<T: Abort>(
+    rt: &T,
+    alloc: Global,
+    ac: &AhoCorasick,
+    row: &Row,
+    most: usize,
+) -> Result<(), Fail>
+    requires { CanStream (built_as ac.now) (supported_by ac.now) }
+{
+    let tally = Tally::new();
+    let given = Given::Whole(row.text);
+    let mut reader = Watched::new(Source::new(given, most, &[], &tally));
+    let found = rest(alloc, &mut ac.stream_find_iter(alloc, &mut reader)?)?;
+    same(rt, &found, row.finds, "found in a stream");
+    let mut reader = Watched::new(Source::new(given, most, &[], &tally));
+    let found = rest(alloc, &mut ac.try_stream_find_iter(alloc, &mut reader)?)?;
+    same(rt, &found, row.finds, "found in a stream");
+    Ok(())
+}
+
+/// Asserts what each call writes, by so many bytes a read.
+fn is_written<T: Abort>(
+    rt: &T,
+    alloc: Global,
+    ac: &AhoCorasick,
+    row: &Row,
+    most: usize,
+) -> Result<(), Fail> {
+    for way in [Way::List, Way::Counted, Way::Closure] {
+        let (outcome, taken) = replaces(alloc, ac, row, way, most, &Tally::new())?;
+        let want = if matches!(way, Way::Closure) {
+            row.numbered
+        } else {
+            row.writes
+        };
+        assert_eq!(rt; outcome, Outcome::Done, "{way:?}");
+        assert_eq!(rt; taken.as_slice(), want, "{way:?}");
+    }
+    Ok(())
+}
+
+impl OwnCase for Row {
+    fn built_of(&self) -> Asked<'_> {
+        Asked {
+            patterns: self.patterns,
+            kind: MatchKind::Standard,
+            letters: self.letters,
+        }
+    }
+
+    fn check_own<T: Abort>(&self, rt: &T, alloc: Global, ac: &AhoCorasick) -> Result<(), Fail> {
+        if !serves(ac, Anchored::No) || !can_list(ac) || ac.min_pattern_len() == 0 {
+            return Err("a stream can be searched".into());
+        }
+        for most in [1, 2, 7, 100] {
+            is_found(rt, alloc, ac, self, most)?;
+            is_written(rt, alloc, ac, self, most)?;
+        }
+        Ok(())
+    }
+}
+
+const ROWS: &[Row] = &[
+    Row {
+        patterns: &[b"fox", b"brown", b"quick"],
+        letters: Cased,
+        text: b"The quick brown fox.",
+        finds: &[(2, 4, 9), (1, 10, 15), (0, 16, 19)],
+        replacements: &[b"sloth", b"grey", b"slow"],
+        writes: b"The slow grey sloth.",
+        numbered: b"The 2 1 0.",
+    },
+    Row {
+        patterns: &[b"FOO", b"bAr", b"BaZ"],
+        letters: Folded,
+        text: b"foo bar baz",
+        finds: &[(0, 0, 3), (1, 4, 7), (2, 8, 11)],
+        replacements: &[b"x", b"", b"yy"],
+        writes: b"x  yy",
+        numbered: b"0 1 2",
+    },
+];
+
+/// Patterns of a kind that can't be searched for in a stream, by the front for such searches, and why.
+struct Refused {
+    patterns: [&'static [u8]; 2],
+    kind: MatchKind,
+    starts: StartKind,
+    why: MatchErrorKind,
+}
+
+/// Makes a search of a stream, and drops it.
+fn try_stream<'a, R: Read>(
+    alloc: Global,
+    ac: &'a AhoCorasick,
+    reader: &'a mut Watched<R>,
+) -> Result<(), StreamError>
+    requires { has_ended reader.old ≡ false }
+{
+    ac.try_stream_find_iter(alloc, reader)?;
+    Ok(())
+}
+
+/// What a search of a stream comes to that asks for no match.
+fn search_outcome(alloc: Global, ac: &AhoCorasick, tally: &Tally) -> Outcome {
+    let mut reader = Watched::new(Source::new(Given::Whole(b"ab"), 1, &[], tally));
+    Outcome::of(&try_stream(alloc, ac, &mut reader))
+}
+
+/// The text over which each replacement is refused.
+const UNREAD: Row = Row {
+    patterns: &[],
+    letters: Cased,
+    text: b"ab",
+    finds: &[],
+    replacements: &[b"-", b"+"],
+    writes: b"",
+    numbered: b"",
+};
+
+impl OwnCase for Refused {
+    fn built_of(&self) -> Asked<'_> {
+        Asked {
+            patterns: &self.patterns,
+            kind: self.kind,
+            letters: Cased,
+        }
+    }
+
+    fn check_own<T: Abort>(&self, rt: &T, alloc: Global, ac: &AhoCorasick) -> Result<(), Fail> {
+        let tally = &Tally::new();
+        let want = Outcome::Config(self.why);
+        assert_eq!(rt; search_outcome(alloc, ac, tally), want);
+        for way in [Way::List, Way::Counted, Way::Closure] {
+            let (outcome, taken) = replaces(alloc, ac, &UNREAD, way, 1, tally)?;
+            assert_eq!(rt; (outcome, taken.len()), (want, 0), "{way:?}");
+        }
+        assert_eq!(rt; (tally.reads.get(), tally.writes.get()), (0, 0));
+        Ok(())
+    }
+}
+
+const REFUSED: &[Refused] = &[
+    Refused {
+        patterns: [b"ab", b""],
+        kind: MatchKind::LeftmostFirst,
+        starts: StartKind::Unanchored,
+        why: MatchErrorKind::UnsupportedStream {
+            got: MatchKind::LeftmostFirst,
+        },
+    },
+    Refused {
+        patterns: [b"ab", b""],
+        kind: MatchKind::Standard,
+        starts: StartKind::Both,
+        why: MatchErrorKind::UnsupportedEmpty,
+    },
+    Refused {
+        patterns: [b"ab", b""],
+        kind: MatchKind::LeftmostFirst,
+        starts: StartKind::Anchored,
+        why: MatchErrorKind::InvalidInputUnanchored,
+    },
+];
+
+/// Asserts what is found and written in each stream, and which streams are refused.
+pub fn hold<T: Abort>(rt: &T, alloc: Global) -> Result<(), Fail> {
+    for row in ROWS {
+        each_own(rt, alloc, row, &[StartKind::Unanchored, StartKind::Both])?;
+    }
+    for row in REFUSED {
+        each_own(rt, alloc, row, &[row.starts])?;
+    }
+    Ok(())
+}

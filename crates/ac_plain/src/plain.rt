@@ -29,7 +29,7 @@ use std::marker::Model;
 
 /// An occurrence: which pattern lies where.
 ///
-/// A pattern is told by its number, counted from 0 in the order in which the patterns were given. There is no table here, so
+/// A pattern is named by its number, counted from 0 in the order in which the patterns were given. There is no table here, so
 /// any number will do. `start` is the place of the first byte, and `end` the place after the last one, both counted from the
 /// haystack's start.
 #[derive(Clone, Copy, Debug, PartialEq, Eq)]

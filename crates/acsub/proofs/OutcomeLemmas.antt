@@ -38,7 +38,7 @@ module _ {W : Type 0} (contents : W → Option (List ℕ)) (before after : Watch
     flushes-tried (Ok done) made failed = inl (flushes-made made)
     flushes-tried (Err error) made failed = inr (flushes-failed failed)
 
--- ---- what is told after the flush
+-- ---- what is reported after the flush
 
 -- of the help
 pub help-finished : {W : Type 0} (contents : W → Option (List ℕ)) (before between after : Watched W) (text : List ℕ) (answer : Result (Unit {0}) RunError) (outcome : Result (Unit {0}) Fault) → WritesText contents text before between answer → Finishes contents answer between after outcome → AnswersHelp contents before after outcome
@@ -61,7 +61,7 @@ module _ {F R W : Type 0} (held : F → Option (List ℕ)) (remaining : R → Op
 -- ---- the words
 
 module _ {F R W Z A : Type 0} (held : F → Option (List ℕ)) (remaining : R → Option (List ℕ)) (contents : W → Option (List ℕ)) where
-  -- the words that were collected are those that were handed over
+  -- the words that were collected are those that the system gave
   pub ends-collected : (words : Result (IntoIter (String Z) A) Error) (all : Vec (String Z) Global) (r r' : Watched R) (w w' : Watched W) (status : ℕ) → Collects words (Ok all) → EndsTool held remaining contents all.items r r' w w' status → EndsProgram held remaining contents words r r' w w' status
   ends-collected (Ok words) all r r' w w' status same ends = subst (λ (ws : List (String Z)). EndsTool held remaining contents ws r r' w w' status) same ends
   ends-collected (Err error) all r r' w w' status none ends = absurd none

@@ -235,7 +235,7 @@ module _ (old : Command) (lists : Lists) (names : HasNames lists) (is : app_of o
   pub typed : IsTyped (rows_of (found_of m))
   typed = record { mode = mode_typed; rules = rules_typed; kind = kind_typed; engine = engine_typed; dense_depth = depth_typed }
 
--- ---- clap's answer
+-- ---- clap's result
 
 module _ (old : Command) (lists : Lists) (names : HasNames lists) (is : app_of old ≡ command_with lists) (words : List Text) where
   simple_and_free : is_simple_and_free (app_of old) ≡ true

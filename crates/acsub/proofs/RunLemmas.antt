@@ -1,4 +1,4 @@
--- What was moved, and which answers go with it.
+-- What was moved, and which results go with it.
 use Rattle.std.proofs.Common.{◌≡◌, ◌≢◌, ◌↔◌, ℕ, Option, List, [], Result, Ok, Err, refl, sym, ap, ◌∙◌, subst, add-zero}
 use Rattle.std.specs.List.{concat}
 use Rattle.std.proofs.lemmas.List.{append-nil}
@@ -33,11 +33,11 @@ nothing = record { pieces = []; failed_reads = 0; taken = []; failed_writes = 0;
 pub HasMoved-nothing : {R W : Type 0} (remaining : R → Option (List ℕ)) (contents : W → Option (List ℕ)) (r : Watched R) (w : Watched W) → HasMoved remaining contents r r w w nothing
 HasMoved-nothing remaining contents r w = record { reader = given-none remaining r; writer = taken-none contents w }
 
--- the answer where there was no memory before anything was read
+-- the result where there was no memory before anything was read
 pub memory_answer : (settings : Settings) (rules : List Rule) (file : List ℕ) → IsRuleFile file rules → AnswersRun settings file nothing (Err errors.Memory)
 memory_answer settings rules file grammar = record { rules = rules; grammar = grammar; accepted = λ some. absurd (some refl); streamed = λ _. refl; filled = tt; written = refl; failed = (refl, refl, refl) }
 
--- the answer where the input could not be read to its end
+-- the result where the input could not be read to its end
 pub read_answer : {R W : Type 0} (remaining : R → Option (List ℕ)) (contents : W → Option (List ℕ)) (settings : Settings) (rules : List Rule) (r r' : Watched R) (w : Watched W) (e : RunError) → IsAccepted settings rules → ¬ IsStreamed settings rules → ReadsWhole remaining r r' (Err e)
     → RanRules remaining contents r r' w w (record { settings = settings; rules = rules }) (Err e)
 read_answer remaining contents settings rules r r' w (errors.Rule e) accepted held h = absurd h
@@ -59,14 +59,14 @@ read_answer remaining contents settings rules r r' w errors.Memory accepted held
 )
 read_answer remaining contents settings rules r r' w errors.Position accepted held h = absurd h
 
--- the answer where a write stopped once the input was read to its end
+-- the result where a write stopped after the input was read to its end
 write_failed : {W : Type 0} (contents : W → Option (List ℕ)) (settings : Settings) (rules : List Rule) (w w' : Watched W) (pieces : List (List ℕ)) (input : List ℕ) (stalls : ℕ) (s : Stopped contents w w' [] (output_of settings rules input)) → IsAccepted settings rules → ¬ IsStreamed settings rules → AreWhole pieces → input ≡ concat pieces
     → (file : List ℕ) → IsRuleFile file rules → RanToFailedWrite settings file (record { pieces = pieces; failed_reads = 0; taken = s.gained; failed_writes = 1; stalled_writes = stalls }) stalls
 write_failed contents settings rules w w' pieces input stalls s accepted held whole is file grammar =
     record { rules = rules; grammar = grammar; accepted = accepted; streamed = λ streamed. absurd (held streamed); whole_input = λ _. whole; written = (s.lost, ap (output_of settings rules) (sym is) ∙ sym s.order); failed = (refl, refl, refl) }
 
 module _ {R W : Type 0} (remaining : R → Option (List ℕ)) (contents : W → Option (List ℕ)) (settings : Settings) (rules : List Rule) (r r' : Watched R) (w w' : Watched W) (pieces : List (List ℕ)) (input : List ℕ) (accepted : IsAccepted settings rules) (held : ¬ IsStreamed settings rules) (gave : HasGiven remaining r r' pieces 0) (whole : AreWhole pieces) (is : input ≡ concat pieces) where
-  -- the answer once the input was read to its end, and its text was written
+  -- the result after the input was read to its end and its text was written
   pub written_answer : Sent contents w w' [] [] (output_of settings rules input) → RanRules remaining contents r r' w w' (record { settings = settings; rules = rules }) (Ok tt)
   written_answer sent = (
     record { pieces = pieces; failed_reads = 0; taken = sent.gained; failed_writes = 0; stalled_writes = 0 },
@@ -98,7 +98,7 @@ module _ {R W : Type 0} (remaining : R → Option (List ℕ)) (contents : W → 
 pub write-config : {W : Type 0} (old new : Watched W) (error : StreamError) (refusal : MatchErrorKind) → IsOfWrite old new error → error ≢ stream.Config refusal
 write-config old new error refusal kind e = subst (IsOfWrite old new) e kind
 
--- why there are no rules is the answer
+-- the reason why there are no rules is the result
 pub prepared_answer : (settings : Settings) (file : List ℕ) (e : RunError) → Prepares settings file (Err e) → AnswersRun settings file nothing (Err e)
 prepared_answer settings file (errors.Rule (rule_errors.Line n)) h = h
 prepared_answer settings file (errors.Rule rule_errors.Memory) h = h
@@ -129,11 +129,11 @@ unprepared_begun settings file errors.WriteZero h begun = absurd h
 unprepared_begun settings file errors.Memory h begun = begun
 unprepared_begun settings file errors.Position h begun = absurd h
 
--- another answer than that of a bad line goes with a rule file
+-- with a rule file the result is never that of a bad line
 other_answer : (file : List ℕ) (rules : List Rule) (result : Result (Unit {0}) RunError) (n : ℕ) → IsRuleFile file rules → ¬ (result ≡ Err (errors.Rule (rule_errors.Line n))) → (result ≡ Err (errors.Rule (rule_errors.Line n))) ↔ FirstBadLine file n
 other_answer file rules result n grammar other = (λ is. absurd (other is), λ bad. absurd (FirstBadLine-none file n rules grammar bad))
 
--- a bad line is answered exactly where there is one
+-- a bad line is reported exactly where there is one
 pub bad_line_answer : (settings : Settings) (file : List ℕ) (m : Moved) (result : Result (Unit {0}) RunError) → AnswersRun settings file m result → (n : ℕ) → (result ≡ Err (errors.Rule (rule_errors.Line n))) ↔ FirstBadLine file n
 bad_line_answer settings file m (Ok done) a n = other_answer file a.rules (Ok done) n a.grammar (λ e. cc)
 bad_line_answer settings file m (Err (errors.Rule (rule_errors.Line k))) a n = (λ e. let same : k ≡ n = cc in subst (FirstBadLine file) same a, λ bad. ap (λ (j : ℕ). Err (errors.Rule (rule_errors.Line j))) (FirstBadLine-one file k n a bad))

@@ -45,7 +45,7 @@ served-dfa settings rules from kind is served (inr (auto, takes)) =
     (subst (λ (e : Engine). IsServedBy (automaton_named e) (builder_settings settings) from kind) auto served)
 
 module _ (settings : Settings) (rules : List Rule) (patterns : List (Bor (List ℕ))) (same : bytes_of patterns ≡ patterns_of rules) where
-  -- the patterns that a builder is handed are those of the rules
+  -- the patterns that a builder is given are those of the rules
   handed : front.dictionary_by (builder_settings settings) patterns ≡ dictionary_for settings (patterns_of rules)
   handed = ap (dictionary_for settings) same
 

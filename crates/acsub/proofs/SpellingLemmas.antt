@@ -102,7 +102,7 @@ list_all_agree : (p q : ℕ → Bool) → ((x : ℕ) → p x ≡ q x) → (xs : 
 list_all_agree p q e [] = refl
 list_all_agree p q e (x ∷ xs) = rw (e x, list_all_agree p q e xs) refl
 
--- the test of each byte of a text tells whether one of even length spells bytes
+-- a text of even length spells bytes exactly where each of its bytes passes the test
 pub spelling_by_digits : (text : List ℕ) (answer : Bool) → length text % 2 ≡ 0 → answer ≡ list_all is_ascii_hexdigit text
     → (IsTrue answer → IsSpelling text) × (IsSpelling text → IsTrue answer)
 spelling_by_digits text answer even e =

@@ -151,14 +151,14 @@ first-stopped contents o s old new stopped = record {
   stopped = subst (Stopped contents old new []) (sym (listed-one o)) stopped;
 }
 
--- three things that hold where the answer is a value
+-- three things that hold where the result is a value
 pub on-ok_three : {P Q S T : Type 0} (result : Result (Unit {0}) StreamError) → (P → Q → S → T) → OnOk result P → OnOk result Q → OnOk result S → OnOk result T
 on-ok_three (Ok done) f p q s = f p q s
 on-ok_three (Err error) f p q s = tt
 
 -- ---- pieces
 
--- filled pieces, one list behind another
+-- filled pieces, one list after another
 filled-append : (one other : List (List ℕ)) → AreFilled one → AreFilled other → AreFilled (one ++ other)
 filled-append [] other f g = g
 filled-append (p ∷ ps) other f g = (f.0, filled-append ps other f.1 g)
@@ -194,7 +194,7 @@ lies-end : (patterns len at : ℕ) (os rest : List Occurrence) (o : Occurrence) 
 lies-end patterns len at [] rest o lies = lies.3
 lies-end patterns len at (q ∷ os) rest o lies = lies-end patterns len q.end os rest o lies.4
 
--- One list goes on from a front with an occurrence that ends behind a place, and another from the same front with none that does.
+-- One list goes on from a front with an occurrence that ends after a place, and another from the same front with none that does.
 -- Where both begin one list, the other is the front.
 begins-same : (given more rest others : List Occurrence) (o : Occurrence) (patterns len : ℕ) → LieInOrder patterns len 0 (given ++ more) → len < o.end → (given ++ more) ++ rest ≡ (given ++ o ∷ []) ++ others → given ++ more ≡ given
 begins-same given [] rest others o patterns len lies late same = append-nil given
@@ -205,7 +205,7 @@ begins-same given (q ∷ more) rest others o patterns len lies late same =
     let ends : q.end ≡ o.end = ap (λ (p : Occurrence). p.end) first in
     absurd (omega arith)
 
--- Where the next match ends behind a longer part of the text, that part has no more matches than a shorter one.
+-- Where the next match ends after a longer part of the text, that part has no more matches than a shorter one.
 matches-between : (b : Built) (part mid more : List ℕ) (others : List Occurrence) (o : Occurrence) → b.dictionary.kind ≡ Standard → length (part ++ mid) < o.end → matches_in b ((part ++ mid) ++ more) ≡ (matches_in b part ++ o ∷ []) ++ others → matches_in b (part ++ mid) ≡ matches_in b part
 matches-between b part mid more others o standard late is =
     let first = beginning-matches b part mid standard in
@@ -452,7 +452,7 @@ module _ (settings : Settings) (rules : List Rule) (b : Built) (built : b.dictio
     listed = λ _. refl;
   }
 
-  -- what a list answers is what a run answers that writes while it reads
+  -- the result of a list is that of a run that writes while it reads
   failed-streams : (m : Moved) (stalls : ℕ) → WroteToFailedWrite (listed_in b) (IsListedFront b) m stalls → WroteToFailedWrite (output_of settings rules) (IsOutputFront settings rules) m stalls
   failed-streams m stalls h = record {
     at_least = (h.at_least.0, lines-front (concat (but_last m.pieces)) h.at_least.0 h.at_least.1, h.at_least.2);
@@ -492,7 +492,7 @@ can-config b supports refusal can (inl h) = h.0 can.0
 can-config b supports refusal can (inr (inl h)) = h.1 can.1
 can-config b supports refusal can (inr (inr h)) = let some = can.2 in let zero = h.2 in absurd (omega arith)
 
--- where it is refused, that is for want of memory
+-- where it is refused, it is out of memory
 pub refused-memory : (b : Built) (supports : Anchored → Type 0) (error : StreamError) → CanStream b supports → IsStreamRefusal b supports error → error ≡ reads.Memory
 refused-memory b supports (reads.Config refusal) can refused = absurd (can-config b supports refusal can refused)
 refused-memory b supports (reads.Read error) can refused = absurd refused
@@ -505,7 +505,7 @@ refused-memory b supports reads.Position can refused = absurd refused
 pub begun-config : (error : StreamError) (refusal : MatchErrorKind) → IsBegun error → error ≢ reads.Config refusal
 begun-config error refusal begun e = subst IsBegun e begun
 
--- nor is any such answer
+-- nor is any such result
 pub begun-accepted : (result : Result (Unit {0}) StreamError) → IfErr result IsBegun → IfErr result (λ error. (refusal : MatchErrorKind) → error ≢ reads.Config refusal)
 begun-accepted (Ok done) begun = tt
 begun-accepted (Err error) begun = λ refusal. begun-config error refusal begun
@@ -519,7 +519,7 @@ gives-begun remaining s t before after reads.WriteZero gives = tt
 gives-begun remaining s t before after reads.Memory gives = gives
 gives-begun remaining s t before after reads.Position gives = tt
 
--- what is said of an answer that never comes
+-- what holds of a result that never comes
 pub never-memory : (P : Type 0) (result : Result (Unit {0}) StreamError) → IfErr result IsBegun → IfErr result (λ error. error ≡ reads.Memory → P)
 never-memory P (Ok done) begun = tt
 never-memory P (Err error) begun = λ e. absurd (subst IsBegun e begun)

@@ -100,7 +100,7 @@ front-begins settings rules x text modes.List is streamed f =
     (subst (λ (k : Mode). IsBeginning (text_in k settings.kind (replacements_of rules) (whole_search settings (patterns_of rules) (take f.front.cut x))) (text_in k settings.kind (replacements_of rules) (whole_search settings (patterns_of rules) x))) (sym is) final.1)
 front-begins settings rules x text modes.Overlap is streamed f = absurd (streamed.1 is)
 
--- ---- what the answers say
+-- ---- what the results say
 
 -- a write that stopped
 replaced-stopped : (b : Built) (settings : Settings) (rules : List Rule) (m : Moved) (stalls : ℕ) → b.dictionary ≡ dictionary_for settings (patterns_of rules) → settings.mode ≡ modes.Replace → WroteToFailedWrite (replaced_in b (replacements_of rules)) (IsReplacedFront b (replacements_of rules)) m stalls → WroteToFailedWrite (output_of settings rules) (IsOutputFront settings rules) m stalls
@@ -140,7 +140,7 @@ streamed_failed : (settings : Settings) (rules : List Rule) (m : Moved) (stalls 
 streamed_failed settings rules m stalls accepted streamed h file grammar =
     record { rules = rules; grammar = grammar; accepted = accepted; streamed = λ _. h.at_least; whole_input = λ held. absurd (held streamed); written = h.at_most; failed = h.failed }
 
--- the answer of a run that writes while it reads
+-- the result of a run that writes while it reads
 pub streamed_answer : {R W : Type 0} (remaining : R → Option (List ℕ)) (contents : W → Option (List ℕ)) (settings : Settings) (rules : List Rule) (r r' : Watched R) (w w' : Watched W) (result : Result (Unit {0}) RunError) → IsAccepted settings rules → IsStreamed settings rules
     → Streams remaining contents r r' w w' (record { settings = settings; rules = rules }) result → RanRules remaining contents r r' w w' (record { settings = settings; rules = rules }) result
 streamed_answer remaining contents settings rules r r' w w' (Ok done) accepted streamed (m, moved, short, a) = (m, moved, λ refusal. refusal, λ file grammar. record { rules = rules; grammar = grammar; accepted = accepted; whole = a.whole; written = a.written; failed = a.failed })

@@ -56,7 +56,7 @@ abbrev pub IsFinderOf : {A : Type 0} → (A → Built) → (A → Anchored → T
 IsFinderOf built supports settings rules (finders.Automaton automaton) = IsServing (record { settings = settings; rules = rules }) (built automaton) (supports automaton)
 IsFinderOf built supports settings rules (finders.Packed searcher) = IsPackedFor settings.kind (patterns_of rules) searcher × IsUnpaired settings.pairing
 
--- how a run answers that nothing was built: out of memory is none of its limits
+-- the error of a run where nothing was built: out of memory is none of its limits
 abbrev pub not_built : BuildErrorKind → RunError
 not_built (limits.StateIDOverflow max requested) = errors.Build (limits.StateIDOverflow max requested)
 not_built (limits.PatternIDOverflow max requested) = errors.Build (limits.PatternIDOverflow max requested)

@@ -25,7 +25,7 @@ use Rattle.acsub.specs.Words.{Reads}
 
 -- ---- the rule file
 
--- some opened file gave all these bytes, if it tells what it holds
+-- some opened file gave all these bytes, where its contents are known
 abbrev pub IsFile : {F : Type 0} → (F → Option (List ℕ)) → List ℕ → Type 0
 IsFile {F} held bytes = (file : F) × IfSome (held file) (λ all. bytes ≡ all)
 
@@ -51,7 +51,7 @@ module _ {W : Type 0} (contents : W → Option (List ℕ)) where
   WritesText text before after (Ok done) = HasTaken contents before after text 0 0
   WritesText text before after (Err e) = TookFront contents before after text × ((error : StreamError) × IsOfWrite before after error × IsToldAs error e)
 
-  -- what is told of a run that answered this, and of the flush after it
+  -- the outcome of a run with this result, and of the flush after it
   abbrev pub Finishes : Result (Unit {0}) RunError → Watched W → Watched W → Result (Unit {0}) Fault → Type 0
   Finishes (Ok ran) before after (Ok done) = Flushes contents before after 0
   Finishes (Ok ran) before after (Err fault) = (fault ≡ faults.Flush) × Flushes contents before after 1
@@ -59,7 +59,7 @@ module _ {W : Type 0} (contents : W → Option (List ℕ)) where
   Finishes (Err e) before after (Err fault) = (fault ≡ faults.Run e) × (Flushes contents before after 0 ⊎ Flushes contents before after 1)
 
   module _ (before after : Watched W) where
-    -- Some text was written, with this answer; then the writer was flushed, and so many flushes failed.
+    -- Some text was written, with this result; then the writer was flushed, and so many flushes failed.
     abbrev pub Shown : Result (Unit {0}) RunError → ℕ → Type 0
     Shown answer failed = (text : List ℕ) × (between : Watched W) × WritesText text before between answer × Flushes contents between after failed
 
@@ -74,7 +74,7 @@ module _ {W : Type 0} (contents : W → Option (List ℕ)) where
 
 -- ---- the whole program
 
--- The rule file held these bytes, and for them `run` answered this.
+-- The rule file held these bytes, and for them `run` returned this.
 pub record RanFile {F R W : Type 0} (held : F → Option (List ℕ)) (remaining : R → Option (List ℕ)) (contents : W → Option (List ℕ)) (settings : Settings) (reader_before reader_after : Watched R) (writer_before writer_after : Watched W) (answer : Result (Unit {0}) RunError) : Type 0 where
   pub file : List ℕ
   pub is_file : IsFile held file
@@ -83,7 +83,7 @@ pub record RanFile {F R W : Type 0} (held : F → Option (List ℕ)) (remaining 
 
 module _ {F R W : Type 0} (held : F → Option (List ℕ)) (remaining : R → Option (List ℕ)) (contents : W → Option (List ℕ)) where
   module _ (settings : Settings) (reader_before reader_after : Watched R) (writer_before writer_after : Watched W) where
-    -- `run` answered this for the rule file; then the writer was flushed, and so many flushes failed.
+    -- `run` returned this for the rule file; then the writer was flushed, and so many flushes failed.
     abbrev pub RanAndFlushed : Result (Unit {0}) RunError → ℕ → Type 0
     RanAndFlushed answer failed = (between : Watched W) × RanFile held remaining contents settings reader_before reader_after writer_before between answer × Flushes contents between writer_after failed
 
@@ -114,13 +114,13 @@ module _ {F R W : Type 0} (held : F → Option (List ℕ)) (remaining : R → Op
   EndsTool words reader_before reader_after writer_before writer_after status =
       (outcome : Result (Unit {0}) Fault) × (status ≡ exit_of outcome) × AnswersTool (map string_bytes words) reader_before reader_after writer_before writer_after outcome
 
-  -- The same of the words that the system hands over; or it hands none over, which is told, and neither device is touched.
+  -- The same of the words that the system gives; or it gives none, which is reported, and neither device is touched.
   abbrev pub EndsProgram : {Z A : Type 0} → Result (IntoIter (String Z) A) Error → Watched R → Watched R → Watched W → Watched W → ℕ → Type 0
   EndsProgram (Ok words) reader_before reader_after writer_before writer_after status = EndsTool (into_iter_items words) reader_before reader_after writer_before writer_after status
   EndsProgram (Err error) reader_before reader_after writer_before writer_after status =
       (fault : Fault) × (status ≡ status_of fault) × IsFaultOf (error_kind error) faults.Words fault × NoneTouched reader_before reader_after writer_before writer_after
 
--- all words that the system hands over, in their order; or why they were not collected
+-- all words that the system gives, in their order; or why they were not collected
 abbrev pub Collects : {X Y A : Type 0} → Result (IntoIter X A) Error → Result (Vec X Y) Fault → Type 0
 Collects (Ok words) (Ok all) = all.items ≡ into_iter_items words
 Collects (Ok words) (Err fault) = fault ≡ faults.Run errors.Memory

@@ -1,4 +1,4 @@
--- What a run writes, and what its answers say.
+-- What a run writes, and what its results say.
 use Rattle.std.specs.Prelude.{◌↔◌, ◌≡◌, ◌≢◌, ℕ, ◌+◌, ◌*◌, ◌≤◌, List, [], ◌++◌, length, Result, Option, Ok, Err, OnOk}
 use Rattle.std.specs.List.{concat}
 use Rattle.ac_input.specs.BeginningLaws.{IsBeginning}
@@ -39,9 +39,9 @@ pub record RanToFailedRead (settings : Settings) (file : List ℕ) (m : Moved) :
   pub written : IsBeginning m.taken (output_of settings rules (concat m.pieces))
   pub failed : Failed m 1 0 0
 
--- A write failed, or was handed bytes and took none. Where the text is written while the input is read, all was written before
--- that could be written before the last read; else the input had been read to its end. A beginning of the text of all that was
--- read was written.
+-- A write failed, or was given bytes and took none. A beginning of the text of all that was read was written. Where the text is
+-- written while the input is read, it holds all that could be written before the last read; else the input had been read to its
+-- end.
 pub record RanToFailedWrite (settings : Settings) (file : List ℕ) (m : Moved) (stalls : ℕ) : Type 0 where
   pub rules : List Rule
   pub grammar : IsRuleFile file rules
@@ -71,7 +71,7 @@ pub record RanOutOfPlaces (settings : Settings) (file : List ℕ) (m : Moved) : 
   pub written : IsBeginning m.taken (output_of settings rules (concat m.pieces))
   pub failed : Failed m 0 0 0
 
--- what an answer of a run says of the settings, the rule file, and what was moved
+-- what a result of a run says of the settings, the rule file, and what was moved
 abbrev pub AnswersRun : Settings → List ℕ → Moved → Result (Unit {0}) RunError → Type 0
 AnswersRun settings file m (Ok done) = RanWhole settings file m
 AnswersRun settings file m (Err (errors.Rule (rule_errors.Line n))) = FirstBadLine file n
@@ -112,7 +112,7 @@ HasBegun (Err errors.Position) = Unit {0}
 abbrev pub IsFileBuildable : Settings → List ℕ → Type 0
 IsFileBuildable settings file = (rules : List Rule) → IsRuleFile file rules → IsBuildable settings rules
 
--- What was read and written, and by which answer, where the rules are those of a file.
+-- What was read and written, and with which result, where the rules are those of a file.
 abbrev pub Ran : {R W : Type 0} → (R → Option (List ℕ)) → (W → Option (List ℕ)) → Watched R → Watched R → Watched W → Watched W → Settings → List ℕ → Result (Unit {0}) RunError → Type 0
 Ran remaining contents reader_before reader_after writer_before writer_after settings file result =
     (m : Moved) × HasMoved remaining contents reader_before reader_after writer_before writer_after m × AnswersRun settings file m result
@@ -165,11 +165,11 @@ pub record CostsFile {R : Type 0} (settings : Settings) (file : List ℕ) (reade
   pub steps : (rules : List Rule) → IsRuleFile file rules → CostsRun (record { settings = settings; rules = rules }) reader_before reader_after before after result
   pub short : IsReadByBuffer settings file reader_before reader_after
 
--- the first bad line is what is answered, and no other line
+-- the line that is reported is the first bad one, and no other
 abbrev pub AnswersBadLine : List ℕ → Result (Unit {0}) RunError → Type 0
 AnswersBadLine file result = (n : ℕ) → (result ≡ Err (errors.Rule (rule_errors.Line n))) ↔ FirstBadLine file n
 
--- What an answer says of a run that stopped before it began. The first bad line is answered whatever memory does. A refusal has
+-- What a result says of a run that stopped before it began. The first bad line is reported whatever memory does. A refusal has
 -- touched nothing; nor has a run that is out of memory, where the text is written while the input is read. A run that came to the
 -- end or to a fault of a device had passed no limit of a build.
 pub record Refuses {R W : Type 0} (settings : Settings) (file : List ℕ) (reader_before reader_after : Watched R) (writer_before writer_after : Watched W) (result : Result (Unit {0}) RunError) : Type 0 where

@@ -11,7 +11,7 @@ pub record AskAlike (settings other : Settings) : Type 0 where
   pub kind : settings.kind ≡ other.kind
   pub pairing : settings.pairing ≡ other.pairing
 
--- Two runs that answer Ok by one rule file, whose settings ask for the same text, and that read the same bytes, however these were
+-- Two runs that return Ok by one rule file, whose settings ask for the same text, and that read the same bytes, however these were
 -- cut, wrote the same bytes.
 abbrev pub RunsWriteAlike : Type 0
 RunsWriteAlike =

@@ -13,7 +13,7 @@ use Rattle.acsub.specs.declared.error.RunError.{RunError}
 use Rattle.acsub.specs.declared.error.RunError.TheVariants as errors
 use Rattle.acsub.specs.declared.settings.Settings.{Settings}
 
--- what an answer says of what was moved, where the text is written while the input is read
+-- what a result says of what was moved, where the text is written while the input is read
 abbrev pub AnswersStream : Settings → List Rule → Moved → Result (Unit {0}) RunError → Type 0
 AnswersStream settings rules m (Ok done) = WroteWhole (output_of settings rules) (IsOutputFront settings rules) m
 AnswersStream settings rules m (Err (errors.Rule error)) = ⊥
@@ -25,12 +25,12 @@ AnswersStream settings rules m (Err errors.WriteZero) = WroteToFailedWrite (outp
 AnswersStream settings rules m (Err errors.Memory) = MovedNothing m
 AnswersStream settings rules m (Err errors.Position) = WroteOutOfPlaces (output_of settings rules) (IsOutputFront settings rules) m
 
--- what a run that writes while it reads has read, no piece longer than the buffer, and written, and what it answered
+-- what a run that writes while it reads has read, no piece longer than the buffer, and written, and its result
 abbrev pub Streams : {R W : Type 0} → (R → Option (List ℕ)) → (W → Option (List ℕ)) → Watched R → Watched R → Watched W → Watched W → Plan → Result (Unit {0}) RunError → Type 0
 Streams remaining contents reader_before reader_after writer_before writer_after plan result =
     (m : Moved) × HasMoved remaining contents reader_before reader_after writer_before writer_after m × AllFit (stream_room plan.rules) m.pieces × AnswersStream plan.settings plan.rules m result
 
--- the error of a search of a stream, as a run tells it
+-- the error of a search of a stream, as a run returns it
 abbrev pub IsToldAs : StreamError → RunError → Type 0
 IsToldAs (stream.Config error) told = ⊥
 IsToldAs (stream.Read error) told = told ≡ errors.Read error
@@ -43,7 +43,7 @@ IsToldAs stream.Position told = told ≡ errors.Position
 abbrev pub IsNoRefusal : StreamError → Type 0
 IsNoRefusal error = (refusal : MatchErrorKind) → error ≢ stream.Config refusal
 
--- this holds where the answer is that a run is out of memory
+-- this holds where a run is out of memory
 abbrev pub IfMemory : Result (Unit {0}) RunError → Type 0 → Type 0
 IfMemory result P = IfErr result (λ error. error ≡ errors.Memory → P)
 

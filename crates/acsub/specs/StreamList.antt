@@ -1,4 +1,4 @@
--- Lists over streams: what an answer says of what was read and written, and what stands at each point.
+-- Lists over streams: what a result says of what was read and written, and what holds at each point.
 use Rattle.std.specs.Prelude.{◌≡◌, ℕ, List, ◌∷◌, ◌++◌, [], false, Option, Result}
 use Rattle.ac_input.specs.Occurrence.{Occurrence}
 use Rattle.ac_input.specs.Text.{listed}
@@ -20,13 +20,13 @@ use Rattle.ac_automaton.specs.declared.watched.Watched.{Watched}
 abbrev pub listed_in : Built → List ℕ → List ℕ
 listed_in b x = listed (matches_in b x)
 
--- ---- what an answer says
+-- ---- what a result says
 
 -- the lines of what was read: all that can be listed of it
 abbrev pub IsListedFront : Built → List ℕ → List ℕ → Type 0
 IsListedFront b x text = text ≡ listed_in b x
 
--- what a list over a stream read, no piece longer than the buffer, and wrote, and what it answered
+-- what a list over a stream read, no piece longer than the buffer, and wrote, and its result
 abbrev pub ListsStream : {R W : Type 0} → (R → Option (List ℕ)) → (W → Option (List ℕ)) → Built → Watched R → Watched R → Watched W → Watched W → Result (Unit {0}) StreamError → Type 0
 ListsStream remaining contents b reader_before reader_after writer_before writer_after result =
     (m : Moved) × HasMoved remaining contents reader_before reader_after writer_before writer_after m × AllFit (room_of b) m.pieces × AnswersWriting (listed_in b) (IsListedFront b) m result

@@ -134,7 +134,7 @@ Misspells hex Bad = (pairs : List (ℕ × ℕ)) → ¬ SpellsPairs hex pairs
 Misspells hex Memory = Unit {0}
 Misspells hex (Pairing e) = ⊥
 
--- ---- what is answered
+-- ---- the result
 
 -- the settings and the path are those that the matches give
 pub record AsksFor (rows : List Row) (w : Words) : Type 0 where
@@ -155,7 +155,7 @@ pub record IsTyped (rows : List Row) : Type 0 where
   pub engine : is_some (engine_of rows) ≡ true
   pub dense_depth : (text : Text) → one_of (codes "dense-depth") rows ≡ Some text → IsUnsignedIn 0 MOST_DEPTH text
 
--- what is answered where these are the matches
+-- the result where these are the matches
 abbrev pub ReadsMatches : List Row → Result Words WordsFault → Type 0
 ReadsMatches rows (Ok w) = AsksFor rows w
 ReadsMatches rows (Err fault) = Unpairs rows fault
@@ -164,7 +164,7 @@ ReadsMatches rows (Err fault) = Unpairs rows fault
 abbrev pub IsRefused : Kinds → Type 0
 IsRefused kinds = (k : ErrorKind) × IsAmong k kinds × (k ≢ kind.DisplayHelp)
 
--- What the program answers to the words. clap takes them exactly where it finds no fault with them; then the answer is
+-- What the program returns for the words. clap takes them exactly where it finds no fault with them; then the result is
 -- that of their matches. There may be too little memory for any words.
 abbrev pub Reads : List Text → Result Words WordsFault → Type 0
 Reads words (Ok w) = (fault_of command words ≡ []) × AsksFor (matches_of command words) w

@@ -24,9 +24,9 @@ pub enum RunError {
     Read(io::Error),
     /// A write failed.
     Write(io::Error),
-    /// A write was handed bytes and took none.
+    /// A write was given bytes and took none.
     WriteZero,
-    /// There was not the memory.
+    /// The run is out of memory.
     Memory,
     /// The input is longer than places can be counted.
     Position,

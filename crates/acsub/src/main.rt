@@ -25,7 +25,7 @@ use std::env;
 use std::io::{Stderr, Stdin, Stdout};
 use std::process::ExitCode;
 
-/// Hands [`tool::program`] the words and the standard streams, which their types keep apart: no contract can say which is which.
+/// Gives [`tool::program`] the words and the standard streams, which their types keep apart: no contract can say which is which.
 fn main(rt: HostRuntime) -> ExitCode {
     let mut reader: Watched<Stdin> = Watched::new(rt.stdin());
     let mut writer: Watched<Stdout> = Watched::new(rt.stdout());

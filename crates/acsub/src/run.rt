@@ -4,10 +4,10 @@
 //! writes while it reads. All that is decided is written before each read, and what is kept back is no longer than the longest
 //! pattern.
 //!
-//! Any other run holds its input. It takes all the memory that it needs before the read that finds the end. Then it searches, by
+//! Every other run holds its input. It takes all the memory that it needs before the read that finds the end. Then it searches, by
 //! packed search where the settings name it and by an automaton otherwise, and writes the text as it is found.
 //!
-//! On either road a run that is out of memory stops before anything is written. The engine and its settings change nothing of the
+//! Either way a run that is out of memory stops before anything is written. The engine and its settings change nothing of the
 //! text, which [`runs_write_alike`] states.
 ghost use Rattle.std.specs.Prelude.{◌≡◌, List, [], false, length};
 ghost use Rattle.ac_automaton.specs.Watched.{has_ended};
@@ -46,10 +46,10 @@ pub fn run<R: Read, W: Write>(
     writer: &mut Watched<W>,
 ) -> Result<(), RunError>
     requires { has_ended reader.old ≡ false }
-    // What was read and written, and by which answer: Ok has written the text of all that was read.
+    // What was read and written, and with which result: Ok has written the text of all that was read.
     ensures answered { Ran R.remaining W.contents reader.old reader.new writer.old writer.new
         settings.now rules.now result }
-    // The first bad line is answered whatever memory does, and a refusal has touched nothing.
+    // The first bad line is reported whatever memory does, and a refusal has touched nothing.
     ensures fault { Refuses settings.now rules.now
         reader.old reader.new writer.old writer.new result }
     // While the text is written, no read gives more bytes than the buffer has room for.
@@ -82,7 +82,7 @@ pub fn run_counted<R: Read, W: Write>(
     }
 }
 
-/// Two runs that answer Ok by one rule file, mode, kind and pairing, and that read the same bytes, wrote the same bytes. Neither the
+/// Two runs that return Ok by one rule file, mode, kind and pairing, and that read the same bytes, wrote the same bytes. Neither the
 /// engine nor its settings change them, nor how the reads cut the input. The function does nothing: its contract is the law.
 pub fn runs_write_alike()
     ensures { RunsWriteAlike }

@@ -1,4 +1,4 @@
-//! What tests tell a run, and readers and writers that do as they are told.
+//! What tests ask of a run, and readers and writers that follow a script.
 //!
 //! A device stops once and would then go on. So a body that tries a call again, or reads after an empty read, ends with another
 //! text and with other counts.
@@ -63,7 +63,7 @@ pub const PLAIN: Told = Told {
     byte_classes: true,
 };
 
-/// The words of a command line, as the system hands them over: the program's name, and these.
+/// The words of a command line, as the system gives them: the program's name, and these.
 pub fn command_line(alloc: Global, words: &[&str]) -> Result<Vec<String>, AllocError> {
     let mut line = Vec::new(alloc);
     line.push(String::from_str(alloc, "acsub")?)?;
@@ -177,7 +177,7 @@ impl Write for Sink<'_> {
     }
 }
 
-/// A writer that expects a text and takes all that it is handed.
+/// A writer that expects a text and takes all that it is given.
 pub fn expecting(text: &[u8]) -> Sink<'_> {
     Sink {
         left: text,

@@ -96,8 +96,8 @@ impl fmt::Display for SettingError {
 
 impl Error for SettingError {}
 
-/// Whether the settings go together, with these rules. Of several reasons against it the answer is the first, in the order of
-/// [`SettingError`].
+/// Whether the settings go together, with these rules. Of several reasons against it, the first in the order of [`SettingError`]
+/// is returned.
 pub fn check(settings: &Settings, rules: &Rules) -> Result<(), SettingError>
     ensures { Decides settings.now rules.now result }
 {

@@ -1,8 +1,8 @@
 //! The text of an input, written while the input is read.
 //!
 //! Under the standard kind a match that was found is never changed by what is read later. So all that is decided is written before
-//! the next read, and a run over a pipe answers as soon as it can. No more is held than one buffer of the input and one of the text,
-//! and both are taken before the first read.
+//! the next read, and a run over a pipe writes as soon as it can. It holds no more than one buffer of the input and one of the text,
+//! and takes both before the first read.
 ghost use Rattle.std.specs.Prelude.{◌≡◌, Err, false};
 ghost use Rattle.ac_input.specs.declared.search.Anchored.TheVariants.{No};
 ghost use Rattle.ac_automaton.specs.Moved.{NoneTouched};
@@ -81,7 +81,7 @@ pub(crate) fn stream_replaced<A: Automaton, R: Read, W: Write>(
     }
 }
 
-/// What a run answers where a search of a stream stopped, which was not refused.
+/// The error of a run whose search of a stream stopped, and was not refused.
 pub(crate) fn told(error: StreamError) -> RunError
     requires { IsNoRefusal error }
     ensures { IsToldAs error result }

@@ -1,6 +1,6 @@
 //! The whole program: words in, a status out.
 //!
-//! [`program`] takes the words as the system hands them over, and [`tool`] does the rest. It reads the words, then the rule file
+//! [`program`] takes the words as the system gives them, and [`tool`] does the rest. It reads the words, then the rule file
 //! whole, then runs over a reader and a writer, and flushes the writer. Help that is asked for is written and flushed like the text
 //! of a run.
 //!
@@ -79,7 +79,7 @@ impl fmt::Display for Fault {
     }
 }
 
-/// The program, on the words that the system hands over: the whole of `main` but the standard streams.
+/// The program, on the words that the system gives: the whole of `main` but the standard streams.
 ///
 /// Words that are no text are bad words.
 pub fn program<F: Files, R: Read, W: Write, E: Write>(
@@ -193,7 +193,7 @@ fn run_file<F: Files, R: Read, W: Write>(
     finish(ran, writer)
 }
 
-/// Shows the help, and flushes. Which text it is no contract of clap says.
+/// Shows the help, and flushes. No contract of clap says which text it is.
 fn show_help<W: Write>(
     alloc: Global,
     help: &clap::Error,

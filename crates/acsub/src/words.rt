@@ -29,6 +29,29 @@ static ENGINES: [&str; 5] = ["auto", "noncontiguous", "contiguous", "dfa", "pack
 /// The greatest number that `--dense-depth` takes.
 const MOST_DEPTH: u64 = 2147483646;
 
+/// The end of the help: what each mode writes, which match each kind takes, the form of a rule file, an example, and the statuses.
+static AFTER_HELP: &str = "\
+Modes:
+  replace  The input, with each match exchanged for its replacement
+  list     A line 'number start end' for each match: pattern and places from 0, in bytes
+  overlap  Such a line for each occurrence, overlapping ones too; needs the standard kind
+
+Kinds:
+  standard          The match that ends first
+  leftmost-first    The one that starts first, and of those the first in the rule file
+  leftmost-longest  The one that starts first, and of those the longest
+
+The rule file has a line 'hex TAB hex' for each pattern and its replacement, two hex digits a byte.
+
+Example:
+  printf '666f78\\t736c6f7468\\n' > rules.txt
+  echo 'The fox ran.' | acsub replace rules.txt    # The sloth ran.
+
+Status:
+  0 done, 2 words or settings, 3 the rule file, 4 a limit of a build, 5 a read failed,
+  6 a write or the flush failed, 7 out of memory, 8 the input is too long
+";
+
 /// What a command line asks for.
 #[derive(Clone, Copy)]
 pub struct Words<'a> {
@@ -152,9 +175,12 @@ fn command<'a>(alloc: Global) -> Result<Command<'a>, AllocError>
     ensures { IfOk result IsCommand }
 {
     let command = Command::new(alloc, "acsub")
-        .about("Replaces, or lists, what the patterns of a rule file match in the input")
-        .arg(placed(alloc, "mode", "MODE", "What to write").value_parser(MODES.as_slice()))?
-        .arg(placed(alloc, "rules", "RULES", "The rule file"))?;
+        .about("Replaces, or lists, what the patterns of a rule file match in standard input")
+        .after_help(AFTER_HELP)
+        .arg(placed(alloc, "mode", "MODE", "What to write, as below").value_parser(
+            MODES.as_slice(),
+        ))?
+        .arg(placed(alloc, "rules", "RULES", "The path of the rule file"))?;
     with_engine(alloc, with_matching(alloc, command)?)
 }
 
@@ -167,12 +193,17 @@ fn with_matching<'a>(alloc: Global, command: Command<'a>) -> Result<Command<'a>,
             alloc,
             "kind",
             "K",
-            "Which match is taken",
+            "Which of several matches is taken, as below",
             KINDS.as_slice(),
             "standard",
         ))?
         .arg(flag(alloc, "fold", "Match ASCII letters in either case"))?
-        .arg(option(alloc, "pairs", "HEX", "Bytes that match each other"))
+        .arg(option(
+            alloc,
+            "pairs",
+            "HEX",
+            "Match the two bytes of each pair, four hex digits a pair: 3031 for 0 and 1",
+        ))
 }
 
 // The command with the options that say what searches.
@@ -184,15 +215,23 @@ fn with_engine<'a>(alloc: Global, command: Command<'a>) -> Result<Command<'a>, A
             alloc,
             "engine",
             "E",
-            "What searches",
+            "What searches; no engine changes what is written",
             ENGINES.as_slice(),
             "auto",
         ))?
-        .arg(flag(alloc, "no-prefilter", "Look at each place"))?
-        .arg(option(alloc, "dense-depth", "N", "States less deep are dense").value_parser(
-            ValueParser::unsigned(0, MOST_DEPTH),
-        ))?
-        .arg(flag(alloc, "no-byte-classes", "Give each byte its own class"))
+        .arg(flag(alloc, "no-prefilter", "Search without a prefilter"))?
+        .arg(option(
+            alloc,
+            "dense-depth",
+            "N",
+            "Give states less than N bytes deep a row of transitions [default: 3 noncontiguous, 2 contiguous]",
+        )
+        .value_parser(ValueParser::unsigned(0, MOST_DEPTH)))?
+        .arg(flag(
+            alloc,
+            "no-byte-classes",
+            "Give each byte a class of its own in the tables",
+        ))
 }
 
 // What the matches ask for.

@@ -1,4 +1,4 @@
--- What an automaton of the front was built as, and what its searches answer where they can't be refused.
+-- What an automaton of the front was built as, and what its searches return where they can't be refused.
 use Rattle.std.specs.Prelude.{◌≡◌, ℕ, Bool, List, length}
 use Rattle.ac_input.specs.declared.search.Anchored.{Anchored}
 use Rattle.ac_input.specs.Dfa.{Serves}

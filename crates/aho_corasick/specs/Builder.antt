@@ -1,4 +1,4 @@
--- What a builder of the front is told.
+-- The settings of a builder of the front.
 use Rattle.std.specs.Prelude.{◌≡◌, ℕ, Bool, true, List, Option, None, Some}
 use Rattle.std.specs.Borrow.{Bor}
 use Rattle.ac_input.specs.declared.search.MatchKind.{MatchKind}

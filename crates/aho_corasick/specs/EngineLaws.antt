@@ -10,7 +10,7 @@ use Rattle.aho_corasick.specs.declared.engine.Engine.{Engine}
 use Rattle.aho_corasick.specs.declared.engine.Engine.TheVariants.{Noncontiguous, Contiguous, Dfa}
 use Rattle.aho_corasick.specs.Engine.{built_as, IsRead, matches_at, is_start_at, is_special_at}
 
--- the patterns that match at a state tell what the definitions ask of them
+-- the patterns that match at a state are those that the definitions ask for
 pub read-tells : (engine : Engine) (anchored : Anchored) (text : List ℕ) (sid : ℕ) → IsRead engine anchored text sid
     → Tells (built_as engine).dictionary anchored text (matches_at engine sid)
 read-tells (Noncontiguous nfa) anchored text sid reads = reads.tells

@@ -17,7 +17,7 @@ mod refusals;
 mod repeated;
 mod texts;
 
-/// What a run answered.
+/// What a run returned.
 #[derive(Clone, Copy, Debug, PartialEq, Eq)]
 enum Answer {
     Done,

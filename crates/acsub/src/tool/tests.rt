@@ -21,23 +21,43 @@ const LETTERS: &str = "62\t\n616263\t\n61626364\t\n";
 const SLOTH: &str = "666f78\t736c6f7468\n";
 
 const HELP: &str = "\
-Replaces, or lists, what the patterns of a rule file match in the input
+Replaces, or lists, what the patterns of a rule file match in standard input
 
 Usage: acsub [OPTIONS] <MODE> <RULES>
 
 Arguments:
-  <MODE>   What to write [possible values: replace, list, overlap]
-  <RULES>  The rule file
+  <MODE>   What to write, as below [possible values: replace, list, overlap]
+  <RULES>  The path of the rule file
 
 Options:
-      --kind <K>         Which match is taken [default: standard] [possible values: standard, leftmost-first, leftmost-longest]
+      --kind <K>         Which of several matches is taken, as below [default: standard] [possible values: standard, leftmost-first, leftmost-longest]
       --fold             Match ASCII letters in either case
-      --pairs <HEX>      Bytes that match each other
-      --engine <E>       What searches [default: auto] [possible values: auto, noncontiguous, contiguous, dfa, packed]
-      --no-prefilter     Look at each place
-      --dense-depth <N>  States less deep are dense
-      --no-byte-classes  Give each byte its own class
+      --pairs <HEX>      Match the two bytes of each pair, four hex digits a pair: 3031 for 0 and 1
+      --engine <E>       What searches; no engine changes what is written [default: auto] [possible values: auto, noncontiguous, contiguous, dfa, packed]
+      --no-prefilter     Search without a prefilter
+      --dense-depth <N>  Give states less than N bytes deep a row of transitions [default: 3 noncontiguous, 2 contiguous]
+      --no-byte-classes  Give each byte a class of its own in the tables
   -h, --help             Print help
+
+Modes:
+  replace  The input, with each match exchanged for its replacement
+  list     A line 'number start end' for each match: pattern and places from 0, in bytes
+  overlap  Such a line for each occurrence, overlapping ones too; needs the standard kind
+
+Kinds:
+  standard          The match that ends first
+  leftmost-first    The one that starts first, and of those the first in the rule file
+  leftmost-longest  The one that starts first, and of those the longest
+
+The rule file has a line 'hex TAB hex' for each pattern and its replacement, two hex digits a byte.
+
+Example:
+  printf '666f78\\t736c6f7468\\n' > rules.txt
+  echo 'The fox ran.' | acsub replace rules.txt    # The sloth ran.
+
+Status:
+  0 done, 2 words or settings, 3 the rule file, 4 a limit of a build, 5 a read failed,
+  6 a write or the flush failed, 7 out of memory, 8 the input is too long
 ";
 
 /// A command line, the rule file and the devices; and what the program does.
@@ -52,7 +72,7 @@ struct Row {
     write_fails: bool,
     can_flush: bool,
     status: u8,
-    /// What is told on the error stream.
+    /// What is written on the error stream.
     told: &'static str,
     /// What is written: so many bytes of a text, at least and at most.
     text: &'static str,
@@ -273,7 +293,7 @@ const ROWS: &[Row] = &[
         reads: 1,
         ..REPLACED
     },
-    // A flush that fails; after a fault of the run it is that fault that is told.
+    // A flush that fails; after a fault of the run that fault is reported.
     Row {
         can_flush: false,
         status: 6,
@@ -324,7 +344,7 @@ const ROWS: &[Row] = &[
 #[derive(Clone, Copy)]
 struct Did {
     status: u8,
-    /// How much of the line was told; none where something else was.
+    /// How much of the line was written; none where something else was.
     told: Option<usize>,
     /// How much of the text was written; none where something else was.
     written: Option<usize>,
@@ -413,7 +433,7 @@ fn does_what_the_words_say(rt: HostRuntime) -> Result<(), Fail> {
     Ok(())
 }
 
-/// Asserts how a fault is told, and by which status, also where it can't be told.
+/// Asserts the line and the status of a fault, and the status where the line can't be written.
 fn tells(rt: &impl Abort, fault: &Fault, status: u8, line: &str) {
     let mut errors = expecting(line.as_bytes());
     let told = (tell(fault, &mut errors), errors.written());
@@ -426,7 +446,7 @@ fn tells(rt: &impl Abort, fault: &Fault, status: u8, line: &str) {
     assert_eq!(rt; tell(fault, &mut errors), status);
 }
 
-/// The limits of a build are too far away for a test, and memory is ample: told as a run would tell them.
+/// The limits of a build are too far away for a test, and memory is ample: each is reported as a run would report it.
 #[test]
 fn tells_what_no_run_meets(rt: HostRuntime) {
     let (max, requested_max) = (2147483646, 2147483647);

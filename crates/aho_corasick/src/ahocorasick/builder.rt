@@ -1,7 +1,7 @@
 //! How an automaton is built: the settings, and the build.
 //!
 //! The settings say which of several overlapping occurrences is the match, which searches are served, and which bytes stand for one
-//! another. The others change no answer: which automaton serves, whether it has a prefilter, how its states are laid out.
+//! another. The others change no result: which automaton serves, whether it has a prefilter, how its states are laid out.
 //!
 //! A build makes a noncontiguous NFA of the patterns, and from that the automaton that serves. Where none was named it makes a DFA
 //! for few patterns and one start kind; else a contiguous NFA; and it goes on to the next only where one would be too large.
@@ -164,7 +164,7 @@ impl AhoCorasickBuilder {
     }
 
     /// Sets which automaton serves. With none, which is so at first, the builder takes a DFA for up to 100 patterns and one start
-    /// kind, else a contiguous NFA, where it isn't too large. It changes no answer.
+    /// kind, else a contiguous NFA, where it isn't too large. It changes no result.
     ///
     /// A caller: `uses::callers::front::named`.
     pub fn kind(&mut self, kind: Option<AhoCorasickKind>) -> &mut AhoCorasickBuilder
@@ -175,7 +175,7 @@ impl AhoCorasickBuilder {
         self
     }
 
-    /// Sets whether searches have a prefilter, where one serves. It changes no answer.
+    /// Sets whether searches have a prefilter, where one serves. It changes no result.
     ///
     /// A caller: `uses::callers::front::thrifty`.
     pub fn prefilter(&mut self, yes: bool) -> &mut AhoCorasickBuilder
@@ -188,7 +188,7 @@ impl AhoCorasickBuilder {
 
     /// Sets to which depth the states of either NFA keep a row: those to which fewer bytes lead. Where it isn't set, it is 3 for the
     /// noncontiguous one and 2 for the contiguous one. A row makes a look-up fast, and takes four bytes for each class of bytes. It
-    /// changes no answer.
+    /// changes no result.
     ///
     /// A caller: `uses::callers::front::thrifty`.
     pub fn dense_depth(&mut self, depth: usize) -> &mut AhoCorasickBuilder
@@ -200,7 +200,7 @@ impl AhoCorasickBuilder {
     }
 
     /// Sets whether bytes that lead alike from every state are one class, in the contiguous NFA and the DFA. Without classes a state
-    /// takes more memory, and a look-up one load less. It changes no answer.
+    /// takes more memory, and a look-up one load less. It changes no result.
     ///
     /// A caller: `uses::callers::front::thrifty`.
     pub fn byte_classes(&mut self, yes: bool) -> &mut AhoCorasickBuilder
@@ -326,8 +326,8 @@ impl AhoCorasickBuilder {
 
     /// The automaton of the patterns, which are numbered from 0 in this order.
     ///
-    /// It is refused where the patterns pass a limit of the noncontiguous NFA, where the automaton that was named would be too large,
-    /// and where memory ends; and only then.
+    /// It is refused exactly where the patterns pass a limit of the noncontiguous NFA, where the automaton that was named would be
+    /// too large, or where memory ends.
     ///
     /// A caller: `uses::callers::front::folded`.
     pub fn build(&self, alloc: Global, patterns: &[&[u8]]) -> Result<AhoCorasick, BuildError>

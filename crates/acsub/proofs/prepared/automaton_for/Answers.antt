@@ -1,4 +1,4 @@
--- The builder is handed the settings, and the rules' patterns.
+-- The builder is given the settings and the rules' patterns.
 use Rattle.std.proofs.Common.{ap, ◌∙◌, subst}
 use Rattle.std.proofs.lemmas.Result.{err_from_is_err_and}
 use Rattle.ac_literal.specs.Packed.{bytes_of}

@@ -1,4 +1,4 @@
--- The answer of the preparation, or that of the transformation.
+-- The result of the preparation, or that of the transformation.
 use Rattle.std.proofs.Common.{refl}
 use Rattle.acsub.proofs.CountLemmas.{cost_prepared, nothing_cost}
 use Rattle.acsub.proofs.RunLemmas.{nothing, HasMoved-nothing, prepared_answer, bad_line_answer, ran_prepared, buildable_prepared, unprepared_begun}

@@ -1,4 +1,4 @@
--- A run that writes while it reads answers as its road does.
+-- The result of a run that writes while it reads is that of its stream.
 use Rattle.std.proofs.Common.{refl}
 use Rattle.acsub.proofs.CountLemmas.{streamed-cost}
 use Rattle.acsub.proofs.StreamedLemmas.{streamed_answer, streamed_short}

@@ -1,4 +1,4 @@
--- Nothing was moved before the input was read, and only then something was written.
+-- Nothing was moved before the input was read, and nothing was written before its end.
 use Rattle.std.proofs.Common.{Err, Ok, ◌∙◌}
 use Rattle.std.proofs.lemmas.Result.{err_from_is_err_and}
 use Rattle.acsub.proofs.CountLemmas.{held-cost, nothing_cost, unread-cost}

@@ -360,7 +360,7 @@ fn stops_anywhere(rt: &impl Abort, alloc: Global, settings: &Settings, fewest: u
     }
 }
 
-/// Whether the text is written while the input is read or after its end, a writer is handed no byte after one that it didn't take.
+/// Whether the text is written while the input is read or after its end, a writer is given no byte after one that it didn't take.
 /// Where nothing can be written, the first four bytes are read at most, or the whole input under a leftmost kind.
 #[test]
 fn stops_where_a_write_fails(rt: HostRuntime) -> Result<(), Fail> {

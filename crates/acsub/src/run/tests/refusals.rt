@@ -127,7 +127,7 @@ fn reads_rules(rt: HostRuntime) -> Result<(), Fail> {
     Ok(())
 }
 
-/// Settings and rules, and what is answered: why they don't go together, if they don't.
+/// Settings and rules, and the result: why they don't go together, if they don't.
 struct Row {
     told: Told,
     /// The lines of the rule file, and how often they stand in it.

@@ -1,4 +1,4 @@
--- The lines are the text of a list, and an error is told as a run tells it.
+-- The lines are the text of a list, and an error becomes the one that a run returns.
 use Rattle.acsub.proofs.StreamListLemmas.{lists-streams, lists-told, streamed-can}
 use Rattle.acsub.proofs.stream.list.stream_list.Goals as goal
 

@@ -20,6 +20,8 @@ mod engines;
 #[cfg(test)]
 mod memory;
 #[cfg(test)]
+mod openings;
+#[cfg(test)]
 mod packed;
 #[cfg(test)]
 mod prefilters;

@@ -22,6 +22,8 @@ mod front;
 #[cfg(test)]
 mod memory;
 #[cfg(test)]
+mod openings;
+#[cfg(test)]
 mod packed;
 #[cfg(test)]
 mod prefilters;

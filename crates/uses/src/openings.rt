@@ -71,12 +71,12 @@ impl Case for Cuts<'_> {
 }
 
 /// Compares a search of the text, a list of all occurrences and a stream with the plain program.
-fn alike<T: Abort>(
+fn alike<'a, T: Abort>(
     rt: &T,
     alloc: Global,
-    asked: Asked<'_>,
-    text: &[u8],
-    most: &[usize],
+    asked: Asked<'a>,
+    text: &'a [u8],
+    most: &'a [usize],
 ) -> Result<(), Fail> {
     let walk = by_plain(alloc, asked, Walk, &input(&Whole(text))?)?;
     let list = by_plain(alloc, asked, List, &input(&Whole(text))?)?;

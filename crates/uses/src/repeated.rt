@@ -12,7 +12,7 @@ use std::alloc::{AllocError, Global};
 use std::process::Abort;
 use std::test::Fail;
 
-const KINDS: [MatchKind; 3] = [
+pub const KINDS: [MatchKind; 3] = [
     MatchKind::Standard,
     MatchKind::LeftmostFirst,
     MatchKind::LeftmostLongest,
@@ -83,7 +83,7 @@ const LONG: &[Long] = &[
 ];
 
 /// The runs, one after another.
-fn spelled(alloc: Global, runs: &[Run]) -> Result<Vec<u8>, AllocError> {
+pub fn spelled(alloc: Global, runs: &[Run]) -> Result<Vec<u8>, AllocError> {
     let mut text = Vec::new(alloc);
     for (letter, count) in runs {
         text.resize(text.len().saturating_add(*count), *letter)?;

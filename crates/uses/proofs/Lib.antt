@@ -6,4 +6,5 @@ pub mod PackedLemmas
 pub mod ReplaceLemmas
 pub mod StateLemmas
 pub mod StreamLemmas
+pub mod TableLemmas
 pub mod WalkLemmas

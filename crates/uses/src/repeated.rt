@@ -275,6 +275,7 @@ fn many_patterns(rt: HostRuntime) -> Result<(), Fail> {
     let standard = MatchKind::Standard;
     let places = at_each_place(alloc)?;
     growing_hold(&rt, alloc, 128, standard, Walk, &places)?;
+    growing_hold(&rt, alloc, 129, standard, Walk, &places)?;
     short_one_holds(&rt, alloc, &places)?;
     let all = all_of_128(alloc)?;
     assert_eq!(rt; all.len(), 119872);

@@ -24,10 +24,7 @@ use std::alloc::{AllocError, Global};
 // ---- the contiguous NFA
 
 /// A contiguous NFA of the patterns under the settings that a builder has at first: standard matches, byte for byte.
-pub fn contiguous_of_bytes(
-    alloc: Global,
-    patterns: &[&[u8]],
-) -> Result<contiguous::NFA, BuildError>
+pub fn contiguous_of_bytes(alloc: Global, patterns: &[&[u8]]) -> Result<contiguous::NFA, BuildError>
     ensures { IfOk result
         (λ nfa. FindsBytes (bytes_of patterns.now) (nfas.built_as nfa).dictionary) }
 {

@@ -120,22 +120,22 @@ fn add_ending(all: &mut Vec<Pick>, count: usize, end: usize) -> Result<(), Alloc
     Ok(())
 }
 
-/// The first is found at once, and then what is left of the text has a shorter one.
-const FIRST_AND_SHORTER: &[Pick] = &[(999, 501, 1501), (3, 1501, 1505)];
-
-/// Asserts what is found of a thousand patterns of one to a thousand letters, each of which ends the next one.
-fn suffixes_hold<T: Abort>(rt: &T, alloc: Global, patterns: &[&[u8]]) -> Result<(), Fail> {
+/// Asserts what is found of a thousand patterns of one to a thousand letters, each of which ends the next one. The longest is found at
+/// once, and then what is left of the text has a shorter one.
+fn suffixes_hold<'p, T: Abort>(
+    rt: &T,
+    alloc: Global,
+    patterns: &'p [&'p [u8]],
+) -> Result<(), Fail> {
+    let walked = [(999, 501, 1501), (3, 1501, 1505)];
     let text = spelled(alloc, &[(b'a', 1500), (b'b', 1), (b'a', 3), (b'b', 1)])?;
     let mut all = Vec::new(alloc);
     add_ending(&mut all, 1000, 1501)?;
     add_ending(&mut all, 4, 1505)?;
-    let rows = [
-        of_whole(Walk, &text, FIRST_AND_SHORTER),
-        of_whole(List, &text, &all),
-    ];
+    let rows = [of_whole(Walk, &text, &walked), of_whole(List, &text, &all)];
     let standard = asked(patterns, MatchKind::Standard);
     each(rt, alloc, &table_of(standard, &rows), FIRST)?;
-    let rows = [of_whole(Walk, &text, FIRST_AND_SHORTER)];
+    let rows = [of_whole(Walk, &text, &walked)];
     let longest = asked(patterns, MatchKind::LeftmostLongest);
     each(rt, alloc, &table_of(longest, &rows), FIRST)
 }
@@ -220,11 +220,11 @@ fn rows_about<'a>(
 }
 
 /// Asserts what the rows say, for each dictionary and each kind.
-fn rows_hold<T: Abort>(
+fn rows_hold<'a, T: Abort>(
     rt: &T,
     alloc: Global,
-    patterns: &[&[u8]],
-    rows: &[Row<'_>],
+    patterns: &'a [&'a [u8]],
+    rows: &'a [Row<'a>],
 ) -> Result<(), Fail> {
     for kind in KINDS {
         hold(rt, alloc, &[table_of(asked(patterns, kind), rows)], FEW)?;
@@ -241,7 +241,7 @@ fn foxes(alloc: Global) -> Result<Vec<Pick>, AllocError> {
 
 /// Asserts for each dictionary what the rows say, and what is found where each letter begins a pattern, and where nothing else but
 /// matches stands.
-fn sets_hold<T: Abort>(rt: &T, alloc: Global, rows: &[Row<'_>]) -> Result<(), Fail> {
+fn sets_hold<'a, T: Abort>(rt: &T, alloc: Global, rows: &'a [Row<'a>]) -> Result<(), Fail> {
     let begins = spelled(alloc, &[(b'f', 900)])?;
     let full: Vec<u8> = b"fox".iter().copied().cycle().take(900).collect(alloc)?;
     let foxes = foxes(alloc)?;

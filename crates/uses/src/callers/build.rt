@@ -10,7 +10,7 @@ use ac_automaton::automaton::Automaton;
 use ac_input::pairing::Pairing;
 use ac_input::search::{Input, MatchKind};
 use ac_noncontiguous::builder::Builder;
-use ac_noncontiguous::error::BuildError;
+use ac_noncontiguous::error::{BuildError, BuildErrorKind};
 use ac_noncontiguous::nfa::NFA;
 use std::alloc::{AllocError, Global};
 
@@ -66,6 +66,13 @@ pub fn occurs_in(alloc: Global, patterns: &[&[u8]], text: &[u8]) -> Result<bool,
 {
     let nfa = NFA::new(alloc, patterns)?;
     Ok(nfa.try_find(&Input::new(text)).unwrap().is_some())
+}
+
+/// Whether a build was refused because memory ended, so that it may succeed where there is more.
+pub fn may_succeed_later(error: &BuildError) -> bool
+    ensures { IsTrue result ↔ (error.now ≡ Memory) }
+{
+    matches!(error.kind(), BuildErrorKind::Memory)
 }
 
 /// The automaton once more. It finds the same.

@@ -1,8 +1,7 @@
 -- Whatever the states stand for, those of one run come by their depths.
-use Rattle.std.proofs.Common.{◌≡◌, ◌≤◌, ℕ, List, arith}
+use Rattle.std.proofs.Common.{◌≤◌, ℕ, List, arith}
 use Rattle.std.specs.Coded.{le_prop}
 use Rattle.std.proofs.Math.Logic.{∥∥₁_elim}
-use Rattle.std.proofs.lemmas.Bool.{le-leb}
 use Rattle.ac_noncontiguous.specs.ReadCalls.{depth_in, StandFor}
 use Rattle.uses.proofs.callers.nfa.is_deeper.Goals as goal
 

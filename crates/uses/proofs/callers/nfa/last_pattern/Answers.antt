@@ -1,5 +1,5 @@
 -- The patterns are within the limits, so the last one's number is.
-use Rattle.std.proofs.Common.{◌≡◌, ◌+◌, ◌≤◌, length, sym, ap, ◌∙◌, arith}
+use Rattle.std.proofs.Common.{◌+◌, ◌≤◌, length, ap, ◌∙◌, arith}
 use Rattle.std.specs.Coded.{le_prop}
 use Rattle.std.proofs.Math.Logic.{∥∥₁_elim}
 use Rattle.ac_input.specs.declared.primitives.number.TheConstants.{GREATEST}

@@ -18,6 +18,8 @@ mod devices;
 #[cfg(test)]
 mod engines;
 #[cfg(test)]
+mod hostile;
+#[cfg(test)]
 mod memory;
 #[cfg(test)]
 mod packed;

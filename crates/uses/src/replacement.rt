@@ -64,7 +64,7 @@ pub fn append<A: Automaton>(
 }
 
 /// The same among bytes.
-fn append_bytes<A: Automaton>(
+pub fn append_bytes<A: Automaton>(
     automaton: &A,
     alloc: Global,
     bytes: &[u8],

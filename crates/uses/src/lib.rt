@@ -20,7 +20,11 @@ mod engines;
 #[cfg(test)]
 mod front;
 #[cfg(test)]
+mod hostile;
+#[cfg(test)]
 mod memory;
+#[cfg(test)]
+mod openings;
 #[cfg(test)]
 mod packed;
 #[cfg(test)]

@@ -26,7 +26,7 @@ const EACH_OF_LETTERS: [Letters; 3] = [
 ];
 
 /// Letters in no order, of these.
-fn letters_of(alloc: Global, seed: u32, len: usize, of: &[u8]) -> Result<Vec<u8>, AllocError> {
+pub fn letters_of(alloc: Global, seed: u32, len: usize, of: &[u8]) -> Result<Vec<u8>, AllocError> {
     let mut letters = Vec::new(alloc);
     let mut state = seed;
     for _ in 0..len {
@@ -38,7 +38,7 @@ fn letters_of(alloc: Global, seed: u32, len: usize, of: &[u8]) -> Result<Vec<u8>
 }
 
 /// So many letters from a place on, or as many as there are.
-fn from_there(letters: &[u8], at: usize, len: usize) -> &[u8] {
+pub fn from_there(letters: &[u8], at: usize, len: usize) -> &[u8] {
     let rest = letters.get(at..).unwrap_or(&[]);
     rest.get(..len).unwrap_or(rest)
 }
@@ -210,7 +210,7 @@ const SETS: &[&[&[u8]]] = &[
 ];
 
 /// Writes the pattern into the text, from the place on.
-fn put(text: &mut [u8], place: usize, pattern: &[u8]) {
+pub fn put(text: &mut [u8], place: usize, pattern: &[u8]) {
     for (letter, there) in pattern.iter().zip(text.iter_mut().skip(place)) {
         *there = *letter;
     }

@@ -1,67 +1,142 @@
 //! What becomes of builds where memory ends. `rt try --test --fail-alloc N -- in_memory_that_may_end` refuses the Nth allocation: the call
 //! says so and makes nothing. Where none is refused, what is made is whole.
 use crate::answers::searcher;
-use crate::engines::pick;
+use crate::engines::{Asked, Case, FEW, Letters, each, pick};
 use crate::prefilters::made;
+use crate::repeated::KINDS;
 use ac_input::pairing::Pairing;
-use ac_input::search::{Input, MatchKind, Span};
+use ac_input::search::StartKind::{self, Both};
+use ac_input::search::{Anchored, Input, MatchKind, Span};
 use ac_literal::packed::{self, Builder, Searcher};
-use ac_literal::prefilter::Prefilter;
-use ac_noncontiguous::{Automaton, BuildErrorKind, NFA};
+use ac_literal::prefilter::{Prefilter, PrefilterBuilder};
+use ac_noncontiguous::{Automaton, BuildError, BuildErrorKind, NFA};
 use ac_tables::{contiguous, dfa};
 use std::alloc::Global;
 use std::process::Abort;
+use std::test::Fail;
 
 const PATTERNS: &[&[u8]] = &[b"b", b"abc", b"abcd"];
 
-/// Asserts what the automaton of the patterns finds.
-fn is_whole<T: Abort, A: Automaton>(rt: &T, automaton: &A) {
-    let found = automaton.try_find(&Input::new(b"xabcd"));
-    assert_eq!(rt; pick(found.ok().flatten()), Some((0, 2, 3)));
+/// Asserts what the automaton of the patterns finds, which has these starts.
+fn is_whole<T: Abort, A: Automaton>(rt: &T, automaton: &A, starts: StartKind) {
+    let (anchored, want) = match starts {
+        StartKind::Both | StartKind::Unanchored => (Anchored::No, (0, 1, 2)),
+        StartKind::Anchored => (Anchored::Yes, (1, 0, 3)),
+    };
+    let found = automaton.try_find(&Input::new(b"abcd").anchored(anchored));
+    assert_eq!(rt; pick(found.ok().flatten()), Some(want));
 }
 
 /// Asserts that the automaton is whole, and a copy of it if there is one.
 fn is_whole_in_copies<T: Abort>(rt: &T, alloc: Global, nfa: &NFA) {
-    is_whole(rt, nfa);
+    is_whole(rt, nfa, Both);
     if let Ok(copy) = &nfa.clone(alloc) {
-        is_whole(rt, copy);
+        is_whole(rt, copy, Both);
     }
 }
 
-/// The same of the contiguous NFA.
-fn contiguous_is_whole_in_copies<T: Abort>(rt: &T, alloc: Global, nfa: &contiguous::NFA) {
-    is_whole(rt, nfa);
-    if let Ok(copy) = &nfa.clone(alloc) {
-        is_whole(rt, copy);
+/// The same of the contiguous NFA, or that there was no memory for it.
+fn contiguous_is_whole_in_copies<T: Abort>(
+    rt: &T,
+    alloc: Global,
+    built: &Result<contiguous::NFA, BuildError>,
+) {
+    match built {
+        Ok(nfa) => {
+            is_whole(rt, nfa, Both);
+            if let Ok(copy) = &nfa.clone(alloc) {
+                is_whole(rt, copy, Both);
+            }
+        }
+        Err(error) => assert_eq!(rt; *error.kind(), BuildErrorKind::Memory),
     }
 }
 
-/// The same of the DFA.
-fn dfa_is_whole_in_copies<T: Abort>(rt: &T, alloc: Global, dfa: &dfa::DFA) {
-    is_whole(rt, dfa);
-    if let Ok(copy) = &dfa.clone(alloc) {
-        is_whole(rt, copy);
+/// The same of the DFA with these starts.
+fn dfa_is_whole_in_copies<T: Abort>(
+    rt: &T,
+    alloc: Global,
+    built: &Result<dfa::DFA, BuildError>,
+    starts: StartKind,
+) {
+    match built {
+        Ok(dfa) => {
+            is_whole(rt, dfa, starts);
+            if let Ok(copy) = &dfa.clone(alloc) {
+                is_whole(rt, copy, starts);
+            }
+        }
+        Err(error) => assert_eq!(rt; *error.kind(), BuildErrorKind::Memory),
+    }
+}
+
+/// Asserts that the tables of the automaton are whole: with classes of bytes and without, and a DFA with each of the starts.
+fn tables_are_whole<T: Abort>(rt: &T, alloc: Global, nfa: &NFA, classes: bool) {
+    let mut builder = contiguous::builder::Builder::new();
+    builder.byte_classes(classes);
+    contiguous_is_whole_in_copies(rt, alloc, &builder.build_from_noncontiguous(alloc, nfa));
+    let mut builder = dfa::builder::Builder::new();
+    builder.byte_classes(classes);
+    for starts in [Both, StartKind::Unanchored, StartKind::Anchored] {
+        builder.start_kind(starts);
+        let built = builder.build_from_noncontiguous(alloc, nfa);
+        dfa_is_whole_in_copies(rt, alloc, &built, starts);
     }
 }
 
 #[test]
 fn in_memory_that_may_end_tables(rt: HostRuntime) {
-    match &contiguous::NFA::new(rt.alloc(), PATTERNS) {
-        Ok(nfa) => contiguous_is_whole_in_copies(&rt, rt.alloc(), nfa),
-        Err(error) => assert_eq!(rt; *error.kind(), BuildErrorKind::Memory),
-    }
-    match &dfa::DFA::new(rt.alloc(), PATTERNS) {
-        Ok(dfa) => dfa_is_whole_in_copies(&rt, rt.alloc(), dfa),
+    match &NFA::new(rt.alloc(), PATTERNS) {
+        Ok(nfa) => {
+            is_whole_in_copies(&rt, rt.alloc(), nfa);
+            tables_are_whole(&rt, rt.alloc(), nfa, true);
+            tables_are_whole(&rt, rt.alloc(), nfa, false);
+        }
         Err(error) => assert_eq!(rt; *error.kind(), BuildErrorKind::Memory),
     }
 }
 
-#[test]
-fn in_memory_that_may_end_automata(rt: HostRuntime) {
-    match &NFA::new(rt.alloc(), PATTERNS) {
-        Ok(nfa) => is_whole_in_copies(&rt, rt.alloc(), nfa),
-        Err(error) => assert_eq!(rt; *error.kind(), BuildErrorKind::Memory),
+/// Automata for the patterns in both cases, of each kind, in memory that may end.
+#[derive(Drop)]
+struct Built(MatchKind);
+
+impl Case for Built {
+    fn asked(&self) -> Asked<'_> {
+        Asked {
+            patterns: PATTERNS,
+            kind: self.0,
+            letters: Letters::Folded,
+        }
     }
+
+    fn in_little_memory(&self) -> bool {
+        true
+    }
+
+    fn check<T: Abort, A: Automaton>(
+        &self,
+        rt: &T,
+        _alloc: Global,
+        automaton: &A,
+        _starts: StartKind,
+    ) -> Result<(), Fail> {
+        let want = match self.0 {
+            MatchKind::Standard => (0, 2, 3),
+            MatchKind::LeftmostFirst => (1, 1, 4),
+            MatchKind::LeftmostLongest => (2, 1, 5),
+        };
+        let found = automaton.try_find(&Input::new(b"xABCD"))?;
+        assert_eq!(rt; pick(found), Some(want));
+        Ok(())
+    }
+}
+
+#[test]
+fn in_memory_that_may_end_builds(rt: HostRuntime) -> Result<(), Fail> {
+    for kind in KINDS {
+        each(&rt, rt.alloc(), &Built(kind), FEW)?;
+    }
+    Ok(())
 }
 
 /// Asserts that a builder has all patterns; or that it was refused an extension, keeps the patterns before the refused one, and may be
@@ -104,6 +179,47 @@ fn prefilter_finds_in_copies<T: Abort>(rt: &T, alloc: Global, prefilter: &Prefil
     }
 }
 
+/// Asserts that a builder has so many patterns, and all of them if a pattern is added once more.
+fn adds<T: Abort>(rt: &T, builder: &mut Builder, pattern: &[u8], kept: usize) {
+    if builder.add(pattern).is_err() {
+        assert_eq!(rt; builder.len(), kept);
+        assert!(rt; builder.try_add(pattern).is_ok());
+    }
+    assert_eq!(rt; builder.len(), kept.saturating_add(1));
+}
+
+/// Asserts that a builder, and a copy of it, have all patterns after one call for each. Of each call only one is refused.
+fn adds_each<T: Abort>(rt: &T, builder: &mut Builder) {
+    for (kept, pattern) in PATTERNS.iter().enumerate() {
+        adds(rt, builder, *pattern, kept);
+    }
+    if let Ok(copy) = &builder.clone() {
+        assert_eq!(rt; (copy.len(), copy.minimum_len()), (3, 1));
+    }
+    assert_eq!(rt; (builder.len(), builder.minimum_len()), (3, 1));
+}
+
+/// Adds the patterns, each once more where it was refused.
+fn adds_again<T: Abort>(rt: &T, builder: &mut PrefilterBuilder) {
+    for pattern in PATTERNS {
+        if builder.add(*pattern).is_err() {
+            assert!(rt; builder.try_add(*pattern).is_ok());
+        }
+    }
+}
+
+/// Asserts that a prefilter's builder which was refused a pattern, and then takes it, builds what it builds elsewhere.
+fn prefilter_is_added<T: Abort>(rt: &T, alloc: Global) {
+    let mut builder = PrefilterBuilder::new(alloc, MatchKind::Standard);
+    adds_again(rt, &mut builder);
+    if let Ok(built) = &builder.build() {
+        assert!(rt; built.is_some());
+        if let Some(prefilter) = built {
+            prefilter_finds_in_copies(rt, alloc, prefilter);
+        }
+    }
+}
+
 /// An `Err` says that memory ended: there is no other. What was built is there, since packed search and a prefilter serve the patterns.
 #[test]
 fn in_memory_that_may_end_literals(rt: HostRuntime) {
@@ -113,6 +229,11 @@ fn in_memory_that_may_end_literals(rt: HostRuntime) {
     let mut builder = Builder::new(rt.alloc());
     let refused = builder.extend(PATTERNS).is_err();
     extends(&rt, &mut builder, refused);
+    adds_each(&rt, &mut Builder::new(rt.alloc()));
+    if let Ok(built) = &Searcher::new(rt.alloc(), PATTERNS) {
+        assert!(rt; built.is_some());
+    }
+    prefilter_is_added(&rt, rt.alloc());
     if let Ok(built) = &searcher(rt.alloc(), PATTERNS, packed::MatchKind::LeftmostLongest) {
         assert!(rt; built.is_some());
         if let Some(searcher) = built {

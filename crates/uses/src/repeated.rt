@@ -12,7 +12,7 @@ use std::alloc::{AllocError, Global};
 use std::process::Abort;
 use std::test::Fail;
 
-const KINDS: [MatchKind; 3] = [
+pub const KINDS: [MatchKind; 3] = [
     MatchKind::Standard,
     MatchKind::LeftmostFirst,
     MatchKind::LeftmostLongest,
@@ -83,7 +83,7 @@ const LONG: &[Long] = &[
 ];
 
 /// The runs, one after another.
-fn spelled(alloc: Global, runs: &[Run]) -> Result<Vec<u8>, AllocError> {
+pub fn spelled(alloc: Global, runs: &[Run]) -> Result<Vec<u8>, AllocError> {
     let mut text = Vec::new(alloc);
     for (letter, count) in runs {
         text.resize(text.len().saturating_add(*count), *letter)?;
@@ -275,6 +275,7 @@ fn many_patterns(rt: HostRuntime) -> Result<(), Fail> {
     let standard = MatchKind::Standard;
     let places = at_each_place(alloc)?;
     growing_hold(&rt, alloc, 128, standard, Walk, &places)?;
+    growing_hold(&rt, alloc, 129, standard, Walk, &places)?;
     short_one_holds(&rt, alloc, &places)?;
     let all = all_of_128(alloc)?;
     assert_eq!(rt; all.len(), 119872);

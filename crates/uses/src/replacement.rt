@@ -69,7 +69,7 @@ pub fn append<A: Automaton>(
 }
 
 /// The same among bytes.
-fn append_bytes<A: Automaton>(
+pub fn append_bytes<A: Automaton>(
     automaton: &A,
     alloc: Global,
     bytes: &[u8],
@@ -195,7 +195,7 @@ fn own_append<'a>(
         alloc,
         text,
         dst,
-        |found: &Match, _text: &str, dst: &mut String| -> Result<bool, AllocError> {
+        move |found: &Match, _text: &str, dst: &mut String| -> Result<bool, AllocError> {
             let number = found.pattern().as_usize();
             if until == Some(At::Fails(number)) {
                 return Err(AllocError);
@@ -221,7 +221,7 @@ fn own_append_bytes<'a>(
         alloc,
         bytes,
         dst,
-        |found: &Match, _bytes: &[u8], dst: &mut Vec<u8>| -> Result<bool, AllocError> {
+        move |found: &Match, _bytes: &[u8], dst: &mut Vec<u8>| -> Result<bool, AllocError> {
             let number = found.pattern().as_usize();
             if until == Some(At::Fails(number)) {
                 return Err(AllocError);

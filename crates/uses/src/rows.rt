@@ -13,8 +13,8 @@ use std::alloc::Global;
 use std::process::Abort;
 use std::test::Fail;
 
-mod bytes;
-mod empty;
+pub mod bytes;
+pub mod empty;
 pub mod inside;
 mod layouts;
 pub mod several;

@@ -4,7 +4,8 @@
 //! was appended to a text stays.
 use crate::devices::{AMPLE, Given, Outcome, Sink, Source, Tally};
 use crate::engines::{Asked, Case, FIRST, Letters, each};
-use crate::replacement::append;
+use crate::replacement::{append, append_bytes};
+use crate::stream_replacement::write_by_closure;
 use crate::streams::search_outcome;
 use ac_automaton::error::ReplaceError;
 use ac_automaton::watched::Watched;
@@ -53,6 +54,42 @@ fn replacement_outcome<A: Automaton>(
     Ok(Outcome::of(&answer))
 }
 
+/// The same by a closure.
+fn closure_outcome<A: Automaton>(
+    alloc: Global,
+    automaton: &A,
+    tally: &Tally,
+) -> Result<Outcome, AllocError> {
+    let mut reader = Watched::new(Source::new(Given::Whole(b"a fox"), 2, &[], tally));
+    let mut writer = Watched::new(Sink::new(alloc, AMPLE, tally)?);
+    let sloth: &[&[u8]] = &[b"sloth"];
+    let answer = write_by_closure(automaton, alloc, &mut reader, &mut writer, sloth, None);
+    Ok(Outcome::of(&answer))
+}
+
+/// Asserts what replacement over a stream comes to, in whole or for want of memory, and what was read and written by then.
+fn came<T: Abort>(rt: &T, outcome: Result<Outcome, AllocError>, tally: &Tally) {
+    if let Ok(outcome) = outcome {
+        let came = (outcome, tally.reads.get(), tally.written.get());
+        assert!(rt; came == (Outcome::Done, 4, 7) || came == (Outcome::Memory, 0, 0));
+    }
+}
+
+/// Asserts what is made of the bytes of a text, or that there was no memory.
+fn is_made_of_bytes<T: Abort, A: Automaton>(rt: &T, alloc: Global, automaton: &A) {
+    let text = b"A fox and a fox.";
+    let mut made = Vec::new(alloc);
+    let answer = append_bytes(automaton, alloc, text, SLOTH, None, &mut made);
+    let fronts = FRONTS.map(|it| it.as_bytes());
+    assert!(rt; fronts.contains(&made.as_slice()));
+    assert_eq!(rt; answer.is_ok(), made.as_slice() == fronts[5]);
+    assert_eq!(rt; automaton.patterns_len(), 1);
+    match automaton.try_replace_all_bytes(alloc, text, &[b"sloth"]) {
+        Ok(made) => assert_eq!(rt; made.as_slice(), fronts[5]),
+        Err(error) => assert!(rt; matches!(&error, ReplaceError::Memory)),
+    }
+}
+
 /// Asserts what is made of a text, or that there was no memory.
 fn is_made<T: Abort, A: Automaton>(rt: &T, alloc: Global, automaton: &A) {
     let text = "A fox and a fox.";
@@ -91,10 +128,10 @@ impl Case for InMemory {
         let outcome = search_outcome(alloc, automaton, &tally);
         assert!(rt; outcome == Outcome::Done || outcome == Outcome::Memory);
         assert_eq!(rt; tally.reads.get(), 0);
-        if let Ok(outcome) = replacement_outcome(alloc, automaton, &tally) {
-            let came = (outcome, tally.reads.get(), tally.written.get());
-            assert!(rt; came == (Outcome::Done, 4, 7) || came == (Outcome::Memory, 0, 0));
-        }
+        came(rt, replacement_outcome(alloc, automaton, &tally), &tally);
+        let tally = Tally::new();
+        came(rt, closure_outcome(alloc, automaton, &tally), &tally);
+        is_made_of_bytes(rt, alloc, automaton);
         is_made(rt, alloc, automaton);
         Ok(())
     }

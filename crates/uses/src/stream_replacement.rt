@@ -26,8 +26,24 @@ struct By {
     reads: usize,
 }
 
+/// How a closure fails: at a match of this pattern it writes this, and then returns this error.
+#[derive(Clone, Copy)]
+pub struct Fault {
+    at: usize,
+    after: &'static [u8],
+    outcome: Outcome,
+}
+
+/// No fault.
+const NONE: Fault = Fault {
+    at: 0,
+    after: b"",
+    outcome: Outcome::Done,
+};
+
 /// A stream in which each match is replaced, by a list, and by a closure that writes the same: what the call comes to, and what was
 /// written.
+#[derive(Clone, Copy)]
 struct Row {
     shows: &'static str,
     patterns: &'static [&'static [u8]],
@@ -38,8 +54,8 @@ struct Row {
     /// How much must have been written before each read.
     due: &'static [usize],
     room: Room,
-    /// At which pattern the closure returns an error, and which, if it is to show that.
-    closure_fails: Option<(usize, Outcome)>,
+    /// How the closure fails, if it is to show that.
+    closure_fails: Option<Fault>,
     outcome: Outcome,
     /// One of these was written.
     written: &'static [&'static [u8]],
@@ -50,18 +66,18 @@ fn is_among(text: &[u8], those: &[&[u8]]) -> bool {
     those.iter().any(|it| *it == text)
 }
 
-/// Writes the replacement of each match's pattern by a closure. At one pattern the closure may return an error.
-fn write_by_closure<A: Automaton, R: Read, W: Write>(
+/// Writes the replacement of each match's pattern by a closure, which may fail.
+pub fn write_by_closure<A: Automaton, R: Read, W: Write>(
     automaton: &A,
     alloc: Global,
     reader: &mut Watched<R>,
     writer: &mut Watched<W>,
     replacements: &[&[u8]],
-    fails: Option<(usize, Outcome)>,
+    fails: Option<Fault>,
 ) -> Result<(), StreamError>
     requires { has_ended reader.old ≡ false }
 {
-    let (at, outcome) = fails.unwrap_or((0, Outcome::Done));
+    let Fault { at, after, outcome } = fails.unwrap_or(NONE);
     automaton.try_stream_replace_all_with(
         alloc,
         reader,
@@ -69,7 +85,10 @@ fn write_by_closure<A: Automaton, R: Read, W: Write>(
         |found: &Match, _matched: &[u8], writer: &mut Watched<W>| -> Result<(), StreamError> {
             let number = found.pattern().as_usize();
             match outcome.error() {
-                Some(error) if number == at => Err(error),
+                Some(error) if number == at => {
+                    write_whole(writer, after)?;
+                    Err(error)
+                }
                 _ => write_whole(
                     writer,
                     replacements.get(number).ok_or(StreamError::Position)?,
@@ -137,7 +156,8 @@ impl Row {
                 &tally,
             )?;
             let mut reads = tally.reads.get();
-            if outcome != Outcome::Done && !matches!(outcome, Outcome::Read(_)) {
+            let last = outcome == Outcome::Done || outcome == FAILED_READ;
+            if !last {
                 reads = reads.max(by.reads);
             }
             assert_eq!(rt;
@@ -180,6 +200,9 @@ impl Case for Row {
         Ok(())
     }
 }
+
+/// What a failed read comes to.
+const FAILED_READ: Outcome = Outcome::Read(ErrorKind::Interrupted);
 
 /// Reads and writes that all succeed.
 const DONE: Row = Row {
@@ -310,7 +333,7 @@ const ROWS: &[Row] = &[
         replacements: &[b"sloth"],
         given: Given::Fails(b"The fox r", b"uns"),
         by: &[By { most: 1, reads: 10 }, By { most: 4, reads: 4 }],
-        outcome: Outcome::Read(ErrorKind::Interrupted),
+        outcome: FAILED_READ,
         written: &[b"The sloth r"],
         ..DONE
     },
@@ -320,7 +343,7 @@ const ROWS: &[Row] = &[
         replacements: &[b"sloth"],
         given: Given::Fails(b"The fo", b"x ran"),
         by: &[By { most: 1, reads: 7 }, By { most: 7, reads: 2 }],
-        outcome: Outcome::Read(ErrorKind::Interrupted),
+        outcome: FAILED_READ,
         written: &[b"The", b"The "],
         ..DONE
     },
@@ -330,7 +353,7 @@ const ROWS: &[Row] = &[
         replacements: &[b"sloth"],
         given: Given::Fails(b"The fox", b" ran"),
         by: &[By { most: 1, reads: 8 }, By { most: 2, reads: 5 }],
-        outcome: Outcome::Read(ErrorKind::Interrupted),
+        outcome: FAILED_READ,
         written: &[b"The sloth"],
         ..DONE
     },
@@ -340,7 +363,7 @@ const ROWS: &[Row] = &[
         replacements: &[b"sloth"],
         given: Given::Fails(b"", b"The fox ran"),
         by: &[By { most: 1, reads: 1 }],
-        outcome: Outcome::Read(ErrorKind::Interrupted),
+        outcome: FAILED_READ,
         written: &[b""],
         ..DONE
     },
@@ -395,23 +418,57 @@ const ROWS: &[Row] = &[
     },
     Row {
         shows: "a closure's error at the first match is returned unchanged, and what comes before the match was written",
-        closure_fails: Some((2, Outcome::Memory)),
+        closure_fails: Some(Fault {
+            at: 2,
+            outcome: Outcome::Memory,
+            ..NONE
+        }),
         outcome: Outcome::Memory,
         written: &[b"The "],
         ..FOX
     },
     Row {
         shows: "a closure's error at the second match, of a kind that a writer's would have",
-        closure_fails: Some((1, Outcome::WriteZero)),
+        closure_fails: Some(Fault {
+            at: 1,
+            outcome: Outcome::WriteZero,
+            ..NONE
+        }),
         outcome: Outcome::WriteZero,
         written: &[b"The 2 "],
         ..FOX
     },
     Row {
         shows: "a closure's error at the last match, as if the search were refused",
-        closure_fails: Some((0, Outcome::Config(MatchErrorKind::UnsupportedEmpty))),
+        closure_fails: Some(Fault {
+            at: 0,
+            outcome: Outcome::Config(MatchErrorKind::UnsupportedEmpty),
+            ..NONE
+        }),
         outcome: Outcome::Config(MatchErrorKind::UnsupportedEmpty),
         written: &[b"The 2 1 "],
+        ..FOX
+    },
+    Row {
+        shows: "a closure that writes a part and then returns an error, as if a read had failed",
+        closure_fails: Some(Fault {
+            at: 1,
+            after: b"gr",
+            outcome: Outcome::Read(ErrorKind::NotFound),
+        }),
+        outcome: Outcome::Read(ErrorKind::NotFound),
+        written: &[b"The 2 gr"],
+        ..FOX
+    },
+    Row {
+        shows: "a closure that writes a part of the last match, as if a write had failed",
+        closure_fails: Some(Fault {
+            at: 0,
+            after: b"slo",
+            outcome: Outcome::Write(ErrorKind::BrokenPipe),
+        }),
+        outcome: Outcome::Write(ErrorKind::BrokenPipe),
+        written: &[b"The 2 1 slo"],
         ..FOX
     },
 ];
@@ -442,7 +499,123 @@ const LONG: &[Row] = &[
         written: &[b"----------"],
         ..DONE
     },
+    Row {
+        shows: "reads of one byte less than the buffer, of all of it and of one byte more, with a match across its end",
+        patterns: &[b"aaaaaaa"],
+        replacements: &[b"-"],
+        given: Given::Whole(&[b'a'; 65_541]),
+        by: &[
+            By {
+                most: 65_535,
+                reads: 4,
+            },
+            By {
+                most: 65_536,
+                reads: 3,
+            },
+            By {
+                most: 65_537,
+                reads: 3,
+            },
+        ],
+        written: &[&[b'-'; 9_363]],
+        ..DONE
+    },
+    Row {
+        shows: "a buffer that the longest pattern fills eight times",
+        patterns: &[&[b'a'; 8_192]],
+        replacements: &[b"-"],
+        given: Given::Whole(&[b'a'; 73_728]),
+        by: &[
+            By {
+                most: 65_535,
+                reads: 4,
+            },
+            By {
+                most: 65_536,
+                reads: 3,
+            },
+        ],
+        written: &[b"---------"],
+        ..DONE
+    },
 ];
+
+/// A stream whose read fails after a front of the text: of no bytes, of one, and so on. One of the texts of that front was written.
+struct Stops {
+    row: Row,
+    written: &'static [&'static [&'static [u8]]],
+}
+
+impl Case for Stops {
+    fn asked(&self) -> Asked<'_> {
+        self.row.asked()
+    }
+
+    fn check<T: Abort, A: Automaton>(
+        &self,
+        rt: &T,
+        alloc: Global,
+        automaton: &A,
+        starts: StartKind,
+    ) -> Result<(), Fail> {
+        if !serves(starts, Anchored::No) {
+            return Ok(());
+        }
+        for (len, written) in self.written.iter().enumerate() {
+            stops_there(rt, alloc, automaton, &self.row, len, written)?;
+        }
+        Ok(())
+    }
+}
+
+/// Asserts what was written where the read after so many bytes fails, by one, two and seven bytes a read.
+fn stops_there<T: Abort, A: Automaton>(
+    rt: &T,
+    alloc: Global,
+    automaton: &A,
+    row: &Row,
+    len: usize,
+    written: &[&[u8]],
+) -> Result<(), Fail> {
+    let Given::Whole(text) = row.given else {
+        return Err("a whole text".into());
+    };
+    let front = text.get(..len).ok_or("a front of the text")?;
+    let given = Given::Fails(front, text.get(len..).unwrap_or(b""));
+    let stopped = Row { given, ..*row };
+    for most in [1, 2, 7] {
+        let reads = len.div_ceil(most.max(1)).saturating_add(1);
+        let by = By { most, reads };
+        stopped.writes(rt, alloc, automaton, by, AMPLE, written)?;
+    }
+    Ok(())
+}
+
+/// A fox, by all fronts of a text. Of what may begin a fox, or is one, all bytes may have been written or none, or a part.
+const STOPS: &[Stops] = &[Stops {
+    row: Row {
+        shows: "a read that fails after a front of the text",
+        patterns: &[b"fox"],
+        replacements: &[b"sloth"],
+        given: Given::Whole(b"The fox ran"),
+        outcome: FAILED_READ,
+        ..DONE
+    },
+    written: &[
+        &[b""],
+        &[b"T"],
+        &[b"Th"],
+        &[b"The"],
+        &[b"The "],
+        &[b"Th", b"The", b"The ", b"The f"],
+        &[b"The", b"The ", b"The f", b"The fo"],
+        &[b"The sloth"],
+        &[b"The sloth "],
+        &[b"The sloth r"],
+        &[b"The sloth ra"],
+    ],
+}];
 
 /// A stream that is replaced for a writer which has room for a front of the text alone: of no bytes, of one, and so on. That front is
 /// written. There are so many reads at most as the row has for each front.
@@ -493,36 +666,81 @@ const FRONTS_BY: &[By] = &[
     By { most: 1, reads: 11 },
 ];
 
+/// The same by two bytes a read, and by seven.
+const FRONTS_BY_TWO: &[By] = &[
+    By { most: 2, reads: 1 },
+    By { most: 2, reads: 1 },
+    By { most: 2, reads: 2 },
+    By { most: 2, reads: 2 },
+    By { most: 2, reads: 4 },
+    By { most: 2, reads: 4 },
+    By { most: 2, reads: 4 },
+    By { most: 2, reads: 4 },
+    By { most: 2, reads: 4 },
+    By { most: 2, reads: 4 },
+    By { most: 2, reads: 5 },
+    By { most: 2, reads: 5 },
+    By { most: 2, reads: 6 },
+];
+
+const FRONTS_BY_SEVEN: &[By] = &[
+    By { most: 7, reads: 1 },
+    By { most: 7, reads: 1 },
+    By { most: 7, reads: 1 },
+    By { most: 7, reads: 1 },
+    By { most: 7, reads: 1 },
+    By { most: 7, reads: 1 },
+    By { most: 7, reads: 1 },
+    By { most: 7, reads: 1 },
+    By { most: 7, reads: 1 },
+    By { most: 7, reads: 2 },
+    By { most: 7, reads: 2 },
+    By { most: 7, reads: 2 },
+    By { most: 7, reads: 2 },
+];
+
+/// A writer that has room for a front of the text, and then takes none.
+const TAKES_NONE: Row = Row {
+    shows: "a writer that has room for a front of the text, and then takes none",
+    patterns: &[b"fox"],
+    replacements: &[b"sloth"],
+    given: Given::Whole(b"The fox ran"),
+    by: FRONTS_BY,
+    outcome: Outcome::WriteZero,
+    written: &[b"The sloth ran"],
+    ..DONE
+};
+
+/// A writer that has room for a front of the text, and then fails.
+const FAILS: Row = Row {
+    shows: "a writer that has room for a front of the text, and then fails",
+    room: Room {
+        bytes: 0,
+        most: 20,
+        fails: true,
+    },
+    outcome: Outcome::Write(ErrorKind::Interrupted),
+    ..TAKES_NONE
+};
+
 const FRONTS: &[Fronts] = &[
+    Fronts(TAKES_NONE),
     Fronts(Row {
-        shows: "a writer that has room for a front of the text, and then takes none",
-        patterns: &[b"fox"],
-        replacements: &[b"sloth"],
-        letters: Cased,
-        given: Given::Whole(b"The fox ran"),
-        by: FRONTS_BY,
-        due: &[],
-        room: AMPLE,
-        closure_fails: None,
-        outcome: Outcome::WriteZero,
-        written: &[b"The sloth ran"],
+        by: FRONTS_BY_TWO,
+        ..TAKES_NONE
     }),
     Fronts(Row {
-        shows: "a writer that has room for a front of the text, and then fails",
-        patterns: &[b"fox"],
-        replacements: &[b"sloth"],
-        letters: Cased,
-        given: Given::Whole(b"The fox ran"),
-        by: FRONTS_BY,
-        due: &[],
-        room: Room {
-            bytes: 0,
-            most: 20,
-            fails: true,
-        },
-        closure_fails: None,
-        outcome: Outcome::Write(ErrorKind::Interrupted),
-        written: &[b"The sloth ran"],
+        by: FRONTS_BY_SEVEN,
+        ..TAKES_NONE
+    }),
+    Fronts(FAILS),
+    Fronts(Row {
+        by: FRONTS_BY_TWO,
+        ..FAILS
+    }),
+    Fronts(Row {
+        by: FRONTS_BY_SEVEN,
+        ..FAILS
     }),
 ];
 
@@ -532,5 +750,6 @@ fn written(rt: HostRuntime) -> Result<(), Fail> {
     for row in LONG {
         each(&rt, rt.alloc(), row, FIRST)?;
     }
+    all(&rt, rt.alloc(), STOPS)?;
     all(&rt, rt.alloc(), FRONTS)
 }

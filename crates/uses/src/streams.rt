@@ -39,6 +39,7 @@ fn next_pick<A: Automaton, R: Read>(
 }
 
 /// A text, by so many bytes a read, and its matches.
+#[derive(Clone, Copy)]
 struct Row {
     shows: &'static str,
     patterns: &'static [&'static [u8]],
@@ -114,6 +115,67 @@ impl Case for Row {
         for most in self.most {
             self.gives(rt, alloc, automaton, &text, *most, false)?;
             self.gives(rt, alloc, automaton, &text, *most, true)?;
+        }
+        Ok(())
+    }
+}
+
+/// The matches that end in so many bytes.
+fn ended_by(finds: &'static [Pick], len: usize) -> &'static [Pick] {
+    let mut count: usize = 0;
+    for found in finds {
+        if found.2 <= len {
+            count = count.saturating_add(1);
+        }
+    }
+    finds.get(..count).unwrap_or(&[])
+}
+
+/// A stream whose read fails after a front of the text: of no bytes, of one, and so on. The matches that end in that front are given.
+struct Stops(Row);
+
+impl Stops {
+    /// Asserts what is given where the read after so many bytes fails.
+    fn gives_by<T: Abort, A: Automaton>(
+        &self,
+        rt: &T,
+        alloc: Global,
+        automaton: &A,
+        text: &[u8],
+        len: usize,
+    ) -> Result<(), Fail> {
+        let front = text.get(..len).ok_or("a front of the text")?;
+        let row = Row {
+            fails: true,
+            finds: ended_by(self.0.finds, len),
+            ..self.0
+        };
+        for most in row.most {
+            row.gives(rt, alloc, automaton, front, *most, false)?;
+            row.gives(rt, alloc, automaton, front, *most, true)?;
+        }
+        Ok(())
+    }
+}
+
+impl Case for Stops {
+    fn asked(&self) -> Asked<'_> {
+        self.0.asked()
+    }
+
+    fn check<T: Abort, A: Automaton>(
+        &self,
+        rt: &T,
+        alloc: Global,
+        automaton: &A,
+        starts: StartKind,
+    ) -> Result<(), Fail> {
+        if !serves(starts, Anchored::No) {
+            return Ok(());
+        }
+        let text = self.0.text.concat(alloc)?;
+        for len in 0..=text.len() {
+            self.gives_by(rt, alloc, automaton, &text, len)?;
         }
         Ok(())
     }
@@ -213,6 +275,21 @@ const ROWS: &[Row] = &[
         shows: "a long beginning that never comes to a match",
         patterns: &[b"aaaaaaaaaaaaaaaaaaaab"],
         text: &[&[b'a'; 1000]],
+        ..PLAIN
+    },
+    Row {
+        shows: "nothing but matches, each of which ends where a piece ends, or lies across its end",
+        patterns: &[b"fox"],
+        text: &[b"foxfoxfoxfox"],
+        most: &[1, 2, 3, 4, 6, 12],
+        finds: &[(0, 0, 3), (0, 3, 6), (0, 6, 9), (0, 9, 12)],
+        ..PLAIN
+    },
+    Row {
+        shows: "nothing but beginnings of a match",
+        patterns: &[b"fox"],
+        text: &[&[b'f'; 500]],
+        most: &[1, 7, 500],
         ..PLAIN
     },
     Row {
@@ -396,11 +473,34 @@ const SCRIPTED: &[Row] = &[
     },
 ];
 
+/// Texts whose reader fails at each place.
+const STOPS: &[Stops] = &[
+    Stops(Row {
+        shows: "a read that fails before, within or after a match",
+        patterns: &[b"fox"],
+        text: &[b"The fox ran"],
+        after: b"x",
+        most: &[1, 2, 7],
+        finds: &[(0, 4, 7)],
+        ..PLAIN
+    }),
+    Stops(Row {
+        shows: "a read that fails about each of several matches",
+        patterns: &[b"append", b"appendage", b"app"],
+        text: &[b"append the app to the appendage"],
+        after: b"p",
+        most: &[1, 2, 7],
+        finds: &[(2, 0, 3), (2, 11, 14), (2, 22, 25)],
+        ..PLAIN
+    }),
+];
+
 #[test]
 fn streams(rt: HostRuntime) -> Result<(), Fail> {
     all(&rt, rt.alloc(), ROWS)?;
     all(&rt, rt.alloc(), STARTS)?;
     all(&rt, rt.alloc(), SCRIPTED)?;
+    all(&rt, rt.alloc(), STOPS)?;
     each(&rt, rt.alloc(), &LONG, FIRST)
 }
 

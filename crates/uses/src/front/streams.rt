@@ -57,12 +57,12 @@ enum Way {
 const NUMBERS: &[&[u8]] = &[b"0", b"1", b"2"];
 
 /// Writes the text of each match's pattern by a closure.
-fn write_numbers<R: Read, W: Write>(
+fn write_numbers<'a, R: Read, W: Write>(
     ac: &AhoCorasick,
     alloc: Global,
     reader: &mut Watched<R>,
     writer: &mut Watched<W>,
-    numbers: &[&[u8]],
+    numbers: &'a [&'a [u8]],
 ) -> Result<(), StreamError>
     requires { has_ended reader.old ≡ false }
 {
@@ -70,7 +70,7 @@ fn write_numbers<R: Read, W: Write>(
         alloc,
         reader,
         writer,
-        |found: &Match, _matched: &[u8], writer: &mut Watched<W>| -> Result<(), StreamError> {
+        move |found: &Match, _matched: &[u8], writer: &mut Watched<W>| -> Result<(), StreamError> {
             let number = found.pattern().as_usize();
             write_whole(writer, numbers.get(number).ok_or(StreamError::Position)?)
         },

@@ -265,20 +265,71 @@ fn writes_what_is_decided(rt: HostRuntime) -> Result<(), Fail> {
     Ok(())
 }
 
-/// Under a leftmost kind nothing is written before the input has ended, wherever a read fails.
+/// A run that holds its input before it writes: what it is told, its rules and what serves it.
+struct Held {
+    told: Told,
+    rules: &'static str,
+    engines: &'static [Engine],
+}
+
+/// Under a leftmost kind, for all that overlap, and where a pattern is empty.
+const HELD: &[Held] = &[
+    Held {
+        told: Told {
+            kind: MatchKind::LeftmostFirst,
+            ..PLAIN
+        },
+        rules: SLOTH,
+        engines: ENGINES,
+    },
+    Held {
+        told: Told {
+            kind: MatchKind::LeftmostLongest,
+            ..PLAIN
+        },
+        rules: SLOTH,
+        engines: ENGINES,
+    },
+    Held {
+        told: Told {
+            mode: Overlap,
+            ..PLAIN
+        },
+        rules: SLOTH,
+        engines: AUTOMATA,
+    },
+    Held {
+        told: PLAIN,
+        rules: "666f78\t736c6f7468\n\t2d\n",
+        engines: AUTOMATA,
+    },
+    Held {
+        told: LISTING,
+        rules: "\t2d\n",
+        engines: AUTOMATA,
+    },
+];
+
+/// Asserts that nothing was written, wherever a read fails.
+fn holds_all(rt: &impl Abort, alloc: Global, held: &Held) -> Result<(), Fail> {
+    for read in 0..=FOX.len() {
+        let row = Row {
+            told: held.told,
+            engines: held.engines,
+            rules: held.rules,
+            input: &FOX[..read],
+            lengths: &[0],
+            ..FAILS
+        };
+        stops_by_each(rt, alloc, &row)?;
+    }
+    Ok(())
+}
+
 #[test]
 fn writes_nothing_before_the_end(rt: HostRuntime) -> Result<(), Fail> {
-    for kind in [MatchKind::LeftmostFirst, MatchKind::LeftmostLongest] {
-        for read in 0..=FOX.len() {
-            let row = Row {
-                told: Told { kind, ..PLAIN },
-                engines: ENGINES,
-                input: &FOX[..read],
-                lengths: &[0],
-                ..FAILS
-            };
-            stops_by_each(&rt, rt.alloc(), &row)?;
-        }
+    for held in HELD {
+        holds_all(&rt, rt.alloc(), held)?;
     }
     Ok(())
 }

@@ -57,12 +57,11 @@ enum Way {
 const NUMBERS: &[&[u8]] = &[b"0", b"1", b"2"];
 
 /// Writes the text of each match's pattern by a closure.
-fn write_numbers<'a, R: Read, W: Write>(
+fn write_numbers<R: Read, W: Write>(
     ac: &AhoCorasick,
     alloc: Global,
     reader: &mut Watched<R>,
     writer: &mut Watched<W>,
-    numbers: &'a [&'a [u8]],
 ) -> Result<(), StreamError>
     requires { has_ended reader.old ≡ false }
 {
@@ -70,9 +69,9 @@ fn write_numbers<'a, R: Read, W: Write>(
         alloc,
         reader,
         writer,
-        move |found: &Match, _matched: &[u8], writer: &mut Watched<W>| -> Result<(), StreamError> {
+        |found: &Match, _matched: &[u8], writer: &mut Watched<W>| -> Result<(), StreamError> {
             let number = found.pattern().as_usize();
-            write_whole(writer, numbers.get(number).ok_or(StreamError::Position)?)
+            write_whole(writer, NUMBERS.get(number).ok_or(StreamError::Position)?)
         },
     )
 }
@@ -98,7 +97,7 @@ fn replaces(
             let mut steps = Steps::new();
             ac.try_stream_replace_all_counted(alloc, &mut reader, &mut writer, list, &mut steps)
         }
-        Way::Closure => write_numbers(ac, alloc, &mut reader, &mut writer, NUMBERS),
+        Way::Closure => write_numbers(ac, alloc, &mut reader, &mut writer),
     };
     Ok((Outcome::of(&answer), writer.into_inner().taken))
 }

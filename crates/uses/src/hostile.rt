@@ -5,11 +5,15 @@
 use crate::answers::Asks::{self, List, Walk};
 use crate::answers::Text::{Part, Whole};
 use crate::compared::{from_there, letters_of, put};
+use crate::engines::Alphabet::Classes;
+use crate::engines::Engine::{self, Contiguous, Dfa, Noncontiguous};
 use crate::engines::Letters::Cased;
+use crate::engines::Prefiltering::Off;
 use crate::engines::{Asked, FEW, FIRST, Pick, each};
 use crate::repeated::{KINDS, spelled};
 use crate::rows::{Row, hold, table_of};
 use ac_input::search::MatchKind;
+use ac_input::search::StartKind::Unanchored;
 use std::alloc::{AllocError, Global};
 use std::process::Abort;
 use std::test::Fail;
@@ -90,6 +94,13 @@ fn pairs_at_each_place(alloc: Global, text: &[u8]) -> Result<Vec<Pick>, AllocErr
         .collect(alloc)
 }
 
+/// The automata of many patterns: each as it is built fastest.
+const OF_MANY: &[Engine] = &[
+    Noncontiguous(Off, 1),
+    Contiguous(Off, 1, Classes),
+    Dfa(Off, Classes, Unanchored),
+];
+
 /// Each of the 65,536 pairs is a pattern.
 fn all_pairs_hold<T: Abort>(rt: &T, alloc: Global, bytes: &[u8]) -> Result<(), Fail> {
     let pairs = all_pairs(alloc)?;
@@ -102,7 +113,7 @@ fn all_pairs_hold<T: Abort>(rt: &T, alloc: Global, bytes: &[u8]) -> Result<(), F
         of_whole(List, &text, &at_each),
     ];
     let standard = asked(&patterns, MatchKind::Standard);
-    each(rt, alloc, &table_of(standard, &rows), FIRST)
+    each(rt, alloc, &table_of(standard, &rows), OF_MANY)
 }
 
 #[test]
@@ -140,13 +151,13 @@ fn suffixes_hold<'p, T: Abort>(
     each(rt, alloc, &table_of(longest, &rows), FIRST)
 }
 
-#[test]
-fn a_thousand_suffixes(rt: HostRuntime) -> Result<(), Fail> {
-    let word = spelled(rt.alloc(), &[(b'a', 999), (b'b', 1)])?;
+/// The same, with the patterns made.
+fn thousand_hold<T: Abort>(rt: &T, alloc: Global) -> Result<(), Fail> {
+    let word = spelled(alloc, &[(b'a', 999), (b'b', 1)])?;
     let patterns: Vec<&[u8]> = (0..1000usize)
         .map(|shorter| from_there(&word, 999 - shorter, 1000))
-        .collect(rt.alloc())?;
-    suffixes_hold(&rt, rt.alloc(), &patterns)
+        .collect(alloc)?;
+    suffixes_hold(rt, alloc, &patterns)
 }
 
 /// How many letters a text has before the end of its one match: about the ends of blocks of 16, 32, 64 and 128 bytes.
@@ -239,22 +250,32 @@ fn foxes(alloc: Global) -> Result<Vec<Pick>, AllocError> {
         .collect(alloc)
 }
 
+/// A text of nothing but foxes.
+fn nothing_else(alloc: Global) -> Result<Vec<u8>, AllocError> {
+    let mut text = Vec::new(alloc);
+    for _ in 0..300 {
+        text.extend_from_slice(b"fox")?;
+    }
+    Ok(text)
+}
+
 /// Asserts for each dictionary what the rows say, and what is found where each letter begins a pattern, and where nothing else but
 /// matches stands.
 fn sets_hold<'a, T: Abort>(rt: &T, alloc: Global, rows: &'a [Row<'a>]) -> Result<(), Fail> {
     let begins = spelled(alloc, &[(b'f', 900)])?;
-    let full: Vec<u8> = b"fox".iter().copied().cycle().take(900).collect(alloc)?;
+    let full = nothing_else(alloc)?;
     let foxes = foxes(alloc)?;
     let whole = [of_whole(Walk, &begins, &[]), of_whole(Walk, &full, &foxes)];
     for patterns in SETS {
-        rows_hold(rt, alloc, patterns, rows)?;
+        rows_hold(rt, alloc, patterns, &*rows)?;
         rows_hold(rt, alloc, patterns, &whole)?;
     }
     Ok(())
 }
 
 #[test]
-fn ends_beginnings_and_matches(rt: HostRuntime) -> Result<(), Fail> {
+fn suffixes_ends_and_beginnings(rt: HostRuntime) -> Result<(), Fail> {
+    thousand_hold(&rt, rt.alloc())?;
     let texts = texts(rt.alloc())?;
     let found = foxes_to(rt.alloc())?;
     let rows = rows_about(rt.alloc(), &texts, &found)?;

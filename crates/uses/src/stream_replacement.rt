@@ -585,7 +585,7 @@ fn stops_there<T: Abort, A: Automaton>(
     let given = Given::Fails(front, text.get(len..).unwrap_or(b""));
     let stopped = Row { given, ..*row };
     for most in [1, 2, 7] {
-        let reads = len.div_ceil(most).saturating_add(1);
+        let reads = len.div_ceil(most.max(1)).saturating_add(1);
         let by = By { most, reads };
         stopped.writes(rt, alloc, automaton, by, AMPLE, written)?;
     }

@@ -20,7 +20,7 @@ use std::process::Abort;
 use std::test::Fail;
 
 /// The next match of a stream; or where that is asked, the next one that is held, and after the last of these the next one.
-fn next_pick<A: Automaton, R: Read>(
+pub fn next_pick<A: Automaton, R: Read>(
     matches: &mut StreamFindIter<'_, A, R>,
     held: bool,
 ) -> Result<Option<Pick>, Outcome> {

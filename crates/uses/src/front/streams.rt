@@ -5,17 +5,17 @@ ghost use Rattle.ac_automaton.specs.Watched.{has_ended};
 ghost use Rattle.aho_corasick.specs.AhoCorasick.{built_as, supported_by};
 
 use super::{OwnCase, each_own};
-use crate::answers::same;
 use crate::callers::front::{can_list, serves};
 use crate::devices::{AMPLE, Given, Outcome, Sink, Source, Tally};
 use crate::engines::Letters::{Cased, Folded};
-use crate::engines::{Asked, Letters, Pick, pick};
+use crate::engines::{Asked, Letters, Pick};
+use crate::streams::next_pick;
 use ac_input::search::{Anchored, Match, MatchKind, StartKind};
 use ac_input::steps::Steps;
 use aho_corasick::{
     AhoCorasick, MatchErrorKind, StreamError, StreamFindIter, Watched, write_whole,
 };
-use std::alloc::{AllocError, Global};
+use std::alloc::Global;
 use std::io::{Read, Write};
 use std::process::Abort;
 use std::test::Fail;
@@ -31,18 +31,12 @@ struct Row {
     numbered: &'static [u8],
 }
 
-/// The matches that are left to come of a stream.
-fn rest<R: Read>(
-    alloc: Global,
-    matches: &mut StreamFindIter<'_, R>,
-) -> Result<Vec<Pick>, StreamError> {
-    let mut picks = Vec::new(alloc);
-    while let Some(found) = matches.next() {
-        if let Some(found) = pick(Some(found?)) {
-            picks.push(found).map_err(AllocError::from)?;
-        }
+/// Asserts the matches that are left to come of a stream.
+fn are_left<T: Abort, R: Read>(rt: &T, matches: &mut StreamFindIter<'_, R>, want: &[Pick]) {
+    for want in want {
+        assert_eq!(rt; next_pick(matches, false), Ok(Some(*want)));
     }
-    Ok(picks)
+    assert_eq!(rt; next_pick(matches, false), Ok(None));
 }
 
 /// Which call replaces.
@@ -115,11 +109,13 @@ fn is_found<T: Abort>(
     let tally = Tally::new();
     let given = Given::Whole(row.text);
     let mut reader = Watched::new(Source::new(given, most, &[], &tally));
-    let found = rest(alloc, &mut ac.stream_find_iter(alloc, &mut reader)?)?;
-    same(rt, &found, row.finds, "found in a stream");
+    are_left(rt, &mut ac.stream_find_iter(alloc, &mut reader)?, row.finds);
     let mut reader = Watched::new(Source::new(given, most, &[], &tally));
-    let found = rest(alloc, &mut ac.try_stream_find_iter(alloc, &mut reader)?)?;
-    same(rt, &found, row.finds, "found in a stream");
+    are_left(
+        rt,
+        &mut ac.try_stream_find_iter(alloc, &mut reader)?,
+        row.finds,
+    );
     Ok(())
 }
 

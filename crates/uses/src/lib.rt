@@ -24,8 +24,6 @@ mod hostile;
 #[cfg(test)]
 mod memory;
 #[cfg(test)]
-mod openings;
-#[cfg(test)]
 mod packed;
 #[cfg(test)]
 mod prefilters;

@@ -18,7 +18,8 @@ use Rattle.ac_automaton.specs.declared.starters.Starters.TheVariants.{Many}
 use Rattle.ac_automaton.specs.declared.automaton.Advance.{Advance}
 use Rattle.ac_automaton.specs.Automaton.{Built, IsReached, Leads, Advances}
 use Rattle.ac_automaton.specs.Named.{Naming, AllNames, IsReachedBy, IsReadBy, IsIdleBy}
-use Rattle.ac_automaton.specs.Starters.{is_starter, AddsStarter, SkipsBelow, SkipsIdle, PassesIdle}
+use Rattle.ac_automaton.specs.ReadOn.{StaysBut}
+use Rattle.ac_automaton.specs.Starters.{is_starter, AddsStarter, SkipsBelow, SkipsIdle}
 use Rattle.ac_automaton.proofs.CursorLemmas.{HasAdvanced, lookups-join, take-more, reached-on}
 use Rattle.ac_automaton.proofs.NamedLemmas.{named-next, read-from, cost-looks}
 
@@ -40,27 +41,16 @@ skips-idle Idle limit starters skips idle = λ byte lt none.
 pub skips-many : (Idle : ℕ → Type 0) (limit : ℕ) → SkipsBelow Idle limit Many
 skips-many Idle limit = λ byte lt none. absurd (false≢true (sym none))
 
--- ---- a run of idle bytes
+-- ---- idle bytes
 
--- it leads from the start to itself, of whatever text was read before
-run-reached : (m : Dictionary) (Fits : Naming → Type 0) (matches : ℕ → List ℕ) (start : ℕ) (anchored : Bool) (text bytes : List ℕ) (k : ℕ) → IsOwnInverse m.pairing → k ≤ length bytes → ((j : ℕ) → j < k → IsIdleBy m Fits matches start (slice_index bytes j)) → IsReachedBy m Fits anchored text start → IsReachedBy m Fits anchored (text ++ take k bytes) start
-run-reached m Fits matches start anchored text bytes zero inverse fits idle h = subst (λ (l : List ℕ). IsReachedBy m Fits anchored l start) (sym (append-nil text)) h
-run-reached m Fits matches start anchored text bytes (suc k) inverse fits idle h =
-    let before = run-reached m Fits matches start anchored text bytes k inverse (omega (arith, fits)) (λ j lt. idle j (omega (arith, lt))) h in
-    let byte = slice_index bytes k in
-    let here = idle k (omega arith) in
-    let more : take (suc k) bytes ≡ take k bytes ++ byte ∷ [] = take-more bytes k byte (slice_get-get_or bytes k 0 (omega (arith, fits))) in
-    let whole : (text ++ take k bytes) ++ byte ∷ [] ≡ text ++ take (suc k) bytes = append_assoc text (take k bytes) (byte ∷ []) ∙ ap (λ (l : List ℕ). text ++ l) (sym more) in
-    subst (λ (l : List ℕ). IsReachedBy m Fits anchored l start) whole
-    (∥∥₁_map before (λ w. (w.0, w.1, named-next m w.0 anchored (text ++ take k bytes) start byte start inverse (here.stays anchored w.0 w.1 w.2.met) w.2)))
+-- each of them leads from the start to itself, of whatever text was read before
+pub idle-stays : (b : Built) (Fits : Naming → Type 0) (matches : ℕ → List ℕ) (starts special : ℕ → Bool) (start : ℕ) (starters : Starters) (anchored : Anchored) → AllNames b Fits matches starts special → ∥ SkipsIdle (IsIdleBy b.dictionary Fits matches start) starters ∥₁ → StaysBut (IsReadBy b Fits matches starts special anchored) starters start
+idle-stays b Fits matches starts special start starters anchored all skips = λ byte small none text reads.
+    let a = is_anchored anchored in
+    read-from b Fits matches starts special anchored (text ++ byte ∷ []) start all
+    (∥∥₁_elim skips ∥∥₁_prop (λ s. ∥∥₁_map reads.reached (λ w. (w.0, w.1, named-next b.dictionary w.0 a text start byte start reads.inverse ((s byte small none).stays a w.0 w.1 w.2.met) w.2))))
 
--- so it is read
-pub run-reads : (b : Built) (Fits : Naming → Type 0) (matches : ℕ → List ℕ) (starts special : ℕ → Bool) (start : ℕ) (starters : Starters) (anchored : Anchored) (bytes : List ℕ) (k : ℕ) → AllNames b Fits matches starts special → ∥ SkipsIdle (IsIdleBy b.dictionary Fits matches start) starters ∥₁ → ((j : ℕ) → slice_index bytes j < 256) → k ≤ length bytes → ((j : ℕ) → j < k → is_starter starters (slice_index bytes j) ≡ false) → Leads (IsReadBy b Fits matches starts special anchored) start (take k bytes) start
-run-reads b Fits matches starts special start starters anchored bytes k all skips small fits idle = λ text reads.
-    read-from b Fits matches starts special anchored (text ++ take k bytes) start all
-    (∥∥₁_elim skips ∥∥₁_prop (λ s. run-reached b.dictionary Fits matches start (is_anchored anchored) text bytes k reads.inverse fits (λ j lt. s (slice_index bytes j) (small j) (idle j lt)) reads.reached))
-
--- ---- reading on over it
+-- ---- reading on over them
 
 -- the front of a list, and the front of what follows
 pub take-both : (n k : ℕ) (xs : List ℕ) → take (n + k) xs ≡ take n xs ++ take k (drop n xs)
@@ -114,7 +104,7 @@ advanced-run b Reaches anchored stops sid bytes n k current s t u fits apart liv
     further j le = λ text reads. subst (λ (l : List ℕ). Reaches anchored l current) (joined text j) (leads j le (text ++ take n bytes) (has.reads text reads))
 
 -- the same, where nothing was done since
-advanced-same : (b : Built) (Reaches : Anchored → List ℕ → StateID → Type 0) (anchored : Anchored) (stops : StateID → Bool) (sid current : StateID) (bytes : List ℕ) (n : ℕ) (s t u : Steps) → Done 0 0 0 t u
+pub advanced-same : (b : Built) (Reaches : Anchored → List ℕ → StateID → Type 0) (anchored : Anchored) (stops : StateID → Bool) (sid current : StateID) (bytes : List ℕ) (n : ℕ) (s t u : Steps) → Done 0 0 0 t u
     → HasAdvanced b Reaches anchored stops sid bytes n current s t → HasAdvanced b Reaches anchored stops sid bytes n current s u
 advanced-same b Reaches anchored stops sid current bytes n s t u none has =
     record {
@@ -131,31 +121,6 @@ advanced-same b Reaches anchored stops sid current bytes n s t u none has =
             moved = omega (arith, none.moved, first.moved);
           };
     }
-
--- Reading on over what is passed over. A search doesn't stop at a start that matches nothing. By which namings the automaton is laid
--- out may differ from one anchoring to the other.
-pub pass-advanced : (b : Built) (Fits : Anchored → Naming → Type 0) (matches : ℕ → List ℕ) (starts special stops : ℕ → Bool) (start : ℕ) (starters : Starters) (anchored : Anchored) (sid current : ℕ) (bytes rest : List ℕ) (n passed : ℕ) (s t u : Steps)
-    → AllNames b (Fits anchored) matches starts special → ∥ SkipsIdle (IsIdleBy b.dictionary (Fits anchored) matches start) starters ∥₁ → (matches start ≡ [] → ¬ IsTrue (stops start))
-    → ((k : ℕ) → slice_index bytes k < 256) → rest ≡ drop n bytes → n ≤ length bytes → PassesIdle starters start current rest passed t u
-    → HasAdvanced b (λ (a : Anchored). IsReadBy b (Fits a) matches starts special a) anchored stops sid bytes n current s t
-    → (n + passed ≤ length bytes) × HasAdvanced b (λ (a : Anchored). IsReadBy b (Fits a) matches starts special a) anchored stops sid bytes (n + passed) current s u
-pass-advanced b Fits matches starts special stops start starters anchored sid current bytes rest n zero s t u all skips apart small is within passes has =
-    let e : n ≡ n + zero = omega arith in
-    let R = λ (a : Anchored). IsReadBy b (Fits a) matches starts special a in
-    (omega (arith, within), subst (λ (i : ℕ). HasAdvanced b R anchored stops sid bytes i current s u) e (advanced-same b R anchored stops sid current bytes n s t u passes.counted has))
-pass-advanced b Fits matches starts special stops start starters anchored sid current bytes rest n (suc k) s t u all skips apart small is within passes has =
-    let R = λ (a : Anchored). IsReadBy b (Fits a) matches starts special a in
-    let at : current ≡ start = passes.at (omega arith) in
-    let inside = passes.within in
-    let fits : n + suc k ≤ length bytes = let left = ap length is in let all_left = length-drop n bytes in omega (arith, inside, left, all_left, within) in
-    let fit : (j : ℕ) → slice_index rest j < 256 = λ j. let same : slice_index rest j ≡ slice_index bytes (n + j) = ap (λ (l : List ℕ). slice_index l j) is ∙ get_or-drop n bytes j 0 in subst (λ (v : ℕ). v < 256) (sym same) (small (n + j)) in
-    let quiet : ¬ IsTrue (stops start) = λ e. ∥∥₁_elim skips (λ x y. absurd x) (λ idle. apart (idle (slice_index rest 0) (fit 0) (passes.idle 0 (omega arith))).plain e) in
-    let there = subst (λ (c : ℕ). HasAdvanced b R anchored stops sid bytes n c s t) at has in
-    let run = advanced-run b R anchored stops sid bytes n (suc k) start s t u fits quiet (λ text reads. reads.lives)
-    (λ j le. subst (λ (l : List ℕ). Leads (R anchored) start (take j l) start) is
-    (run-reads b (Fits anchored) matches starts special start starters anchored rest j all skips fit (omega (arith, le, inside)) (λ i lt. passes.idle i (omega (arith, lt, le)))))
-    passes.counted there in
-    (fits, subst (λ (c : ℕ). HasAdvanced b R anchored stops sid bytes (n + suc k) c s u) (sym at) run)
 
 -- ---- where it stops
 

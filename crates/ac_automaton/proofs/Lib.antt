@@ -1,5 +1,6 @@
 pub mod CursorLemmas
 pub mod FindLemmas
+pub mod ReadOnLemmas
 pub mod WriteWholeLoop
 pub mod ToldLemmas
 pub mod TakenLemmas

@@ -20,7 +20,8 @@ use Rattle.ac_automaton.specs.Automaton.{Built, Leads, IsReadCost}
 use Rattle.ac_literal.specs.declared.openings.Openings.{Openings}
 use Rattle.ac_automaton.specs.declared.automaton.Advance.{Advance}
 use Rattle.ac_automaton.specs.declared.look.LookUp.{Ghosts}
-use Rattle.ac_automaton.specs.Passing.{is_between, HasPassed, MayPass, MaySkipBy}
+use Rattle.ac_automaton.specs.ReadOn.{is_between}
+use Rattle.ac_automaton.specs.Passing.{HasPassed, MayPass, MaySkipBy}
 use Rattle.ac_automaton.proofs.CursorLemmas.{HasAdvanced, lookups-join}
 use Rattle.ac_automaton.proofs.IdleLemmas.{take-both}
 

@@ -14,6 +14,7 @@ pub use Rattle.ac_input.specs.LiveLaws
 pub use Rattle.ac_input.specs.Steps
 pub use Rattle.ac_input.specs.Input
 pub use Rattle.ac_input.specs.Work
+pub mod ReadOn
 pub mod Watched
 pub mod Errors
 pub mod Automaton

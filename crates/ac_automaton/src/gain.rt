@@ -56,18 +56,14 @@ impl Gain {
         Some(at.saturating_add(self.stretch))
     }
 
-    /// Whether they are asked at a place.
+    /// For how many bytes from a place on the search goes on without them; 0 where it asks them there.
     #[inline(always)]
-    pub(crate) fn pays(&mut self, at: usize) -> bool {
-        if at < self.until {
-            return false;
-        }
-        match self.leaves(at) {
-            Some(until) => {
+    pub(crate) fn alone(&mut self, at: usize) -> usize {
+        if self.until <= at {
+            if let Some(until) = self.leaves(at) {
                 self.until = until;
-                false
             }
-            None => true,
         }
+        self.until.saturating_sub(at)
     }
 }

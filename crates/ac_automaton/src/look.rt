@@ -1,21 +1,35 @@
-//! One look-up, apart from the searches.
+//! Look-ups, apart from the searches.
 //!
-//! A search that skips needs no more of an automaton than where a byte leads. An automaton that skips in its own `advance` says that
+//! A search that skips needs no more of an automaton than where bytes lead. An automaton that skips in its own `advance` says that
 //! here, so that its searches and the skip don't call each other.
+ghost use Rattle.std.specs.Prelude.{◌≡◌};
+ghost use Rattle.ac_automaton.specs.ReadOn.{is_between};
+
+use crate::automaton::Advance;
 use ac_input::primitives::StateID;
+use ac_input::search::Anchored;
 use ac_input::steps::Steps;
 
-/// One look-up of an unanchored search: all that a search that skips asks of an automaton.
+/// Whether the state is between two numbers, these included.
+#[inline(always)]
+pub fn is_between(first: u32, last: u32, sid: StateID) -> bool
+    ensures { result ≡ is_between first last sid }
+{
+    let at = sid.as_u32();
+    first <= at && at <= last
+}
+
+/// The look-ups of a search: all that a search that skips asks of an automaton.
 pub trait LookUp {
     ghost use Rattle.std.specs.Prelude.{ℕ, List, [], ◌∷◌, Option};
     ghost use Rattle.ac_input.specs.declared.search.Anchored.{Anchored};
-    ghost use Rattle.ac_input.specs.declared.search.Anchored.TheVariants.{No};
     ghost use Rattle.ac_input.specs.Number.{StateID};
     ghost use Rattle.ac_input.specs.Input.{is_anchored};
     ghost use Rattle.ac_input.specs.LiveLaws.{IsOwnInverse};
     ghost use Rattle.ac_input.specs.Dictionary.{IsLive};
     ghost use Rattle.ac_input.specs.Tells.{Tells};
     ghost use Rattle.ac_automaton.specs.Automaton.{Built, IsReached, Leads, IsReadCost};
+    ghost use Rattle.ac_automaton.specs.ReadOn.{ReadsTo};
 
     /// What the automaton was built as.
     ghost built: { Self → Built };
@@ -26,12 +40,47 @@ pub trait LookUp {
     /// The patterns that match at a state, in order.
     ghost matches: { Self → StateID → List ℕ };
 
-    /// The state after one more byte; and counts the states that it looks at.
-    fn look_up(&self, sid: StateID, byte: u8, steps: &mut Steps) -> StateID
-        requires { IsReached (Reaches self.now No) sid }
-        ensures next { Leads (Reaches self.now No) sid (byte ∷ []) result }
-        ensures cost { IsReadCost (built self.now) (Reaches self.now) No sid (byte ∷ [])
+    /// The state after one more byte, where the search began with this anchoring; and counts the states that it looks at.
+    fn look_up(&self, anchored: Anchored, sid: StateID, byte: u8, steps: &mut Steps) -> StateID
+        requires { IsReached (Reaches self.now anchored) sid }
+        ensures next { Leads (Reaches self.now anchored) sid (byte ∷ []) result }
+        ensures cost { IsReadCost (built self.now) (Reaches self.now) anchored sid (byte ∷ [])
             steps.old steps.new };
+
+    /// Reads on to the first state between two numbers, these included, or to the last byte. It takes a byte at least, where there
+    /// is one; and counts the states that it looks at.
+    ///
+    /// This is the loop in which a search spends its time. It looks up one byte after another; an automaton with a faster way has its
+    /// own.
+    #[inline(always)]
+    fn read_on(
+        &self,
+        anchored: Anchored,
+        sid: StateID,
+        bytes: &[u8],
+        first: u32,
+        last: u32,
+        steps: &mut Steps,
+    ) -> Advance
+        requires { IsReached (Reaches self.now anchored) sid }
+        ensures { ReadsTo (built self.now) (Reaches self.now) anchored first last sid bytes.now
+            result steps.old steps.new }
+    {
+        let mut current = sid;
+        for (read, byte) in bytes.iter().enumerate() {
+            current = self.look_up(anchored, current, *byte, steps);
+            if is_between(first, last, current) {
+                return Advance {
+                    sid: current,
+                    taken: read + 1,
+                };
+            }
+        }
+        Advance {
+            sid: current,
+            taken: bytes.len(),
+        }
+    }
 
     /// What the list of a state says of the bytes that were read.
     ghost tells: { (self : Self) (anchored : Anchored) (text : List ℕ) (sid : StateID)

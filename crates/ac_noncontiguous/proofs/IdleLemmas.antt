@@ -4,23 +4,22 @@ use Rattle.std.specs.Prelude.{nat_le, slice_index}
 use Rattle.std.proofs.Math.Logic.{∥∥₁_map}
 use Rattle.std.proofs.lemmas.Bool.{and_parts, and_from, leb-true, le-leb}
 use Rattle.ac_input.specs.declared.search.Anchored.{Anchored}
-use Rattle.ac_input.specs.declared.steps.Steps.{Steps}
 use Rattle.ac_input.specs.Dictionary.{Dictionary}
 use Rattle.ac_input.proofs.SameLemmas.{own_inverse-pairing}
 use Rattle.ac_automaton.specs.Automaton.{IsReached, Advances, is_matching}
 use Rattle.ac_automaton.specs.declared.automaton.Advance.{Advance}
 use Rattle.ac_automaton.specs.Named.{IsIdleBy}
-use Rattle.ac_automaton.specs.Starters.{PassesIdle}
-use Rattle.ac_automaton.proofs.CursorLemmas.{HasAdvanced, reached-state}
+use Rattle.ac_automaton.proofs.CursorLemmas.{reached-state}
 use Rattle.ac_automaton.proofs.IdleLemmas as idle
 use Rattle.ac_automaton.proofs.LinkedLemmas as linked
+use Rattle.ac_automaton.proofs.ReadOnLemmas.{between}
 use Rattle.ac_automaton.proofs.PassLemmas.{matching-some, some-matching}
 use Rattle.ac_noncontiguous.specs.declared.nfa.NFA.{NFA}
 use Rattle.ac_noncontiguous.specs.declared.nfa.tables.Tables.{Tables}
 use Rattle.ac_noncontiguous.specs.Nfa.{AreTablesOf}
 use Rattle.ac_noncontiguous.specs.Lookups.{IsKept, IsNamingOf, IsIdle}
 use Rattle.ac_noncontiguous.specs.Reads.{dictionary, built_as, matches_at, is_start_at, is_special_at, IsRead}
-use Rattle.ac_automaton.specs.Passing.{is_between}
+use Rattle.ac_automaton.specs.ReadOn.{is_between, StaysBut}
 use Rattle.ac_noncontiguous.proofs.NextLemmas.{names-numbers, names-edge}
 use Rattle.ac_noncontiguous.proofs.ReadLemmas.{tables-start, all-names, start-plain, state-matches, state-many}
 
@@ -42,23 +41,12 @@ idle-by nfa byte idle =
           (linked.straight m names start anchored start byte start (names-numbers m nfa.tables (own_inverse-pairing nfa.pairing nfa.paired) names fits) (names-edge m nfa.tables anchored start byte start idle.leads names fits met) met (λ e. omega (arith, some, e))).step;
     }
 
--- reading on over what is passed over, where the search doesn't stop at the start
-pub pass-advanced : (nfa : NFA) (stops : ℕ → Bool) (anchored : Anchored) (sid current : ℕ) (bytes rest : List ℕ) (n passed : ℕ) (s t u : Steps)
-    → ¬ IsTrue (stops nfa.tables.start) → ((k : ℕ) → slice_index bytes k < 256) → rest ≡ drop n bytes → n ≤ length bytes → PassesIdle nfa.starters nfa.tables.start current rest passed t u
-    → HasAdvanced (built_as nfa) (IsRead nfa) anchored stops sid bytes n current s t
-    → (n + passed ≤ length bytes) × HasAdvanced (built_as nfa) (IsRead nfa) anchored stops sid bytes (n + passed) current s u
-pass-advanced nfa stops anchored sid current bytes rest n passed s t u apart small is within passes has =
-    idle.pass-advanced (built_as nfa) (λ (a : Anchored). IsNamingOf (dictionary nfa) nfa.tables) (matches_at nfa) (is_start_at nfa) (is_special_at nfa) stops nfa.tables.start nfa.starters anchored sid current bytes rest n passed s t u
-    (all-names nfa) (∥∥₁_map nfa.skips (λ skips byte lt none. idle-by nfa byte (skips byte lt none))) (λ _. apart) small is within passes has
+-- so each byte that is none of the starters leads from the start to itself
+pub stays-in-start : (nfa : NFA) (anchored : Anchored) → StaysBut (IsRead nfa anchored) nfa.starters nfa.tables.start
+stays-in-start nfa anchored =
+    idle.idle-stays (built_as nfa) (IsNamingOf (dictionary nfa) nfa.tables) (matches_at nfa) (is_start_at nfa) (is_special_at nfa) nfa.tables.start nfa.starters anchored (all-names nfa) (∥∥₁_map nfa.skips (λ skips byte lt none. idle-by nfa byte (skips byte lt none)))
 
 -- ---- where it stops
-
--- a number between two
-pub between : (first last i : ℕ) → IsTrue (is_between first last i) ↔ ((first ≤ i) × (i ≤ last))
-between first last i = (
-  λ e. let both = and_parts (nat_le first i) (nat_le i last) e in (leb-true first i both.0, leb-true i last both.1),
-  λ w. and_from (nat_le first i) (nat_le i last) (le-leb first i w.0) (le-leb i last w.1),
-)
 
 -- the states that match are those from 2 on, up to the greatest that matches;
 pub between-matching : (nfa : NFA) (first last : ℕ) (anchored : Anchored) (sid : ℕ) (bytes : List ℕ) (stop : Advance) → first ≡ 2 → last ≡ nfa.tables.max_match → IsReached (IsRead nfa anchored) sid → Advances (IsRead nfa anchored) (is_between first last) sid bytes stop → Advances (IsRead nfa anchored) (is_matching (matches_at nfa)) sid bytes stop

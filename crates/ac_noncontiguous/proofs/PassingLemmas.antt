@@ -13,7 +13,8 @@ use Rattle.ac_literal.specs.declared.openings.Openings.{Openings}
 use Rattle.ac_literal.specs.Openings.{AreOpenings}
 use Rattle.ac_automaton.specs.Held.{last_special_of}
 use Rattle.ac_automaton.specs.Named.{Naming, AreLinked}
-use Rattle.ac_automaton.specs.Passing.{is_between, MayPass}
+use Rattle.ac_automaton.specs.ReadOn.{is_between}
+use Rattle.ac_automaton.specs.Passing.{MayPass}
 use Rattle.ac_automaton.proofs.LinkedLemmas.{run-leads}
 use Rattle.ac_automaton.proofs.NamedPassingLemmas.{may-pass}
 use Rattle.ac_noncontiguous.specs.declared.nfa.NFA.{NFA}
@@ -22,7 +23,7 @@ use Rattle.ac_noncontiguous.specs.declared.nfa.tables.Transition.{Transition}
 use Rattle.ac_noncontiguous.specs.Nfa.{AreOpenedBy, transitions_from, fail_of, byte_at, next_at}
 use Rattle.ac_noncontiguous.specs.Lookups.{StepsTo, IsNextIn, IsNamingOf}
 use Rattle.ac_noncontiguous.specs.Reads.{dictionary, built_as, matches_at, is_start_at, is_special_at, IsRead}
-use Rattle.ac_noncontiguous.proofs.IdleLemmas.{between}
+use Rattle.ac_automaton.proofs.ReadOnLemmas.{between}
 use Rattle.ac_noncontiguous.proofs.LookupLemmas.{kept-ordered, leads-range}
 use Rattle.ac_noncontiguous.proofs.NextLemmas.{names-numbers, names-edge, names-failure}
 use Rattle.ac_noncontiguous.proofs.ReadLemmas.{all-names, dead-said, start-has, start-plain, start-read, state-holds, state-many}

@@ -6,18 +6,17 @@ use Rattle.std.proofs.Math.Logic.{∥∥₁_elim, ∥∥₁_map}
 use Rattle.std.proofs.lemmas.Bool.{leb-true, le-leb, false≢true}
 use Rattle.ac_input.specs.declared.search.Anchored.{Anchored}
 use Rattle.ac_input.specs.declared.search.Anchored.TheVariants.{No}
-use Rattle.ac_input.specs.declared.steps.Steps.{Steps}
 use Rattle.ac_input.specs.Dfa.{Serves}
 use Rattle.ac_input.specs.Dictionary.{Dictionary}
 use Rattle.ac_automaton.specs.Automaton.{IsReached, Advances, is_matching}
 use Rattle.ac_automaton.specs.declared.automaton.Advance.{Advance}
 use Rattle.ac_automaton.specs.Named.{Naming, IsStep, IsIdleBy}
-use Rattle.ac_automaton.specs.Starters.{SkipsIdle, PassesIdle}
-use Rattle.ac_automaton.proofs.CursorLemmas.{HasAdvanced, reached-state}
-use Rattle.ac_automaton.proofs.IdleLemmas.{pass-advanced, advances-alike}
+use Rattle.ac_automaton.specs.Starters.{SkipsIdle}
+use Rattle.ac_automaton.proofs.CursorLemmas.{reached-state}
+use Rattle.ac_automaton.proofs.IdleLemmas.{idle-stays, advances-alike}
 use Rattle.ac_automaton.proofs.PassLemmas.{matching-some, some-matching}
-use Rattle.ac_automaton.specs.Passing.{is_between}
-use Rattle.ac_noncontiguous.proofs.IdleLemmas.{between}
+use Rattle.ac_automaton.specs.ReadOn.{is_between, StaysBut}
+use Rattle.ac_automaton.proofs.ReadOnLemmas.{between}
 use Rattle.ac_tables.specs.declared.dfa.DFA.{DFA}
 use Rattle.ac_tables.specs.declared.dfa.table.Table.{Table}
 use Rattle.ac_tables.specs.DfaTable.{AreSomeRows, dfa_matches_by}
@@ -59,21 +58,11 @@ idle-by dfa anchored byte small idle =
 skips-by : (dfa : DFA) (anchored : Anchored) → ∥ SkipsIdle (IsIdleBy (dictionary dfa) (IsNamingFor dfa anchored) (matches_at dfa) dfa.table.start) dfa.starters ∥₁
 skips-by dfa anchored = ∥∥₁_map dfa.skips (λ skips byte small none. idle-by dfa anchored byte small (skips byte small none))
 
--- reading on over what is passed over; a search doesn't stop at a start that matches nothing
-pub passed-on : (dfa : DFA) (anchored : Anchored) (stops : ℕ → Bool) (sid current : ℕ) (bytes rest : List ℕ) (n passed : ℕ) (s t u : Steps)
-    → (matches_at dfa dfa.table.start ≡ [] → ¬ IsTrue (stops dfa.table.start))
-    → ((k : ℕ) → slice_index bytes k < 256) → rest ≡ drop n bytes → n ≤ length bytes → PassesIdle dfa.starters dfa.table.start current rest passed t u
-    → HasAdvanced (built_as dfa) (IsRead dfa) anchored stops sid bytes n current s t
-    → (n + passed ≤ length bytes) × HasAdvanced (built_as dfa) (IsRead dfa) anchored stops sid bytes (n + passed) current s u
-passed-on dfa anchored stops sid current bytes rest n passed s t u apart small is within passes has =
-    pass-advanced (built_as dfa) (IsNamingFor dfa) (matches_at dfa) (is_start_at dfa) (is_special_at dfa) stops dfa.table.start dfa.starters anchored sid current bytes rest n passed s t u (all-names dfa anchored) (skips-by dfa anchored) apart
-    small is within passes has
+-- they lead from the start to itself
+pub stays-in-start : (dfa : DFA) (anchored : Anchored) → StaysBut (IsRead dfa anchored) dfa.starters dfa.table.start
+stays-in-start dfa anchored = idle-stays (built_as dfa) (IsNamingFor dfa anchored) (matches_at dfa) (is_start_at dfa) (is_special_at dfa) dfa.table.start dfa.starters anchored (all-names dfa anchored) (skips-by dfa anchored)
 
 -- ---- where it stops
-
--- the start is past the last of them
-pub start-plain : (first last start : ℕ) → last < start → ¬ IsTrue (is_between first last start)
-start-plain first last start past e = let w = (between first last start).0 e in omega (arith, w.1, past)
 
 -- the states that match are those from 1 on, up to the greatest that matches;
 pub between-matching : (dfa : DFA) (first last : ℕ) (anchored : Anchored) (sid : ℕ) (bytes : List ℕ) (stop : Advance) → first ≡ 1 → last ≡ dfa.table.max_match → IsReached (IsRead dfa anchored) sid → Advances (IsRead dfa anchored) (is_between first last) sid bytes stop → Advances (IsRead dfa anchored) (is_matching (matches_at dfa)) sid bytes stop

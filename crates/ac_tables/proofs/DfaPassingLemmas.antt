@@ -15,10 +15,11 @@ use Rattle.ac_input.specs.Dictionary.{IsLive}
 use Rattle.ac_input.specs.Opening.{NoneIsShorter}
 use Rattle.ac_automaton.specs.Automaton.{IsReached, Leads}
 use Rattle.ac_automaton.specs.Held.{last_special_of}
-use Rattle.ac_automaton.specs.Passing.{is_between, MayPass}
+use Rattle.ac_automaton.specs.ReadOn.{is_between}
+use Rattle.ac_automaton.specs.Passing.{MayPass}
 use Rattle.ac_automaton.proofs.CursorLemmas.{leads-none}
 use Rattle.ac_automaton.proofs.NamedPassingLemmas.{may-pass}
-use Rattle.ac_noncontiguous.proofs.IdleLemmas.{between}
+use Rattle.ac_automaton.proofs.ReadOnLemmas.{between}
 use Rattle.ac_tables.specs.declared.dfa.DFA.{DFA}
 use Rattle.ac_tables.specs.declared.dfa.table.Table.{Table}
 use Rattle.ac_tables.specs.DfaReads.{dictionary, built_as, matches_at, is_start_at, is_special_at, IsNamingFor, IsRead, StopsBefore}

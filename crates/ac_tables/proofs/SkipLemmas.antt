@@ -4,18 +4,17 @@ use Rattle.std.specs.Prelude.{slice_index}
 use Rattle.std.proofs.Math.Logic.{∥∥₁_map}
 use Rattle.std.proofs.lemmas.Bool.{false≢true}
 use Rattle.ac_input.specs.declared.search.Anchored.{Anchored}
-use Rattle.ac_input.specs.declared.steps.Steps.{Steps}
 use Rattle.ac_input.specs.Dictionary.{Dictionary}
 use Rattle.ac_automaton.specs.declared.automaton.Advance.{Advance}
 use Rattle.ac_automaton.specs.Automaton.{IsReached, Advances, is_matching}
 use Rattle.ac_automaton.specs.Named.{Naming, IsStep, IsIdleBy}
-use Rattle.ac_automaton.specs.Starters.{SkipsIdle, PassesIdle}
-use Rattle.ac_automaton.proofs.CursorLemmas.{HasAdvanced, reached-state}
-use Rattle.ac_automaton.proofs.IdleLemmas.{pass-advanced, advances-alike}
+use Rattle.ac_automaton.specs.Starters.{SkipsIdle}
+use Rattle.ac_automaton.proofs.CursorLemmas.{reached-state}
+use Rattle.ac_automaton.proofs.IdleLemmas.{idle-stays, advances-alike}
 use Rattle.ac_automaton.proofs.LinkedLemmas.{straight}
 use Rattle.ac_automaton.proofs.PassLemmas.{matching-some, some-matching}
-use Rattle.ac_automaton.specs.Passing.{is_between}
-use Rattle.ac_noncontiguous.proofs.IdleLemmas.{between}
+use Rattle.ac_automaton.specs.ReadOn.{is_between, StaysBut}
+use Rattle.ac_automaton.proofs.ReadOnLemmas.{between}
 use Rattle.ac_tables.specs.declared.contiguous.NFA.{NFA}
 use Rattle.ac_tables.specs.declared.contiguous.table.Table.{Table}
 use Rattle.ac_tables.specs.ContiguousTable.{AreSomeStates}
@@ -48,20 +47,11 @@ idle-by nfa byte small idle =
 pub skips-by : (nfa : NFA) → ∥ SkipsIdle (IsIdleBy (dictionary nfa) (IsLaidOut nfa) (matches_at nfa) nfa.table.start) nfa.starters ∥₁
 skips-by nfa = ∥∥₁_map nfa.skips (λ skips byte small none. idle-by nfa byte small (skips byte small none))
 
--- reading on over what is passed over; a search doesn't stop at a start that matches nothing
-pub passed-on : (nfa : NFA) (anchored : Anchored) (stops : ℕ → Bool) (sid current : ℕ) (bytes rest : List ℕ) (n passed : ℕ) (s t u : Steps)
-    → (matches_at nfa nfa.table.start ≡ [] → ¬ IsTrue (stops nfa.table.start))
-    → ((k : ℕ) → slice_index bytes k < 256) → rest ≡ drop n bytes → n ≤ length bytes → PassesIdle nfa.starters nfa.table.start current rest passed t u
-    → HasAdvanced (built_as nfa) (IsRead nfa) anchored stops sid bytes n current s t
-    → (n + passed ≤ length bytes) × HasAdvanced (built_as nfa) (IsRead nfa) anchored stops sid bytes (n + passed) current s u
-passed-on nfa anchored stops sid current bytes rest n passed s t u apart small is within passes has =
-    pass-advanced (built_as nfa) (λ (a : Anchored). IsLaidOut nfa) (matches_at nfa) (is_start_at nfa) (is_special_at nfa) stops nfa.table.start nfa.starters anchored sid current bytes rest n passed s t u (names-are nfa) (skips-by nfa) apart small is within passes has
+-- they lead from the start to itself
+pub stays-in-start : (nfa : NFA) (anchored : Anchored) → StaysBut (IsRead nfa anchored) nfa.starters nfa.table.start
+stays-in-start nfa anchored = idle-stays (built_as nfa) (IsLaidOut nfa) (matches_at nfa) (is_start_at nfa) (is_special_at nfa) nfa.table.start nfa.starters anchored (names-are nfa) (skips-by nfa)
 
 -- ---- where it stops
-
--- the start is past the last of them
-pub start-plain : (first last start : ℕ) → last < start → ¬ IsTrue (is_between first last start)
-start-plain first last start past e = let w = (between first last start).0 e in omega (arith, w.1, past)
 
 -- the states that match are those from 1 on, up to the greatest that matches;
 pub between-matching : (nfa : NFA) (first last : ℕ) (anchored : Anchored) (sid : ℕ) (bytes : List ℕ) (stop : Advance) → first ≡ 1 → last ≡ nfa.table.max_match → IsReached (IsRead nfa anchored) sid → Advances (IsRead nfa anchored) (is_between first last) sid bytes stop → Advances (IsRead nfa anchored) (is_matching (matches_at nfa)) sid bytes stop

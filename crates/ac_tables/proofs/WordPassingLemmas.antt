@@ -11,11 +11,12 @@ use Rattle.ac_input.specs.Dictionary.{IsLive}
 use Rattle.ac_input.specs.Opening.{NoneIsShorter}
 use Rattle.ac_automaton.specs.Held.{last_special_of}
 use Rattle.ac_automaton.specs.Named.{Naming, AreLinked}
-use Rattle.ac_automaton.specs.Passing.{is_between, MayPass}
+use Rattle.ac_automaton.specs.ReadOn.{is_between}
+use Rattle.ac_automaton.specs.Passing.{MayPass}
 use Rattle.ac_automaton.proofs.LinkedLemmas.{run-leads}
 use Rattle.ac_automaton.proofs.NamedLemmas.{read-dead}
 use Rattle.ac_automaton.proofs.NamedPassingLemmas.{may-pass}
-use Rattle.ac_noncontiguous.proofs.IdleLemmas.{between}
+use Rattle.ac_automaton.proofs.ReadOnLemmas.{between}
 use Rattle.ac_tables.specs.declared.contiguous.NFA.{NFA}
 use Rattle.ac_tables.specs.declared.contiguous.table.Table.{Table}
 use Rattle.ac_tables.specs.Words.{StateParts, next_by}

@@ -1,12 +1,10 @@
 -- What a contiguous automaton is built as, and what is known of a number that a search has come to.
-use Rattle.std.specs.Prelude.{◌≡◌, ℕ, ◌<◌, ◌==◌, ◌||◌, nat_le, Bool, false, IsTrue, List, take, Option}
+use Rattle.std.specs.Prelude.{◌≡◌, ℕ, ◌==◌, ◌||◌, nat_le, Bool, false, IsTrue, List, Option}
 use Rattle.ac_input.specs.declared.search.Anchored.{Anchored}
 use Rattle.ac_input.specs.declared.steps.Steps.{Steps}
 use Rattle.ac_input.specs.Candidate.{Filter}
 use Rattle.ac_input.specs.Dictionary.{Dictionary, dictionary_of}
-use Rattle.ac_automaton.specs.declared.automaton.Advance.{Advance}
-use Rattle.ac_automaton.specs.Automaton.{Built, Advances, IsReadCost}
-use Rattle.ac_automaton.specs.Passing.{is_between}
+use Rattle.ac_automaton.specs.Automaton.{Built}
 use Rattle.ac_automaton.specs.Named.{Naming, OfNames, IsPaidStep, IsReadBy}
 use Rattle.ac_tables.specs.declared.contiguous.NFA.{NFA}
 use Rattle.ac_tables.specs.declared.contiguous.table.Table.{Table}
@@ -41,15 +39,6 @@ IsLaidOut nfa names = (parts : ℕ → StateParts) × AreStates (dictionary nfa)
 -- A state is read by a search.
 abbrev pub IsRead : NFA → Anchored → List ℕ → ℕ → Type 0
 IsRead nfa anchored text sid = IsReadBy (built_as nfa) (IsLaidOut nfa) (matches_at nfa) (is_start_at nfa) (is_special_at nfa) anchored text sid
-
--- Reading on from a state stops at the first one between two, or after the last byte; and what it cost.
-pub record ReadsTo (nfa : NFA) (anchored : Anchored) (first last sid : ℕ) (bytes : List ℕ) (stop : Advance) (before after : Steps) : Type 0 where
-  pub goes : Advances (IsRead nfa anchored) (is_between first last) sid bytes stop
-  pub cost : IsReadCost (built_as nfa) (IsRead nfa) anchored sid (take stop.taken bytes) before after
-
--- A search whose last number to stop at is before the start stops last at the last one that matches.
-abbrev pub StopsBefore : NFA → ℕ → Type 0
-StopsBefore nfa last = last < nfa.table.start → last ≡ nfa.table.max_match
 
 -- ---- look-ups
 

@@ -1,14 +1,12 @@
 -- What a DFA is built as, and what is known of a number that a search has come to.
-use Rattle.std.specs.Prelude.{◌≡◌, ℕ, ◌<◌, ◌==◌, ◌||◌, nat_le, Bool, true, List, take, Option}
+use Rattle.std.specs.Prelude.{◌≡◌, ℕ, ◌==◌, ◌||◌, nat_le, Bool, true, List, Option}
 use Rattle.ac_input.specs.declared.search.Anchored.{Anchored}
 use Rattle.ac_input.specs.declared.steps.Steps.{Steps}
 use Rattle.ac_input.specs.Candidate.{Filter}
 use Rattle.ac_input.specs.Dfa.{Serves}
 use Rattle.ac_input.specs.Dictionary.{Dictionary, dictionary_of}
-use Rattle.ac_automaton.specs.Automaton.{Built, Advances, IsReadCost}
-use Rattle.ac_automaton.specs.declared.automaton.Advance.{Advance}
+use Rattle.ac_automaton.specs.Automaton.{Built, IsReadCost}
 use Rattle.ac_automaton.specs.Named.{Naming, IsReadBy}
-use Rattle.ac_automaton.specs.Passing.{is_between}
 use Rattle.ac_tables.specs.declared.dfa.DFA.{DFA}
 use Rattle.ac_tables.specs.declared.dfa.table.Table.{Table}
 use Rattle.ac_tables.specs.DfaTable.{AreDfaRows, dfa_matches_by}
@@ -48,15 +46,6 @@ IsRead dfa anchored text sid = IsReadBy (built_as dfa) (IsNamingFor dfa anchored
 -- what it may cost to read bytes on from a number
 abbrev pub CostsReading : DFA → Anchored → ℕ → List ℕ → Steps → Steps → Type 0
 CostsReading dfa anchored sid bytes before after = IsReadCost (built_as dfa) (IsRead dfa) anchored sid bytes before after
-
--- Reading on from a number stops at the first one between two, or after the last byte; and what it cost.
-pub record ReadsTo (dfa : DFA) (anchored : Anchored) (first last sid : ℕ) (bytes : List ℕ) (stop : Advance) (before after : Steps) : Type 0 where
-  pub goes : Advances (IsRead dfa anchored) (is_between first last) sid bytes stop
-  pub cost : CostsReading dfa anchored sid (take stop.taken bytes) before after
-
--- A search whose last number to stop at is before the start stops last at the last one that matches.
-abbrev pub StopsBefore : DFA → ℕ → Type 0
-StopsBefore dfa last = last < dfa.table.start → last ≡ dfa.table.max_match
 
 -- the automaton is made of this table and this prefilter
 pub record IsMadeOf (m : Dictionary) (from : Table) (held : Option Filter) (dfa : DFA) : Type 0 where

@@ -4,11 +4,11 @@
 //! Where no transition has the byte, the failures are followed, out of the loop. One comparison tells all states at which there is more
 //! to do than to read on. Where the patterns are few, a search that stands in the start finds the next place at which one may begin by
 //! its first bytes; where few bytes lead out of the start, it finds the next of these by `memchr`.
-ghost use Rattle.std.specs.Prelude.{◌≡◌, ◌<◌, false};
+ghost use Rattle.std.specs.Prelude.{false};
 ghost use Rattle.ac_automaton.specs.Automaton.{IsReached};
 ghost use Rattle.ac_input.specs.Input.{is_anchored};
-ghost use Rattle.ac_automaton.specs.Passing.{is_between};
-ghost use Rattle.ac_tables.specs.ContiguousReads.{IsRead, ReadsTo, StopsBefore, IsMet, LooksUp};
+ghost use Rattle.ac_automaton.specs.ReadOn.{ReadsTo, StopsBefore};
+ghost use Rattle.ac_tables.specs.ContiguousReads.{built_as, IsRead, IsMet, LooksUp};
 ghost use Rattle.ac_tables.specs.WordReads.{ByteLeadsTo, IsFailOf};
 
 use crate::contiguous::NFA;
@@ -16,7 +16,7 @@ use crate::contiguous::layout::NOWHERE;
 use ac_automaton::automaton::{Advance, Automaton};
 use ac_automaton::error::MatchError;
 use ac_automaton::look::LookUp;
-use ac_automaton::skip::{is_between, skip};
+use ac_automaton::skip::{skip, skip_idle};
 use ac_input::primitives::{PatternID, StateID};
 use ac_input::search::{Anchored, MatchKind};
 use ac_input::steps::Steps;
@@ -69,75 +69,6 @@ impl NFA {
         }
     }
 
-    /// Reads on to the first state between two numbers, these included.
-    #[inline(always)]
-    fn read_on(
-        &self,
-        anchored: Anchored,
-        sid: StateID,
-        bytes: &[u8],
-        first: u32,
-        last: u32,
-        steps: &mut Steps,
-    ) -> Advance
-        requires { IsReached (IsRead self.now anchored) sid }
-        ensures { ReadsTo self.now anchored first last sid bytes.now result steps.old steps.new }
-    {
-        let mut current = sid;
-        for (read, byte) in bytes.iter().enumerate() {
-            current = self.next_state_counted(anchored, current, *byte, steps);
-            if is_between(first, last, current) {
-                return Advance {
-                    sid: current,
-                    taken: read + 1,
-                };
-            }
-        }
-        Advance {
-            sid: current,
-            taken: bytes.len(),
-        }
-    }
-
-    /// The same, and passes quickly over the bytes that leave it in the start.
-    ///
-    /// It stays out of the calls that make it, whose other loops are the slower for it.
-    #[inline(never)]
-    fn skip(
-        &self,
-        anchored: Anchored,
-        sid: StateID,
-        bytes: &[u8],
-        first: u32,
-        last: u32,
-        steps: &mut Steps,
-    ) -> Advance
-        requires reached { IsReached (IsRead self.now anchored) sid }
-        requires past { last < self.now.table.start }
-        ensures { ReadsTo self.now anchored first last sid bytes.now result steps.old steps.new }
-    {
-        let start = self.table.start;
-        let mut current = sid;
-        let mut read = self.starters.pass(start, current, bytes, steps);
-        while read < bytes.len() {
-            current = self.next_state_counted(anchored, current, bytes[read], steps);
-            read += 1;
-            if is_between(first, last, current) {
-                return Advance {
-                    sid: current,
-                    taken: read,
-                };
-            }
-            read += self.starters.pass(start, current, &bytes[read..], steps);
-        }
-        Advance {
-            sid: current,
-            taken: read,
-        }
-    }
-}
-
-impl NFA {
     /// Reads on to the first state between two numbers, these included, in the way that is the fastest there.
     #[inline(always)]
     fn read_to(
@@ -150,18 +81,22 @@ impl NFA {
         steps: &mut Steps,
     ) -> Advance
         requires reached { IsReached (IsRead self.now anchored) sid }
-        requires stops { StopsBefore self.now last }
-        ensures { ReadsTo self.now anchored first last sid bytes.now result steps.old steps.new }
+        requires stops { StopsBefore self.now.table.start last self.now.table.max_match }
+        ensures { ReadsTo (built_as self.now) (IsRead self.now) anchored first last sid bytes.now
+            result steps.old steps.new }
     {
-        if last >= self.table.start.as_u32() {
+        let start = self.table.start;
+        if last >= start.as_u32() {
             return self.read_on(anchored, sid, bytes, first, last, steps);
         }
         if let (Some(openings), Anchored::No) = (&self.openings, anchored) {
-            let start = self.table.start;
             return skip(self, openings, start, sid, bytes, first, last, steps);
         }
         if self.starters.are_few() {
-            return self.skip(anchored, sid, bytes, first, last, steps);
+            let starters = &self.starters;
+            return skip_idle(
+                self, starters, start, anchored, sid, bytes, first, last, steps,
+            );
         }
         self.read_on(anchored, sid, bytes, first, last, steps)
     }
@@ -183,8 +118,8 @@ impl LookUp for NFA {
     ghost pairs = { λ nfa anchored text sid reads. reads.inverse };
 
     #[inline(always)]
-    fn look_up(&self, sid: StateID, byte: u8, steps: &mut Steps) -> StateID {
-        self.next(Anchored::No, sid, byte, steps)
+    fn look_up(&self, anchored: Anchored, sid: StateID, byte: u8, steps: &mut Steps) -> StateID {
+        self.next(anchored, sid, byte, steps)
     }
 }
 

@@ -4,16 +4,17 @@
 //! is more to do than to read on. Where each byte is a class of its own, no class is loaded. An anchored search runs the same loop:
 //! its start leads to rows of its own. Where the patterns are few, a search that stands in the start finds the next place at which one
 //! may begin by its first bytes; where few bytes lead out of the start, it finds the next of these by `memchr`.
-ghost use Rattle.std.specs.Prelude.{◌≡◌, ◌<◌, [], ◌∷◌, IsTrue};
+ghost use Rattle.std.specs.Prelude.{[], ◌∷◌, IsTrue};
 ghost use Rattle.ac_automaton.specs.Automaton.{IsReached, Leads};
+ghost use Rattle.ac_automaton.specs.ReadOn.{ReadsTo, StopsBefore};
 ghost use Rattle.ac_tables.specs.DfaLookups.{ArePlain};
-ghost use Rattle.ac_tables.specs.DfaReads.{IsRead, CostsReading, ReadsTo, StopsBefore};
+ghost use Rattle.ac_tables.specs.DfaReads.{built_as, IsRead, CostsReading};
 
 use crate::dfa::DFA;
 use ac_automaton::automaton::{Advance, Automaton};
 use ac_automaton::error::MatchError;
-use ac_automaton::look::LookUp;
-use ac_automaton::skip::{is_between, skip};
+use ac_automaton::look::{LookUp, is_between};
+use ac_automaton::skip::{skip, skip_idle};
 use ac_input::primitives::{PatternID, StateID};
 use ac_input::search::{Anchored, MatchKind};
 use ac_input::steps::Steps;
@@ -39,76 +40,6 @@ impl DFA {
         self.table.next(plain, sid, byte)
     }
 
-    /// Reads on to the first state between two numbers, these included.
-    #[inline(always)]
-    fn read_on(
-        &self,
-        anchored: Anchored,
-        sid: StateID,
-        bytes: &[u8],
-        first: u32,
-        last: u32,
-        steps: &mut Steps,
-    ) -> Advance
-        requires { IsReached (IsRead self.now anchored) sid }
-        ensures { ReadsTo self.now anchored first last sid bytes.now result steps.old steps.new }
-    {
-        let plain = self.table.is_plain();
-        let mut current = sid;
-        for (read, byte) in bytes.iter().enumerate() {
-            current = self.step(plain, anchored, current, *byte, steps);
-            if is_between(first, last, current) {
-                return Advance {
-                    sid: current,
-                    taken: read + 1,
-                };
-            }
-        }
-        Advance {
-            sid: current,
-            taken: bytes.len(),
-        }
-    }
-
-    /// The same, and passes quickly over the bytes that leave it in the start.
-    ///
-    /// It stays out of the calls that make it, whose other loops are the slower for it.
-    #[inline(never)]
-    fn skip(
-        &self,
-        anchored: Anchored,
-        sid: StateID,
-        bytes: &[u8],
-        first: u32,
-        last: u32,
-        steps: &mut Steps,
-    ) -> Advance
-        requires reached { IsReached (IsRead self.now anchored) sid }
-        requires past { last < self.now.table.start }
-        ensures { ReadsTo self.now anchored first last sid bytes.now result steps.old steps.new }
-    {
-        let start = self.table.start;
-        let mut current = sid;
-        let mut read = self.starters.pass(start, current, bytes, steps);
-        while read < bytes.len() {
-            current = self.step(false, anchored, current, bytes[read], steps);
-            read += 1;
-            if is_between(first, last, current) {
-                return Advance {
-                    sid: current,
-                    taken: read,
-                };
-            }
-            read += self.starters.pass(start, current, &bytes[read..], steps);
-        }
-        Advance {
-            sid: current,
-            taken: read,
-        }
-    }
-}
-
-impl DFA {
     /// Reads on to the first state between two numbers, these included, in the way that is the fastest there.
     #[inline(always)]
     fn read_to(
@@ -121,18 +52,22 @@ impl DFA {
         steps: &mut Steps,
     ) -> Advance
         requires reached { IsReached (IsRead self.now anchored) sid }
-        requires stops { StopsBefore self.now last }
-        ensures { ReadsTo self.now anchored first last sid bytes.now result steps.old steps.new }
+        requires stops { StopsBefore self.now.table.start last self.now.table.max_match }
+        ensures { ReadsTo (built_as self.now) (IsRead self.now) anchored first last sid bytes.now
+            result steps.old steps.new }
     {
-        if last >= self.table.start.as_u32() {
+        let start = self.table.start;
+        if last >= start.as_u32() {
             return self.read_on(anchored, sid, bytes, first, last, steps);
         }
         if let (Some(openings), Anchored::No) = (&self.openings, anchored) {
-            let start = self.table.start;
             return skip(self, openings, start, sid, bytes, first, last, steps);
         }
         if self.starters.are_few() {
-            return self.skip(anchored, sid, bytes, first, last, steps);
+            let starters = &self.starters;
+            return skip_idle(
+                self, starters, start, anchored, sid, bytes, first, last, steps,
+            );
         }
         self.read_on(anchored, sid, bytes, first, last, steps)
     }
@@ -154,8 +89,35 @@ impl LookUp for DFA {
     ghost pairs = { λ dfa anchored text sid reads. reads.inverse };
 
     #[inline(always)]
-    fn look_up(&self, sid: StateID, byte: u8, steps: &mut Steps) -> StateID {
-        self.step(false, Anchored::No, sid, byte, steps)
+    fn look_up(&self, anchored: Anchored, sid: StateID, byte: u8, steps: &mut Steps) -> StateID {
+        self.step(false, anchored, sid, byte, steps)
+    }
+
+    #[inline(always)]
+    fn read_on(
+        &self,
+        anchored: Anchored,
+        sid: StateID,
+        bytes: &[u8],
+        first: u32,
+        last: u32,
+        steps: &mut Steps,
+    ) -> Advance {
+        let plain = self.table.is_plain();
+        let mut current = sid;
+        for (read, byte) in bytes.iter().enumerate() {
+            current = self.step(plain, anchored, current, *byte, steps);
+            if is_between(first, last, current) {
+                return Advance {
+                    sid: current,
+                    taken: read + 1,
+                };
+            }
+        }
+        Advance {
+            sid: current,
+            taken: bytes.len(),
+        }
     }
 }
 

@@ -1,7 +1,7 @@
 -- What is known of the state after so many bytes.
 use Rattle.std.proofs.Common.{length, ◌-◌, ◌≤◌}
 use Rattle.ac_input.specs.declared.search.Anchored.TheVariants.{No}
-use Rattle.ac_automaton.specs.Passing.{is_between}
+use Rattle.ac_automaton.specs.ReadOn.{is_between}
 use Rattle.ac_automaton.proofs.CursorLemmas.{HasAdvanced}
 use Rattle.ac_automaton.proofs.skip.skip.Given as goal
 

@@ -3,8 +3,10 @@ use Rattle.std.proofs.Common.{◌<◌, sym, subst, arith}
 use Rattle.ac_input.specs.declared.search.Anchored.{Anchored}
 use Rattle.ac_input.specs.declared.search.Anchored.TheVariants.{No}
 use Rattle.ac_automaton.specs.Automaton.{IsReached}
+use Rattle.ac_automaton.specs.ReadOn.{ReadsTo}
 use Rattle.ac_noncontiguous.proofs.PassingLemmas.{opened}
-use Rattle.ac_tables.specs.DfaReads.{dictionary, IsRead, ReadsTo}
+use Rattle.ac_tables.specs.DfaReads.{dictionary, built_as, IsRead}
+use Rattle.ac_tables.proofs.DfaIdleLemmas.{stays-in-start}
 use Rattle.ac_tables.proofs.DfaPassingLemmas.{dfa-may-pass, dfa-quiet}
 use Rattle.ac_tables.proofs.dfa.DFA.read_to.Goals as goal
 
@@ -24,10 +26,13 @@ skip-requires-clause-may c =
     record {
       open_ = open_;
       may = dfa-may-pass a openings.len c.args.sid openings.some open_.short reached (omega (arith, matches, lt));
+      before = omega (arith, lt);
       quiet = λ text sid reads none alive. dfa-quiet a c.args.first c.args.last sid text (omega (arith, matches)) reads none alive;
     }
 
 pub returns-in-Some-No : goal.returns-in-Some-No
 returns-in-Some-No c =
-    subst (λ (anchored : Anchored). ReadsTo c.args.self.now anchored c.args.first c.args.last c.args.sid c.args.bytes.now c.skip.result c.args.steps.now c.skip.new.steps) (sym c.in-Some-No.is-1)
-    (record { goes = c.skip.ensures.goes; cost = c.skip.ensures.cost })
+    subst (λ (anchored : Anchored). ReadsTo (built_as c.args.self.now) (IsRead c.args.self.now) anchored c.args.first c.args.last c.args.sid c.args.bytes.now c.skip.result c.args.steps.now c.skip.new.steps) (sym c.in-Some-No.is-1) c.skip.ensures
+
+pub skip_idle-requires-clause-stays : goal.skip_idle-requires-clause-stays
+skip_idle-requires-clause-stays c = stays-in-start c.args.self.now c.args.anchored

@@ -1,12 +1,11 @@
-use Rattle.ac_input.specs.declared.search.Anchored.TheVariants.{No}
 use Rattle.ac_noncontiguous.proofs.ReadLemmas.{state-visited, next-read, next-cost}
 use Rattle.ac_noncontiguous.proofs.nfa.automaton.NFALookUp.look_up.Goals as goal
 
 pub next-requires : goal.next-requires
-next-requires c = state-visited c.args.self.now No c.args.sid c.requires
+next-requires c = state-visited c.args.self.now c.args.anchored c.args.sid c.requires
 
 pub returns-clause-next : goal.returns-clause-next
-returns-clause-next c = next-read c.args.self.now No c.args.sid c.args.byte c.next.result _ _ c.next.ensures
+returns-clause-next c = next-read c.args.self.now c.args.anchored c.args.sid c.args.byte c.next.result _ _ c.next.ensures
 
 pub returns-clause-cost : goal.returns-clause-cost
-returns-clause-cost c = next-cost c.args.self.now No c.args.sid c.args.byte c.next.result _ _ c.next.ensures
+returns-clause-cost c = next-cost c.args.self.now c.args.anchored c.args.sid c.args.byte c.next.result _ _ c.next.ensures

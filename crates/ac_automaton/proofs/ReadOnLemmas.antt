@@ -1,0 +1,207 @@
+-- Reading on over one part of some bytes after another, and over bytes that leave a search in the start.
+use Rattle.std.proofs.Common.{◌≡◌, ◌↔◌, ⊎_elim, ℕ, zero, suc, ◌+◌, ◌-◌, ◌<◌, ◌≤◌, Bool, false, IsTrue, List, [], ◌∷◌, ◌++◌, length, take, drop, Option, sym, ap, subst, refl, ◌∙◌, arith, length-append, length-drop}
+use Rattle.std.specs.Prelude.{nat_le, slice_index}
+use Rattle.std.proofs.lemmas.Bool.{and_parts, and_from, cases_lt, le-leb, leb-true}
+use Rattle.std.proofs.lemmas.List.{append_assoc, append-nil, get_or-drop, length-take-le, take-take}
+use Rattle.std.proofs.lemmas.Option.{slice_get-get_or}
+use Rattle.ac_input.specs.Number.{StateID}
+use Rattle.ac_input.specs.declared.search.Anchored.{Anchored}
+use Rattle.ac_input.specs.declared.steps.Steps.{Steps}
+use Rattle.ac_input.specs.Dictionary.{IsLive, live_len}
+use Rattle.ac_input.specs.Input.{is_anchored}
+use Rattle.ac_input.specs.Work.{IsLookups}
+use Rattle.ac_automaton.specs.Automaton.{Built, Leads, IsReadCost, PassesPlain}
+use Rattle.ac_automaton.specs.ReadOn.{is_between, ReadsTo, ReadsSome, StaysBut}
+use Rattle.ac_automaton.specs.Starters.{is_starter, PassesIdle}
+use Rattle.ac_automaton.specs.declared.automaton.Advance.{Advance}
+use Rattle.ac_automaton.specs.declared.starters.Starters.{Starters}
+use Rattle.ac_automaton.proofs.CursorLemmas.{HasAdvanced, leads-none, lookups-join, take-more}
+use Rattle.ac_automaton.proofs.IdleLemmas.{advanced-run, advanced-same, take-both}
+
+-- ---- between two numbers
+
+pub between : (first last i : ℕ) → IsTrue (is_between first last i) ↔ ((first ≤ i) × (i ≤ last))
+between first last i = (
+  λ e. let both = and_parts (nat_le first i) (nat_le i last) e in (leb-true first i both.0, leb-true i last both.1),
+  λ w. and_from (nat_le first i) (nat_le i last) (le-leb first i w.0) (le-leb i last w.1),
+)
+
+-- a number past the last is none
+pub past-between : (first last i : ℕ) → last < i → ¬ IsTrue (is_between first last i)
+past-between first last i past e = let w = (between first last i).0 e in omega (arith, w.1, past)
+
+-- ---- one part after another
+
+-- where both lead
+pub read-both : (Reaches : List ℕ → StateID → Type 0) (sid current next : StateID) (bytes : List ℕ) (n k : ℕ) → Leads Reaches sid (take n bytes) current → Leads Reaches current (take k (drop n bytes)) next → Leads Reaches sid (take (n + k) bytes) next
+read-both Reaches sid current next bytes n k first second = λ text reads.
+    let joined : (text ++ take n bytes) ++ take k (drop n bytes) ≡ text ++ take (n + k) bytes = append_assoc text (take n bytes) (take k (drop n bytes)) ∙ ap (λ (l : List ℕ). text ++ l) (sym (take-both n k bytes)) in
+    subst (λ (l : List ℕ). Reaches l next) joined (second (text ++ take n bytes) (first text reads))
+
+-- what both cost
+pub cost-both : (b : Built) (Reaches : Anchored → List ℕ → StateID → Type 0) (anchored : Anchored) (sid current : StateID) (bytes : List ℕ) (n k : ℕ) (s t u : Steps)
+    → n + k ≤ length bytes → Leads (Reaches anchored) sid (take n bytes) current
+    → ((text : List ℕ) → Reaches anchored text current → (live : Option ℕ) × IsLive b.dictionary (is_anchored anchored) text live)
+    → IsReadCost b Reaches anchored sid (take n bytes) s t → IsReadCost b Reaches anchored current (take k (drop n bytes)) t u
+    → IsReadCost b Reaches anchored sid (take (n + k) bytes) s u
+cost-both b Reaches anchored sid current bytes n k s t u fits leads lives first second = λ text p q reads g h.
+    let m = b.dictionary in
+    let a = is_anchored anchored in
+    let rest = take k (drop n bytes) in
+    let parts = take-both n k bytes in
+    let whole : (text ++ take n bytes) ++ rest ≡ text ++ take (n + k) bytes = append_assoc text (take n bytes) rest ∙ ap (λ (l : List ℕ). text ++ l) (sym parts) in
+    let there = leads text reads in
+    let live = lives (text ++ take n bytes) there in
+    let before = first text p live.0 reads g live.1 in
+    let last : IsLive m a ((text ++ take n bytes) ++ rest) q = subst (λ (l : List ℕ). IsLive m a l q) (sym whole) h in
+    let after = second (text ++ take n bytes) live.0 q there live.1 last in
+    let both = lookups-join b.deterministic (length (take n bytes)) (length rest) (live_len text p) (live_len (text ++ take n bytes) live.0) (live_len ((text ++ take n bytes) ++ rest) q) s t u before after in
+    let count : length (take n bytes) + length rest ≡ length (take (n + k) bytes) = sym (ap length parts ∙ length-append (take n bytes) rest) in
+    subst (λ (i : ℕ). IsLookups b.deterministic i (live_len text p) (live_len (text ++ take (n + k) bytes) q) s u) count
+    (subst (λ (l : List ℕ). IsLookups b.deterministic (length (take n bytes) + length rest) (live_len text p) (live_len l q) s u) whole both)
+
+-- at which states neither stops
+pub plain-both : (Reaches : List ℕ → StateID → Type 0) (stops : StateID → Bool) (sid current : StateID) (bytes : List ℕ) (n k : ℕ) → PassesPlain Reaches stops sid bytes (n + 1) → Leads Reaches sid (take n bytes) current → PassesPlain Reaches stops current (drop n bytes) k → PassesPlain Reaches stops sid bytes (n + k)
+plain-both Reaches stops sid current bytes n k plain leads more = λ at some lt. ⊎_elim
+    (λ (sooner : at < n + 1). plain at some sooner)
+    (λ (here : n + 1 ≤ at).
+    let j : ℕ = at - n in
+    let e : n + j ≡ at = omega (arith, here) in
+    let mid = more j (omega (arith, here)) (omega (arith, lt, here)) in (
+      mid.0,
+      subst (λ (i : ℕ). Leads Reaches sid (take i bytes) mid.0) e (read-both Reaches sid current mid.0 bytes n j leads mid.1),
+      mid.2,
+    ))
+    (cases_lt at (n + 1))
+
+-- ---- reading on by an automaton's own loop
+
+-- where it stops at the start, too, it stops at each state at which the search does
+pub some-to-start : (b : Built) (Reaches : Anchored → List ℕ → StateID → Type 0) (anchored : Anchored) (first last start : ℕ) (sid : StateID) (bytes : List ℕ) (stop : Advance) (s t : Steps)
+    → last ≤ start → 0 < length bytes → ReadsTo b Reaches anchored first start sid bytes stop s t → ReadsSome b Reaches anchored first last sid bytes stop s t
+some-to-start b Reaches anchored first last start sid bytes stop s t before some to =
+    let goes = to.goes in
+    let taken = goes.taken in
+    record {
+      some = taken.1 some;
+      within = taken.0;
+      reads = goes.reads;
+      plain = λ at lt le. let mid = goes.plain at lt le in (
+          mid.0,
+          mid.1,
+          λ e. mid.2 (let w = (between first last mid.0).0 e in (between first start mid.0).1 (w.0, omega (arith, w.1, before))),
+      );
+      cost = to.cost;
+    }
+
+-- the same over a part of the bytes
+pub some-of-part : (b : Built) (Reaches : Anchored → List ℕ → StateID → Type 0) (anchored : Anchored) (first last : ℕ) (sid : StateID) (bytes part : List ℕ) (n : ℕ) (stop : Advance) (s t : Steps)
+    → 0 < n → n ≤ length bytes → part ≡ take n bytes → ReadsTo b Reaches anchored first last sid part stop s t → ReadsSome b Reaches anchored first last sid bytes stop s t
+some-of-part b Reaches anchored first last sid bytes part n stop s t positive fits is to =
+    let goes = to.goes in
+    let taken = goes.taken in
+    let size : length part ≡ n = ap length is ∙ length-take-le n bytes fits in
+    let inside = taken.0 in
+    let front : (j : ℕ) → j ≤ n → take j part ≡ take j bytes = λ j le. ap (take j) is ∙ take-take j n bytes le in
+    let all = front stop.taken (omega (arith, inside, size)) in
+    record {
+      some = taken.1 (omega (arith, size, positive));
+      within = omega (arith, inside, size, fits);
+      reads = subst (λ (l : List ℕ). Leads (Reaches anchored) sid l stop.sid) all goes.reads;
+      plain = λ at lt le. let mid = goes.plain at lt le in (mid.0, subst (λ (l : List ℕ). Leads (Reaches anchored) sid l mid.0) (front at (omega (arith, le, inside, size))) mid.1, mid.2);
+      cost = subst (λ (l : List ℕ). IsReadCost b Reaches anchored sid l s t) all to.cost;
+    }
+
+-- some bytes more, whose last state is none at which the search stops
+pub advanced-some : (b : Built) (Reaches : Anchored → List ℕ → StateID → Type 0) (anchored : Anchored) (first last : ℕ) (sid current : StateID) (bytes rest : List ℕ) (n : ℕ) (stop : Advance) (s t u : Steps)
+    → rest ≡ drop n bytes → n ≤ length bytes
+    → ((text : List ℕ) → Reaches anchored text current → (live : Option ℕ) × IsLive b.dictionary (is_anchored anchored) text live)
+    → ReadsSome b Reaches anchored first last current rest stop t u → ¬ IsTrue (is_between first last stop.sid)
+    → HasAdvanced b Reaches anchored (is_between first last) sid bytes n current s t
+    → (n + stop.taken ≤ length bytes) × HasAdvanced b Reaches anchored (is_between first last) sid bytes (n + stop.taken) stop.sid s u
+advanced-some b Reaches anchored first last sid current bytes rest n stop s t u is within lives some apart has =
+    let R = Reaches anchored in
+    let stops = is_between first last in
+    let k = stop.taken in
+    let left = length-drop n bytes in
+    let size = ap length is in
+    let inside = some.within in
+    let fits : n + k ≤ length bytes = omega (arith, left, size, inside, within) in
+    let leads = subst (λ (l : List ℕ). Leads R current (take k l) stop.sid) is some.reads in
+    let reads = read-both R sid current stop.sid bytes n k has.reads leads in
+    let plain = plain-both R stops sid current bytes n k has.plain has.reads (subst (λ (l : List ℕ). PassesPlain R stops current l k) is some.plain) in (
+      fits,
+      record {
+        reads = reads;
+        plain = λ at lt le. ⊎_elim
+            (λ (sooner : at < n + k). plain at lt sooner)
+            (λ (here : n + k ≤ at). let e : n + k ≡ at = omega (arith, here, le) in
+            subst (λ (i : ℕ). (mid : StateID) × Leads R sid (take i bytes) mid × ¬ IsTrue (stops mid)) e (stop.sid, reads, apart))
+            (cases_lt at (n + k));
+        cost = cost-both b Reaches anchored sid current bytes n k s t u fits has.reads lives has.cost (subst (λ (l : List ℕ). IsReadCost b Reaches anchored current (take k l) t u) is some.cost);
+      },
+    )
+
+-- or is one
+pub reads-there : (b : Built) (Reaches : Anchored → List ℕ → StateID → Type 0) (anchored : Anchored) (first last : ℕ) (sid current : StateID) (bytes rest : List ℕ) (n : ℕ) (stop : Advance) (s t u : Steps)
+    → rest ≡ drop n bytes → n ≤ length bytes
+    → ((text : List ℕ) → Reaches anchored text current → (live : Option ℕ) × IsLive b.dictionary (is_anchored anchored) text live)
+    → ReadsSome b Reaches anchored first last current rest stop t u → IsTrue (is_between first last stop.sid)
+    → HasAdvanced b Reaches anchored (is_between first last) sid bytes n current s t
+    → ReadsTo b Reaches anchored first last sid bytes (record { sid = stop.sid; taken = n + stop.taken }) s u
+reads-there b Reaches anchored first last sid current bytes rest n stop s t u is within lives some there has =
+    let R = Reaches anchored in
+    let stops = is_between first last in
+    let k = stop.taken in
+    let left = length-drop n bytes in
+    let size = ap length is in
+    let inside = some.within in
+    let positive = some.some in
+    let fits : n + k ≤ length bytes = omega (arith, left, size, inside, within) in
+    record {
+      goes = record {
+        taken = (fits, λ _. omega (arith, positive));
+        reads = read-both R sid current stop.sid bytes n k has.reads (subst (λ (l : List ℕ). Leads R current (take k l) stop.sid) is some.reads);
+        plain = plain-both R stops sid current bytes n k has.plain has.reads (subst (λ (l : List ℕ). PassesPlain R stops current l k) is some.plain);
+        stops = λ _. there;
+      };
+      cost = cost-both b Reaches anchored sid current bytes n k s t u fits has.reads lives has.cost (subst (λ (l : List ℕ). IsReadCost b Reaches anchored current (take k l) t u) is some.cost);
+    }
+
+-- ---- bytes that leave a search in the start
+
+-- a run of them
+stays-run : (Reaches : List ℕ → StateID → Type 0) (starters : Starters) (start : StateID) (bytes : List ℕ) (k : ℕ) → StaysBut Reaches starters start → ((j : ℕ) → slice_index bytes j < 256) → k ≤ length bytes → ((j : ℕ) → j < k → is_starter starters (slice_index bytes j) ≡ false) → Leads Reaches start (take k bytes) start
+stays-run Reaches starters start bytes zero stays small fits idle = leads-none Reaches start
+stays-run Reaches starters start bytes (suc k) stays small fits idle =
+    let byte = slice_index bytes k in
+    let before = stays-run Reaches starters start bytes k stays small (omega (arith, fits)) (λ j lt. idle j (omega (arith, lt))) in
+    let more : take (suc k) bytes ≡ take k bytes ++ byte ∷ [] = take-more bytes k byte (slice_get-get_or bytes k 0 (omega (arith, fits))) in
+    λ text reads.
+    let whole : (text ++ take k bytes) ++ byte ∷ [] ≡ text ++ take (suc k) bytes = append_assoc text (take k bytes) (byte ∷ []) ∙ ap (λ (l : List ℕ). text ++ l) (sym more) in
+    subst (λ (l : List ℕ). Reaches l start) whole (stays byte (small k) (idle k (omega arith)) (text ++ take k bytes) (before text reads))
+
+-- reading on over a run of them
+pub advanced-idle : (b : Built) (Reaches : Anchored → List ℕ → StateID → Type 0) (anchored : Anchored) (stops : StateID → Bool) (starters : Starters) (start sid current : StateID) (bytes rest : List ℕ) (n passed : ℕ) (s t u : Steps)
+    → ¬ IsTrue (stops start) → StaysBut (Reaches anchored) starters start → ((k : ℕ) → slice_index bytes k < 256) → rest ≡ drop n bytes → n ≤ length bytes
+    → ((text : List ℕ) → Reaches anchored text current → (live : Option ℕ) × IsLive b.dictionary (is_anchored anchored) text live)
+    → PassesIdle starters start current rest passed t u
+    → HasAdvanced b Reaches anchored stops sid bytes n current s t
+    → (n + passed ≤ length bytes) × HasAdvanced b Reaches anchored stops sid bytes (n + passed) current s u
+advanced-idle b Reaches anchored stops starters start sid current bytes rest n zero s t u apart stays small is within lives passes has =
+    let e : n ≡ n + zero = omega arith in
+    (omega (arith, within), subst (λ (i : ℕ). HasAdvanced b Reaches anchored stops sid bytes i current s u) e (advanced-same b Reaches anchored stops sid current bytes n s t u passes.counted has))
+advanced-idle b Reaches anchored stops starters start sid current bytes rest n (suc k) s t u apart stays small is within lives passes has =
+    let R = Reaches anchored in
+    let at : current ≡ start = passes.at (omega arith) in
+    let inside = passes.within in
+    let fits : n + suc k ≤ length bytes = let left = ap length is in let all_left = length-drop n bytes in omega (arith, inside, left, all_left, within) in
+    let fit : (j : ℕ) → slice_index rest j < 256 = λ j. let same : slice_index rest j ≡ slice_index bytes (n + j) = ap (λ (l : List ℕ). slice_index l j) is ∙ get_or-drop n bytes j 0 in subst (λ (v : ℕ). v < 256) (sym same) (small (n + j)) in
+    let quiet : ¬ IsTrue (stops current) = subst (λ (i : StateID). ¬ IsTrue (stops i)) (sym at) apart in (
+      fits,
+      advanced-run b Reaches anchored stops sid bytes n (suc k) current s t u fits quiet lives
+      (λ j le. subst (λ (i : StateID). Leads R i (take j (drop n bytes)) i) (sym at)
+      (subst (λ (l : List ℕ). Leads R start (take j l) start) is
+      (stays-run R starters start rest j stays fit (omega (arith, le, inside)) (λ i lt. passes.idle i (omega (arith, lt, le))))))
+      passes.counted has,
+    )

@@ -1,7 +1,0 @@
-use Rattle.ac_automaton.proofs.CursorLemmas.{HasAdvanced}
-use Rattle.ac_automaton.specs.Passing.{is_between}
-use Rattle.ac_tables.specs.ContiguousReads.{built_as, IsRead}
-use Rattle.ac_tables.proofs.contiguous.NFA.read_on.Given as goal
-
-abbrev pub invariant-loop-read : goal.invariant-loop-read
-invariant-loop-read l = HasAdvanced (built_as l.self) (IsRead l.self) l.anchored (is_between l.first l.last) l.fn.sid l.bytes l.read l.current l.initial.steps l.steps

@@ -15,14 +15,14 @@ use Rattle.ac_input.specs.Dictionary.{IsLive}
 use Rattle.ac_input.specs.Opening.{NoneIsShorter}
 use Rattle.ac_automaton.specs.Automaton.{IsReached, Leads}
 use Rattle.ac_automaton.specs.Held.{last_special_of}
-use Rattle.ac_automaton.specs.ReadOn.{is_between}
 use Rattle.ac_automaton.specs.Passing.{MayPass}
 use Rattle.ac_automaton.proofs.CursorLemmas.{leads-none}
 use Rattle.ac_automaton.proofs.NamedPassingLemmas.{may-pass}
 use Rattle.ac_automaton.proofs.ReadOnLemmas.{between}
 use Rattle.ac_tables.specs.declared.dfa.DFA.{DFA}
 use Rattle.ac_tables.specs.declared.dfa.table.Table.{Table}
-use Rattle.ac_tables.specs.DfaReads.{dictionary, built_as, matches_at, is_start_at, is_special_at, IsNamingFor, IsRead, StopsBefore}
+use Rattle.ac_tables.specs.DfaReads.{dictionary, built_as, matches_at, is_start_at, is_special_at, IsNamingFor, IsRead}
+use Rattle.ac_automaton.specs.ReadOn.{is_between, StopsBefore}
 use Rattle.ac_tables.proofs.DfaIdleLemmas.{past-none}
 use Rattle.ac_tables.proofs.DfaReadLemmas.{all-names, dead-said, row-leads, start-read, starts-placed, state-matches}
 use Rattle.ac_tables.proofs.TestLemmas.{start-has}
@@ -78,7 +78,7 @@ starts-ordered : (dfa : DFA) → dfa.table.start ≤ dfa.table.start_anchored
 starts-ordered dfa = ∥∥₁_elim dfa.stands le_prop (λ w. let placed = starts-placed (dictionary dfa) dfa.table w.0 w.1 in omega (arith, placed))
 
 -- the last special number is past the last that matches only where a prefilter is held; then the starts are special
-pub special-below : (dfa : DFA) (last : ℕ) → last ≡ dfa.max_special → StopsBefore dfa last
+pub special-below : (dfa : DFA) (last : ℕ) → last ≡ dfa.max_special → StopsBefore dfa.table.start last dfa.table.max_match
 special-below dfa last is lt = by dfa.prefilter dfa.special
   where
     by : (held : Option Filter) → dfa.max_special ≡ last_special_of held dfa.table.start_anchored dfa.table.max_match → last ≡ dfa.table.max_match

@@ -11,7 +11,6 @@ use Rattle.ac_input.specs.Dictionary.{IsLive}
 use Rattle.ac_input.specs.Opening.{NoneIsShorter}
 use Rattle.ac_automaton.specs.Held.{last_special_of}
 use Rattle.ac_automaton.specs.Named.{Naming, AreLinked}
-use Rattle.ac_automaton.specs.ReadOn.{is_between}
 use Rattle.ac_automaton.specs.Passing.{MayPass}
 use Rattle.ac_automaton.proofs.LinkedLemmas.{run-leads}
 use Rattle.ac_automaton.proofs.NamedLemmas.{read-dead}
@@ -21,7 +20,8 @@ use Rattle.ac_tables.specs.declared.contiguous.NFA.{NFA}
 use Rattle.ac_tables.specs.declared.contiguous.table.Table.{Table}
 use Rattle.ac_tables.specs.Words.{StateParts, next_by}
 use Rattle.ac_tables.specs.WordReads.{unpacked, IsFirstPlace, IsStateAt, IsSparseAt, ByteLeadsTo, IsFailOf}
-use Rattle.ac_tables.specs.ContiguousReads.{dictionary, built_as, matches_at, is_start_at, is_special_at, IsLaidOut, IsRead, StopsBefore}
+use Rattle.ac_tables.specs.ContiguousReads.{dictionary, built_as, matches_at, is_start_at, is_special_at, IsLaidOut, IsRead}
+use Rattle.ac_automaton.specs.ReadOn.{is_between, StopsBefore}
 use Rattle.ac_tables.proofs.DecodeLemmas.{state-fail}
 use Rattle.ac_tables.proofs.FollowLemmas.{laid-numbers, laid-edge, laid-failure}
 use Rattle.ac_tables.proofs.NameLemmas.{list-past, names-are, start-read, state-apart, state-many}
@@ -189,7 +189,7 @@ words-quiet nfa first last sid text below reads none alive e =
 -- ---- up to which number a search stops
 
 -- the last special number is past the last that matches only where a prefilter is held; then the starts are special
-pub special-below : (nfa : NFA) (last : ℕ) → last ≡ nfa.max_special → StopsBefore nfa last
+pub special-below : (nfa : NFA) (last : ℕ) → last ≡ nfa.max_special → StopsBefore nfa.table.start last nfa.table.max_match
 special-below nfa last is lt = by nfa.prefilter nfa.special
   where
     by : (held : Option Filter) → nfa.max_special ≡ last_special_of held nfa.table.start_anchored nfa.table.max_match → last ≡ nfa.table.max_match

@@ -1,5 +1,5 @@
 -- Packed search: the models of a builder and a searcher, and their results.
-use Rattle.std.specs.Prelude.{◌≡◌, ℕ, ◌<◌, ◌≤◌, Bool, true, false, ◌||◌, ◌==◌, List, [], ◌∷◌, ◌++◌, length, Option, Some, None, min, map, take, get_or, if◌then◌else◌}
+use Rattle.std.specs.Prelude.{◌≡◌, ℕ, ◌<◌, ◌≤◌, Bool, true, false, ◌||◌, ◌==◌, List, [], ◌∷◌, ◌++◌, length, Option, Some, None, map, take, get_or, if◌then◌else◌}
 use Rattle.std.specs.Borrow.{Bor}
 use Rattle.ac_input.specs.declared.search.MatchKind as search
 use Rattle.ac_input.specs.declared.search.MatchKind.TheVariants as searches

@@ -22,7 +22,7 @@ same_text-drop pairing (suc n) [] (y ∷ ys) h = absurd (false≢true h)
 same_text-drop pairing (suc n) (x ∷ xs) [] h = absurd (false≢true h)
 same_text-drop pairing (suc n) (x ∷ xs) (y ∷ ys) h = same_text-drop pairing n xs ys (and_parts (same pairing x y) (same_text pairing xs ys) h).1
 
--- texts that are the same stay so with the same bytes behind them
+-- texts that are the same stay so with the same bytes after them
 pub same_text-append : (pairing xs ys more : List ℕ) → IsOwnInverse pairing → IsTrue (same_text pairing xs ys) → IsTrue (same_text pairing (xs ++ more) (ys ++ more))
 same_text-append pairing [] [] more inverse h = same_text-itself pairing inverse more
 same_text-append pairing [] (y ∷ ys) more inverse h = absurd (false≢true h)
@@ -115,7 +115,7 @@ canonical-twice pairing byte inverse =
     let back = inverse byte in
     grind (arith, nat_tests)
 
--- canonical bytes stay as they are
+-- canonical bytes are unchanged
 pub canonical-text : (pairing text : List ℕ) → IsOwnInverse pairing → map (canonical pairing) (map (canonical pairing) text) ≡ map (canonical pairing) text
 canonical-text pairing [] inverse = refl
 canonical-text pairing (b ∷ bs) inverse = ap₂ ◌∷◌ (canonical-twice pairing b inverse) (canonical-text pairing bs inverse)

@@ -62,7 +62,7 @@ elements-out classes wanted at h isnt =
     let split : elements_from classes wanted at (256 - at) ≡ filter (λ b. class classes b == wanted) (at ∷ range_with_len (at + 1) (256 - (at + 1))) = ap (filter (λ b. class classes b == wanted)) (range-first at 256 h) in
     grind (arith, nat_tests)
 
--- none is left behind the last byte
+-- none is left after the last byte
 pub elements-end : (classes : List ℕ) (wanted at : ℕ) → at ≡ 256 → elements_from classes wanted at (256 - at) ≡ []
 elements-end classes wanted at end =
     let none : 256 - at ≡ 0 = omega arith in

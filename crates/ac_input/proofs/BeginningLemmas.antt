@@ -99,11 +99,11 @@ walk-longer s more end at last (o ∷ os) (q ∷ qs) inside le g h =
 pub listed-beginning : (fewer all : List Occurrence) → IsBeginning fewer all → IsBeginning (listed fewer) (listed all)
 listed-beginning fewer all (rest, split) = (listed rest, ap listed split ∙ listed-append fewer rest)
 
--- those of a listing that end behind a place
+-- those of a listing that end after a place
 abbrev behind : ℕ → List Occurrence → List Occurrence
 behind place all = filter (λ (o : Occurrence). ltb place o.end) all
 
--- the overlapping listing of a beginning, and then what ends behind it, is the overlapping listing
+-- the overlapping listing of a beginning, followed by what ends after it, is the overlapping listing
 listing-longer_is : (s : Search) (more : List ℕ) (end : ℕ) (fewer all : List Occurrence) → s.end ≤ length s.haystack → s.end ≤ end → IsListing s fewer → IsListing (longer s more end) all → IsListing (longer s more end) (fewer ++ behind s.end all)
 listing-longer_is s more end fewer all inside le g h =
     let test = λ (o : Occurrence). ltb s.end o.end in

@@ -208,7 +208,7 @@ least-unique kind s P inside f None (Some y) g h = absurd (g y h.0)
 least-unique kind s P inside f (Some x) None g h = absurd (h x g.0)
 least-unique kind s P inside f (Some x) (Some y) g h = ap Some (preference-same kind s x y inside (f x g.0) (f y h.0) (g.1 y h.0) (h.1 x g.0))
 
--- the standard order tells any two occurrences apart, so there the fact may be any
+-- the standard order distinguishes any two occurrences, so there the fact may be any
 pub least-unique_standard : (P : Occurrence → Type 0) (a b : Option Occurrence) → IsLeast Standard P a → IsLeast Standard P b → a ≡ b
 least-unique_standard P None None g h = refl
 least-unique_standard P None (Some y) g h = absurd (g y h.0)

@@ -31,11 +31,11 @@ class-later boundaries classes h (suc more) b small =
     let below = class-later boundaries classes h more b (omega arith) in
     omega arith
 
--- behind a boundary the next class begins
+-- after a boundary the next class begins
 class-next : (boundaries : List Bool) (classes : List ℕ) → AreClassesOf boundaries classes → (b : ℕ) → b < 255 → has boundaries b ≡ true → class classes (b + 1) ≡ class classes b + 1
 class-next boundaries classes h b small at = h.next b small ∙ ap (λ (t : Bool). class classes b + (if t then 1 else 0)) at
 
--- a byte that is parted from the others is a class of its own; only below the last byte can a boundary stand
+-- a byte that is separated from the others is a class of its own; only below the last byte can a boundary stand
 pub parted-alone : (boundaries : List Bool) (classes : List ℕ) → AreClassesOf boundaries classes → (x : ℕ) → x < 256 → (x < 255 → has boundaries x ≡ true) → ((before : ℕ) → before + 1 ≡ x → has boundaries before ≡ true) → IsAlone classes x
 parted-alone boundaries classes h x small after before b b_small same =
     ⊎_elim

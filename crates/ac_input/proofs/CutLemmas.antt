@@ -29,7 +29,7 @@ further-ends_behind : (s : Search) (more : List ℕ) (end at : ℕ) (last : Opti
 further-ends_behind s more end at last b r inside le h rep k (Here g n) early = n (subst (Repeats last) (least-unique_standard (Occurs (starting_at (longer s more end) at)) b (Some r) (repeated-longer s more end at last b inside le h rep) g) rep)
 further-ends_behind s more end at last b r inside le h rep k (Further c g rep' l) early = k r (longer-occurs (starting_at s (at + 1)) more end r inside early l.0)
 
--- where a walk that isn't anchored is over in the beginning, the next pick of the longer one ends behind the beginning
+-- where a walk that isn't anchored is over in the beginning, the next pick of the longer one ends after the beginning
 none-ends_behind : (s : Search) (more : List ℕ) (end at : ℕ) (last : Option ℕ) (r : Occurrence) → s.end ≤ length s.haystack → s.end ≤ end → s.anchored ≡ false → IsPick Standard s at last None → IsPick Standard (longer s more end) at last (Some r) → r.end ≤ s.end → ⊥
 none-ends_behind s more end at last r inside le free (Here h n) pick early =
     let found = pick-occurs Standard (longer s more end) at last r pick in
@@ -45,11 +45,11 @@ slice_range-across x more at b g h =
     ∙ ap (λ (count : ℕ). take count (drop at x ++ more)) n
     ∙ take-append-add (drop at x) more (b - length x)
 
--- no pick lies across a place
+-- no pick crosses a place
 abbrev pub LiesAcrossNone : ℕ → List Occurrence → Type 0
 LiesAcrossNone place os = (o : Occurrence) → Contains os o → o.start < place → o.end ≤ place
 
--- what is written behind the last pick of the beginning is a beginning of what is written there of the whole text
+-- what is written after the last pick of the beginning is a beginning of what is written there of the whole text
 rest-longer : (s : Search) (more : List ℕ) (end at : ℕ) (last : Option ℕ) (replacements : List (List ℕ)) (rest : List Occurrence) → s.end ≡ length s.haystack → s.end ≤ end → s.anchored ≡ false → at ≤ s.end → LiesAcrossNone s.end rest → IsPick Standard s at last None → IsWalk Standard (longer s more end) at last rest → IsBeginning (drop at s.haystack) (replaced_from at (s.haystack ++ more) replacements rest)
 rest-longer s more end at last replacements [] ends le free here across over walk = (more, drop-append-le at s.haystack more (omega arith))
 rest-longer s more end at last replacements (r ∷ rs) ends le free here across over walk =
@@ -66,7 +66,7 @@ rest-longer s more end at last replacements (r ∷ rs) ends le free here across 
           ∙ append_assoc (drop at x) begun written,
     )
 
--- where no pick lies across its end, the beginning, replaced, is a beginning of the whole text, replaced
+-- where no pick crosses its end, the beginning, replaced, is a beginning of the whole text, replaced
 pub replaced-longer : (s : Search) (more : List ℕ) (end at : ℕ) (last : Option ℕ) (replacements : List (List ℕ)) (fewer rest : List Occurrence) → s.end ≡ length s.haystack → s.end ≤ end → s.anchored ≡ false → at ≤ s.end → LiesAcrossNone s.end rest → IsWalk Standard s at last fewer → IsWalk Standard (longer s more end) at last (fewer ++ rest) → IsBeginning (replaced_from at s.haystack replacements fewer) (replaced_from at (s.haystack ++ more) replacements (fewer ++ rest))
 replaced-longer s more end at last replacements [] rest ends le free here across g h = rest-longer s more end at last replacements rest ends le free here across g h
 replaced-longer s more end at last replacements (o ∷ os) rest ends le free here across g h =

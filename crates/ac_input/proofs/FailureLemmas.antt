@@ -90,7 +90,7 @@ end-best m text dead = (λ standard. dead (alive-end m text (inl standard)), by 
         (λ (past : length text ≤ b.start). absurd (dead (alive-end m text (inr (λ other is. subst (λ (c : Occurrence). length text ≤ c.start) (same_Some b other (best-unique m.kind (whole m text false) (omega arith) (Some b) (Some other) best is)) past)))))
         (cases_lt b.start (length text))
 
--- under a leftmost kind no place is alive behind the start of an occurrence
+-- under a leftmost kind no place is alive after the start of an occurrence
 pub alive-before_start : (m : Dictionary) (text more : List ℕ) (from : ℕ) (o : Occurrence) → m.kind ≢ Standard → Occurs (whole m text false) o → IsAlive m false (text ++ more) from → from ≤ o.start
 alive-before_start m text more from o leftmost h alive = alive-first m (text ++ more) from o leftmost alive (occurs-append m false text more o h)
 
@@ -199,7 +199,7 @@ own-begins m text n inverse own =
     let long = same_text-length m.pairing own.0 text own.2 in
     BeginsEntered-from m text n own.0 own.1 (omega arith, subst (λ (xs : List ℕ). IsTrue (same_text m.pairing text xs)) (sym (take_all (length text) own.0 (omega arith))) (same_text-back m.pairing inverse own.0 text own.2))
 
--- what is live after one more byte that leads to no beginning of an entered pattern is what is live of the failure and that byte
+-- what is live after one more byte that leads to no longer beginning is what is live of the failure and that byte
 pub live-next : (m : Dictionary) (text : List ℕ) (byte from : ℕ) (r : Option ℕ) → IsOwnInverse m.pairing → IsFailure m text (Some from) → (¬ BeginsEntered m (text ++ byte ∷ [])) → IsLive m false (drop from text ++ byte ∷ []) r ↔ IsLive m false (text ++ byte ∷ []) (shifted_place from r)
 live-next m text byte from r inverse failure none =
     let next = failure-next m text byte from r inverse failure (λ leftmost n own. none (own-begins m (text ++ byte ∷ []) n inverse own)) in

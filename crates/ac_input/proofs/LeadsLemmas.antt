@@ -76,7 +76,7 @@ leads-same : (m : Dictionary) (anchored : Bool) (xs ys : List ℕ) (r : Option (
 leads-same m anchored xs ys None inverse e h = live-same m xs ys anchored None inverse (same_text-canonical m.pairing xs ys inverse e) h
 leads-same m anchored xs ys (Some x) inverse e h = (h.0, live-same m xs ys anchored (Some h.0) inverse (same_text-canonical m.pairing xs ys inverse e) h.1, h.2 ∙ same-stands m.pairing xs ys h.0 e)
 
--- where what is live of a rest tells what is live of the text, both lead to one state
+-- where what is live of a rest determines what is live of the text, both lead to one state
 pub leads-rest : (m : Dictionary) (text : List ℕ) (from : ℕ) → ((r : Option ℕ) → IsLive m false (drop from text) r → IsLive m false text (shifted_place from r)) → (r : Option (List ℕ)) → LeadsTo m false (drop from text) r → LeadsTo m false text r
 leads-rest m text from forth None h = forth None h
 leads-rest m text from forth (Some x) h = (from + h.0, forth (Some h.0) h.1, h.2 ∙ ap (map (canonical m.pairing)) (drop-drop h.0 from text))
@@ -204,7 +204,7 @@ list-of_failure m text failure own rest inverse are h list = OwnThen text own re
 pub list-alone : (m : Dictionary) (text own : List ℕ) → AreOwn m text own → FailsTo m text None → IsList m text own
 list-alone m text own are none = OwnAlone text own are none
 
--- the list of the state to which a text leads tells of the text
+-- the list of the state to which a text leads describes the text
 pub state-tells : (m : Dictionary) (text state ns : List ℕ) → IsOwnInverse m.pairing → IsList m state ns → (LeadsTo m false text (Some state) → Tells m No text ns) × (LeadsTo m true text (Some state) → Tells m Yes text ns)
 state-tells m text state ns inverse list = (
   λ h. tells-live m text h.0 ns inverse h.1 (list-same m state ns list (drop h.0 text) inverse (stands-same m.pairing (drop h.0 text) state inverse h.2)),
@@ -213,7 +213,7 @@ state-tells m text state ns inverse list = (
       tells-anchored m text ns (subst (λ (n : ℕ). IsList m (drop n text) ns) z (list-same m state ns list (drop h.0 text) inverse (stands-same m.pairing (drop h.0 text) state inverse h.2))),
 )
 
--- and of what leads to the dead one the empty list tells
+-- and the empty list describes what leads to the dead one
 pub dead-tells : (m : Dictionary) (text : List ℕ) → IsOwnInverse m.pairing → (LeadsTo m false text None → Tells m No text []) × (LeadsTo m true text None → Tells m Yes text [])
 dead-tells m text inverse = (tells-dead m text inverse, tells-anchored_dead m text inverse)
 

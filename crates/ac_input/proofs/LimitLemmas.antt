@@ -68,7 +68,7 @@ within-none m p StateNumber w h =
 
 -- ---- the first patterns of a dictionary
 
--- a pattern of the first so many is one of all
+-- a pattern of the first n is one of all
 first-pattern : (m : Dictionary) (k n : ℕ) (p : List ℕ) → IsPattern (first_patterns m k) n p → (n < k) × IsPattern m n p
 first-pattern m k n p is =
     let within = slice_get_within (take k m.patterns) n p is in
@@ -86,7 +86,7 @@ pattern-first m k n p low is =
     let long = length-take k m.patterns in
     slice_get-get_or (take k m.patterns) n p (omega (arith, within, long, low)) ∙ ap Some (get_or-take k m.patterns n p low ∙ get_or_from_slice_get m.patterns n p p is)
 
--- what is entered of the first so many is entered of all
+-- what is entered of the first n is entered of all
 first-prefix : (m : Dictionary) (k : ℕ) (t : List ℕ) → IsPrefix (first_patterns m k) t → IsPrefix m t
 first-prefix m k t f =
     let n = f.entered.0 in

@@ -135,12 +135,12 @@ listing_of-lists s fits = (
 pub listing-computed : (s : Search) (os : List Occurrence) → s.end ≤ length s.haystack → IsListing s os → os ≡ listing_of s
 listing-computed s os fits h = listing-unique s os (listing_of s) h (listing_of-lists s fits)
 
--- behind nothing each occurrence is kept
+-- after nothing each occurrence is kept
 filter_all : (os : List Occurrence) → filter (is_after None) os ≡ os
 filter_all [] = refl
 filter_all (o ∷ os) = ap (λ (rest : List Occurrence). o ∷ rest) (filter_all os)
 
--- the test of an answer that is less
+-- the test of a result that is less
 is_less-true : (r : Ordering) → r ≡ Less → is_less r ≡ true
 is_less-true r e = ap is_less e
 
@@ -153,12 +153,12 @@ pub is_after-decides : (before : Option Occurrence) (o : Occurrence) → (is_aft
 is_after-decides None o = (λ _. tt, λ _. refl)
 is_after-decides (Some before) o = (less_from_test (preference Standard before o), is_less-true (preference Standard before o))
 
--- what is behind one that is behind another is behind that one
+-- what is after one that is after another is after that one
 pub IsAfter-trans : (before : Option Occurrence) (o later : Occurrence) → IsAfter before o → IsBefore o later → IsAfter before later
 IsAfter-trans None o later h k = tt
 IsAfter-trans (Some before) o later h k = preference-less_transitive Standard before o later h k
 
--- the part of the listing behind an occurrence lists all that is behind it
+-- the part of the listing after an occurrence lists all that is after it
 pub listing_after-lists : (s : Search) (before : Option Occurrence) → s.end ≤ length s.haystack → ListsAll (λ o. Occurs s o × IsAfter before o) (listing_after s before)
 listing_after-lists s before fits =
     let whole = listing_of-lists s fits in (
@@ -171,7 +171,7 @@ listing_after-lists s before fits =
       ),
     )
 
--- behind nothing is the whole listing
+-- after nothing is the whole listing
 pub listing_after-start : (s : Search) → listing_after s None ≡ listing_of s
 listing_after-start s = filter_all (listing_of s)
 

@@ -73,21 +73,21 @@ nat_cmp-greater x y h = grind (arith, nat_tests)
 nat_cmp-equal : (x y : ℕ) → x ≡ y → nat_cmp x y ≡ Equal
 nat_cmp-equal x y h = grind (arith, nat_tests)
 
--- where the first step tells, it decides
+-- where the first comparison is no tie, it decides
 then-greater : (x y : ℕ) (t : Ordering) → y < x → ordering_then (nat_cmp x y) t ≡ Greater
 then-greater x y t h = ap (λ (r : Ordering). ordering_then r t) (nat_cmp-greater x y h)
 
--- where the first step ties, the next one decides
+-- where the first comparison ties, the next one decides
 then-equal : (x y : ℕ) (t : Ordering) → x ≡ y → ordering_then (nat_cmp x y) t ≡ t
 then-equal x y t h = ap (λ (r : Ordering). ordering_then r t) (nat_cmp-equal x y h)
 
--- what a leftmost kind doesn't put behind starts no later
+-- what a leftmost kind doesn't put after starts no later
 pub leftmost-no_later : (kind : MatchKind) (a b : Occurrence) → kind ≢ Standard → preference kind a b ≢ Greater → a.start ≤ b.start
 leftmost-no_later Standard a b leftmost h = absurd (leftmost refl)
 leftmost-no_later LeftmostFirst a b leftmost h = ⊎_elim (λ (later : b.start < a.start). absurd (h (then-greater a.start b.start _ later))) (λ (le : a.start ≤ b.start). le) (cases_lt b.start a.start)
 leftmost-no_later LeftmostLongest a b leftmost h = ⊎_elim (λ (later : b.start < a.start). absurd (h (then-greater a.start b.start _ later))) (λ (le : a.start ≤ b.start). le) (cases_lt b.start a.start)
 
--- what the standard kind doesn't put behind ends no later
+-- what the standard kind doesn't put after ends no later
 pub standard-no_later : (a b : Occurrence) → preference Standard a b ≢ Greater → a.end ≤ b.end
 standard-no_later a b h = ⊎_elim (λ (later : b.end < a.end). absurd (h (then-greater a.end b.end _ later))) (λ (le : a.end ≤ b.end). le) (cases_lt b.end a.end)
 
@@ -145,7 +145,7 @@ dead-best m text dead = (λ standard. dead (length text) (alive-end m text (inl 
         (λ (past : length text ≤ b.start). absurd (dead (length text) (alive-end m text (inr (λ other is. subst (λ (c : Occurrence). length text ≤ c.start) (same_Some b other (best-unique m.kind (whole m text false) (omega arith) (Some b) (Some other) best is)) past)))))
         (cases_lt b.start (length text))
 
--- a text that is dead stays so, whatever follows
+-- a dead text stays dead, whatever follows
 pub dead-append : (m : Dictionary) (anchored : Bool) (text more : List ℕ) → IsLive m anchored text None → IsLive m anchored (text ++ more) None
 dead-append m true text more dead from alive =
     let first : from ≡ 0 = alive.anchor refl in

@@ -65,7 +65,7 @@ list-distinct m text ns (OwnThen _ own rest from are failure list) =
     let same = subst (λ (r : List ℕ). length r ≤ length (drop from text)) (sym one) q.2 in
     omega (arith, p.2, same, shorter))
 
--- so there are no more than patterns
+-- so there are at most as many as patterns
 pub list-once : (m : Dictionary) (text ns : List ℕ) → IsList m text ns → AreOnce m ns
 list-once m text ns list =
     let known : (n : ℕ) → Contains ns n → n < length m.patterns = λ n c. let p = list-short m text ns list n c in slice_get_within m.patterns n p.0 p.1 in

@@ -1,4 +1,4 @@
--- A text in which no pattern's first bytes stand: nothing occurs in it, and only its last bytes may still grow into the answer.
+-- A text in which no pattern's first bytes stand: nothing occurs in it, and only its last bytes may still grow into a match.
 --
 -- So a search that stands in the start may pass such a text, but for as many bytes at its end as can still be live, and read those
 -- from the start: it comes to the state to which the whole text leads.

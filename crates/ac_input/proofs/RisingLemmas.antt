@@ -18,7 +18,7 @@ less_itself a h = let e = preference-equal_itself Standard a in cc
 pub less_flip : (a b : Occurrence) → preference Standard a b ≡ Less → preference Standard b a ≡ Less → ⊥
 less_flip a b h k = less_itself a (preference-less_transitive Standard a b a h k)
 
--- the same by what the comparison answers
+-- the same by what the comparison returns
 order_cases : (a b : Occurrence) (r : Ordering) → preference Standard a b ≡ r → (preference Standard a b ≡ Less) ⊎ ((a ≡ b) ⊎ (preference Standard b a ≡ Less))
 order_cases a b Less e = inl e
 order_cases a b Equal e = inr (inl (standard-equal a b e))

@@ -37,7 +37,7 @@ empty_and_ab-listed = refl
 abbrev pub ab_and_empty : Search
 ab_and_empty = record { patterns = (97 ∷ 98 ∷ []) ∷ [] ∷ []; pairing = []; haystack = 97 ∷ 97 ∷ 98 ∷ []; start = 0; end = 3; anchored = false }
 
--- behind a match the empty pattern is not taken where that match ended
+-- after a match the empty pattern is not taken where that match ended
 pub ab_and_empty-first : walk_of LeftmostFirst ab_and_empty ≡ record { pattern = 1; start = 0; end = 0 } ∷ record { pattern = 0; start = 1; end = 3 } ∷ []
 ab_and_empty-first = refl
 

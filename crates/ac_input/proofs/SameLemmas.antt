@@ -1,4 +1,4 @@
--- Being the same is an equivalence where a pairing is its own inverse, and canonical bytes tell it.
+-- Being the same is an equivalence where a pairing is its own inverse, and is decided by canonical bytes.
 use Rattle.std.proofs.Common.{◌≡◌, ℕ, zero, suc, ◌<◌, ◌≤◌, map, List, [], ◌∷◌, take, IsTrue, refl, sym, ap, ap₂, ◌∙◌, ⊎_elim, arith}
 use Rattle.std.proofs.lemmas.Bool.{and_parts, and_from, false≢true, cases_lt}
 use Rattle.std.proofs.lemmas.Bool.Decides.{nat_tests}

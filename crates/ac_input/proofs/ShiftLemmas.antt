@@ -1,4 +1,4 @@
--- The best of a text is the best of its live prefix, so many bytes further on.
+-- The best of a text is the best of its live prefix, shifted.
 use Rattle.std.proofs.Common.{◌≡◌, ◌≢◌, ◌↔◌, ⊎_elim, ℕ, ◌+◌, ◌-◌, ◌≤◌, false, List, length, take, drop, Option, Some, None, IsTrue, slice_range, Ordering, Greater, nat_cmp, sym, ap, ap₂, subst, refl, ◌∙◌, arith, length-drop}
 use Rattle.std.specs.Ordering.{ordering_then}
 use Rattle.std.proofs.lemmas.Bool.{false≢true}
@@ -18,7 +18,7 @@ use Rattle.ac_input.proofs.LiveLemmas.{leftmost-no_later, whole-best_some}
 nat_cmp-shifted : (n x y : ℕ) → nat_cmp (n + x) (n + y) ≡ nat_cmp x y
 nat_cmp-shifted n x y = grind (arith, nat_tests)
 
--- occurrences are preferred as they are when both are so many bytes further on
+-- shifting both occurrences by the same number of bytes keeps the preference
 pub preference-shifted : (kind : MatchKind) (n : ℕ) (a b : Occurrence) → preference kind (shifted n a) (shifted n b) ≡ preference kind a b
 preference-shifted Standard n a b = ap₂ (λ (x y : Ordering). ordering_then x (ordering_then y (nat_cmp a.pattern b.pattern))) (nat_cmp-shifted n a.end b.end) (nat_cmp-shifted n a.start b.start)
 preference-shifted LeftmostFirst n a b = ap (λ (x : Ordering). ordering_then x (nat_cmp a.pattern b.pattern)) (nat_cmp-shifted n a.start b.start)
@@ -52,7 +52,7 @@ occurs-from_shifted m text from o inside h =
       anchor = λ a. absurd (false≢true a);
     }
 
--- an occurrence so many bytes before
+-- an occurrence, shifted back
 abbrev pub back_by : ℕ → Occurrence → Occurrence
 back_by bytes o = record { pattern = o.pattern; start = o.start - bytes; end = o.end - bytes }
 

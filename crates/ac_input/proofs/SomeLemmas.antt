@@ -1,4 +1,4 @@
--- Each text has a live prefix or is dead, a failure or none, own patterns, and a list: all of it can be told.
+-- Each text has a live prefix or is dead, a failure or none, own patterns, and a list: all of it is decidable.
 use Rattle.std.proofs.Common.{◌≡◌, ◌⊎◌, inl, inr, ⊎_elim, ℕ, zero, suc, ◌+◌, ◌<◌, ◌≤◌, Bool, true, false, map, List, [], ◌∷◌, ◌++◌, length, drop, Option, Some, None, IsTrue, sym, subst, refl, ◌∙◌, arith}
 use Rattle.std.proofs.lemmas.Bool.{cases_lt, cases_eq, false≢true}
 use Rattle.std.proofs.lemmas.Option.{slice_get_cases, same_Some, none-some}
@@ -66,7 +66,7 @@ alive_cases m anchored text from inverse =
         (best_cases m text from))
         (kind_cases m.kind)
 
--- of places that can be told there is a least one below a bound, or none
+-- of places that are decidable there is a least one below a bound, or none
 least_below : (P : ℕ → Type 0) → ((at : ℕ) → P at ⊎ (¬ P at)) → (bound : ℕ) → ((at : ℕ) × P at × ((another : ℕ) → P another → at ≤ another)) ⊎ ((at : ℕ) → at < bound → ¬ P at)
 least_below P told zero = inr (λ at lt p. omega arith)
 least_below P told (suc bound) =
@@ -114,7 +114,7 @@ own_cases m text n =
     (λ past. inr (λ own. none-some own.0 (sym past.1 ∙ own.1.0)))
     (slice_get_cases m.patterns n).1
 
--- a text has own patterns among the first so many
+-- a text has own patterns among the first n
 owns-first : (m : Dictionary) (text : List ℕ) (count : ℕ) → (ns : List ℕ) × AreOwn (first_patterns m count) text ns
 owns-first m text zero = ([], (first-none m text).0)
 owns-first m text (suc count) =
@@ -132,7 +132,7 @@ owns-some m text =
     let all = owns-first m text (length m.patterns) in
     (all.0, subst (λ (d : Dictionary). AreOwn d text all.0) (first-all m (length m.patterns) (omega arith)) all.1)
 
--- a text of so many bytes at most has a list
+-- a text of at most n bytes has a list
 list-within : (m : Dictionary) (bound : ℕ) (text : List ℕ) → IsOwnInverse m.pairing → length text < bound → (ns : List ℕ) × IsList m text ns
 list-within m zero text inverse lt = absurd (omega arith)
 list-within m (suc bound) text inverse lt = by (failure-some m text inverse).0 (failure-some m text inverse).1 (list-within m bound)

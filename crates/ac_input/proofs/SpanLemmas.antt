@@ -1,4 +1,4 @@
--- A search of a span is a search of the whole of that part of the haystack, so many bytes further on.
+-- A search of a span is a search of the whole of that part of the haystack, shifted.
 use Rattle.std.proofs.Common.{◌≡◌, ◌≢◌, ◌↔◌, ℕ, ◌+◌, ◌-◌, ◌≤◌, Bool, false, List, length, take, drop, Option, Some, None, IsTrue, slice_range, Greater, sym, ap, ap₂, subst, refl, ◌∙◌, arith}
 use Rattle.std.proofs.lemmas.Bool.{false≢true}
 use Rattle.std.proofs.lemmas.List.{drop-take, drop-drop, take-take}
@@ -91,7 +91,7 @@ span-whole m s at o by g h inside = (
 
 -- ---- the best
 
--- occurrences that are equal so many bytes further on are equal
+-- occurrences that are equal once shifted are equal
 shifted-injective : (n : ℕ) (a b : Occurrence) → shifted n a ≡ shifted n b → a ≡ b
 shifted-injective n a b e =
     let start : n + a.start ≡ n + b.start = ap (λ (o : Occurrence). o.start) e in

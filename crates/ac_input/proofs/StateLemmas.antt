@@ -1,4 +1,4 @@
--- A live prefix stands for every text that has it: it tells the best and what is live, whatever follows.
+-- A live prefix stands for every text that has it: it determines the best and what is live, whatever follows.
 use Rattle.std.proofs.Common.{◌≡◌, ◌≢◌, ◌↔◌, inl, inr, ⊎_elim, ℕ, ◌+◌, ◌-◌, ◌<◌, ◌≤◌, Bool, true, false, List, [], ◌++◌, length, drop, Option, Some, None, slice_get, sym, ap, subst, refl, ◌∙◌, arith, length-append, length-drop}
 use Rattle.std.proofs.lemmas.Bool.{false≢true, cases_lt}
 use Rattle.std.proofs.lemmas.List.{drop-append-le, drop-drop}
@@ -71,7 +71,7 @@ live-best m kind text more from r inverse leftmost live =
 pub standard-entered : (m : Dictionary) (n : ℕ) (p : List ℕ) → m.kind ≡ Standard → slice_get m.patterns n ≡ Some p → IsEntered m n p
 standard-entered m n p standard is = (is, λ first. let e : Standard ≡ LeftmostFirst = sym standard ∙ first in cc)
 
--- whatever the kind, what ends at the end of the text or later starts in its live prefix or behind it
+-- whatever the kind, what ends at the end of the text or later starts in its live prefix or after it
 pub new-behind : (m : Dictionary) (anchored : Bool) (text more : List ℕ) (from : ℕ) (o : Occurrence) → IsOwnInverse m.pairing → IsLive m anchored text (Some from) → Occurs (whole m (text ++ more) anchored) o → length text ≤ o.end → from ≤ o.start
 new-behind m true text more from o inverse live h past = let first : from ≡ 0 = live.0.anchor refl in omega arith
 new-behind m false text more from o inverse live h past =
@@ -152,7 +152,7 @@ alive-of_live m text more from at inverse live =
     subst (λ (xs : List ℕ). IsAlive m false xs at ↔ IsAlive m false (text ++ more) (from + at)) split
     (alive-shifted m (text ++ more) from at (omega arith) (λ leftmost o h. occurs-behind m text more from o inverse leftmost live h))
 
--- a place behind the live prefix's beginning, counted from there
+-- a place after the live prefix's beginning, counted from there
 pub from_behind : (from at : ℕ) → from ≤ at → from + (at - from) ≡ at
 from_behind from at le = omega arith
 

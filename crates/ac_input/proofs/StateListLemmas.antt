@@ -1,4 +1,4 @@
--- The list of a text's state: what it tells of every text that has this live prefix.
+-- The list of a text's state: what it says about every text that has this live prefix.
 use Rattle.std.proofs.Common.{◌≡◌, ◌⊎◌, inl, inr, ⊎_elim, ℕ, ◌+◌, ◌-◌, ◌<◌, ◌≤◌, Bool, false, List, [], ◌∷◌, ◌++◌, length, drop, map, Some, None, IsTrue, get_or, Less, sym, ap, subst, refl, ◌∙◌, arith, length-drop}
 use Rattle.std.specs.List.{Contains}
 use Rattle.std.proofs.lemmas.Bool.{false≢true, cases_lt}

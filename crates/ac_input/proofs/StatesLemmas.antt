@@ -1,4 +1,4 @@
--- The prefixes of the entered patterns can be listed, since it can be told which patterns are entered.
+-- The prefixes of the entered patterns can be listed, since it is decidable which patterns are entered.
 use Rattle.std.proofs.Common.{◌≡◌, ◌≢◌, ◌⊎◌, ◌↔◌, inl, inr, ⊎_elim, ℕ, zero, suc, ◌+◌, ◌<◌, ◌≤◌, Bool, true, false, map, List, [], ◌∷◌, ◌++◌, length, take, IsTrue, sym, ap, ap₂, subst, refl, ◌∙◌, arith}
 use Rattle.std.specs.List.{Contains}
 use Rattle.std.proofs.lemmas.Bool.{cases_lt, cases_eq, false≢true}
@@ -16,7 +16,7 @@ use Rattle.ac_input.proofs.StateListLemmas.{Contains-from_map, Contains-map}
 use Rattle.ac_input.proofs.AlikeLemmas.{canonical-text}
 use Rattle.ac_input.proofs.TrieLemmas.{pattern-first, begins-canonical, begins-next, first-all}
 
--- ---- what can be told
+-- ---- decidable facts
 
 -- whether two texts are equal
 text_cases : (xs ys : List ℕ) → (xs ≡ ys) ⊎ (xs ≢ ys)
@@ -159,7 +159,7 @@ prefix-kept m count text none =
     let next = begins-next m count text in
     (λ h. (h.0, h.1, next.1 (inl h.2)), λ h. (h.0, h.1, ⊎_elim (λ before. before) (λ new. absurd (none new.0 new.1)) (next.0 h.2)))
 
--- the prefixes of the first patterns can be listed
+-- the prefixes of the first n patterns can be listed
 prefixes-listed : (m : Dictionary) (count : ℕ) → IsOwnInverse m.pairing → (texts : List (List ℕ)) × ((text : List ℕ) → Contains texts text ↔ IsPrefixIn (first_patterns m count) text)
 prefixes-listed m zero inverse = ([], λ text. (λ c. absurd (Contains-nil text c), λ h. absurd (none text h.0 h.2)))
   where

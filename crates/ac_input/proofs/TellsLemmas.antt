@@ -1,4 +1,4 @@
--- The list of a state meets the state law: it tells what it has to of every text after which the state is reached.
+-- The list of a state meets the state law: it says what it has to about every text that reaches the state.
 use Rattle.std.proofs.Common.{◌≡◌, ◌≢◌, ◌↔◌, inr, ⊎_elim, ℕ, ◌≤◌, Bool, true, false, List, [], ◌∷◌, ◌++◌, length, drop, Option, Some, None, get_or, eqb, cond, sym, ap, ap₂, subst, refl, ◌∙◌, arith, length-append, length-drop, append-nil}
 use Rattle.std.specs.List.{Contains, filter}
 use Rattle.std.proofs.lemmas.Bool.{false≢true, eq-eqb, eqb-true, false_from_ne_true}
@@ -42,7 +42,7 @@ quiet-more kind m b bs ends r =
     subst (λ (xs : List ℕ). IsBest kind (whole m (before_last (b ∷ bs)) false) r ↔ IsBest kind (whole m xs false) r) split.1
     (final-from_lies kind m false (before_last (b ∷ bs)) (split.0 ∷ []) (λ o best. let is = subst (λ (xs : List ℕ). IsBest kind (whole m xs false) (Some o)) split.1 best in let apart = ends o is in let w = is.0.within in omega arith) r)
 
--- so an empty list tells enough: the best is what it was before the last byte
+-- so an empty list says enough: the best is what it was before the last byte
 pub tells-quiet : (kind : MatchKind) (m : Dictionary) (text : List ℕ) → kind ≢ Standard → ((b : Occurrence) → IsBest kind (whole m text false) (Some b) → b.end ≢ length text) → TellsUnanchored kind m text []
 tells-quiet Standard m text leftmost ends = absurd (leftmost refl)
 tells-quiet LeftmostFirst m [] leftmost ends = quiet-empty LeftmostFirst m ends
@@ -60,7 +60,7 @@ tells-best LeftmostLongest m (b ∷ bs) n ns leftmost best = best
 
 -- ---- from the unanchored start
 
--- under a leftmost kind the list of the live prefix tells of the text
+-- under a leftmost kind the list of the live prefix describes the text
 tells-leftmost : (m : Dictionary) (text : List ℕ) (from : ℕ) (ns : List ℕ) → IsOwnInverse m.pairing → m.kind ≢ Standard → IsLive m false text (Some from) → IsList m (drop from text) ns → TellsUnanchored m.kind m text ns
 tells-leftmost m text from [] inverse leftmost live list =
     tells-quiet m.kind m text leftmost (λ b best. leftmost-empty m (drop from text) [] list text from b inverse leftmost live.0 refl refl best (alive-first m text from b leftmost live.0 best.0))
@@ -78,7 +78,7 @@ tells-standard m text from ns inverse standard live list =
       ),
     )
 
--- the list of the live prefix tells of the text, whatever the kind
+-- the list of the live prefix describes the text, whatever the kind
 pub tells-live : (m : Dictionary) (text : List ℕ) (from : ℕ) (ns : List ℕ) → IsOwnInverse m.pairing → IsLive m false text (Some from) → IsList m (drop from text) ns → Tells m No text ns
 tells-live m text from ns inverse live list =
     ⊎_elim
@@ -86,7 +86,7 @@ tells-live m text from ns inverse live list =
     (λ (leftmost : m.kind ≢ Standard). tells-leftmost m text from ns inverse leftmost live list)
     (kind_cases m.kind)
 
--- of a dead text an empty list tells
+-- an empty list describes a dead text
 pub tells-dead : (m : Dictionary) (text : List ℕ) → IsOwnInverse m.pairing → IsLive m false text None → Tells m No text []
 tells-dead m text inverse dead =
     tells-quiet m.kind m text (dead-best m text dead).0
@@ -141,7 +141,7 @@ list-own m text ns (OwnThen _ own rest from are failure list) =
     let all : filter (is_as_long m text) (own ++ rest) ≡ own = filter-append (is_as_long m text) own rest ∙ ap₂ ◌++◌ (owns-long m text own are) none ∙ append-nil own in
     subst (λ (ks : List ℕ). AreOwn m text ks) (sym all) are
 
--- from the anchored start a state's list tells of its text
+-- from the anchored start a state's list describes its text
 pub tells-anchored : (m : Dictionary) (text ns : List ℕ) → IsList m text ns → Tells m Yes text ns
 tells-anchored m text ns list =
     let lists = own-lists m true text 0 (filter (is_as_long m text) ns) (λ _. refl) (omega arith) (list-own m text ns list) in (
@@ -152,7 +152,7 @@ tells-anchored m text ns list =
       ),
     )
 
--- and of a dead text an empty list
+-- and an empty list describes a dead text
 pub tells-anchored_dead : (m : Dictionary) (text : List ℕ) → IsOwnInverse m.pairing → IsLive m true text None → Tells m Yes text []
 tells-anchored_dead m text inverse dead = (
   tt,

@@ -66,19 +66,19 @@ same_text-equal pairing (x ∷ xs) (y ∷ ys) plain h =
     let parts = and_parts (same pairing x y) (same_text pairing xs ys) h in
     ap₂ ◌∷◌ (same-equal pairing x y plain parts.0) (same_text-equal pairing xs ys plain parts.1)
 
--- behind the last pick the rest of the text is left
+-- after the last pick the rest of the text is left
 pub replaced-none : (at : ℕ) (x : List ℕ) (replacements : List (List ℕ)) → replaced_from at x replacements [] ≡ drop at x
 replaced-none at x replacements = refl
 
--- at a pick the bytes up to it and its replacement are written, and then what comes behind it
+-- at a pick the bytes up to it and its replacement are written, followed by what comes after it
 pub replaced-pick : (at : ℕ) (x : List ℕ) (replacements : List (List ℕ)) (o : Occurrence) (picks : List Occurrence) → replaced_from at x replacements (o ∷ picks) ≡ slice_range x at o.start ++ (get_or replacements o.pattern [] ++ replaced_from o.end x replacements picks)
 replaced-pick at x replacements o picks = append_assoc (slice_range x at o.start) (get_or replacements o.pattern []) (replaced_from o.end x replacements picks)
 
--- the same behind what was written before
+-- the same after what was written before
 pub replaced-more : (out : List ℕ) (at : ℕ) (x : List ℕ) (replacements : List (List ℕ)) (o : Occurrence) (picks : List Occurrence) → ((out ++ slice_range x at o.start) ++ get_or replacements o.pattern []) ++ replaced_from o.end x replacements picks ≡ out ++ replaced_from at x replacements (o ∷ picks)
 replaced-more out at x replacements o picks = simp append_assoc
 
--- a line more behind what was listed before
+-- one more line after what was listed before
 pub listed-more : (out : List ℕ) (o : Occurrence) (os : List Occurrence) → (out ++ line o) ++ listed os ≡ out ++ listed (o ∷ os)
 listed-more out o os = append_assoc out (line o) (listed os)
 
@@ -92,7 +92,7 @@ occurrence-written : (s : Search) (o : Occurrence) (replacements : List (List �
 occurrence-written s o replacements plain itself same =
     itself o.pattern ∙ get_or_from_slice_get s.patterns o.pattern same.0 [] same.1 ∙ same_text-equal s.pairing same.0 (slice_range s.haystack o.start o.end) plain same.2
 
--- where no byte is paired and each replacement is its pattern, the text stays as it is
+-- where no byte is paired and each replacement is its pattern, the text is unchanged
 pub replaced-identity : (kind : MatchKind) (s : Search) (at : ℕ) (last : Option ℕ) (replacements : List (List ℕ)) (picks : List Occurrence) → IsUnpaired s.pairing → ((n : ℕ) → get_or replacements n [] ≡ get_or s.patterns n []) → IsWalk kind s at last picks → replaced_from at s.haystack replacements picks ≡ drop at s.haystack
 replaced-identity kind s at last replacements [] plain itself walk = refl
 replaced-identity kind s at last replacements (o ∷ picks) plain itself walk =
@@ -157,7 +157,7 @@ no_rules-to_place s at (suc places) none =
 pub no_rules-listing_of : (s : Search) → s.patterns ≡ [] → listing_of s ≡ []
 no_rules-listing_of s none = no_rules-to_place s s.start (s.end + 1 - s.start) none
 
--- with no patterns the text stays as it is, and nothing is listed
+-- with no patterns the text is unchanged, and nothing is listed
 pub no-rules : (kind : MatchKind) (s : Search) (picks all : List Occurrence) (replacements : List (List ℕ)) → s.patterns ≡ [] → IsWalk kind s s.start None picks → IsListing s all → (replaced_from 0 s.haystack replacements picks ≡ s.haystack) × (listed picks ≡ []) × (listed all ≡ [])
 no-rules kind s picks all replacements none walk listing =
     let no_picks = no_rules-walk kind s s.start None picks none walk in

@@ -1,4 +1,4 @@
--- What the first so many patterns of a dictionary enter and own.
+-- What the first n patterns of a dictionary enter and own.
 use Rattle.std.proofs.Common.{◌≡◌, ◌⊎◌, ◌↔◌, inl, inr, ⊎_elim, ℕ, zero, suc, ◌+◌, ◌<◌, ◌≤◌, map, List, [], ◌∷◌, ◌++◌, length, take, Some, slice_get, sym, ap, subst, refl, ◌∙◌, arith}
 use Rattle.std.specs.List.{Contains}
 use Rattle.std.proofs.lemmas.Bool.{cases_lt}
@@ -26,7 +26,7 @@ begins-canonical pairing front p inverse =
 
 -- ---- the first patterns
 
--- of the first so many the ones before that are the same
+-- an element among the first n is the element of the whole list
 slice_get-take : {X : Type 0} (count n : ℕ) (xs : List X) → n < count → slice_get (take count xs) n ≡ slice_get xs n
 slice_get-take zero n xs lt = absurd (omega arith)
 slice_get-take (suc count) n [] lt = refl
@@ -91,7 +91,7 @@ begins-more : (m : Dictionary) (fewer more : ℕ) (text : List ℕ) → fewer �
 begins-more m fewer more [] le h = tt
 begins-more m fewer more (b ∷ bs) le h = let e = (entered-first m fewer h.0 h.1).0 h.2 in let lt = e.0 in (h.0, h.1, (entered-first m more h.0 h.1).1 (omega arith, e.1), h.3)
 
--- all patterns are the first so many
+-- all patterns are the first n, where n is at least their number
 pub first-all : (m : Dictionary) (count : ℕ) → length m.patterns ≤ count → first_patterns m count ≡ m
 first-all m count le = ap (λ (ps : List (List ℕ)). record m { patterns = ps }) (take_all count m.patterns le)
 
@@ -135,7 +135,7 @@ owns-push m count text ns are own = (
   ),
 )
 
--- a pattern that is none of them leaves them
+-- a pattern that is none of them leaves the list unchanged
 pub owns-kept : (m : Dictionary) (count : ℕ) (text ns : List ℕ) → AreOwn (first_patterns m count) text ns → (¬ IsOwn m text count) → AreOwn (first_patterns m (count + 1)) text ns
 owns-kept m count text ns are none = (
   are.0,

@@ -69,7 +69,7 @@ walk-unique kind s at last inside (o ∷ os) (q ∷ qs) g h =
     let t : os ≡ qs = walk-unique kind s o.end (Some o.end) inside os qs g.1 k in
     cc
 
--- What a pick tells of where it lies: it occurs from the place on, and doesn't repeat; or it occurs from one byte further on.
+-- What a pick says about where it lies: it occurs from the place on, and doesn't repeat; or it occurs from one byte further on.
 abbrev pub Picked : Search → ℕ → Option ℕ → Occurrence → Type 0
 Picked s at last o = (from : ℕ) × Occurs (starting_at s from) o × (((from ≡ at) × ¬ Repeats last (Some o)) ⊎ (from ≡ at + 1))
 
@@ -180,7 +180,7 @@ walk_after-none kind s at last inside h = walk_after-computed_none kind s at las
 pub walk_after-some : (kind : MatchKind) (s : Search) (at : ℕ) (last : Option ℕ) (o : Occurrence) → s.end ≤ length s.haystack → IsPick kind s at last (Some o) → walk_after kind s at last ≡ o ∷ walk_after kind s o.end (Some o.end)
 walk_after-some kind s at last o inside h = walk_after-computed_some kind s at last o (sym (pick-computed kind s at last inside (Some o) h))
 
--- behind the span there is no pick
+-- after the span there is no pick
 pub pick_of-nothing : (kind : MatchKind) (s : Search) (at : ℕ) (last : Option ℕ) → s.end < at → pick_of kind s at last ≡ None
 pick_of-nothing kind s at last lt = by (pick_of kind s at last) refl
   where

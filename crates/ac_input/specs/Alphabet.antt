@@ -37,7 +37,7 @@ pub record IsClasses (classes : List ℕ) : Type 0 where
   pub first : class classes 0 ≡ 0
   pub next : (b : ℕ) → b < 255 → (class classes (b + 1) ≡ class classes b) ⊎ (class classes (b + 1) ≡ class classes b + 1)
 
--- The classes that boundaries make. The boundaries are the set of the bytes behind which a class ends: the class of byte 0 is 0,
+-- The classes that boundaries make. The boundaries are the set of the bytes after which a class ends: the class of byte 0 is 0,
 -- and a byte is in the class of the one before it where that is no boundary, else in the next.
 pub record AreClassesOf (boundaries : List Bool) (classes : List ℕ) : Type 0 where
   pub first : class classes 0 ≡ 0
@@ -56,7 +56,7 @@ pub record IsLeastExponent (n exponent : ℕ) : Type 0 where
 abbrev pub IsLeastPowerOfTwo : ℕ → ℕ → Type 0
 IsLeastPowerOfTwo n power = (exponent : ℕ) × IsLeastExponent n exponent × (power ≡ 2 ^ exponent)
 
--- those of the next bytes from a place on, as many as are counted, that are in a class
+-- the bytes of a class among the next bytes from a place on, as many as are counted
 abbrev pub elements_from : List ℕ → ℕ → ℕ → ℕ → List ℕ
 elements_from classes wanted at count = filter (λ b. class classes b == wanted) (range_with_len at count)
 
@@ -64,7 +64,7 @@ elements_from classes wanted at count = filter (λ b. class classes b == wanted)
 unfoldable pub elements : List ℕ → ℕ → List ℕ
 elements classes wanted = elements_from classes wanted 0 256
 
--- the runs of rising bytes behind a run that is open: each the first and the last of bytes that follow on one another
+-- the runs of rising bytes after an open run: each the first and the last of bytes that follow one another
 abbrev pub runs_behind : ℕ → ℕ → List ℕ → List (ℕ × ℕ)
 runs_behind start end [] = (start, end) ∷ []
 runs_behind start end (b ∷ bs) = if b == end + 1 then runs_behind start b bs else (start, end) ∷ runs_behind b b bs

@@ -1,4 +1,4 @@
--- The laws of a text of which only the beginning is known: what a search of it finds, of what a search of the whole finds.
+-- The laws of a text of which only the beginning is known: what a search of it finds, compared with a search of the whole.
 use Rattle.std.specs.Prelude.{◌≡◌, ◌↔◌, ℕ, ◌≤◌, Bool, true, false, List, ◌++◌, take, Option, Some}
 use Rattle.ac_input.specs.declared.search.MatchKind.{MatchKind}
 use Rattle.ac_input.specs.declared.search.MatchKind.TheVariants.{Standard}
@@ -16,7 +16,7 @@ use Rattle.ac_input.specs.Laws.{IsInside}
 abbrev pub IsBeginning : {X : Type 0} → List X → List X → Type 0
 IsBeginning {X} front all = (rest : List X) × (all ≡ front ++ rest)
 
--- the same search in a haystack that goes on, up to an end of its own
+-- the same search in a haystack that goes on, with its own end
 abbrev pub longer : Search → List ℕ → ℕ → Search
 longer s more end = record s { haystack = s.haystack ++ more; end = end }
 
@@ -48,7 +48,7 @@ ListingOfBeginningBegins =
     (s : Search) (more : List ℕ) (end : ℕ) (fewer all : List Occurrence) → IsInside s → s.end ≤ end
     → IsListing s fewer → IsListing (longer s more end) all → IsBeginning fewer all
 
--- the same of the computed listings of a text and of one that goes on, and of what is written of them
+-- the same for the computed listings of a text and of a longer one, and for what is written of them
 abbrev pub OverlappingListOfBeginningBegins : Type 0
 OverlappingListOfBeginningBegins =
     (m : Dictionary) (text more : List ℕ) (anchored : Bool)

@@ -27,7 +27,7 @@ IsBest kind s r = IsLeast kind (Occurs s) r
 abbrev pub asked_kind : MatchKind → Bool → MatchKind
 asked_kind kind earliest = if earliest then Standard else kind
 
--- behind another one by end, start and number; everything is, where there is none before
+-- after another one by end, start and number; every one is, where there is none before
 abbrev pub IsAfter : Option Occurrence → Occurrence → Type 0
 IsAfter None o = Unit {0}
 IsAfter (Some before) o = preference Standard before o ≡ Less

@@ -1,4 +1,4 @@
--- What a prefilter may answer, and what it costs.
+-- What a prefilter may return, and what it costs.
 use Rattle.std.specs.Prelude.{◌≡◌, ◌≢◌, ℕ, ◌+◌, ◌-◌, ◌<◌, ◌≤◌, List, [], ◌∷◌, length, Contains, IsTrue, Option, None, Some, slice_index}
 use Rattle.ac_input.specs.declared.search.MatchKind.{MatchKind}
 use Rattle.ac_input.specs.declared.search.MatchKind.TheVariants.{Standard}
@@ -23,8 +23,8 @@ pub record Filter : Type 0 where
   pub dictionary : Dictionary
   pub needles : List ℕ
 
--- No occurrence that is whole in the span begins before the candidate, which lies in the span. A match is the answer itself:
--- of the leftmost kind, and with one pattern of every kind; under standard it comes only with one pattern.
+-- No occurrence that is whole in the span begins before the candidate, which lies in the span. A match is the result of the
+-- search: of the leftmost kind, and with one pattern of every kind. Under standard it comes only with one pattern.
 abbrev pub IsCandidate : MatchKind → Search → Candidate → Type 0
 IsCandidate kind s candidates.None = (o : Occurrence) → ¬ Occurs s o
 IsCandidate kind s (candidates.Match m) = ((kind ≢ Standard) → IsBest kind s (Some m)) × ((kind ≡ Standard) → length s.patterns ≡ 1) × ((length s.patterns ≡ 1) → (any : MatchKind) → IsBest any s (Some m))
@@ -39,18 +39,18 @@ abbrev pub IsFirstOf : List ℕ → Search → Option ℕ → Type 0
 IsFirstOf bytes s None = (at : ℕ) → s.start ≤ at → at < s.end → ¬ Contains bytes (slice_index s.haystack at)
 IsFirstOf bytes s (Some found) = (s.start ≤ found) × (found < s.end) × Contains bytes (slice_index s.haystack found) × ((at : ℕ) → s.start ≤ at → at < found → ¬ Contains bytes (slice_index s.haystack at))
 
--- how many places a scan passes, with the one that it finds
+-- how many places a scan covers, including the one that it finds
 abbrev pub scan_len : Search → Option ℕ → ℕ
 scan_len s None = s.end - s.start
 scan_len s (Some found) = found + 1 - s.start
 
--- what a scan for bytes answers: none where it found none, else a place at most 254 before the byte that it found
+-- the result of a scan for bytes: none where it found none, else a place at most 254 before the byte that it found
 abbrev pub IsNearFound : Option ℕ → Candidate → Type 0
 IsNearFound None c = c ≡ candidates.None
 IsNearFound (Some found) c = (at : ℕ) × (c ≡ candidates.PossibleStartOfMatch at) × (at ≤ found) × (found ≤ at + 254)
 
--- A scan for bytes covered exactly these places of the span: those up to the first byte that it looks for, and that one; or all
--- of them, where there is none. They lie before the end of every occurrence that is whole in the span.
+-- A scan for bytes covered exactly these places of the span: those up to and including the first byte that it looks for, or all of
+-- them, where there is none. They lie before the end of every occurrence that is whole in the span.
 pub record IsScan (bytes : List ℕ) (s : Search) (places : ℕ) (c : Candidate) : Type 0 where
   pub found : Option ℕ
   pub first : IsFirstOf bytes s found
@@ -58,7 +58,7 @@ pub record IsScan (bytes : List ℕ) (s : Search) (places : ℕ) (c : Candidate)
   pub near : IsNearFound found c
   pub before_ends : (o : Occurrence) → Occurs s o → s.start + places ≤ o.end
 
--- how many places a prefilter scanned that gave this answer: none, where it searches for whole patterns
+-- how many places a prefilter scanned that gave this result: none, where it searches for whole patterns
 abbrev pub IsScanned : List ℕ → Search → ℕ → Candidate → Type 0
 IsScanned [] s places c = places ≡ 0
 IsScanned (byte ∷ bytes) s places c = IsScan (byte ∷ bytes) s places c

@@ -2,13 +2,13 @@
 use Rattle.std.specs.Prelude.{◌≡◌, ℕ, Bool, true, false, List, [], ◌∷◌, ◌++◌, Option, Some, None, drop, slice_range, ◌⊎◌}
 use Rattle.ac_input.specs.Occurrence.{Occurrence}
 
--- A call of the closure, which is in one state and is left in another: it is given an occurrence, its bytes and the destination
--- as it stands; it answers whether to go on (none where it refuses), and leaves the destination.
+-- A call of the closure. It takes a state, an occurrence, the bytes of the occurrence and the destination; it returns whether to
+-- go on (none where it fails), and leaves a state and a destination.
 abbrev pub Calls : Type 0 → Type 1
 Calls F = F → Occurrence → List ℕ → List ℕ → Option Bool → F → List ℕ → Type 0
 
--- The closure and the destination from a place of the text on, over the occurrences that are left: before each the bytes up to it
--- are appended, then the closure is called. At the end, or after the first false, what is left of the text is appended.
+-- The closure and the destination from a place of the text on, over the occurrences that are left. Before each one the bytes up to
+-- it are appended, then the closure is called. At the end, or after the first false, the rest of the text is appended.
 abbrev pub IsChain : {F : Type 0} → Calls F → List ℕ → ℕ → List Occurrence → F → List ℕ → F → List ℕ → Type 0
 IsChain Call x at [] f old last new = (last ≡ f) × (new ≡ old ++ drop at x)
 IsChain {F} Call x at (o ∷ os) f old last new =
@@ -16,7 +16,7 @@ IsChain {F} Call x at (o ∷ os) f old last new =
     × ((Call f o (slice_range x o.start o.end) (old ++ slice_range x at o.start) (Some true) mid answered × IsChain Call x o.end os mid answered last new)
     ⊎ (Call f o (slice_range x o.start o.end) (old ++ slice_range x at o.start) (Some false) mid answered × (last ≡ mid) × (new ≡ answered ++ drop o.end x)))
 
--- Where a refusal ended the chain: at an append, which then took nothing, or in a call of the closure.
+-- Where an error ended the chain: at an append, which then took nothing, or in a call of the closure.
 abbrev pub IsRefusedChain : {F : Type 0} → Calls F → List ℕ → ℕ → List Occurrence → F → List ℕ → F → List ℕ → Type 0
 IsRefusedChain Call x at [] f old last new = (last ≡ f) × (new ≡ old)
 IsRefusedChain {F} Call x at (o ∷ os) f old last new =

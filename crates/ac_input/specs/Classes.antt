@@ -19,7 +19,7 @@ abbrev pub IsAlphabet : Dictionary → Bool → ℕ → Type 0
 IsAlphabet m true n = (classes : List ℕ) × AreByteClasses m classes × (n ≡ alphabet_len classes)
 IsAlphabet m false n = n ≡ 256
 
--- a class ends behind the byte, and one ends in front of it
+-- a class ends after the byte, and one ends before it
 abbrev pub IsParted : List Bool → ℕ → Type 0
 IsParted boundaries byte = (has boundaries byte ≡ true) × ((before : ℕ) → before + 1 ≡ byte → has boundaries before ≡ true)
 
@@ -35,10 +35,10 @@ BytesLeadAlike m b c = (anchored : Bool) (text : List ℕ) (r : Option (List ℕ
 abbrev pub ClassesLeadAlike : Dictionary → List ℕ → Type 0
 ClassesLeadAlike m classes = (b c : ℕ) → b < 256 → c < 256 → class classes b ≡ class classes c → BytesLeadAlike m b c
 
--- so it is in the classes of any dictionary
+-- the classes of any dictionary do so
 abbrev pub EachLeadsAlike : Type 0
 EachLeadsAlike = (m : Dictionary) (classes : List ℕ) → IsOwnInverse m.pairing → AreByteClasses m classes → ClassesLeadAlike m classes
 
--- a dictionary has one number of classes
+-- a dictionary has exactly one number of classes
 abbrev pub AlphabetsAreOneNumber : Type 0
 AlphabetsAreOneNumber = (m : Dictionary) (classes : Bool) (a b : ℕ) → IsAlphabet m classes a → IsAlphabet m classes b → a ≡ b

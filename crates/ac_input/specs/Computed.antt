@@ -1,4 +1,4 @@
--- The same as functions, which compute. That each is the one value that meets its relation is proved in the laws.
+-- The same as functions, which compute. The laws prove that each is the one value that meets its relation.
 use Rattle.std.specs.Prelude.{ℕ, zero, suc, ◌+◌, ◌-◌, ◌*◌, Bool, true, false, ◌&&◌, ◌==◌, nat_le, List, [], ◌∷◌, ◌++◌, length, Option, Some, None, if◌then◌else◌, slice_range, filter}
 use Rattle.std.specs.declared.cmp.Ordering.{Ordering}
 use Rattle.std.specs.declared.cmp.Ordering.TheVariants.{Less, Equal, Greater}
@@ -8,7 +8,7 @@ use Rattle.ac_input.specs.Same.{same_text}
 use Rattle.ac_input.specs.Occurrence.{Search, Occurrence, starting_at}
 use Rattle.ac_input.specs.Best.{preference}
 
--- the patterns that lie at a place, from a number on
+-- the patterns that lie at a place, from this pattern number on
 abbrev pub at_place : Search → ℕ → List (List ℕ) → ℕ → List Occurrence
 at_place s at [] n = []
 at_place s at (p ∷ ps) n =
@@ -16,7 +16,7 @@ at_place s at (p ∷ ps) n =
     then record { pattern = n; start = at; end = at + length p } ∷ at_place s at ps (n + 1)
     else at_place s at ps (n + 1)
 
--- those at each of some places, from a place on
+-- the same at each of some places, from a place on
 abbrev pub from_place : Search → ℕ → ℕ → List Occurrence
 from_place s at zero = []
 from_place s at (suc places) = at_place s at s.patterns 0 ++ from_place s (at + 1) places
@@ -47,7 +47,7 @@ repeats (Some last) o = (o.start == last) && (o.end == last)
 abbrev pub pick_of : MatchKind → Search → ℕ → Option ℕ → Option Occurrence
 pick_of kind s at last = elim (best_of kind (starting_at s at)) [ None ↦ None | Some b ↦ (if repeats last b then best_of kind (starting_at s (at + 1)) else Some b) ]
 
--- the picks of a walk that stands at a place, at most so many
+-- the picks of a walk that stands at a place, at most this many
 abbrev pub walk_from : ℕ → MatchKind → Search → ℕ → Option ℕ → List Occurrence
 walk_from zero kind s at last = []
 walk_from (suc turns) kind s at last = elim (pick_of kind s at last) [ None ↦ [] | Some o ↦ o ∷ walk_from turns kind s o.end (Some o.end) ]
@@ -69,11 +69,11 @@ to_place s at (suc places) = filter (λ o. o.end == at) (occurrences s) ++ to_pl
 abbrev pub listing_of : Search → List Occurrence
 listing_of s = to_place s s.start (s.end + 1 - s.start)
 
--- whether an occurrence is behind another one by end, start and number; everything is, where there is none before
+-- whether an occurrence comes after another one by end, start and number; every one does, where there is none before
 abbrev pub is_after : Option Occurrence → Occurrence → Bool
 is_after None o = true
 is_after (Some before) o = is_less (preference Standard before o)
 
--- the part of the overlapping listing behind a given occurrence; all of it where there is none before
+-- the part of the overlapping listing after a given occurrence; all of it where there is none before
 abbrev pub listing_after : Search → Option Occurrence → List Occurrence
 listing_after s before = filter (is_after before) (listing_of s)

@@ -16,8 +16,8 @@ Serves starts.Both anchored = Unit {0}
 Serves starts.Unanchored anchored = anchored ≡ anchorings.No
 Serves starts.Anchored anchored = anchored ≡ anchorings.Yes
 
--- How many states a deterministic automaton has, where the other one has so many. For both anchorings it has each twice, but for
--- the dead state, the fail state and the two starts.
+-- How many states a deterministic automaton has, where the other one has so many. For both anchorings it has each state twice,
+-- except the dead state, the fail state and the two starts.
 abbrev pub dfa_states : StartKind → ℕ → ℕ
 dfa_states starts.Both states = 2 * states - 4
 dfa_states starts.Unanchored states = states

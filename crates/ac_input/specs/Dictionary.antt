@@ -45,14 +45,14 @@ whole m text anchored = record { patterns = m.patterns; pairing = m.pairing; hay
 abbrev pub IsSearchBy : Dictionary → Search → Type 0
 IsSearchBy m s = (s.patterns ≡ m.patterns) × (s.pairing ≡ m.pairing)
 
--- What is left of the text from a place on may still grow into the answer.
+-- What is left of the text from a place on may still grow into the match.
 pub record IsAlive (m : Dictionary) (anchored : Bool) (text : List ℕ) (from : ℕ) : Type 0 where
   pub within : from ≤ length text
   pub begins : BeginsEntered m (drop from text)
   pub anchor : IsTrue anchored → from ≡ 0
   pub no_later : IsTrue anchored ⊎ (m.kind ≡ Standard) ⊎ ((best : Occurrence) → IsBest m.kind (whole m text false) (Some best) → from ≤ best.start)
 
--- where the live prefix of a text begins: the longest one that is alive; none where the search is over
+-- where the live prefix of a text begins: the longest live suffix; none where the search is over
 abbrev pub IsLive : Dictionary → Bool → List ℕ → Option ℕ → Type 0
 IsLive m anchored text (Some from) = IsAlive m anchored text from × ((another : ℕ) → IsAlive m anchored text another → from ≤ another)
 IsLive m anchored text None = (from : ℕ) → ¬ IsAlive m anchored text from

@@ -1,4 +1,4 @@
--- What a search is asked.
+-- The input of a search.
 use Rattle.std.specs.Prelude.{ℕ, ◌+◌, ◌≤◌, Bool, true, false, List, length}
 use Rattle.ac_input.specs.declared.search.Span.{Span}
 use Rattle.ac_input.specs.declared.search.Anchored.{Anchored}
@@ -13,11 +13,11 @@ pub record Asked : Type 0 where
   pub anchored : Anchored
   pub earliest : Bool
 
--- The span ends within the haystack. It may start one past its end: then the search is over, as one behind its last match is.
+-- The span ends within the haystack. It may start one past its end: then the search is over, as after its last match.
 abbrev pub IsSpanOf : List ℕ → Span → Type 0
 IsSpanOf haystack span = (span.start ≤ span.end + 1) × (span.end ≤ length haystack)
 
--- at first the whole haystack is searched, a match may start anywhere, and the match of the kind is asked
+-- the initial input: the whole haystack, a match may start anywhere, and the kind decides which one is returned
 abbrev pub whole_of : List ℕ → Asked
 whole_of haystack = record { haystack = haystack; span = record { start = 0; end = length haystack }; anchored = No; earliest = false }
 
@@ -38,6 +38,6 @@ search_of m anchored haystack span =
       anchored = is_anchored anchored;
     }
 
--- the search of what is asked
+-- the search that an input describes
 abbrev pub search_in : Dictionary → Asked → Search
 search_in m asked = search_of m asked.anchored asked.haystack asked.span

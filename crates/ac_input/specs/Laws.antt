@@ -12,14 +12,14 @@ use Rattle.ac_input.specs.Text.{replaced_from, listed}
 use Rattle.ac_input.specs.Rules.{Rule, IsRuleFile, FirstBadLine}
 use Rattle.ac_input.specs.Computed.{occurrences, best_of, pick_of, walk_after, walk_of, listing_of}
 
--- Each begins where the one before it ended or later, and later than that one began; none is empty and just where the one
--- before it ended.
+-- Each begins where the one before it ended or later, and later than that one began; none is empty exactly where the one before it
+-- ended.
 abbrev pub IsApart : List Occurrence → Type 0
 IsApart [] = Unit {0}
 IsApart (p ∷ []) = Unit {0}
 IsApart (p ∷ q ∷ os) = (p.end ≤ q.start) × (p.start < q.start) × (¬ ((q.start ≡ p.end) × (q.end ≡ p.end))) × IsApart (q ∷ os)
 
--- The span ends within the haystack. Past its end one text could have many ends, and an occurrence many likes.
+-- The span ends within the haystack. Past the haystack's end, one text could have many ends, and an occurrence many doubles.
 abbrev pub IsInside : Search → Type 0
 IsInside s = s.end ≤ length s.haystack
 
@@ -75,26 +75,26 @@ ListingIsComputed = (s : Search) (os : List Occurrence) → IsInside s → IsLis
 abbrev pub ListingHasEachOnce : Type 0
 ListingHasEachOnce = (s : Search) (all : List Occurrence) (o : Occurrence) → IsListing s all → Occurs s o → StandsOnce all o
 
--- whatever the kind, each pick of the walk is one of the overlapping listing
+-- whatever the kind, each pick of the walk is in the overlapping listing
 abbrev pub PicksAreListed : Type 0
 PicksAreListed = (kind : MatchKind) (s : Search) (picks all : List Occurrence) (o : Occurrence) → s.anchored ≡ false → IsWalk kind s s.start None picks → IsListing s all → Contains picks o → Contains all o
 
--- where no byte is paired, a text whose patterns are replaced by themselves stays as it is
+-- where no byte is paired, a text whose patterns are replaced by themselves is unchanged
 abbrev pub ReplacingByItselfChangesNothing : Type 0
 ReplacingByItselfChangesNothing = (kind : MatchKind) (s : Search) (picks : List Occurrence) → IsUnpaired s.pairing → IsWalk kind s 0 None picks → replaced_from 0 s.haystack s.patterns picks ≡ s.haystack
 
--- with no patterns the text stays as it is, and nothing is listed
+-- with no patterns the text is unchanged, and nothing is listed
 abbrev pub NoRulesChangeNothing : Type 0
 NoRulesChangeNothing =
     (kind : MatchKind) (s : Search) (picks all : List Occurrence) (replacements : List (List ℕ)) → s.patterns ≡ []
     → IsWalk kind s s.start None picks → IsListing s all
     → (replaced_from 0 s.haystack replacements picks ≡ s.haystack) × (listed picks ≡ []) × (listed all ≡ [])
 
--- a text is a rule file in one way at most
+-- a text is a rule file in at most one way
 abbrev pub RulesAreOne : Type 0
 RulesAreOne = (text : List ℕ) (one other : List Rule) → IsRuleFile text one → IsRuleFile text other → one ≡ other
 
--- A text has one first bad line at most, and none where it is a rule file.
+-- A text has at most one first bad line, and none where it is a rule file.
 abbrev pub BadLineIsOne : Type 0
 BadLineIsOne =
     ((text : List ℕ) (one other : ℕ) → FirstBadLine text one → FirstBadLine text other → one ≡ other)

@@ -5,7 +5,7 @@ use Rattle.ac_input.specs.declared.search.MatchKind.{MatchKind}
 use Rattle.ac_input.specs.Dictionary.{Dictionary, IsPattern, IsEntered}
 use Rattle.ac_input.specs.LiveLaws.{canonical}
 
--- the dictionary of the first so many patterns
+-- the dictionary of the first n patterns
 abbrev pub first_patterns : Dictionary → ℕ → Dictionary
 first_patterns m n = record m { patterns = take n m.patterns }
 
@@ -43,7 +43,7 @@ pub data Limit : Type 0 where
   StateNumber : Limit
 
 -- The limit that one more pattern passes: its number is too great, or it is too long, or with it there are too many states. Where
--- several stand, the first of these counts.
+-- several are passed, the first of these counts.
 abbrev pub Passes : Dictionary → List ℕ → Limit → Type 0
 Passes m p PatternNumber = GREATEST < length m.patterns
 Passes m p PatternLength = (length m.patterns ≤ GREATEST) × (GREATEST < length p)
@@ -58,7 +58,7 @@ pub record IsLimitAt (m : Dictionary) (n : ℕ) (limit : Limit) : Type 0 where
 abbrev pub IsLimitOf : Dictionary → Limit → Type 0
 IsLimitOf m limit = (n : ℕ) × IsLimitAt m n limit
 
--- an automaton has one number of states
+-- an automaton has exactly one number of states
 abbrev pub StatesAreOneNumber : Type 0
 StatesAreOneNumber = (m : Dictionary) (a b : ℕ) → HasStates m a → HasStates m b → a ≡ b
 

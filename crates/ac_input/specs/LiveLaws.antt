@@ -13,7 +13,7 @@ IsOwnInverse pairing = (byte : ℕ) → other pairing (other pairing byte) ≡ b
 abbrev pub canonical : List ℕ → ℕ → ℕ
 canonical pairing byte = min byte (other pairing byte)
 
--- an occurrence so many bytes further on
+-- an occurrence, shifted by this many bytes
 abbrev pub shifted : ℕ → Occurrence → Occurrence
 shifted bytes o = record { pattern = o.pattern; start = bytes + o.start; end = bytes + o.end }
 
@@ -22,12 +22,12 @@ abbrev pub shifted_best : ℕ → Option Occurrence → Option Occurrence
 shifted_best bytes None = None
 shifted_best bytes (Some o) = Some (shifted bytes o)
 
--- a place so many bytes further on, where there is one
+-- a place, shifted by this many bytes, where there is one
 abbrev pub shifted_place : ℕ → Option ℕ → Option ℕ
 shifted_place bytes None = None
 shifted_place bytes (Some place) = Some (bytes + place)
 
--- a text that is dead stays so, whatever follows
+-- a dead text stays dead, whatever follows
 abbrev pub DeadStaysDead : Type 0
 DeadStaysDead = (m : Dictionary) (anchored : Bool) (text more : List ℕ) → IsLive m anchored text None → IsLive m anchored (text ++ more) None
 

@@ -2,13 +2,13 @@
 use Rattle.std.specs.Prelude.{◌≡◌, ℕ, ◌≤◌, Bool, List, IsTrue, Some, slice_get, slice_range}
 use Rattle.ac_input.specs.Same.{same_text}
 
--- where a pattern lies: its number, the place of its first byte, and the place behind its last
+-- where a pattern lies: its number, the place of its first byte, and the place after its last
 pub record Occurrence : Type 0 where
   pub pattern : ℕ
   pub start : ℕ
   pub end : ℕ
 
--- What is searched for, and where: a span of a haystack. An anchored search takes what begins at the span's start alone.
+-- What is searched for, and where: a span of a haystack. An anchored search takes only what begins at the span's start.
 pub record Search : Type 0 where
   pub patterns : List (List ℕ)
   pub pairing : List ℕ

@@ -7,14 +7,14 @@ use Rattle.ac_input.specs.Dictionary.{Dictionary, IsPattern}
 abbrev pub NoneIsShorter : Dictionary → ℕ → Type 0
 NoneIsShorter m len = (n : ℕ) (p : List ℕ) → IsPattern m n p → len ≤ length p
 
--- the first so many bytes of some pattern stand at a place of the text
+-- the text has, at a place, the first `len` bytes of some pattern
 abbrev pub IsOpening : Dictionary → ℕ → List ℕ → ℕ → Type 0
 IsOpening m len text at = (n : ℕ) × (p : List ℕ) × IsPattern m n p × IsTrue (same_text m.pairing (take len p) (take len (drop at text)))
 
--- they stand at no place of it
+-- the text has them at no place
 abbrev pub HasNoOpening : Dictionary → ℕ → List ℕ → Type 0
 HasNoOpening m len text = (at : ℕ) → ¬ IsOpening m len text at
 
--- they stand at none of the first so many places
+-- the text has them at none of the first `count` places
 abbrev pub OpensNotBefore : Dictionary → ℕ → List ℕ → ℕ → Type 0
 OpensNotBefore m len text count = (at : ℕ) → at < count → ¬ IsOpening m len text at

@@ -15,7 +15,7 @@ abbrev pub named : List (ℕ × ℕ) → List ℕ
 named [] = []
 named (pair ∷ pairs) = pair.0 ∷ (pair.1 ∷ named pairs)
 
--- the byte that pairs give a byte: that which stands with it in the first pair that names it, else itself
+-- the byte that pairs give a byte: its partner in the first pair that names it, else itself
 abbrev pub partner : List (ℕ × ℕ) → ℕ → ℕ
 partner [] byte = byte
 partner (pair ∷ pairs) byte = if pair.0 == byte then pair.1 else (if pair.1 == byte then pair.0 else partner pairs byte)
@@ -25,7 +25,7 @@ abbrev pub IsDistinct : {X : Type 0} → List X → Type 0
 IsDistinct [] = Unit {0}
 IsDistinct (x ∷ xs) = (¬ Contains xs x) × IsDistinct xs
 
--- the byte of the first place, from left to right, whose byte stood before
+-- the first byte, from left to right, that was named before
 abbrev pub IsFirstTwice : List ℕ → ℕ → Type 0
 IsFirstTwice bytes twice = (front more : List ℕ) × (bytes ≡ front ++ twice ∷ more) × IsDistinct front × Contains front twice
 

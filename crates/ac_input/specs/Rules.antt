@@ -15,7 +15,7 @@ Spells text bytes = ⊥
 abbrev pub Rule : Type 0
 Rule = List ℕ × List ℕ
 
--- the text begins with a line that spells this rule, `hex TAB hex LF`, and goes on with this
+-- the text begins with a line that spells this rule, `hex TAB hex LF`; the rest follows
 abbrev pub BeginsWithRule : List ℕ → Rule → List ℕ → Type 0
 BeginsWithRule text rule more = (pattern replacement : List ℕ) × Spells pattern rule.0 × Spells replacement rule.1 × (text ≡ pattern ++ 9 ∷ (replacement ++ 10 ∷ more))
 
@@ -28,6 +28,6 @@ abbrev pub IsRuleFile : List ℕ → List Rule → Type 0
 IsRuleFile text [] = text ≡ []
 IsRuleFile text (rule ∷ rules) = (more : List ℕ) × BeginsWithRule text rule more × IsRuleFile more rules
 
--- The number of the first line that is no rule, counted from 1: rules up to it, and then something that begins with none.
+-- The number of the first line that is no rule, counted from 1: rules up to it, and then a rest that begins with none.
 abbrev pub FirstBadLine : List ℕ → ℕ → Type 0
 FirstBadLine text n = (front more : List ℕ) × (rules : List Rule) × (text ≡ front ++ more) × IsRuleFile front rules × (n ≡ length rules + 1) × (more ≢ []) × BeginsWithNoRule more

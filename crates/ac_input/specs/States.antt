@@ -1,9 +1,10 @@
 -- What the states of an automaton stand for: texts of canonical bytes.
 --
--- A state stands for the canonical bytes of the live prefix of what was read; it alone tells where the next byte leads. Where
--- there is a longer state for that byte, it leads there; else the failure is asked, which is a shorter state, and so on. So an
--- automaton keeps for each state its longer ones, its failure, and its list of patterns; and failures are found from the shorter
--- states to the longer ones, by the same steps. The lemmas are in LeadsLemmas; an implementation needs no others for its steps.
+-- A state stands for the canonical bytes of the live prefix of what was read, and determines where the next byte leads. Where
+-- there is a longer state for that byte, it leads there; otherwise the lookup goes on at the failure, which is a shorter state,
+-- and so on. So an automaton stores for each state its longer ones, its failure, and its list of patterns. Failures are computed
+-- from the shorter states to the longer ones, by the same steps. The lemmas are in LeadsLemmas; an implementation needs no others
+-- for its steps.
 use Rattle.std.specs.Prelude.{◌≡◌, ℕ, ◌+◌, ◌<◌, ◌≤◌, map, Bool, List, length, drop, Option, Some, None}
 use Rattle.ac_input.specs.Dictionary.{Dictionary, IsEntered, Begins, IsLive}
 use Rattle.ac_input.specs.LiveLaws.{canonical}
@@ -20,15 +21,15 @@ abbrev pub FailsTo : Dictionary → List ℕ → Option (List ℕ) → Type 0
 FailsTo m text None = IsFailure m text None
 FailsTo m text (Some state) = (from : ℕ) × IsFailure m text (Some from) × (state ≡ map (canonical m.pairing) (drop from text))
 
--- A lookup began at a state of so many bytes, stands at this one now, and has looked at so many states, this one included: at
+-- A lookup began at a state of this many bytes, stands at this one now, and has looked at this many states, this one included: at
 -- most one more than the bytes that it gave up on the way.
 abbrev pub IsLookupPaid : ℕ → List ℕ → ℕ → Type 0
 IsLookupPaid bytes state looks = looks + length state ≤ bytes + 1
 
--- this is the first of the entered patterns that begin with the text
+-- the first of the entered patterns that begin with the text
 abbrev pub IsFirstBegun : Dictionary → List ℕ → ℕ → Type 0
 IsFirstBegun m text n = IsLeastPlace (λ k. (p : List ℕ) × IsEntered m k p × Begins m.pairing text p) (Some n)
 
--- of two texts the first pattern that begins with the one comes before the first that begins with the other
+-- the first pattern that begins with the one text comes before the first that begins with the other
 abbrev pub BeginsBefore : Dictionary → List ℕ → List ℕ → Type 0
 BeginsBefore m s t = (a b : ℕ) → IsFirstBegun m s a → IsFirstBegun m t b → a < b

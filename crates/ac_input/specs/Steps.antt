@@ -20,7 +20,7 @@ pub record AreNone (steps : Steps) : Type 0 where
   pub scanned : scanned_of steps ≡ 0
   pub moved : moved_of steps ≡ 0
 
--- in between so many states were looked at, so many places scanned and so many bytes moved, and no more
+-- in between this many states were looked at, this many places scanned and this many bytes moved, and no more
 pub record Done (states places bytes : ℕ) (before after : Steps) : Type 0 where
   pub looked : looked_of after ≡ looked_of before + states
   pub scanned : scanned_of after ≡ scanned_of before + places

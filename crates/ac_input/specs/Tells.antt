@@ -1,4 +1,4 @@
--- What the list of a state says of the text after which it was reached.
+-- What the list of a state says about the text that reached it.
 use Rattle.std.specs.Prelude.{◌≡◌, ◌↔◌, ℕ, ◌-◌, List, [], ◌∷◌, length, Option, Some, None, map, get_or, false, true, ◌==◌}
 use Rattle.std.specs.List.{filter}
 use Rattle.ac_input.specs.declared.search.MatchKind.{MatchKind}

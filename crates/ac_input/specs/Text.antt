@@ -1,4 +1,4 @@
--- What is written of the occurrences that were found.
+-- What is written for the occurrences that were found.
 use Rattle.std.specs.Prelude.{ℕ, List, [], ◌∷◌, ◌++◌, drop, get_or, slice_range, decimal}
 use Rattle.std.specs.List.{flat_map}
 use Rattle.ac_input.specs.Occurrence.{Occurrence}

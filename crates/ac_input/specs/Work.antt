@@ -6,13 +6,13 @@ use Rattle.ac_input.specs.declared.steps.Steps.{Steps}
 use Rattle.ac_input.specs.Occurrence.{Search, Occurrence}
 use Rattle.ac_input.specs.Steps.{looked_of, scanned_of, moved_of}
 
--- How many states are looked at for a byte on the whole: one by a deterministic automaton, which has followed every failure
+-- How many states are looked at per byte, amortised: one by a deterministic automaton, which has followed every failure
 -- beforehand; two by another.
 abbrev pub lookups_per_byte : Bool → ℕ
 lookups_per_byte deterministic = if deterministic then 1 else 2
 
--- So many bytes more were read. At least one state was looked at for each of them, and on the whole at most two for each and one
--- for each byte that was live before, less those that are live after; exactly one for each by a deterministic automaton.
+-- This many more bytes were read. At least one state was looked at for each of them, and in total at most two for each byte read,
+-- plus one for each byte that was live before, less those that are live after; exactly one for each by a deterministic automaton.
 pub record IsLookups (deterministic : Bool) (bytes live_before live_after : ℕ) (before after : Steps) : Type 0 where
   pub some : looked_of before + bytes ≤ looked_of after
   pub bound : looked_of after + live_after ≤ looked_of before + 2 * bytes + live_before
@@ -30,14 +30,13 @@ abbrev pub shortest : List (List ℕ) → ℕ
 shortest [] = 18446744073709551615
 shortest (p ∷ ps) = min (length p) (shortest ps)
 
--- how far a search is over that gave this answer: up to the match's end, or the span's where there is none
+-- where a search with this result is over: at the match's end, or at the span's where there is none
 abbrev pub over_at : Search → Option Occurrence → ℕ
 over_at s None = s.end
 over_at s (Some o) = o.end
 
--- What a find may cost that gave this answer. Its looks are linear in the span; under the standard preference they end with
--- the match, under a leftmost one at most the longest pattern and a byte behind its start. Its scans for bytes never pass the
--- match.
+-- What a find with this result may cost. Its looks are linear in the span. Under the standard preference they end with the match,
+-- under a leftmost one at most the longest pattern and one byte after its start. Its scans for bytes never pass the match.
 pub record IsFindWork (kind : MatchKind) (deterministic : Bool) (s : Search) (r : Option Occurrence) (before after : Steps) : Type 0 where
   pub looked : looked_of after ≤ looked_of before + lookups_per_byte deterministic * (s.end - s.start)
   pub standard : kind ≡ Standard → looked_of after ≤ looked_of before + lookups_per_byte deterministic * (over_at s r - s.start)

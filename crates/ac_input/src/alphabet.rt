@@ -1,7 +1,7 @@
 //! Bytes as the letters of an alphabet.
 //!
-//! [`ByteSet`] is a set of them. [`ByteClassSet`] gathers which neighbouring bytes an automaton has to tell apart, and makes
-//! [`ByteClasses`] of it: the smaller alphabet that the rows of a table are laid out over. Each takes 256 bytes and no allocator.
+//! [`ByteSet`] is a set of them. [`ByteClassSet`] gathers which neighbouring bytes an automaton has to distinguish, and makes
+//! [`ByteClasses`] of it: the smaller alphabet over which a table's rows are laid out. Each takes 256 bytes and no allocator.
 ghost use Rattle.std.specs.Prelude.{◌≡◌};
 ghost use Rattle.ac_input.specs.Pairing.{other_case};
 

@@ -1,11 +1,11 @@
-//! The laws of a text of which only the beginning is known, as when it is read piece by piece.
+//! The laws of a text of which only the beginning is known, as when it is read in pieces.
 //!
-//! What a search of the beginning finds is compared with what a search of the whole text finds: under standard it stays, and
-//! the text up to a cut can be written out before the rest is read. None of these functions does anything: each states one law
-//! as its contract, and that it checks is the proof of it. A caller who needs one calls it, at no cost.
+//! They compare what a search of the beginning finds with what a search of the whole text finds. Under standard it stays, and the
+//! text up to a cut can be written out before the rest is read. These functions do nothing: each states one law as its contract,
+//! and checking it proves the law. A caller who needs the law calls the function, at no cost.
 ghost use Rattle.ac_input.specs.BeginningLaws.{BeginningHasWhatEndsInIt, PickOfBeginningStays, WalkOfBeginningBegins, ListOfBeginningBegins, ListingOfBeginningBegins, OverlappingListOfBeginningBegins, FrontOfCutIsFinal, EarliestIsStandard};
 
-/// What ends within the beginning of a haystack occurs in the whole exactly where it occurs in the beginning.
+/// An occurrence that ends within the beginning of a haystack occurs in the whole exactly where it occurs in the beginning.
 pub fn beginning_has_what_ends_in_it()
     ensures { BeginningHasWhatEndsInIt }
 {}
@@ -20,7 +20,7 @@ pub fn walk_of_beginning_begins()
     ensures { WalkOfBeginningBegins }
 {}
 
-/// Under standard a list of matches that was written of a beginning of the text needs no change when the text goes on.
+/// Under standard the written list of a beginning's matches needs no change when the text goes on.
 pub fn list_of_beginning_begins()
     ensures { ListOfBeginningBegins }
 {}
@@ -30,12 +30,12 @@ pub fn listing_of_beginning_begins()
     ensures { ListingOfBeginningBegins }
 {}
 
-/// What is written of the overlapping listing of a beginning of the text needs no change when the text goes on.
+/// The written overlapping listing of a beginning of the text needs no change when the text goes on.
 pub fn overlapping_list_of_beginning_begins()
     ensures { OverlappingListOfBeginningBegins }
 {}
 
-/// Under standard what is written of the text up to a cut, replaced or listed, needs no change when the text goes on.
+/// Under standard the text that is written up to a cut, replaced or listed, needs no change when the text goes on.
 pub fn front_of_cut_is_final()
     ensures { FrontOfCutIsFinal }
 {}

@@ -1,12 +1,12 @@
 //! Counts and histories that only contracts see.
 //!
-//! A contract may have to speak of what happened, and not only of what is held: how often a device failed, which pieces a
-//! reader gave, which bytes a writer took. A type of this module keeps such a history beside the code. It takes no memory, no
-//! code can read it, and it has no greatest value: a `usize` that counts would need a proof that it never wraps, and a list
-//! that is kept would need memory. A function moves it on by a call, `self.failures = self.failures.next()`, and its contract
-//! says by how much.
+//! A contract may have to refer to what happened, and not only to what is stored: how often a device failed, which pieces a reader
+//! returned, which bytes a writer took. A type of this module keeps such a history beside the code. It takes no memory, no code
+//! can read it, and it has no greatest value. A `usize` that counts would need a proof that it never wraps, and a stored list
+//! would need memory. A function advances a history by a call, `self.failures = self.failures.next()`, and its contract says by
+//! how much.
 //!
-//! Each call's contract says exactly what its result is, so a history cannot be moved on in any other way.
+//! Each call's contract says exactly what its result is, so a history cannot be advanced in any other way.
 ghost use Rattle.std.specs.Prelude.{◌≡◌, ◌+◌, ℕ, List, [], ◌∷◌, ◌++◌};
 ghost use Rattle.std.specs.Borrow.{ftrue};
 
@@ -38,7 +38,7 @@ impl Count {
         Self { times: PhantomData }
     }
 
-    /// It has happened so many times more.
+    /// It has happened this many times more.
     pub fn more(&self, times: &usize) -> Count
         ensures { result.value ≡ self.now.value + times.now }
     {
@@ -47,7 +47,7 @@ impl Count {
         }
     }
 
-    /// It has happened so often more as the other count says.
+    /// It has happened as many times more as the other count says.
     pub fn plus(&self, other: &Count) -> Count
         ensures { result.value ≡ self.now.value + other.now.value }
     {
@@ -92,7 +92,7 @@ impl Pieces {
     }
 }
 
-/// Bytes that were taken, in order, without the places where one taking ended and the next began. It takes no memory.
+/// Bytes that were taken, in order, without the boundaries between one write and the next. It takes no memory.
 #[derive(Drop)]
 pub struct Taken {
     text: PhantomData<()>,

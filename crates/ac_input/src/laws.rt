@@ -1,9 +1,9 @@
 //! The laws of the definitions: what holds of each search, walk, listing and rule file, whatever the patterns, the kind and the
 //! text.
 //!
-//! What the best, the next pick, the walk and the listing of a search are is settled by their definitions alone, and can be
-//! computed. None of these functions does anything: each states one law as its contract, and that it checks is the proof of
-//! it. A caller who needs one calls it, at no cost.
+//! The definitions alone fix the best, the next pick, the walk and the listing of a search, and each can be computed. These
+//! functions do nothing: each states one law as its contract, and checking it proves the law. A caller who needs the law calls the
+//! function, at no cost.
 ghost use Rattle.ac_input.specs.Laws.{PreferenceIsOrder, PreferenceTellsApart, OccurrencesAreListed, BestIsOne, PickIsOne, WalkIsOne, WalkIsApart, WalkLiesWithin, WalkOccurs, ListingIsOne, ListingIsComputed, ListingHasEachOnce, PicksAreListed, ReplacingByItselfChangesNothing, NoRulesChangeNothing, RulesAreOne, BadLineIsOne, UnpairedSearchAlike};
 
 /// The preference of each kind is a total order.
@@ -41,7 +41,7 @@ pub fn walk_is_apart()
     ensures { WalkIsApart }
 {}
 
-/// No pick of a walk begins before the place from which the walk was asked, and none ends after the span.
+/// No pick of a walk begins before the place where the walk starts, and none ends after the span.
 pub fn walk_lies_within()
     ensures { WalkLiesWithin }
 {}
@@ -71,12 +71,12 @@ pub fn picks_are_listed()
     ensures { PicksAreListed }
 {}
 
-/// Where no byte is paired, a text whose patterns are replaced by themselves stays as it is.
+/// Where no byte is paired, a text whose patterns are replaced by themselves is unchanged.
 pub fn replacing_by_itself_changes_nothing()
     ensures { ReplacingByItselfChangesNothing }
 {}
 
-/// With no patterns the text stays as it is, and nothing is listed.
+/// With no patterns the text is unchanged, and nothing is listed.
 pub fn no_rules_change_nothing()
     ensures { NoRulesChangeNothing }
 {}

@@ -1,11 +1,11 @@
-//! The vocabulary of multi-pattern search: what is searched for and where, what an answer is, and all definitions that the
+//! The vocabulary of multi-pattern search: what is searched for and where, what a result is, and all definitions that the
 //! contracts of the layers above cite.
 //!
 //! The definitions are in `specs/`. They name no trie, hash or buffer: an occurrence is a pattern that lies in a span of the
 //! haystack, the best one is the least in the order of the kind, a walk takes the best from where it stands. The laws about
-//! them that a user cites are the contracts of the functions of [`laws`], [`beginning_laws`], [`live_laws`], [`state_laws`] and
-//! [`limit_laws`]; what an automaton needs besides stands in the lemmas of `proofs/`, which any proof of the crates above may
-//! import.
+//! The laws about them that a user cites are the contracts of the functions of [`laws`], [`beginning_laws`], [`live_laws`],
+//! [`state_laws`] and [`limit_laws`]. What else an automaton needs stands in the lemmas of `proofs/`, which any proof of the
+//! crates above may import.
 #![tactic(auto)]
 
 pub mod alphabet;

@@ -1,15 +1,14 @@
 //! The laws of the limits of a build.
 //!
-//! An automaton has a state for each prefix of an entered pattern, and few more. So the patterns alone say how many states it has,
-//! and whether one more pattern passes a limit.
+//! An automaton has one state for each non-empty prefix of an entered pattern, and four more. So the patterns alone determine how
+//! many states it has, and whether one more pattern passes a limit.
 //!
-//! None of these functions does anything: each states one law as its contract, and a caller who needs one calls it, at no
-//! cost.
+//! These functions do nothing. Each states one law as its contract; a caller who needs the law calls the function, at no cost.
 ghost use Rattle.ac_input.specs.Classes.{AlphabetsAreOneNumber};
 ghost use Rattle.ac_input.specs.Dfa.{DfaSizesAreOneNumber};
 ghost use Rattle.ac_input.specs.Limits.{StatesAreOneNumber, WithinPassesNone, WithinHasNoLimit};
 
-/// The patterns, the pairing and the kind say how many states an automaton has.
+/// The patterns, the pairing and the kind determine how many states an automaton has.
 pub fn states_are_one_number()
     ensures { StatesAreOneNumber }
 {}
@@ -24,12 +23,12 @@ pub fn within_has_no_limit()
     ensures { WithinHasNoLimit }
 {}
 
-/// The patterns, the pairing and the kind say how many classes of bytes there are.
+/// The patterns, the pairing and the kind determine how many classes of bytes there are.
 pub fn alphabets_are_one_number()
     ensures { AlphabetsAreOneNumber }
 {}
 
-/// And how large a deterministic automaton is.
+/// They also determine the size of a deterministic automaton.
 pub fn dfa_sizes_are_one_number()
     ensures { DfaSizesAreOneNumber }
 {}

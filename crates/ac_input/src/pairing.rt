@@ -1,7 +1,7 @@
 //! Bytes that stand for one another.
 //!
-//! A pairing gives each byte at most one other byte, and a search takes the two for the same: case folding is the pairing of
-//! the ASCII letters in their two cases. It is a table of 256 bytes, so that asking for a byte's partner is one load.
+//! A pairing gives each byte at most one other byte, and a search treats the two as equal: case folding is the pairing of the
+//! ASCII letters in their two cases. It is a table of 256 bytes, so looking up a byte's partner is one load.
 ghost use Rattle.std.specs.Prelude.{◌≡◌, ℕ, ◌↔◌, IsTrue, IfOk, MatchOption};
 ghost use Rattle.ac_input.specs.Same.{other, IsUnpaired};
 ghost use Rattle.ac_input.specs.Pairing.{named, partner, other_case, IsDistinct, IsFirstTwice, IsPairing};
@@ -29,7 +29,7 @@ impl Model for Pairing {
     ghost inverse = { λ t. record { table = t } };
 }
 
-/// Why pairs make no pairing.
+/// Why a list of pairs is no pairing.
 #[derive(Clone, Copy, Debug, PartialEq, Eq)]
 pub enum PairingError {
     /// This byte is named twice.
@@ -82,7 +82,7 @@ impl Pairing {
         Pairing { table }
     }
 
-    /// The partner of a byte; the byte itself where it stands in no pair. One load.
+    /// The partner of a byte; the byte itself where it is in no pair. One load.
     pub fn other(&self, byte: u8) -> u8
         ensures value { result ≡ other self.now byte }
         ensures inverse { other self.now result ≡ byte }
@@ -90,7 +90,7 @@ impl Pairing {
         self.table[byte as usize]
     }
 
-    /// For each byte its partner, for a caller that keeps the table itself.
+    /// The partner of each byte, for a caller that keeps the table itself.
     pub fn table(&self) -> [u8; 256]
         ensures value { result ≡ self.now }
         ensures pairing { IsPairing result }
@@ -110,8 +110,8 @@ impl Pairing {
         true
     }
 
-    /// The pairing of these pairs, which may be named in any order. It fails where a byte stands in two pairs, or twice in
-    /// one; the error names the byte of the first place, reading each pair from left to right, whose byte stood before.
+    /// The pairing of these pairs, in any order. It fails where a byte is in two pairs, or twice in one. The error names the first
+    /// byte, reading each pair from left to right, that was named before.
     pub fn new(pairs: &[(u8, u8)]) -> Result<Pairing, PairingError>
         ensures made { IfOk result (λ pairing. IsDistinct (named pairs.now)
             × ((b : ℕ) → other pairing b ≡ partner pairs.now b)) }
@@ -127,7 +127,7 @@ impl Pairing {
     }
 }
 
-/// The byte of the first place whose byte stood before.
+/// The first byte that was named before.
 fn first_twice(pairs: &[(u8, u8)]) -> Option<u8>
     ensures { MatchOption result (IsDistinct (named pairs.now)) (IsFirstTwice (named pairs.now)) }
 {

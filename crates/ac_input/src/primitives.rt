@@ -1,9 +1,9 @@
 //! Numbers that fit the tables of an automaton.
 //!
-//! The automata keep states and patterns in tables of 32-bit numbers. Each kind of number has a type of its own here, so that
-//! one is never taken for another: they are one [`Number`] with a mark of what it counts. All have one limit, [`GREATEST`], which
-//! leaves one number free and makes a count of them, and one more, fit an `i32`. A number costs four bytes, and is turned into a
-//! `usize` where it indexes a slice and nowhere else.
+//! The automata store states and patterns in tables of 32-bit numbers. Each kind of number has a type of its own, so that one is
+//! never taken for another: they are one [`Number`] with a mark of what it counts. All have one limit, [`GREATEST`]. It leaves one
+//! number free, and a count of them plus one fits an `i32`. A number takes four bytes, and is turned into a `usize` only where it
+//! indexes a slice.
 mod number;
 
 pub use number::{GREATEST, Number, NumberError};

@@ -1,7 +1,7 @@
-//! Where a search looks, which of several matches it prefers, and what it answers.
+//! Where a search looks, which of several matches it prefers, and what it returns.
 //!
 //! A haystack is searched within a [`Span`]. A pattern may lie at many places of it, and patterns may overlap: the [`MatchKind`]
-//! says which of them is the match. A [`Match`] tells the pattern by its number, and where it lies.
+//! says which of them is the match. A [`Match`] holds the pattern's number and where it lies.
 ghost use Rattle.std.specs.Prelude.{◌≡◌, ◌+◌, ◌-◌, ◌^◌, ◌<◌, ◌≤◌, ◌↔◌, length, slice_range, IsCharBoundary, IsTrue, true, false};
 ghost use Rattle.ac_input.specs.Occurrence.{Occurrence};
 ghost use Rattle.ac_input.specs.Best.{asked_kind};
@@ -32,7 +32,7 @@ pub enum MatchKind {
 }
 
 impl MatchKind {
-    /// The kind that an earliest search asks: the standard one, whatever the kind.
+    /// The kind that an earliest search uses: the standard one, whatever the kind.
     pub fn asked(self, earliest: bool) -> MatchKind
         ensures { result ≡ asked_kind self earliest }
     {
@@ -88,7 +88,7 @@ impl Span {
         self.start..self.end
     }
 
-    /// Whether it has no byte, as also where it ends before it starts.
+    /// Whether it has no byte; also where it ends before it starts.
     pub fn is_empty(&self) -> bool
         ensures { IsTrue result ↔ (self.now.end ≤ self.now.start) }
     {
@@ -128,7 +128,7 @@ impl Span {
         &text[self.start..self.end]
     }
 
-    /// The span so many bytes further on.
+    /// The span, shifted by this many bytes.
     pub fn offset(&self, bytes: usize) -> Span
         requires start { self.now.start + bytes < 2 ^ 64 }
         requires end { self.now.end + bytes < 2 ^ 64 }
@@ -160,7 +160,7 @@ impl From<Span> for Range<usize> {
     }
 }
 
-/// Which pattern lies where: what a search answers. It never ends before it starts.
+/// Which pattern lies where: the result of a search. It never ends before it starts.
 #[derive(Clone, Copy, Debug, PartialEq, Eq, Hash)]
 pub struct Match {
     pattern: PatternID,
@@ -239,7 +239,7 @@ impl Match {
         self.span
     }
 
-    /// Whether it has no byte, as a match of an empty pattern.
+    /// Whether it has no byte: a match of an empty pattern.
     pub fn is_empty(&self) -> bool
         ensures { IsTrue result ↔ (self.now.start ≡ self.now.end) }
     {
@@ -253,7 +253,7 @@ impl Match {
         self.span.len()
     }
 
-    /// The match so many bytes further on.
+    /// The match, shifted by this many bytes.
     pub fn offset(&self, bytes: usize) -> Match
         requires { self.now.end + bytes < 2 ^ 64 }
         ensures { result ≡ record {

@@ -1,9 +1,9 @@
-//! The laws of states, on which automata rest that are tables made from another automaton.
+//! The laws of states that automata rely on which are tables made from another automaton.
 //!
-//! A table has one entry for each class of bytes, so bytes of one class must lead alike from every state. And it keeps the list of
-//! a state as it is, whose length has to be a number that fits.
+//! A table has one entry for each class of bytes, so bytes of one class must lead alike from every state. And it copies a state's
+//! list of patterns unchanged, so the list's length must be a number that fits.
 //!
-//! Neither function does anything: each states one law as its contract, and a caller who needs one calls it, at no cost.
+//! These functions do nothing. Each states one law as its contract; a caller who needs the law calls the function, at no cost.
 ghost use Rattle.ac_input.specs.Classes.{EachLeadsAlike};
 ghost use Rattle.ac_input.specs.Failure.{ListsAreOnce};
 

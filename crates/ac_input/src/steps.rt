@@ -1,8 +1,8 @@
 //! What a search costs, as contracts count it.
 //!
-//! A counted call moves a [`Steps`] on: by the states that it looked at, the places that its byte scans covered, and the bytes
-//! that it copied within a stream's buffer. The counts are seen by contracts alone: they take no memory, and have no greatest
-//! value. So a bound on the work of a search is a clause like any other.
+//! A counted call advances a [`Steps`]: by the states that it looked at, the places that its byte scans covered, and the bytes
+//! that it copied within a stream's buffer. Only contracts see the counts: they take no memory, and have no greatest value. So a
+//! bound on the work of a search is a clause like any other.
 ghost use Rattle.ac_input.specs.Steps.{Added, AreNone, Done};
 
 use crate::history::Count;
@@ -55,7 +55,7 @@ impl Steps {
         self.moved = self.moved.more(&bytes);
     }
 
-    /// So much more was done as was counted elsewhere: each of the three counts of `more` is added.
+    /// As much more was done as was counted elsewhere: each of the three counts of `more` is added.
     pub fn add(&mut self, more: &Steps)
         ensures { Added more.now self.old self.new }
     {

@@ -31,7 +31,7 @@ has-some a bucket h none =
 abbrev pub bit_of : ℕ → ℕ
 bit_of bucket = 1 * 2 ^ bucket % 256
 
--- a table with a bucket more at a place
+-- a table with one more bucket at a place
 abbrev pub with_bucket : List ℕ → ℕ → ℕ → List ℕ
 with_bucket table place bucket = set table place (bit_or (get_or table place 0) (bit_of bucket))
 
@@ -51,7 +51,7 @@ kept-there table place bucket at other within had =
       | inr apart ↦ ap (λ x. bit_at x other) (get_or-set_other table place at more 0 apart) ∙ had
     ]
 
--- a probe with a bucket more for a byte
+-- a probe with one more bucket for a byte
 abbrev pub probe_with : Probe → ℕ → ℕ → ℕ → Probe
 probe_with p low high bucket = record { low = with_bucket p.low low bucket; high = with_bucket p.high high bucket; offset = p.offset }
 

@@ -78,7 +78,7 @@ added_all-push : (b : Building) (ps : List (List ℕ)) (p : List ℕ) → added_
 added_all-push b [] p = refl
 added_all-push b (q ∷ ps) p = added_all-push (added b q) ps p
 
--- an inert builder stays as it is
+-- an inert builder is unchanged
 added_all-inert : (kind : MatchKind) (ps : List (List ℕ)) → added_all (record { kind = kind; patterns = []; inert = true }) ps ≡ record { kind = kind; patterns = []; inert = true }
 added_all-inert kind [] = refl
 added_all-inert kind (p ∷ ps) = added_all-inert kind ps
@@ -288,7 +288,7 @@ way-of_bytes m (One a) h = h
 way-of_bytes m (Two a b) h = h
 way-of_bytes m (Three a b c) h = h
 
--- what is built scans for bytes only where they serve, and else searches for patterns where that serves
+-- what is built scans for bytes only if they serve, and otherwise searches for patterns if that serves
 pub strategy-way : (m : Dictionary) (f : Strategy) → IsStrategyOf m f → IsWayOf m (needles_of f)
 strategy-way m (strategies.Memmem needle) h = inl (h.unpaired, ap length h.patterns)
 strategy-way m (strategies.Packed searcher) h = inr (λ e. leftmost searcher.kind (h.kind ∙ e), h.unpaired, h.few)

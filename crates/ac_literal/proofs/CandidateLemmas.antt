@@ -1,4 +1,4 @@
--- What a scan for bytes tells of the occurrences in a span.
+-- What a scan for bytes says about the occurrences in a span.
 use Rattle.std.proofs.Common.{◌≡◌, ℕ, zero, suc, ◌+◌, ◌-◌, ◌<◌, ◌≤◌, List, [], ◌∷◌, length, get_or, IsTrue, slice_get, None, Some, refl, subst, inl, inr, arith}
 use Rattle.std.specs.Prelude.{slice_index}
 use Rattle.std.specs.List.{Contains}
@@ -71,14 +71,14 @@ no_byte-no_occurrence s inside full no_byte o h =
     default_too : (xs : List ℕ) (k : ℕ) → k < length xs → get_or xs k (slice_index xs k) ≡ slice_index xs k
     default_too xs k within = get_or_default_zero xs k (slice_index xs k) within
 
--- needles are never none, so what they scanned is said of them
+-- needles are never empty, so the count of places speaks of them
 scan-by_bytes : (needles : Needles) (s : Search) (places : ℕ) (c : Candidate) → IsScan (needle_list needles) s places c → IsScanned (needle_list needles) s places c
 scan-by_bytes (One a) s places c scan = scan
 scan-by_bytes (Two a b) s places c scan = scan
 scan-by_bytes (Three a b d) s places c scan = scan
 
 module _ (m : Dictionary) (needles : Needles) (haystack : List ℕ) (span : Span) (ordered : span.start ≤ span.end) (inside : span.end ≤ length haystack) (before after : Steps) where
-  -- the search ahead of which the scan runs
+  -- the search that the scan runs ahead of
   abbrev s : Search
   s = search_of m No haystack span
 

@@ -1,4 +1,4 @@
--- How rare bytes are chosen, and how far they may stand behind the beginning of a pattern.
+-- How rare bytes are chosen, and how far they may stand after the beginning of a pattern.
 use Rattle.std.proofs.Common.{◌≡◌, ℕ, ◌+◌, ◌<◌, ◌≤◌, ◌⊎◌, ◌==◌, ◌||◌, max, Bool, true, false, List, [], ◌∷◌, ◌++◌, length, replicate, if◌then◌else◌, IsTrue, refl, sym, ap, ◌∙◌, subst, inl, inr, arith, get_or-set_same, get_or-set_other}
 use Rattle.std.specs.Prelude.{slice_index, slice_set}
 use Rattle.std.specs.List.{Contains}
@@ -33,7 +33,7 @@ lengthened-grown distances byte at each within =
 pub lengthened-reach : (distances : List ℕ) (byte at : ℕ) → byte < length distances → at ≤ distance_of (lengthened distances byte at) byte
 lengthened-reach distances byte at within = let is = lengthened-index distances byte at byte within in grind (arith, nat_tests)
 
--- none comes to be past 254
+-- none becomes greater than 254
 pub lengthened-near : (distances : List ℕ) (byte at : ℕ) → byte < length distances → at ≤ 254 → ((each : ℕ) → distance_of distances each ≤ 254) → (each : ℕ) → distance_of (lengthened distances byte at) each ≤ 254
 lengthened-near distances byte at within small near each =
     let is = lengthened-index distances byte at each within in
@@ -85,7 +85,7 @@ module _ (pairing before p now once next : List ℕ) (place byte pair : ℕ) (is
   reach_pair : place ≤ distance_of next pair
   reach_pair = subst (λ (xs : List ℕ). place ≤ distance_of xs pair) (sym second) (lengthened-reach once pair place within_too)
 
-  -- none comes to be past 254
+  -- none becomes greater than 254
   steps_near : place ≤ 254 → ((each : ℕ) → distance_of now each ≤ 254) → (each : ℕ) → distance_of next each ≤ 254
   steps_near small near =
       let a : (each : ℕ) → distance_of once each ≤ 254 = subst (λ (xs : List ℕ). (each : ℕ) → distance_of xs each ≤ 254) (sym first) (lengthened-near now byte place within small near) in
@@ -118,7 +118,7 @@ surely-has few.None byte h = h
 surely-has (few.Some needles) byte h = h
 surely-has few.TooMany byte h = refl
 
--- what is among them is known to be, unless there are too many, where all are
+-- what is among them is known to be, unless there are too many: then all are
 has-surely : (these : FewBytes) (byte : ℕ) → IsTrue (few_has these byte) → IsTrue (few_surely_has these byte) ⊎ ((each : ℕ) → IsTrue (few_has these each))
 has-surely few.None byte h = inl h
 has-surely (few.Some needles) byte h = inl h
@@ -141,7 +141,7 @@ chosen-held pairing p these at closed within held =
       only = λ byte h. inl h;
     }
 
--- else one of its bytes comes, and what is paired with it
+-- otherwise one of its bytes comes, and what is paired with it
 pub chosen-added : (pairing p : List ℕ) (these one two : FewBytes) (rare pair : ℕ) → IsClosed pairing these → Contains p rare → other pairing rare ≡ pair → other pairing pair ≡ rare → AddsByte these rare one → AddsByte one pair two → IsChosen pairing these p two
 chosen-added pairing p these one two rare pair closed stands paired back first second =
     let place = get_or_default_zero p stands.0 rare stands.1 in
@@ -176,7 +176,7 @@ chosen-added pairing p these one two rare pair closed stands paired back first s
       ];
     }
 
--- nothing is known of no pattern
+-- nothing is known about no pattern
 pub rare-none : (pairing distances : List ℕ) → ((byte : ℕ) → distance_of distances byte ≤ 254) → IsRareSoFar pairing [] (record { few = few.None; distances = distances; is_short = true })
 rare-none pairing distances near =
     record {

@@ -1,4 +1,4 @@
--- The first place at which something is found has the best match; the hash moves on a place at a time.
+-- The first place at which something is found has the best match; the hash moves one place at a time.
 use Rattle.std.proofs.Common.{◌≡◌, ◌≢◌, ℕ, suc, ◌+◌, ◌-◌, ◌*◌, ◌%◌, ◌^◌, ◌<◌, ◌≤◌, inl, inr, List, [], ◌∷◌, ◌++◌, length, take, drop, get_or, Option, Some, None, true, Less, refl, sym, ap, ap₂, ◌∙◌, arith, length-drop, drop-cons}
 use Rattle.std.specs.Prelude.{slice_range, is_some}
 use Rattle.std.specs.Cmp.{nat_cmp_is}
@@ -79,7 +79,7 @@ slice_range-first xs a b h inside =
     let next : suc a ≡ a + 1 = omega arith in
     ap₂ (λ (n : ℕ) (ys : List ℕ). take n ys) count (drop-cons xs a 0 inside) ∙ ap (λ (k : ℕ). get_or xs a 0 ∷ take (b - (a + 1)) (drop k xs)) next
 
--- a part and the byte behind it
+-- a part and the byte after it
 slice_range-last : (xs : List ℕ) (a b : ℕ) → a ≤ b → b < length xs → slice_range xs a (b + 1) ≡ slice_range xs a b ++ get_or xs b 0 ∷ []
 slice_range-last xs a b h inside =
     let count : b + 1 - a ≡ b - a + 1 = omega arith in

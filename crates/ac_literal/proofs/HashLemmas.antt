@@ -1,10 +1,10 @@
--- What the rolling hash keeps.
+-- What the rolling hash preserves.
 use Rattle.std.proofs.Common.{◌≡◌, ℕ, suc, ◌+◌, ◌-◌, ◌*◌, ◌%◌, ◌^◌, ◌≤◌, List, [], ◌∷◌, ◌++◌, length, refl, sym, ap, ◌∙◌, arith, pow-suc, mul_assoc, length-append}
 use Rattle.std.proofs.lemmas.Nat.{mul-mod_second, pow-add}
 use Rattle.std.proofs.Math.Nat.{mul-mod_right}
 use Rattle.ac_literal.specs.RabinKarp.{value_of, hash_of}
 
--- one more digit behind the others
+-- one more digit after the others
 pub value_of-push : (bytes : List ℕ) (byte : ℕ) → value_of (bytes ++ byte ∷ []) ≡ value_of bytes * 2 + byte
 unfolding value_of
 value_of-push [] byte = let e : 2 ^ 0 ≡ 1 = refl in omega arith
@@ -14,7 +14,7 @@ value_of-push (b ∷ bytes) byte =
     let power : b * 2 ^ length (bytes ++ byte ∷ []) ≡ b * 2 ^ length bytes * 2 = ap (λ n. b * 2 ^ n) longer ∙ ap (λ p. b * p) (pow-suc 2 (length bytes)) ∙ sym (mul_assoc b (2 ^ length bytes) 2) in
     omega arith
 
--- one more byte behind the others
+-- one more byte after the others
 pub hash_of-push : (bytes : List ℕ) (byte h : ℕ) → h ≡ hash_of bytes → (h * 2 + byte) % 2 ^ 64 ≡ hash_of (bytes ++ byte ∷ [])
 hash_of-push bytes byte h is = let e = value_of-push bytes byte in omega arith
 
@@ -23,7 +23,7 @@ pub hash_of-nil : 0 ≡ hash_of []
 unfolding value_of
 hash_of-nil = refl
 
--- the hash of the bytes one place on, from the hash of these: the first leaves, and another one comes
+-- the hash of the bytes one place further, from the hash of these: the first leaves, and another one comes
 pub hash_of-roll : (first last power : ℕ) (bytes : List ℕ) → power ≡ 2 ^ length bytes % 2 ^ 64
     → ((hash_of (first ∷ bytes) + 2 ^ 64 - first * power % 2 ^ 64) % 2 ^ 64 * 2 + last) % 2 ^ 64 ≡ hash_of (bytes ++ last ∷ [])
 unfolding value_of

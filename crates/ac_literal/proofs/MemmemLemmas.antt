@@ -123,7 +123,7 @@ module _ (m : Dictionary) (needle : List ℕ) (haystack : List ℕ) (span : Span
   one : length m.patterns ≡ 1
   one = ap length memmem.patterns
 
-  -- what is answered where the needle stands in the part
+  -- the result where the needle stands in the part
   pub memmem_found : (offset : ℕ) (o : Occurrence) → FindsNeedle part needle 0 (Some offset) → there offset ≡ o → IsAnswer m haystack span (candidates.Match o)
   memmem_found offset o first is_there =
       let best : (kind : MatchKind) → IsBest kind s (Some o) = λ kind. subst (λ (q : Occurrence). IsBest kind s (Some q)) is_there (first_best offset first kind) in
@@ -132,7 +132,7 @@ module _ (m : Dictionary) (needle : List ℕ) (haystack : List ℕ) (span : Span
         none = λ no_byte. absurd (no_byte-no_occurrence s inside memmem.full no_byte o (best m.kind).0);
       }
 
-  -- what is answered where it doesn't
+  -- the result where it doesn't
   pub memmem_none : FindsNeedle part needle 0 None → IsAnswer m haystack span candidates.None
   memmem_none nowhere = record {
     candidate = λ o h. let st = stands o h in let size = part_len in let fits = st.2.fits in nowhere (o.start - span.start) (omega arith) (omega arith) st.2;

@@ -39,7 +39,7 @@ module _ (kind : MatchKind) (patterns : List (List ℕ)) (haystack : List ℕ) (
       by None h = walk_after-none kind s at (Some last) (omega arith) (pick-last at last None h) ∙ sym (walk_after-none kind s at None (omega arith) h)
       by (Some o) h = walk_after-some kind s at (Some last) o (omega arith) (pick-last at last (Some o) h) ∙ sym (walk_after-some kind s at None o (omega arith) h)
 
-  -- at the best from a place the walk goes on behind it
+  -- at the best from a place the walk goes on after it
   pub walk-some : (at : ℕ) (o : Occurrence) → IsBest kind (starting_at s at) (Some o) → walk_after kind s at None ≡ o ∷ walk_after kind s o.end None
   walk-some at o h = walk_after-some kind s at None o (omega arith) (pick-best kind s at (Some o) h) ∙ ap (λ (os : List Occurrence). o ∷ os) (walk-last o.end o.end)
 

@@ -53,7 +53,7 @@ module _ (m : Dictionary) (searcher : Packed) (haystack : List ℕ) (span : Span
       let of_kind : IsBest m.kind (part_search searcher.patterns haystack span.start span.end) r = subst (λ (kind : MatchKind). IsBest kind (part_search searcher.patterns haystack span.start span.end) r) packed.kind h in
       best_too m haystack span packed.unpaired m.kind r (subst (λ (ps : List (List ℕ)). IsBest m.kind (part_search ps haystack span.start span.end) r) packed.patterns of_kind)
 
-  -- what is answered where there is a match
+  -- the result where there is a match
   pub packed_found : (o : Occurrence) → IsBest (search_kind searcher.kind) (part_search searcher.patterns haystack span.start span.end) (Some o) → IsAnswer m haystack span (candidates.Match o)
   packed_found o h =
       let best = best_of_dictionary (Some o) h in

@@ -1,4 +1,4 @@
--- Patterns, one at a time, and what becomes of them in a builder.
+-- Patterns, one at a time, and what a builder makes of them.
 use Rattle.std.proofs.Common.{◌≡◌, ◌≢◌, ◌↔◌, ◌⊎◌, inl, inr, ℕ, zero, suc, ◌<◌, ◌≤◌, Bool, true, false, ◌==◌, cond, List, [], ◌∷◌, ◌++◌, length, get_or, min, Option, refl, sym, ap, subst, ◌∙◌, arith, length-append, append_assoc}
 use Rattle.std.specs.Prelude.{IsSome, IfSome}
 use Rattle.std.proofs.lemmas.Bool.{or_cases, or_parts, eqb-true, eq-eqb, cases_lt, false≢true}
@@ -45,7 +45,7 @@ added_all-inert kind (p ∷ patterns) = added_all-inert kind patterns
 abbrev having : MatchKind → List (List ℕ) → Building
 having kind patterns = record { kind = kind; patterns = patterns; inert = false }
 
--- what a builder takes all of, or else loses
+-- a builder takes all of these, or loses all
 abbrev Added : MatchKind → List (List ℕ) → Building → Type 0
 Added kind all b = (AreTaken all × (b ≡ having kind all)) ⊎ ((AreTaken all → ⊥) × (b ≡ inert kind))
 
@@ -93,7 +93,7 @@ added_all-cases kind front (p ∷ rest) taken = by (is_too_much (length front) p
 none-taken : AreTaken []
 none-taken = record { few = omega arith; full = λ number h. absurd (omega arith) }
 
--- what is built of patterns that were added to a fresh builder, if anything is
+-- what is built for patterns that were added to a fresh builder, if anything is
 abbrev pub BuiltOf : MatchKind → List (List ℕ) → Option Packed → Type 0
 BuiltOf kind texts made = (IsSome made ↔ AreServed texts) × IfSome made (λ s. s ≡ record { kind = kind; patterns = texts })
 

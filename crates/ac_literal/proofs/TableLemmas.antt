@@ -13,7 +13,7 @@ use Rattle.ac_literal.specs.Packed.{search_kind, pattern_at, part_search}
 use Rattle.ac_literal.specs.RabinKarp.{hash_of, bucket_of, lying, entry_at, IsLink, AreEntries, IsTable, IsSameTable}
 use Rattle.ac_literal.proofs.TextLemmas.{lies-bytes, starts-lying}
 
--- the search of a bucket at a place: a link that is still to be followed, and none of the entries behind it lies there
+-- the search of a bucket at a place: a link that is still to be followed, and none of the entries after it lies there
 pub record IsOpen (patterns : List (List ℕ)) (haystack : List ℕ) (start end at : ℕ) (entries : List Entry) (bucket link : ℕ) : Type 0 where
   pub within : link ≤ length entries
   pub here : 0 < link → bucket_of (entry_at entries (link - 1)).hash ≡ bucket

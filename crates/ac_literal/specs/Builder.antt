@@ -1,4 +1,4 @@
--- What is collected of the patterns that a prefilter is to be built for.
+-- What is collected of the patterns that a prefilter is built for.
 use Rattle.std.specs.Prelude.{◌≡◌, ◌≢◌, ℕ, ◌<◌, ◌≤◌, Bool, true, false, List, [], ◌∷◌, ◌++◌, length, Option, None, Some, IfSome, MatchOption}
 use Rattle.std.specs.List.{Contains}
 use Rattle.ac_input.specs.declared.search.MatchKind.TheVariants.{Standard}
@@ -49,15 +49,15 @@ AddsStart pairing old p new = (patterns : List (List ℕ)) → AreFew old (is_st
 abbrev pub AddsPattern : List ℕ → Builders → List ℕ → Builders → Type 0
 AddsPattern pairing old p new = (m : Dictionary) → m.pairing ≡ pairing → IsCollected m old → IsCollected (with_pattern m p) new
 
--- of what is collected a strategy is built that is right for it, and none only where this is not asked
+-- from what is collected a strategy is built that is right for it; none only if this is not requested
 abbrev pub BuildsWhere : (Dictionary → Type 0) → List ℕ → Builders → Option Strategy → Type 0
 BuildsWhere asked pairing c made = (m : Dictionary) → m.pairing ≡ pairing → IsCollected m c → MatchOption made (¬ asked m) (IsStrategyOf m)
 
--- the same of packed search, where the search for one pattern doesn't serve
+-- the same of packed search, if the search for one pattern doesn't serve
 abbrev pub BuildsPacked : Builders → Option Strategy → Type 0
 BuildsPacked c made = (m : Dictionary) → ¬ MemmemServes m → IsCollected m c → MatchOption made (¬ PackedDemand m) (IsStrategyOf m)
 
--- the bytes that patterns begin with, and none only where no scan for them is asked
+-- the bytes that patterns begin with; none only if no scan for them is requested
 abbrev pub BuildsStartBytes : Builders → Option Needles → Type 0
 BuildsStartBytes c made = (m : Dictionary) → IsCollected m c → MatchOption made (¬ StartBytesDemand m) (AreStarts m)
 
@@ -65,7 +65,7 @@ BuildsStartBytes c made = (m : Dictionary) → IsCollected m c → MatchOption m
 abbrev pub BuildsRareBytes : Builders → Option RareBytes → Type 0
 BuildsRareBytes c made = (m : Dictionary) → IsCollected m c → IfSome made (AreRareOf m)
 
--- of two scans that are right one is taken, and none only where there are no start bytes
+-- of two scans that are right one is taken; none only where there are no start bytes
 abbrev pub TakesOne : Option Needles → Option RareBytes → Option Strategy → Type 0
 TakesOne starts rare taken = (m : Dictionary) → IfSome starts (AreStarts m) → IfSome rare (AreRareOf m) → MatchOption taken (starts ≡ None) (IsStrategyOf m)
 

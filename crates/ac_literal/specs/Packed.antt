@@ -1,5 +1,5 @@
--- Packed search: what a builder and a searcher are seen as, and what they answer.
-use Rattle.std.specs.Prelude.{◌≡◌, ℕ, ◌<◌, ◌≤◌, Bool, true, false, ◌||◌, ◌==◌, List, [], ◌∷◌, ◌++◌, length, Option, Some, None, min, map, take, get_or, if◌then◌else◌}
+-- Packed search: the models of a builder and a searcher, and their results.
+use Rattle.std.specs.Prelude.{◌≡◌, ℕ, ◌<◌, ◌≤◌, Bool, true, false, ◌||◌, ◌==◌, List, [], ◌∷◌, ◌++◌, length, Option, Some, None, map, take, get_or, if◌then◌else◌}
 use Rattle.std.specs.Borrow.{Bor}
 use Rattle.ac_input.specs.declared.search.MatchKind as search
 use Rattle.ac_input.specs.declared.search.MatchKind.TheVariants as searches
@@ -10,7 +10,7 @@ use Rattle.ac_input.specs.Occurrence.{Search, Occurrence}
 use Rattle.ac_input.specs.Best.{IsBest}
 use Rattle.ac_input.specs.Computed.{walk_of, walk_after}
 
--- the same kind, as the definitions of a search name it
+-- the same kind, under the name that the definitions of a search use
 abbrev pub search_kind : MatchKind → search.MatchKind
 search_kind LeftmostFirst = searches.LeftmostFirst
 search_kind LeftmostLongest = searches.LeftmostLongest
@@ -25,7 +25,7 @@ pub record Building : Type 0 where
 abbrev pub fresh : MatchKind → Building
 fresh kind = record { kind = kind; patterns = []; inert = false }
 
--- whether a builder that has so many patterns can't take this one: it is empty, or there are 128
+-- whether a builder with this many patterns can't take this one: it is empty, or there are 128
 abbrev pub is_too_much : ℕ → List ℕ → Bool
 is_too_much count pattern = (length pattern == 0) || (count == 128)
 
@@ -40,7 +40,7 @@ abbrev pub added_all : Building → List (List ℕ) → Building
 added_all b [] = b
 added_all b (pattern ∷ patterns) = added_all (added b pattern) patterns
 
--- a builder that had one state has those of some patterns that come before some one of them
+-- a builder that had one state now has some patterns more: those before one of them
 abbrev pub HasBeginning : Building → List (List ℕ) → Building → Type 0
 HasBeginning old patterns new = (count : ℕ) × (count < length patterns) × (new ≡ added_all old (take count patterns))
 
@@ -59,7 +59,7 @@ pub record AreServed (patterns : List (List ℕ)) : Type 0 where
   pub few : length patterns ≤ 128
   pub full : (number : ℕ) → number < length patterns → 0 < length (pattern_at patterns number)
 
--- each pattern is so long at least
+-- each pattern has at least this many bytes
 abbrev pub AreAsLong : ℕ → List (List ℕ) → Type 0
 AreAsLong len patterns = (number : ℕ) → number < length patterns → len ≤ length (pattern_at patterns number)
 
@@ -68,7 +68,7 @@ pub record Packed : Type 0 where
   pub kind : MatchKind
   pub patterns : List (List ℕ)
 
--- what is built of patterns of a kind: nothing of none
+-- what is built for patterns of a kind: nothing for none
 abbrev pub built : MatchKind → List (List ℕ) → Option Packed
 built kind [] = None
 built kind (pattern ∷ patterns) = Some (record { kind = kind; patterns = pattern ∷ patterns })
@@ -85,11 +85,11 @@ in_span patterns haystack span = part_search patterns haystack span.start span.e
 abbrev pub in_whole : List (List ℕ) → List ℕ → Search
 in_whole patterns haystack = part_search patterns haystack 0 (length haystack)
 
--- the bytes of patterns that are lent
+-- the bytes of borrowed patterns
 abbrev pub bytes_of : List (Bor (List ℕ)) → List (List ℕ)
 bytes_of patterns = map (λ p. p.now) patterns
 
--- what is built of patterns that are served, for leftmost-first matches
+-- what is built for patterns that are served, for leftmost-first matches
 abbrev pub leftmost_first : List (List ℕ) → Packed
 leftmost_first patterns = record { kind = LeftmostFirst; patterns = patterns }
 

@@ -33,11 +33,11 @@ needles_of (Packed searcher) = []
 needles_of (StartBytes needles) = needle_list needles
 needles_of (RareBytes rare) = needle_list rare.needles
 
--- what it answers is a candidate of the search of the span
+-- its result is a candidate of the search of the span
 abbrev pub IsCandidateIn : Filter → List ℕ → Span → Candidate → Type 0
 IsCandidateIn f haystack span c = IsCandidate f.dictionary.kind (search_of f.dictionary No haystack span) c
 
--- it answers none where no byte of the span is a pattern's
+-- it returns none where no byte of the span is a pattern's
 abbrev pub IsNoneWithoutByte : Filter → List ℕ → Span → Candidate → Type 0
 IsNoneWithoutByte f haystack span c = HasNoByte (search_of f.dictionary No haystack span) → c ≡ candidates.None
 

@@ -48,13 +48,13 @@ entry_at entries i = get_or entries i (record { hash = 0; pattern = 0; next = 0 
 abbrev pub bucket_of : ℕ → ℕ
 bucket_of hash = hash % 1024
 
--- the last entry of a bucket among the first so many entries, counted from 1; 0 where there is none
+-- the last entry of a bucket among the first n entries, counted from 1; 0 where there is none
 pub record IsLink (entries : List Entry) (bucket limit link : ℕ) : Type 0 where
   pub within : link ≤ limit
   pub here : 0 < link → bucket_of (entry_at entries (link - 1)).hash ≡ bucket
   pub after : (i : ℕ) → link ≤ i → i < limit → bucket_of (entry_at entries i).hash ≢ bucket
 
--- the first so many entries, each with its pattern's number and hash and the link to the one before it in its bucket
+-- the first n entries, each with its pattern's number and hash and the link to the one before it in its bucket
 pub record AreEntries (patterns : List (List ℕ)) (hash_len : ℕ) (order : List ℕ) (heads : List ℕ) (entries : List Entry) : Type 0 where
   pub pattern : (i : ℕ) → i < length entries → (entry_at entries i).pattern ≡ get_or order i 0
   pub hash : (i : ℕ) → i < length entries → (entry_at entries i).hash ≡ hash_of (take hash_len (pattern_at patterns (get_or order i 0)))
@@ -75,7 +75,7 @@ pub record IsTable (patterns : List (List ℕ)) (table : RabinKarp) : Type 0 whe
 abbrev pub NoneBefore : Search → ℕ → Type 0
 NoneBefore s at = (o : Occurrence) → Occurs s o → at ≤ o.start
 
--- the best match of a search; where there is no answer, nothing starts before a place
+-- the best match of a search; where there is no result, nothing starts before a place
 abbrev pub IsFoundBefore : search.MatchKind → Search → ℕ → Option Occurrence → Type 0
 IsFoundBefore kind s to None = NoneBefore s to
 IsFoundBefore kind s to (Some best) = IsBest kind s (Some best)
@@ -84,7 +84,7 @@ IsFoundBefore kind s to (Some best) = IsBest kind s (Some best)
 abbrev pub IsMatchAt : MatchKind → List (List ℕ) → List ℕ → Span → ℕ → Option Occurrence → Type 0
 IsMatchAt kind patterns haystack span at found = IsLeast (search_kind kind) (StartsAt (in_span patterns haystack span) at) found
 
--- the match of a kind in a span; where there is no answer, nothing starts before a place
+-- the match of a kind in a span; where there is no result, nothing starts before a place
 abbrev pub IsMatchBefore : MatchKind → List (List ℕ) → List ℕ → Span → ℕ → Option Occurrence → Type 0
 IsMatchBefore kind patterns haystack span to found = IsFoundBefore (search_kind kind) (in_span patterns haystack span) to found
 

@@ -1,4 +1,4 @@
--- How rare bytes are chosen, and what is known of them while patterns come.
+-- How rare bytes are chosen, and what is known about them while patterns come.
 use Rattle.std.specs.Prelude.{◌≡◌, ℕ, ◌<◌, ◌≤◌, ◌==◌, ◌||◌, ◌&&◌, ◌⊎◌, nat_le, max, List, [], ◌∷◌, ◌++◌, length, slice_index, true, IsTrue, EachIndex, if◌then◌else◌}
 use Rattle.std.specs.List.{Contains}
 use Rattle.ac_input.specs.Same.{other, same}
@@ -9,7 +9,7 @@ use Rattle.ac_literal.specs.declared.prefilter.rank.TheConstants.{COMMON, CAPITA
 use Rattle.ac_literal.specs.declared.prefilter.rare_bytes.RareBytesBuilder.{RareBytesBuilder}
 use Rattle.ac_literal.specs.declared.prefilter.rare_bytes.TheConstants.{LEN_LIMIT}
 
--- How common a byte is taken to be: the most for lower-case letters, space, line feed and byte 0; less for digits and
+-- How common a byte is estimated to be: the most for lower-case letters, space, line feed and byte 0; less for digits and
 -- upper-case letters; least from 0x80 up.
 abbrev pub rank_of : ℕ → ℕ
 rank_of byte =
@@ -38,7 +38,8 @@ pub record HoldsFew (pairing : List ℕ) (these : FewBytes) (p : List ℕ) : Typ
 abbrev pub IsClosed : List ℕ → FewBytes → Type 0
 IsClosed pairing these = (byte : ℕ) → IsTrue (few_has these byte) → IsTrue (few_has these (other pairing byte))
 
--- the bytes that were there before are there still, one of the pattern is, and only what is the same as a byte of the pattern came
+-- the bytes that were there before are still there, one of the pattern is, and only what is the same as a byte of the pattern was
+-- added
 pub record IsChosen (pairing : List ℕ) (before : FewBytes) (p : List ℕ) (after : FewBytes) : Type 0 where
   pub kept : (byte : ℕ) → IsTrue (few_has before byte) → IsTrue (few_has after byte)
   pub held : HoldsFew pairing after p
@@ -51,7 +52,7 @@ pub record AreReached (pairing : List ℕ) (before p after : List ℕ) : Type 0 
   pub reach : length p < LEN_LIMIT → AreDistances pairing after p
   pub near : ((byte : ℕ) → distance_of before byte ≤ max_distance) → (byte : ℕ) → distance_of after byte ≤ max_distance
 
--- what is known of the rare bytes of some patterns
+-- what is known about the rare bytes of some patterns
 pub record IsRareSoFar (pairing : List ℕ) (patterns : List (List ℕ)) (rare : RareBytesBuilder) : Type 0 where
   pub short : rare.is_short ≡ true → (p : List ℕ) → Contains patterns p → length p < LEN_LIMIT
   pub held : (p : List ℕ) → Contains patterns p → HoldsFew pairing rare.few p

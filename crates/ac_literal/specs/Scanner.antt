@@ -1,4 +1,4 @@
--- What a packed search goes by: the table of its hashes, its marks, and the only pattern where there is one.
+-- The parts of a packed search: the table of its hashes, its marks, and the only pattern where there is just one.
 use Rattle.std.specs.Prelude.{◌≡◌, ℕ, List, [], ◌∷◌, Option, Some, None}
 use Rattle.ac_literal.specs.declared.packed.api.MatchKind.{MatchKind}
 use Rattle.ac_literal.specs.declared.packed.scanner.Scanner.{Scanner}
@@ -14,7 +14,7 @@ abbrev pub IsOnlyPattern : List (List ℕ) → Option (List ℕ) → Type 0
 IsOnlyPattern patterns None = Unit {0}
 IsOnlyPattern patterns (Some needle) = patterns ≡ needle ∷ []
 
--- all are those of some patterns, which the marks tell by the bytes that are hashed
+-- all are those of some patterns, which the marks distinguish by the bytes that are hashed
 pub record IsScanner (patterns : List (List ℕ)) (scanner : Scanner) : Type 0 where
   pub table : IsTable patterns scanner.table
   pub teddy : IsTeddy patterns scanner.table.hash_len scanner.teddy
@@ -25,7 +25,7 @@ pub record IsScannerOf (asked : MatchKind) (patterns : List (List ℕ)) (made : 
   pub scanner : IsScanner patterns made
   pub kind : made.table.kind ≡ asked
 
--- the best match of a scanner's kind in a span, and where there is no answer, that nothing starts before a place
+-- the best match of a scanner's kind in a span; where there is no result, nothing starts before a place
 abbrev pub IsScannerAnswer : Scanner → List (List ℕ) → List ℕ → Span → Option Occurrence → Type 0
 IsScannerAnswer scanner patterns haystack span found = IsBest (search_kind scanner.table.kind) (in_span patterns haystack span) found
 

@@ -45,15 +45,15 @@ pub record HoldsNeedle (pairing : List ℕ) (needles : Needles) (p : List ℕ) :
   pub within : at < length p
   pub needle : (byte : ℕ) → IsTrue (same pairing (slice_index p at) byte) → IsTrue (is_needle needles byte)
 
--- how far a byte may stand behind the beginning of a pattern
+-- how far a byte may stand after the beginning of a pattern
 abbrev pub distance_of : List ℕ → ℕ → ℕ
 distance_of distances byte = slice_index distances byte
 
--- the last byte of the longest pattern that rare bytes serve stands so far behind its beginning
+-- how far the last byte of the longest pattern that rare bytes serve stands after its beginning
 abbrev pub max_distance : ℕ
 max_distance = 254
 
--- each byte of the pattern, and what is paired with it, stands no further behind the beginning than its distance says
+-- each byte of the pattern, and what is paired with it, stands no further after the beginning than its distance says
 abbrev pub AreDistances : List ℕ → List ℕ → List ℕ → Type 0
 AreDistances pairing distances p = (at byte : ℕ) → at < length p → IsTrue (same pairing (slice_index p at) byte) → at ≤ distance_of distances byte
 
@@ -89,20 +89,20 @@ pub record IsMemmem (m : Dictionary) (needle : List ℕ) : Type 0 where
   pub unpaired : IsUnpaired m.pairing
   pub patterns : m.patterns ≡ needle ∷ []
 
--- what a prefilter answers: a candidate, and none where no byte of the span is a pattern's
+-- the result of a prefilter: a candidate, and none where no byte of the span is a pattern's
 pub record IsAnswer (m : Dictionary) (haystack : List ℕ) (span : Span) (c : Candidate) : Type 0 where
   pub candidate : IsCandidate m.kind (search_of m No haystack span) c
   pub none : HasNoByte (search_of m No haystack span) → c ≡ candidates.None
 
--- what a scan for needles answers, and that it counts the places that it covered
+-- the result of a scan for needles, and that it counts the places that it covered
 pub record IsNeedleScan (m : Dictionary) (needles : Needles) (haystack : List ℕ) (span : Span) (before after : Steps) (c : Candidate) : Type 0 where
   pub answer : IsAnswer m haystack span c
   pub counted : IsScanCounted (needle_list needles) (search_of m No haystack span) c before after
 
--- that of a scan for start bytes
+-- the same for a scan for start bytes
 abbrev pub ScansStarts : Needles → List ℕ → Span → Steps → Steps → Candidate → Type 0
 ScansStarts needles haystack span before after c = (m : Dictionary) → AreStarts m needles → IsNeedleScan m needles haystack span before after c
 
--- that of a scan for rare bytes
+-- the same for a scan for rare bytes
 abbrev pub ScansRare : RareBytes → List ℕ → Span → Steps → Steps → Candidate → Type 0
 ScansRare rare haystack span before after c = (m : Dictionary) → AreRareOf m rare → IsNeedleScan m rare.needles haystack span before after c

@@ -19,7 +19,7 @@ buckets_of probe byte = bit_and (slice_index probe.low (byte % 16)) (slice_index
 abbrev pub HasBucket : Probe → ℕ → ℕ → Type 0
 HasBucket probe byte bucket = bit_at (buckets_of probe byte) bucket ≡ 1
 
--- what one probe has another has, too, and at the same offset
+-- what one probe has another has, too, at the same offset
 pub record KeepsBuckets (old new : Probe) : Type 0 where
   pub offset : new.offset ≡ old.offset
   pub has : (byte bucket : ℕ) → HasBucket old byte bucket → HasBucket new byte bucket
@@ -48,7 +48,7 @@ four_at t haystack place = bit_and (bit_and (two_at t haystack place) (left_at t
 abbrev pub four_low_at : Teddy → List ℕ → ℕ → ℕ
 four_low_at t haystack place = bit_and (three_at t haystack place) (low_at t.fourth haystack place)
 
--- the buckets that the probes leave that are asked
+-- the buckets that the probes in use leave
 abbrev pub marked_at : Teddy → List ℕ → ℕ → ℕ
 marked_at t haystack place =
     if t.is_whole then (if t.is_few then two_at t haystack place else four_at t haystack place)
@@ -68,18 +68,18 @@ pub record HasPattern (t : Teddy) (pattern : List ℕ) (bucket : ℕ) : Type 0 w
   pub third : HasBucket t.third (slice_index pattern t.third.offset) bucket
   pub fourth : HasBucket t.fourth (slice_index pattern t.fourth.offset) bucket
 
--- what each probe had it keeps
+-- each probe keeps what it had
 pub record KeepsPatterns (old new : Teddy) : Type 0 where
   pub first : KeepsBuckets old.first new.first
   pub second : KeepsBuckets old.second new.second
   pub third : KeepsBuckets old.third new.third
   pub fourth : KeepsBuckets old.fourth new.fourth
 
--- the first so many of some patterns are in buckets
+-- the first n of some patterns are in buckets
 abbrev pub HasPatterns : List (List ℕ) → ℕ → Teddy → Type 0
 HasPatterns patterns count t = (number : ℕ) → number < count → (bucket : ℕ) × HasPattern t (pattern_at patterns number) bucket
 
--- all patterns are in buckets, and told by their first bytes
+-- all patterns are in buckets, and distinguished by their first bytes
 pub record IsTeddy (patterns : List (List ℕ)) (len : ℕ) (t : Teddy) : Type 0 where
   pub near : LooksBefore len t
   pub all : HasPatterns patterns (length patterns) t

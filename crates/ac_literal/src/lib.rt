@@ -1,7 +1,7 @@
 //! Searches for literals: for a few patterns at once, by one fast pass over the bytes.
 //!
 //! [`openings`] marks the places at which a pattern may begin, for an automaton that waits for one. [`packed`] is a search of its
-//! own, for up to 128 patterns, that needs no automaton. [`prefilter`] finds the places at which an automaton need look at all.
+//! own, for up to 128 patterns, that needs no automaton. [`prefilter`] finds the only places that an automaton has to look at.
 #![tactic(auto)]
 
 pub mod openings;

@@ -5,48 +5,45 @@
 //! many as the shortest pattern has. Each byte and its partner count as one.
 //!
 //! To pass a place costs a fraction of what an automaton takes for a byte; but each mark leads the automaton to some bytes in vain.
-//! The more patterns there are, the more marks there are. So there are openings for a few patterns only, all of two bytes at least.
-//! They take the memory of eight tables of 16 bytes, and no more for more patterns.
-ghost use Rattle.std.specs.Prelude.{◌≡◌, ℕ, ◌<◌, ◌≤◌, length, slice_index, IfSome};
-ghost use Rattle.ac_input.specs.Same.{other};
-ghost use Rattle.ac_literal.specs.Packed.{bytes_of, AreAsLong};
-ghost use Rattle.ac_literal.specs.Teddy.{LooksBefore};
+//! The more patterns there are, the more marks there are. Up to [`FEW`] patterns are in eight buckets; more are in 24, which costs
+//! three times as much and leaves fewer marks. For more than [`LIMIT`] patterns there are no openings, nor for patterns of one byte.
+//! They take some 500 bytes of memory, however many patterns there are.
+mod buckets;
 
-use crate::packed::teddy::{LANES, Teddy, lowest};
+ghost use Rattle.std.specs.Prelude.{◌≡◌, ℕ, ◌+◌, ◌<◌, ◌≤◌, length, slice_index, IfSome};
+ghost use Rattle.ac_literal.specs.Packed.{bytes_of, AreAsLong};
+ghost use Rattle.ac_literal.specs.Teddy.{LooksBefore, marked_at};
+ghost use Rattle.ac_literal.specs.Marks.{AreNear, HaveOpened};
+
+use crate::openings::buckets::{Buckets, EACH, add};
+use crate::packed::teddy::{Teddy, lowest};
 use ac_input::pairing::Pairing;
 
 /// For how many patterns there are openings, at most.
-const LIMIT: usize = 32;
+const LIMIT: usize = 128;
+
+/// For how many eight buckets do.
+const FEW: usize = 32;
 
 /// How many bytes an opening has, at least and at most.
 const LEAST: usize = 2;
 
 pub const MOST: usize = 4;
 
-/// In how many buckets the patterns are.
-const BUCKETS: usize = 8;
+/// What marks the places.
+#[derive(Clone, Copy, Drop)]
+enum Marks {
+    Few(Teddy),
+    Many(Buckets),
+}
 
 /// Finds the places at which some pattern may begin.
 #[derive(Clone, Copy, Drop)]
 pub struct Openings {
-    teddy: Teddy,
+    marks: Marks,
     len: usize,
     ghost some: { 0 < len },
-    ghost near: { LooksBefore len teddy },
-}
-
-/// The partners of the first bytes of a pattern.
-fn partners(pattern: &[u8], pairing: &Pairing, len: usize) -> [u8; MOST]
-    requires short { len ≤ length pattern.now }
-    requires few { len ≤ MOST }
-    ensures { (k : ℕ) → k < len
-        → slice_index result k ≡ other pairing.now (slice_index pattern.now k) }
-{
-    let mut bytes = [0; MOST];
-    for at in 0..len {
-        bytes[at] = pairing.other(pattern[at]);
-    }
-    bytes
+    ghost near: { AreNear len marks },
 }
 
 /// How many bytes all patterns have, up to the most that an opening has.
@@ -59,6 +56,37 @@ fn len_of(patterns: &[&[u8]]) -> usize
         len = len.min(pattern.len());
     }
     len
+}
+
+/// Eight buckets of some patterns, told apart by their first `len` bytes.
+fn eight(patterns: &[&[u8]], pairing: &Pairing, len: usize) -> Teddy
+    requires some { 0 < len }
+    requires few { len ≤ MOST }
+    requires short { AreAsLong len (bytes_of patterns.now) }
+    ensures near { LooksBefore len result }
+    ensures all { HaveOpened pairing.now len (bytes_of patterns.now) (length patterns.now) result }
+{
+    let mut teddy = Teddy::empty(len, patterns.len());
+    for number in 0..patterns.len() {
+        let bucket = (number % EACH) as u8;
+        add(&mut teddy, patterns[number], pairing, len, bucket);
+    }
+    teddy
+}
+
+/// How many places may be passed, of those before the place `to`: up to the first mark, or up to the last ones.
+#[inline]
+fn pass_few(teddy: &Teddy, bytes: &[u8], to: usize, len: usize) -> usize
+    requires near { LooksBefore len teddy.now }
+    requires room { to + len ≤ length bytes.now + 1 }
+    ensures within { result ≤ to }
+    ensures passed { (place : ℕ) → place < result → marked_at teddy.now bytes.now place ≡ 0 }
+{
+    let (block, marks) = teddy.next_marks(bytes, 0, to, len);
+    if marks == 0 {
+        return block;
+    }
+    block + lowest(marks)
 }
 
 impl Openings {
@@ -75,14 +103,12 @@ impl Openings {
         if len < LEAST {
             return None;
         }
-        let mut teddy = Teddy::empty(len, patterns.len());
-        for number in 0..patterns.len() {
-            let bucket = (number % BUCKETS) as u8;
-            let pattern = patterns[number];
-            teddy.add(pattern, bucket);
-            teddy.add(&partners(pattern, pairing, len), bucket);
-        }
-        Some(Openings { teddy, len })
+        let marks = if patterns.len() <= FEW {
+            Marks::Few(eight(patterns, pairing, len))
+        } else {
+            Marks::Many(Buckets::new(patterns, pairing, len))
+        };
+        Some(Openings { marks, len })
     }
 
     /// How many bytes an opening has.
@@ -103,10 +129,9 @@ impl Openings {
             return 0;
         }
         let to = bytes.len() - self.len + 1;
-        let (block, marks) = self.teddy.next_marks(bytes, 0, to, self.len);
-        if marks == 0 {
-            return block;
+        match &self.marks {
+            Marks::Few(teddy) => pass_few(teddy, bytes, to, self.len),
+            Marks::Many(buckets) => buckets.pass(bytes, to, self.len),
         }
-        block + lowest(marks)
     }
 }

@@ -1,35 +1,35 @@
 //! Where a search may begin.
 //!
 //! An automaton looks at each byte of a haystack, one after another. Most of them stand where nothing can match, and a
-//! [`Prefilter`] leaps over those: asked about a span, it answers a [`Candidate`], and no match that is whole in the span
-//! begins before it. The search goes on from there, and asks again when it has come back to its start state.
+//! [`Prefilter`] skips those: for a span it returns a [`Candidate`], and no match that is whole in the span begins before it. The
+//! search goes on from there, and uses the prefilter again when it has come back to its start state.
 //!
-//! There are four ways of leaping:
+//! There are four ways to skip:
 //!
-//! - *One pattern*, where no byte is paired: a search for it. What it finds is the match itself.
-//! - *Packed search*, for up to 128 patterns of a leftmost kind, where no byte is paired. It finds the match itself, too.
-//! - *Start bytes*: a scan for the bytes that patterns begin with, where they are one to three, all of them ASCII.
+//! - *One pattern*, where no byte is paired: a search for it. Its result is the match itself.
+//! - *Packed search*, for up to 128 patterns of a leftmost kind, where no byte is paired. Its result is the match itself, too.
+//! - *Start bytes*: a scan for the bytes that patterns begin with, if there are one to three, all of them ASCII.
 //! - *Rare bytes*: a scan for one to three bytes of which each pattern holds one. Where one is found, a match may have begun
 //!   some bytes before; how many at most is kept for each byte, so that the scan can be stepped back by that.
 //!
-//! Which of those that serve its patterns a [`PrefilterBuilder`] takes is a matter of speed alone:
+//! A [`PrefilterBuilder`] chooses among those that serve its patterns by speed alone:
 //!
 //! 1. The search for one pattern.
-//! 2. Start bytes or rare bytes, whichever are taken to be the rarer, if the scan for them is taken to stop rarely: beside packed
+//! 2. Start bytes or rare bytes, whichever are estimated to be rarer, if the scan for them is estimated to stop rarely: with packed
 //!    search at most once in a thousand bytes (`STOPS_BESIDE_PACKED`), and where packed search doesn't serve, under standard,
 //!    with a byte paired or for too many patterns, at most 50 times (`STOPS_ALONE`).
 //! 3. Packed search.
-//! 4. That scan, however often it stops, where one to three ASCII bytes begin all patterns. Else there is no prefilter.
+//! 4. That scan, however often it stops, if one to three ASCII bytes begin all patterns. Otherwise there is no prefilter.
 //!
-//! There are two limits since a scan gains more on an automaton alone than on packed search. A scan costs hardly more than to
-//! read the text, until it stops; then the automaton is asked, some bytes before a rare one, and the scan starts anew. Packed
-//! search answers exact matches, costs nearly the same whatever the text is, and passes a thousand bytes in the time of about one
-//! stop; an automaton takes as long as a hundred for them. How often a scan stops is guessed, from its bytes and their partners
-//! (`rank`), so the second limit is half of that. docs/SPEED.md has the measurements.
+//! There are two limits since a scan gains more over an automaton alone than over packed search. A scan costs hardly more than
+//! reading the text, until it stops; then the automaton runs, some bytes before a rare one, and the scan starts anew. Packed
+//! search returns exact matches, costs nearly the same whatever the text is, and passes a thousand bytes in the time of about one
+//! stop; an automaton takes as long as a hundred stops for them. How often a scan stops is estimated, from its bytes and their
+//! partners (`rank`), so the second limit is half of that. docs/SPEED.md has the measurements.
 //!
 //! A scan looks at many bytes at a time, and at each once; stepping back makes the automaton look at up to 254 bytes that were
-//! scanned before. A search for patterns costs what packed search costs. A prefilter takes the memory of a table of 256 bytes
-//! and of the patterns that it searches for, and no search takes any.
+//! scanned before. A search for patterns costs what packed search costs. A prefilter takes the memory of a table of 256 bytes and
+//! of the patterns that it searches for; no search takes any.
 mod builder;
 mod needles;
 mod rank;
@@ -102,7 +102,7 @@ impl Prefilter {
 
     /// The same, and counts the places that a scan for bytes covered.
     ///
-    /// A search for one pattern and packed search are no scans for bytes: they count nothing.
+    /// A search for one pattern and packed search are no scans for bytes, so they count nothing.
     /// A caller: `uses::callers::packed::ask_counted`.
     pub fn find_in_counted(&self, haystack: &[u8], span: Span, steps: &mut Steps) -> Candidate
         requires ordered { span.start ≤ span.end }
@@ -119,12 +119,12 @@ impl Prefilter {
         }
     }
 
-    /// How many bytes of memory it takes, beside itself.
+    /// How many bytes of memory it takes, besides itself.
     pub fn memory_usage(&self) -> usize {
         self.strategy.memory_usage()
     }
 
-    /// The same prefilter once more, in memory from `alloc`.
+    /// A copy of the prefilter, in memory from `alloc`.
     /// A caller: `uses::callers::packed::copy_prefilter`.
     pub fn clone(&self, alloc: Global) -> Result<Prefilter, AllocError>
         ensures { IfOk result (λ copy. copy ≡ self.now) }

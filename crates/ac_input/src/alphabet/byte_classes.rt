@@ -1,9 +1,8 @@
-//! Classes of bytes that an automaton need not tell apart.
+//! Classes of bytes that an automaton need not distinguish.
 //!
-//! Where no pattern has either of two neighbouring bytes, every state goes the same way at both. A table from bytes to the
-//! numbers of their classes costs a load a byte, and makes each state's row of transitions as long as there are classes, in
-//! place of 256. To find the classes, mark the range of each byte that patterns have in a [`ByteClassSet`], and ask it for the
-//! [`ByteClasses`].
+//! Where no pattern has either of two neighbouring bytes, every state goes the same way at both. A table maps each byte to the
+//! number of its class. It costs one load a byte, and a state's row of transitions is as long as there are classes, instead of
+//! 256. To find the classes, mark the range of each byte of the patterns in a [`ByteClassSet`]; it returns the [`ByteClasses`].
 ghost use Rattle.std.specs.Prelude.{◌≡◌, ℕ, ◌+◌, ◌<◌, ◌≤◌, ◌↔◌, ◌||◌, false, IsTrue};
 ghost use Rattle.ac_input.specs.Alphabet.{has, is_edge, HoldsJustOne, AreClassesOf, class, alphabet_len, IsClasses, IsLeastExponent, IsLeastPowerOfTwo, elements, runs};
 ghost use Rattle.std.specs.List.{range_with_len};
@@ -13,7 +12,7 @@ use std::marker::Model;
 
 /// Which neighbouring bytes are in different classes. It takes 256 bytes.
 ///
-/// It is made of ranges of bytes: neighbours are in one class exactly if no range holds just one of them.
+/// It is built from ranges of bytes: two neighbours are in one class exactly if no range holds just one of them.
 #[derive(Clone, Drop)]
 pub struct ByteClassSet {
     boundaries: [bool; 256],
@@ -50,7 +49,7 @@ impl ByteClassSet {
         }
     }
 
-    /// Parts the bytes from `start` to `end`, both included, from all others.
+    /// Separates the bytes from `start` to `end`, both included, from all others.
     pub fn set_range(&mut self, start: u8, end: u8)
         requires { start ≤ end }
         ensures edges { (b : ℕ) → has self.new b ≡ (has self.old b || is_edge start end b) }
@@ -164,7 +163,7 @@ impl ByteClasses {
         }
     }
 
-    /// The bytes of a class, from the least to the greatest. Where there is no such class, none.
+    /// The bytes of a class, from the least to the greatest; none where there is no such class.
     pub fn elements(&self, class: u8) -> ByteClassElements<'_>
         ensures { result ≡ elements self.now class }
     {
@@ -175,8 +174,8 @@ impl ByteClasses {
         }
     }
 
-    /// The ranges of a class's bytes, each its first and its last byte. A class is one range; where there is no such class,
-    /// none comes.
+    /// The ranges of a class's bytes, each as its first and last byte. A class is one range; there is none where there is no such
+    /// class.
     pub fn element_ranges(&self, class: u8) -> ByteClassElementRanges<'_>
         ensures { result ≡ runs (elements self.now class) }
     {
@@ -187,7 +186,7 @@ impl ByteClasses {
     }
 }
 
-/// The classes that are left to come. From [`ByteClasses::iter`].
+/// The remaining classes. From [`ByteClasses::iter`].
 #[derive(Clone, Drop)]
 pub struct ByteClassIter {
     at: usize,
@@ -222,9 +221,9 @@ impl Iterator for ByteClassIter {
     }
 }
 
-/// The bytes of a class that are left to come. From [`ByteClasses::elements`].
+/// The remaining bytes of a class. From [`ByteClasses::elements`].
 ///
-/// To go over all of them looks at each of the 256 bytes once.
+/// Iterating over all of them looks at each of the 256 bytes once.
 #[derive(Clone, Drop)]
 pub struct ByteClassElements<'a> {
     classes: &'a ByteClasses,
@@ -262,7 +261,7 @@ impl<'a> Iterator for ByteClassElements<'a> {
     }
 }
 
-/// The ranges of a class's bytes that are left to come. From [`ByteClasses::element_ranges`].
+/// The remaining ranges of a class's bytes. From [`ByteClasses::element_ranges`].
 #[derive(Clone, Drop)]
 pub struct ByteClassElementRanges<'a> {
     elements: ByteClassElements<'a>,

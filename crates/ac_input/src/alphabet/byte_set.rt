@@ -1,6 +1,6 @@
 //! A set of bytes, as a table of 256 flags.
 //!
-//! To ask whether a byte is in it is one load, with no shift or mask, which is what the loops that look for a rare byte want.
+//! A membership test is one load, with no shift or mask, as the loops that look for a rare byte need it.
 ghost use Rattle.std.specs.Prelude.{◌≡◌, ℕ, ◌≤◌, ◌==◌, ◌||◌, false};
 ghost use Rattle.ac_input.specs.Alphabet.{has, set_len};
 
@@ -32,7 +32,7 @@ impl ByteSet {
         }
     }
 
-    /// Puts a byte into the set, where it may be already.
+    /// Puts a byte into the set; it may be there already.
     pub fn add(&mut self, byte: u8)
         ensures { (b : ℕ) → has self.new b ≡ ((b == byte) || has self.old b) }
     {

@@ -281,7 +281,7 @@ impl<K> Model for NumberError<K> {
 }
 
 impl<K> NumberError<K> {
-    /// The number that was refused.
+    /// The number that doesn't fit.
     pub fn attempted(&self) -> u64
         ensures { result ≡ self.now }
     {

@@ -1,4 +1,4 @@
-//! What a search is asked: a haystack, and how to search it.
+//! The input of a search: a haystack, and how to search it.
 ghost use Rattle.std.specs.Prelude.{◌≡◌, ◌+◌, ◌^◌, ◌<◌, ◌≤◌, ◌↔◌, length, IsTrue};
 ghost use Rattle.ac_input.specs.Input.{IsSpanOf, whole_of};
 
@@ -35,7 +35,7 @@ impl<'h> Model for Input<'h> {
 }
 
 impl<'h> Input<'h> {
-    /// The whole haystack. A match may start anywhere, and the match of the kind is asked.
+    /// The whole haystack. A match may start anywhere, and the kind decides which one is returned.
     pub fn new(haystack: &'h [u8]) -> Input<'h>
         ensures { result ≡ whole_of haystack.now }
     {
@@ -89,7 +89,7 @@ impl<'h> Input<'h> {
         input
     }
 
-    /// Searches this span from here on.
+    /// Sets the span to search.
     pub fn set_span(&mut self, span: Span)
         requires { IsSpanOf self.old.haystack span }
         ensures { self.new ≡ record self.old { span = span } }
@@ -97,7 +97,7 @@ impl<'h> Input<'h> {
         self.span = span;
     }
 
-    /// Searches this range from here on.
+    /// Sets the range to search.
     pub fn set_range(&mut self, range: Range<usize>)
         requires { IsSpanOf self.old.haystack (record { start = range.start; end = range.end }) }
         ensures { self.new
@@ -106,7 +106,7 @@ impl<'h> Input<'h> {
         self.span = Span::from(range);
     }
 
-    /// Searches from this place on, which is at most one past the span's end.
+    /// Sets where the search starts, at most one past the span's end.
     pub fn set_start(&mut self, start: usize)
         requires { start ≤ self.old.span.end + 1 }
         ensures { self.new ≡ record self.old { span = record self.old.span { start = start } } }
@@ -114,7 +114,7 @@ impl<'h> Input<'h> {
         self.span.start = start;
     }
 
-    /// Searches up to this place, which lies within the haystack and at most one before the span's start.
+    /// Sets where the search ends. It lies within the haystack, and at most one before the span's start.
     pub fn set_end(&mut self, end: usize)
         requires { IsSpanOf self.old.haystack (record self.old.span { end = end }) }
         ensures { self.new ≡ record self.old { span = record self.old.span { end = end } } }
@@ -122,14 +122,14 @@ impl<'h> Input<'h> {
         self.span.end = end;
     }
 
-    /// Whether a match has to start where the span starts.
+    /// Sets whether a match has to start where the span starts.
     pub fn set_anchored(&mut self, anchored: Anchored)
         ensures { self.new ≡ record self.old { anchored = anchored } }
     {
         self.anchored = anchored;
     }
 
-    /// Whether the search may end at the first end that it finds, as a standard one does.
+    /// Sets whether the search may end at the first end that it finds, as a standard one does.
     pub fn set_earliest(&mut self, earliest: bool)
         ensures { self.new ≡ record self.old { earliest = earliest } }
     {
@@ -188,7 +188,7 @@ impl<'h> Input<'h> {
         self.earliest
     }
 
-    /// Whether the search is over, so that nothing is found, not even an empty pattern.
+    /// Whether the search is over: then nothing is found, not even an empty pattern.
     pub fn is_done(&self) -> bool
         ensures { IsTrue result ↔ (self.now.span.end < self.now.span.start) }
     {

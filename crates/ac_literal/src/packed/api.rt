@@ -13,7 +13,7 @@ use std::marker::Model;
 /// How many patterns a searcher has at most.
 const PATTERN_LIMIT: usize = 128;
 
-/// Which of several overlapping occurrences is the match. Packed search knows the leftmost kinds alone.
+/// Which of several overlapping occurrences is the match. Packed search has only the leftmost kinds.
 #[derive(Clone, Copy, Debug, Default, PartialEq, Eq)]
 pub enum MatchKind {
     /// The occurrence that starts first; of those, the one whose pattern was added first.
@@ -23,7 +23,7 @@ pub enum MatchKind {
     LeftmostLongest,
 }
 
-/// What a searcher is to be like.
+/// The settings of a searcher.
 ///
 /// ```text
 /// let mut config = Config::new();
@@ -89,7 +89,7 @@ impl Config {
         self
     }
 
-    /// Asks for the rolling hash alone. Marks and hash are one search, and no answer depends on how it goes, so it changes nothing.
+    /// Forces the rolling hash alone. Marks and hash are one search, and no result depends on it, so this changes nothing.
     /// A caller: `uses::callers::packed::longest_config`.
     pub fn only_rabin_karp(&mut self, _yes: bool) -> &mut Config
         ensures same { result.ghost_name ≡ self.entry.ghost_name }
@@ -102,8 +102,8 @@ impl Config {
 /// Collects the patterns of a searcher.
 ///
 /// There may be 1 to 128 of them, none empty. An empty one, or one too many, drops all of them and makes the builder inert: it
-/// takes no pattern any more, and builds nothing. So does a builder with no pattern. It copies each pattern into memory of its
-/// own, which it takes where it was told to when it was made.
+/// takes no more patterns, and builds nothing. A builder without patterns builds nothing either. Each pattern is copied into
+/// memory from the allocator that the builder was made with.
 #[derive(Drop)]
 pub struct Builder {
     config: Config,
@@ -131,7 +131,7 @@ impl Builder {
         Config::new().builder(alloc)
     }
 
-    /// The same builder once more, with copies of the patterns.
+    /// A copy of the builder, with copies of the patterns.
     /// A caller: `uses::callers::packed::and`.
     pub fn clone(&self) -> Result<Builder, AllocError>
         ensures { IfOk result (λ copy. copy ≡ self.now) }
@@ -145,7 +145,7 @@ impl Builder {
         })
     }
 
-    /// Adds a pattern. Where memory ends, the builder is as it was.
+    /// Adds a pattern. If memory runs out, the builder is unchanged.
     /// A caller: `uses::callers::packed::of_one`.
     pub fn add(&mut self, pattern: &[u8]) -> Result<&mut Builder, AllocError>
         ensures same { IfOk result (λ builder. builder.ghost_name ≡ self.entry.ghost_name) }
@@ -155,7 +155,7 @@ impl Builder {
         Ok(self)
     }
 
-    /// Adds patterns in their order. Where memory ends, those before stay added.
+    /// Adds patterns in their order. If memory runs out, those before stay added.
     /// A caller: `uses::callers::packed::and_all`.
     pub fn extend(&mut self, patterns: &[&[u8]]) -> Result<&mut Builder, AllocError>
         ensures same { IfOk result (λ builder. builder.ghost_name ≡ self.entry.ghost_name) }
@@ -165,7 +165,7 @@ impl Builder {
         Ok(self)
     }
 
-    /// The same as [`Builder::add`], for a caller that goes on where memory ended.
+    /// The same as [`Builder::add`], for a caller that goes on when memory has run out.
     /// A caller: `uses::callers::packed::and`.
     pub fn try_add(&mut self, pattern: &[u8]) -> Result<(), AllocError>
         ensures ok { OnOk result (self.new ≡ added self.old pattern.now) }
@@ -182,7 +182,7 @@ impl Builder {
         self.patterns.add(pattern)
     }
 
-    /// The same as [`Builder::extend`], for a caller that goes on where memory ended.
+    /// The same as [`Builder::extend`], for a caller that goes on when memory has run out.
     /// A caller: `uses::callers::packed::longest_match`.
     pub fn try_extend(&mut self, patterns: &[&[u8]]) -> Result<(), AllocError>
         ensures ok { OnOk result (self.new ≡ added_all self.old (bytes_of patterns.now)) }
@@ -274,7 +274,7 @@ impl Searcher {
         Builder::new(alloc)
     }
 
-    /// The same searcher once more, in memory from `alloc`.
+    /// A copy of the searcher, in memory from `alloc`.
     /// A caller: `uses::callers::packed::copy_searcher`.
     pub fn clone(&self, alloc: Global) -> Result<Searcher, AllocError>
         ensures { IfOk result (λ copy. copy ≡ self.now) }
@@ -300,7 +300,7 @@ impl Searcher {
         )
     }
 
-    /// The first match of those that lie in the span, if there is one. Nothing outside the span is looked at.
+    /// The first match of those that lie in the span, if there is one. It looks at nothing outside the span.
     /// A caller: `uses::callers::packed::match_in`.
     pub fn find_in(&self, haystack: &[u8], span: Span) -> Option<Match>
         requires order { span.start ≤ span.end }
@@ -311,7 +311,7 @@ impl Searcher {
         self.find_at_pace(haystack, span, &mut Pace::new())
     }
 
-    /// The same, at the pace of the searches before.
+    /// The same, with the pace that earlier searches set.
     fn find_at_pace(&self, haystack: &[u8], span: Span, pace: &mut Pace) -> Option<Match>
         requires order { span.start ≤ span.end }
         requires within { span.end ≤ length haystack.now }
@@ -323,7 +323,7 @@ impl Searcher {
 
     /// All matches that don't overlap, from the first to the last.
     ///
-    /// To go over all of them looks at each byte once, but for the comparisons.
+    /// Iterating over all of them looks at each byte once, not counting comparisons.
     /// A caller: `uses::callers::packed::all_matches`.
     pub fn find_iter<'s, 'h>(&'s self, haystack: &'h [u8]) -> FindIter<'s, 'h>
         ensures { result ≡ matches_of self.now haystack.now }
@@ -345,7 +345,7 @@ impl Searcher {
         self.scanner.match_kind()
     }
 
-    /// The length from which a haystack is searched as it should be: any.
+    /// The length from which a haystack is searched fast: any.
     /// A caller: `uses::callers::packed::is_searched`.
     pub fn minimum_len(&self) -> usize
         ensures { result ≡ 0 }
@@ -353,7 +353,7 @@ impl Searcher {
         0
     }
 
-    /// How many bytes of memory it takes, beside itself.
+    /// How many bytes of memory it takes, besides itself.
     pub fn memory_usage(&self) -> usize {
         self.patterns
             .memory_usage()
@@ -361,7 +361,7 @@ impl Searcher {
     }
 }
 
-/// The matches that are left to come. From [`Searcher::find_iter`].
+/// The remaining matches. From [`Searcher::find_iter`].
 #[derive(Drop)]
 pub struct FindIter<'s, 'h> {
     searcher: &'s Searcher,

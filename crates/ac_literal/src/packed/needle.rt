@@ -1,8 +1,7 @@
 //! The search for one pattern alone.
 //!
-//! Where there is one pattern, there is nothing to choose at a place: its first occurrence is the match of either kind. So it is
-//! left to `memchr`'s search for a needle, which compares two rare bytes of it at many places at once. That keeps a copy of the
-//! pattern.
+//! With one pattern there is nothing to choose at a place: its first occurrence is the match of either kind. So `memchr`'s search
+//! for a needle does the work: it compares two rare bytes of the needle at many places at once. It keeps a copy of the pattern.
 ghost use Rattle.std.specs.Prelude.{◌≡◌, ◌<◌, ◌≤◌, [], ◌∷◌, length, IfOk};
 ghost use Rattle.ac_input.specs.Best.{IsBest};
 ghost use Rattle.ac_literal.specs.declared.packed.api.MatchKind.{MatchKind as Kind};
@@ -15,7 +14,7 @@ use ac_input::search::{Match, Span};
 use memchr::memmem;
 use std::alloc::{AllocError, Global};
 
-/// The only pattern as a needle, where there is one alone.
+/// The only pattern as a needle, where there is just one.
 pub fn only_needle(
     alloc: Global,
     patterns: &Patterns,

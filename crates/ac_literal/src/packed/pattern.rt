@@ -1,8 +1,8 @@
 //! The patterns of a packed search, and the order in which a kind prefers them.
 //!
-//! A pattern is known by its number, which counts from 0 in the order in which they were added. At one place of a haystack
-//! several patterns may lie; which of them is the match depends on the kind and on the patterns alone, so their order is
-//! settled once, when a searcher is built.
+//! A pattern's number counts from 0 in the order in which the patterns were added. At one place of a haystack several patterns may
+//! lie. Which of them is the match depends only on the kind and on the patterns, so their order is computed once, when a searcher
+//! is built.
 ghost use Rattle.std.specs.Prelude.{◌≡◌, ℕ, ◌<◌, ◌≤◌, [], ◌∷◌, ◌++◌, ◌==◌, length, IfOk, OnOk, OnErr};
 ghost use Rattle.ac_input.specs.Best.{preference};
 ghost use Rattle.ac_input.specs.Work.{shortest};
@@ -39,7 +39,7 @@ impl Patterns {
         }
     }
 
-    /// Where it takes memory from.
+    /// The allocator.
     pub fn allocator(&self) -> Global {
         *self.by_id.allocator()
     }
@@ -146,7 +146,7 @@ impl Patterns {
         }
     }
 
-    /// Where the number belongs among numbers in order: after those that the kind doesn't prefer to it.
+    /// Where the number belongs in the order: after those that the kind doesn't prefer to it.
     fn place_of(&self, kind: MatchKind, order: &[PatternID], number: PatternID) -> usize
         requires number { number < length self.now }
         requires order { IsOrder kind self.now (length order.now) order.now }
@@ -163,7 +163,7 @@ impl Patterns {
 
     /// The numbers of the patterns, from the one that the kind prefers least at one place to the one that it prefers most.
     ///
-    /// It takes at most the square of their number in comparisons, which few patterns don't make long.
+    /// It takes at most the square of their number in comparisons, which is little for few patterns.
     pub fn order(&self, alloc: Global, kind: MatchKind) -> Result<Vec<PatternID>, AllocError>
         requires { length self.now ≤ 128 }
         ensures { IfOk result (λ order. IsOrder kind self.now (length self.now) order.items) }

@@ -1,16 +1,16 @@
 //! The search of Rabin and Karp for many patterns, by one rolling hash.
 //!
-//! All patterns are at least `hash_len` bytes long, and the table has the hash of the first so many bytes of each: of 16 at the
-//! most, which tell patterns apart well enough. The hash of as many bytes of the haystack is rolled on by a byte at a time: the
-//! next one follows from the last one, the byte that leaves and the byte that comes. A byte counts twice as much as the one
-//! after it, modulo 2 to the 64, so that a step is a multiplication, two sums and a shift. Or it is made anew at one place,
-//! where a match is thought to begin.
+//! All patterns are at least `hash_len` bytes long, and the table has the hash of the first `hash_len` bytes of each. `hash_len`
+//! is at most 16, enough to distinguish patterns well. The hash of as many bytes of the haystack is rolled on by a byte at a time:
+//! the next one follows from the last one, the byte that leaves and the byte that comes. A byte counts twice as much as the one
+//! after it, modulo 2 to the 64, so that a step is a multiplication, two sums and a shift. Or it is computed anew at one place,
+//! where a match may begin.
 //!
-//! The entries stand in one vector, the least preferred pattern first. The low bits of a hash name one of 1024 buckets, whose
-//! head is its last entry, and each entry links to the one before it in its bucket. So at a place where a head is 0 the step is
-//! one load; with fifty patterns that is so at nineteen places of twenty, and the processor guesses it well. Elsewhere the hashes
-//! of the bucket are compared, and a pattern only where its hash is that of the place. The first pattern that lies there is the
-//! one that the kind prefers. A table takes a kilobyte, and 16 bytes a pattern.
+//! The entries are in one vector, the least preferred pattern first. The low bits of a hash select one of 1024 buckets, whose head
+//! is its last entry, and each entry links to the one before it in its bucket. So at a place where a head is 0 the step is one
+//! load. With fifty patterns that is so at nineteen places of twenty, and the processor predicts it well. Elsewhere the hashes of
+//! the bucket are compared, and a pattern only where its hash is that of the place. The first pattern that lies there is the one
+//! that the kind prefers. A table takes a kilobyte, and 16 bytes a pattern.
 ghost use Rattle.std.specs.Prelude.{◌≡◌, ◌+◌, ◌-◌, ◌*◌, ◌%◌, ◌^◌, ◌<◌, ◌≤◌, length, slice_range, IfOk, MatchOption};
 ghost use Rattle.ac_input.specs.Occurrence.{Occurs};
 ghost use Rattle.ac_literal.specs.Packed.{AreServed, in_span};
@@ -38,14 +38,14 @@ pub struct Entry {
 /// The hashes of some patterns.
 #[derive(Drop)]
 pub struct RabinKarp {
-    /// By which the entries are in order.
+    /// The kind by which the entries are ordered.
     kind: MatchKind,
     /// The last entry of each bucket, counted from 1; 0 where it has none.
     heads: [u8; 1024],
     entries: Vec<Entry>,
     /// How many bytes are hashed.
     hash_len: usize,
-    /// What the first of them counts in a hash.
+    /// The weight of the first of them in a hash.
     hash_2pow: u64,
 }
 
@@ -57,7 +57,7 @@ fn add(hash: u64, byte: u8) -> u64
     hash.wrapping_shl(1).wrapping_add(byte as u64)
 }
 
-/// A hash without its first byte, which counts so much in it.
+/// A hash without its first byte, which has this weight in it.
 #[inline(always)]
 fn del(hash: u64, hash_2pow: u64, byte: u8) -> u64
     ensures { result ≡ (hash + 2 ^ 64 - byte * hash_2pow % 2 ^ 64) % 2 ^ 64 }
@@ -76,7 +76,7 @@ fn hash_of(bytes: &[u8]) -> u64
     hash
 }
 
-/// What the first of so many bytes counts in their hash.
+/// The weight of the first of this many bytes in their hash.
 fn power_of(hash_len: usize) -> u64
     requires { 0 < hash_len }
     ensures { result ≡ 2 ^ (hash_len - 1) % 2 ^ 64 }
@@ -97,7 +97,7 @@ fn bucket_of(hash: u64) -> usize
     (hash % 1024) as usize
 }
 
-/// The pattern of an entry as a match, where it lies at the place and ends within the span. Its hash is looked at first.
+/// The pattern of an entry as a match, if it lies at the place and ends within the span. Its hash is compared first.
 #[inline(always)]
 fn match_at(
     patterns: &Patterns,
@@ -187,7 +187,7 @@ impl RabinKarp {
         self.hash_len
     }
 
-    /// How many bytes of memory the table takes, beside itself.
+    /// How many bytes of memory the table takes, besides itself.
     pub fn memory_usage(&self) -> usize {
         self.entries.capacity().saturating_mul(size_of::<Entry>())
     }
@@ -210,7 +210,7 @@ impl RabinKarp {
         self.entries[i]
     }
 
-    /// The match at the place, of the patterns that lie there the one that the kind prefers.
+    /// The match at the place: of the patterns that lie there, the one that the kind prefers.
     #[inline(always)]
     fn find_at(
         &self,

@@ -1,16 +1,17 @@
-//! The search itself: marks first, and the hash where there is a mark.
+//! The search itself: marks first, and the hash at a mark.
 //!
-//! One pattern alone is left to a search for a needle (`needle`). Where there are more, the haystack is gone over in blocks of 32 places, whose marks come at once. Where a block has none, no pattern begins in it.
-//! Otherwise each marked place is looked at by the hash of the bytes there, from the first to the last; the first place at which
-//! a pattern lies has the match. What is left after the last whole block is searched by the rolling hash.
+//! One pattern alone is left to a search for a needle (`needle`). With more, the haystack is searched in blocks of 32 places,
+//! whose marks come at once. If a block has none, no pattern begins in it. Otherwise each marked place is checked by the hash of
+//! the bytes there, from the first to the last; the first place at which a pattern lies has the match. The rest after the last
+//! whole block is searched by the rolling hash.
 //!
-//! Where much of the text is marked, to look at each mark costs more than to roll a hash over all places. So after a block that
-//! has more than 8 marks the hash alone searches the next 64 places, and then marks are asked again. If they are too many again,
-//! the next stretch is twice as long, up to 4096 places. So in text that is marked everywhere one block of marks comes on 4096
-//! places by the hash, which costs less than a tenth more; and where only a little of the text is, little is lost. So it is
-//! with one pattern, too, after more than 8 searches in a row that found a match on the first two places: to begin a search for a
-//! needle costs more than to look at some places by the hash. An iterator remembers its pace from match to match, so that many
-//! short searches don't ask anew.
+//! Where much of the text is marked, checking each mark costs more than rolling a hash over all places. So after a block that has
+//! more than 8 marks the hash alone searches the next 64 places, and then marks are tried again. If they are too many again, the
+//! next stretch is twice as long, up to 4096 places. In text that is marked everywhere, one block of marks comes for every 4096
+//! places by the hash, which costs less than a tenth more; where only a little of the text is marked, little is lost. With one
+//! pattern, too, the hash takes over after more than 8 searches in a row that found a match on the first two places: starting a
+//! search for a needle costs more than checking some places by the hash. An iterator remembers its pace from match to match, so
+//! that many short searches don't each try anew.
 ghost use Rattle.std.specs.Prelude.{◌≡◌, ◌+◌, ◌<◌, ◌≤◌, length, IfOk};
 ghost use Rattle.ac_literal.specs.Packed.{AreServed, in_span};
 ghost use Rattle.ac_literal.specs.RabinKarp.{NoneBefore};
@@ -26,20 +27,20 @@ use ac_input::search::{Match, Span};
 use memchr::memmem;
 use std::alloc::{AllocError, Global};
 
-/// How many marks a block may have, for marks to pay.
+/// How many marks a block may have for marks to be worth it.
 const FEW: u32 = 8;
 
-/// How near to where a search for one pattern began its match may be, and for how many searches in a row.
+/// How near to its start a search for one pattern may find its match, and for how many searches in a row.
 const NEAR: usize = 2;
 
 const MANY: u32 = 8;
 
-/// How many places the hash searches alone, where they don't, at first and at most.
+/// For how many places the hash searches alone when marks aren't worth it, at first and at most.
 const SHORT: usize = 64;
 
 const LONG: usize = 4096;
 
-/// Where marks are asked. No answer depends on it.
+/// Where marks are used. No result depends on it.
 #[derive(Clone, Copy, Drop)]
 pub struct Pace {
     /// Up to this place the hash searches alone.
@@ -51,7 +52,7 @@ pub struct Pace {
 }
 
 impl Pace {
-    /// Marks are asked from the first place on.
+    /// Marks are used from the first place on.
     pub fn new() -> Pace {
         Pace {
             hash_until: 0,
@@ -60,7 +61,7 @@ impl Pace {
         }
     }
 
-    /// A search for one pattern, from a place on, has found this.
+    /// A search for one pattern, from a place on, found this.
     fn met(&mut self, from: usize, found: &Option<Match>) {
         let is_near = match found {
             Some(found) => found.start().saturating_sub(from) < NEAR,
@@ -76,7 +77,7 @@ impl Pace {
         }
     }
 
-    /// Has the hash search alone for a while, after the block.
+    /// Makes the hash search alone for a while, after the block.
     fn slow(&mut self, block: usize) {
         let since = block.saturating_sub(self.hash_until);
         self.stretch = if since < self.stretch {
@@ -127,7 +128,7 @@ impl Scanner {
         self.table.match_kind()
     }
 
-    /// How many bytes of memory it takes, beside itself.
+    /// How many bytes of memory it takes, besides itself.
     pub fn memory_usage(&self) -> usize {
         let needle = match &self.only {
             Some(needle) => needle.needle().len(),

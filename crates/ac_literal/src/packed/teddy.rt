@@ -1,17 +1,17 @@
-//! Marks of the places at which a pattern may begin, 32 at a time: the idea of the search that is called Teddy.
+//! Marks of the places at which a pattern may begin, 32 at a time: the idea of the search called Teddy.
 //!
 //! The patterns are spread over eight buckets, a bit for each. Up to four probes look at a byte each, at offsets that lie within
-//! all patterns; each has two tables of 16 bytes, which say at the low half of a byte and at its high half in which buckets some
-//! pattern has such a half at the offset. What the tables that are asked have in common is left: where no bucket is, no pattern
-//! begins. The converse doesn't hold, so a marked place is looked at again, by the hash.
+//! all patterns. Each has two tables of 16 bytes, one for the low half of a byte and one for its high half; they give the buckets
+//! in which some pattern has such a half at the offset. The results of all look-ups are and-ed: where no bucket is left, no
+//! pattern begins. The converse doesn't hold, so a marked place is checked again, by the hash.
 //!
-//! The tables are asked for 32 places at once, by the vectors of `std::simd`: a look-up in a table of 16 bytes is one instruction
-//! for 16 places, and no place waits for the one before it. By a low half a probe costs five instructions for 16 places, and by a
-//! whole byte eleven. Where each bucket has one pattern at most, low halves tell enough, at three places for up to four patterns
-//! and at four for up to eight. For more patterns all four probes ask for whole bytes, and for patterns of one or two bytes the
-//! first two do. The offsets are spread over the bytes that all patterns have, since bytes tell more the further apart they are.
-//! Patterns that are neighbours in the order of their bytes share a bucket, so that fewer bytes fit into it. A block is passed by
-//! one test of all its places; which of them are marked is asked only where one is.
+//! The tables are looked up for 32 places at once, by the vectors of `std::simd`: a look-up in a table of 16 bytes is one
+//! instruction for 16 places, and no place waits for the one before it. A probe costs five instructions for 16 places by low
+//! halves, and eleven by whole bytes. Where each bucket has at most one pattern, low halves are enough, at three places for up to
+//! four patterns and at four for up to eight. For more patterns all four probes use whole bytes, and for patterns of one or two
+//! bytes the first two do. The offsets are spread over the bytes that all patterns have, since bytes further apart distinguish
+//! more. Patterns that are neighbours in the order of their bytes share a bucket, so that fewer bytes fit into it. A block is
+//! passed by one test of all its places; which of them are marked is computed only if one is.
 ghost use Rattle.std.specs.Prelude.{◌≡◌, ◌≢◌, IsFalse, ℕ, ◌+◌, ◌/◌, ◌%◌, ◌<◌, ◌≤◌, length, slice_index, bit_and};
 ghost use Rattle.std.specs.Int.{bit_at};
 ghost use Rattle.ac_literal.specs.Packed.{AreServed, AreAsLong};
@@ -24,15 +24,15 @@ use std::simd::prelude::*;
 /// How many places are looked at at once.
 pub const LANES: usize = 32;
 
-/// For how many patterns at most three probes do, and for how many the low halves of bytes.
+/// For how many patterns at most three probes are enough, and for how many the low halves of bytes.
 const THREE_DO: usize = 4;
 
 const LOW_DO: usize = 8;
 
-/// From how many bytes on that all patterns have.
+/// From which common length of the patterns on.
 const LONG: usize = 3;
 
-/// Which of eight buckets of patterns have which byte at an offset: those that have its low half, and its high half.
+/// Which of eight buckets of patterns have a given byte at an offset: those that have its low half, and its high half.
 #[derive(Clone, Copy, Drop)]
 pub struct Probe {
     low: [u8; 16],
@@ -47,9 +47,9 @@ pub struct Teddy {
     second: Probe,
     third: Probe,
     fourth: Probe,
-    /// Whether whole bytes are asked for, or their low halves alone.
+    /// Whether whole bytes are looked up, or only their low halves.
     is_whole: bool,
-    /// Whether the first two probes are asked, or three by low halves, and not all four.
+    /// Whether the first two probes are used, or three by low halves, and not all four.
     is_few: bool,
 }
 
@@ -73,7 +73,7 @@ fn twice(table: &[u8; 16]) -> u8x32
     ])
 }
 
-/// The table's byte at the low half of each lane.
+/// The table's entry at the low half of each lane.
 #[inline(always)]
 fn at_low(table: &[u8; 16], lanes: u8x32) -> u8x32
     ensures { HasLanes result (λ k. slice_index table.now (slice_index lanes k % 16)) }
@@ -107,7 +107,7 @@ fn has_lane(lanes: u8x32) -> bool
 
 /// Bit k is set where lane k isn't 0.
 #[inline(always)]
-fn set_lanes(lanes: u8x32) -> u64
+pub(crate) fn set_lanes(lanes: u8x32) -> u64
     ensures set { (k : ℕ) → k < 32 → slice_index lanes k ≢ 0 → bit_at result k ≡ 1 }
     ensures few { result < 4294967296 }
 {
@@ -171,7 +171,7 @@ fn bucket_of(patterns: &Patterns, number: PatternID) -> u8
 }
 
 impl Teddy {
-    /// With no pattern yet, to be told by their first `len` bytes.
+    /// With no pattern yet, to be distinguished by the first `len` bytes.
     pub(crate) fn empty(len: usize, count: usize) -> Teddy
         requires some { 0 < len }
         requires few { len ≤ 16 }
@@ -204,7 +204,7 @@ impl Teddy {
         self.fourth.add(pattern, bucket);
     }
 
-    /// For some patterns, told by their first `len` bytes.
+    /// For some patterns, distinguished by their first `len` bytes.
     pub fn new(patterns: &Patterns, len: usize) -> Teddy
         requires served { AreServed patterns.now }
         requires some { 0 < len }
@@ -220,7 +220,7 @@ impl Teddy {
         teddy
     }
 
-    /// What the first three probes leave by the low halves of bytes.
+    /// The buckets that the first three probes leave by the low halves of bytes.
     #[inline(always)]
     fn three(&self, haystack: &[u8], at: usize, len: usize) -> u8x32
         requires near { LooksBefore len self.now }
@@ -234,7 +234,7 @@ impl Teddy {
         both(two, self.third.low_lanes(haystack, at))
     }
 
-    /// What the first two leave by whole bytes.
+    /// The buckets that the first two leave by whole bytes.
     #[inline(always)]
     fn two(&self, haystack: &[u8], at: usize, len: usize) -> u8x32
         requires near { LooksBefore len self.now }
@@ -247,7 +247,7 @@ impl Teddy {
         )
     }
 
-    /// What all four leave by whole bytes.
+    /// The buckets that all four leave by whole bytes.
     #[inline(always)]
     fn four(&self, haystack: &[u8], at: usize, len: usize) -> u8x32
         requires near { LooksBefore len self.now }
@@ -273,7 +273,7 @@ impl Teddy {
 
     /// The buckets that are left at each of 32 places.
     #[inline(always)]
-    fn left(&self, haystack: &[u8], at: usize, len: usize) -> u8x32
+    pub(crate) fn left(&self, haystack: &[u8], at: usize, len: usize) -> u8x32
         requires near { LooksBefore len self.now }
         requires room { at + len + 31 ≤ length haystack.now }
         ensures { HasLanes result (λ k. marked_at self.now haystack.now (at + k)) }

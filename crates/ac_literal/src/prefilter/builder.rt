@@ -1,9 +1,8 @@
 //! Collects patterns, and chooses how candidates are found.
 //!
 //! As patterns come, each way of finding candidates collects what it needs: the one pattern, the patterns of packed search, the
-//! bytes that patterns begin with, and rare bytes. When a prefilter is built, one of the ways that serve is taken, as the
-//! page above says. An empty pattern lies everywhere, so where one comes nothing is collected any more, and no prefilter is
-//! built.
+//! bytes that patterns begin with, and rare bytes. When a prefilter is built, one of the ways that serve is chosen, as the page
+//! above says. An empty pattern lies everywhere, so once one comes nothing more is collected, and no prefilter is built.
 ghost use Rattle.std.specs.Prelude.{◌≡◌, ◌<◌, [], length, option_map, IfOk, IfSome, IsSome, OnOk, OnErr, MatchOption, IsTrue};
 ghost use Rattle.ac_input.specs.Same.{IsUnpaired};
 ghost use Rattle.ac_input.specs.Pairing.{IsFolded};
@@ -58,7 +57,7 @@ fn packed_kind(kind: MatchKind) -> Option<packed::MatchKind>
     }
 }
 
-/// The builder of packed search, where that may serve. It takes no memory yet.
+/// The builder of packed search, if it may serve. It takes no memory yet.
 fn packed_builder(alloc: Global, kind: MatchKind, pairing: &Pairing) -> Option<packed::Builder>
     ensures { IsPackedSoFar (record { patterns = []; pairing = pairing.now; kind = kind }) result }
 {
@@ -71,7 +70,7 @@ fn packed_builder(alloc: Global, kind: MatchKind, pairing: &Pairing) -> Option<p
     Some(config.builder(alloc))
 }
 
-/// One more pattern for packed search, where that may serve.
+/// One more pattern for packed search, if it may serve.
 fn add_packed(packed: &mut Option<packed::Builder>, pattern: &[u8]) -> Result<(), AllocError>
     ensures ok { OnOk result (packed.new ≡ option_map (λ b. added b pattern.now) packed.old) }
     ensures err { OnErr result (packed.new ≡ packed.old) }
@@ -82,7 +81,7 @@ fn add_packed(packed: &mut Option<packed::Builder>, pattern: &[u8]) -> Result<()
     }
 }
 
-/// The bytes that patterns may begin with, with those of one more pattern.
+/// The first bytes of patterns, with those of one more pattern.
 fn starts_with(few: FewBytes, pairing: &Pairing, pattern: &[u8]) -> FewBytes
     requires { 0 < length pattern.now }
     ensures { AddsStart pairing.now few pattern.now result }
@@ -114,7 +113,7 @@ impl Builders {
         }
     }
 
-    /// With one more pattern. Where memory ends, nothing changes.
+    /// With one more pattern. If memory runs out, nothing changes.
     /// A caller: `uses::callers::packed::folded_prefilter`.
     fn add(&mut self, alloc: Global, pairing: &Pairing, pattern: &[u8]) -> Result<(), AllocError>
         requires { 0 < length pattern.now }
@@ -129,7 +128,7 @@ impl Builders {
         Ok(())
     }
 
-    /// The search for the one pattern, where that serves.
+    /// The search for the one pattern, if it serves.
     fn build_memmem(&self, alloc: Global, pairing: &Pairing) -> Result<Option<Strategy>, AllocError>
         ensures { IfOk result (BuildsWhere MemmemServes pairing.now self.now) }
     {
@@ -141,7 +140,7 @@ impl Builders {
         }
     }
 
-    /// Packed search, where that serves.
+    /// Packed search, if it serves.
     fn build_packed(&self) -> Result<Option<Strategy>, AllocError>
         ensures { IfOk result (BuildsPacked self.now) }
     {
@@ -154,7 +153,7 @@ impl Builders {
         Ok(Some(Strategy::Packed(searcher)))
     }
 
-    /// The bytes that patterns begin with, where a scan for them serves.
+    /// The bytes that patterns begin with, if a scan for them serves.
     fn build_start_bytes(&self) -> Option<Needles>
         ensures { BuildsStartBytes self.now result }
     {
@@ -168,7 +167,7 @@ impl Builders {
         }
     }
 
-    /// Rare bytes, where a scan for them serves.
+    /// Rare bytes, if a scan for them serves.
     fn build_rare_bytes(&self) -> Option<RareBytes>
         ensures { BuildsRareBytes self.now result }
     {
@@ -192,7 +191,7 @@ impl Builders {
         }
     }
 
-    /// Whether there is a scan for bytes that is rather taken than packed search, or than none.
+    /// Whether there is a scan for bytes that is preferred to packed search, or to no prefilter.
     fn prefers(&self, scan: &Option<Strategy>) -> bool
         ensures { IsTrue result → IsSome scan.now }
     {
@@ -204,7 +203,7 @@ impl Builders {
         scans_within(scan, limit)
     }
 
-    /// How candidates are found, where there is a way.
+    /// How candidates are found, if there is a way.
     fn build(&self, alloc: Global, pairing: &Pairing) -> Result<Option<Strategy>, AllocError>
         ensures { IfOk result (BuildsWhere IsDemanded pairing.now self.now) }
     {
@@ -226,8 +225,8 @@ impl Builders {
     }
 }
 
-/// Of two scans for bytes the one that is taken to stop more rarely. Start bytes are taken where neither does, since there
-/// nothing is stepped back.
+/// Of two scans for bytes, the one that is estimated to stop more rarely. On a tie start bytes are chosen, since they need no step
+/// back.
 fn rarer(starts: Option<Needles>, rare: Option<RareBytes>) -> Option<Strategy>
     ensures { TakesOne starts rare result }
 {
@@ -241,7 +240,7 @@ fn rarer(starts: Option<Needles>, rare: Option<RareBytes>) -> Option<Strategy>
     }
 }
 
-/// Whether there is a scan for bytes, and it is taken to stop at most so often in a thousand bytes.
+/// Whether there is a scan for bytes, and it is estimated to stop at most this often in a thousand bytes.
 fn scans_within(scan: &Option<Strategy>, limit: u32) -> bool
     ensures { IsTrue result → IsSome scan.now }
 {
@@ -254,8 +253,8 @@ fn scans_within(scan: &Option<Strategy>, limit: u32) -> bool
 
 /// Collects the patterns of a prefilter, in the order of their numbers.
 ///
-/// It takes memory where it was told to when it was made: for a copy of the first pattern, and for what packed search keeps.
-/// It may build several times, and take more patterns in between.
+/// It takes memory from the allocator that it was made with: for a copy of the first pattern, and for what packed search keeps. It
+/// may build several times, and take more patterns in between.
 #[derive(Drop)]
 pub struct PrefilterBuilder {
     alloc: Global,
@@ -307,8 +306,8 @@ impl PrefilterBuilder {
         }
     }
 
-    /// Whether ASCII letters count as the same in their two cases. It sets the whole pairing: of this call and
-    /// [`PrefilterBuilder::pairing`] the last one decides.
+    /// Whether ASCII letters count as the same in their two cases. It sets the whole pairing: the last call of this or of
+    /// [`PrefilterBuilder::pairing`] decides.
     /// A caller: `uses::callers::packed::folded_prefilter`.
     pub fn ascii_case_insensitive(&mut self, yes: bool) -> &mut PrefilterBuilder
         requires { self.old.patterns ≡ [] }
@@ -336,7 +335,7 @@ impl PrefilterBuilder {
         self
     }
 
-    /// Adds a pattern. Where memory ends, the builder is as it was.
+    /// Adds a pattern. If memory runs out, the builder is unchanged.
     /// A caller: `uses::callers::packed::folded_prefilter`.
     pub fn add(&mut self, pattern: &[u8]) -> Result<&mut PrefilterBuilder, AllocError>
         ensures same { IfOk result (λ b. b.ghost_name ≡ self.entry.ghost_name) }
@@ -346,7 +345,7 @@ impl PrefilterBuilder {
         Ok(self)
     }
 
-    /// The same as [`PrefilterBuilder::add`], for a caller that goes on where memory ended.
+    /// The same as [`PrefilterBuilder::add`], for a caller that goes on when memory has run out.
     /// A caller: `uses::callers::packed::prefilter_of`.
     pub fn try_add(&mut self, pattern: &[u8]) -> Result<(), AllocError>
         ensures ok { OnOk result (self.new ≡ with_pattern self.old pattern.now) }
@@ -361,7 +360,7 @@ impl PrefilterBuilder {
         Ok(())
     }
 
-    /// The prefilter of the patterns, if there is one that serves.
+    /// The prefilter of the patterns, if one serves.
     ///
     /// It takes memory for a copy of the patterns that the prefilter searches for, and none where it scans for bytes.
     /// A caller: `uses::callers::packed::prefilter_of`.

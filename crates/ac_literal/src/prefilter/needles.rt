@@ -88,19 +88,19 @@ impl Needles {
     }
 }
 
-/// Bytes that are collected one by one, as long as they are few.
+/// Bytes that are collected one by one while they are few.
 #[derive(Clone, Copy, Debug)]
 pub enum FewBytes {
     /// None so far.
     None,
     /// One to three.
     Some(Needles),
-    /// Four or more: which ones isn't kept.
+    /// Four or more: which ones isn't stored.
     TooMany,
 }
 
 impl FewBytes {
-    /// Whether the byte is among them; of too many each may be.
+    /// Whether the byte is among them; if there are too many, any may be.
     pub fn has(&self, byte: u8) -> bool
         ensures { result ≡ few_has self.now byte }
     {

@@ -1,9 +1,8 @@
-//! How common bytes are taken to be, and how rare they must be for a scan.
+//! How common bytes are estimated to be, and how rare they must be for a scan.
 //!
-//! A scan for bytes costs next to nothing until it stops, and each stop costs what it takes to ask the automaton and to start
-//! the scan again. So a prefilter is only as good as its bytes are rare. The ranks are a rough guess, for text in the Latin
-//! alphabet and for the formats that are made of text; how often a byte comes in a thousand bytes is a guess as rough. Nothing
-//! that is answered depends on either.
+//! A scan for bytes costs next to nothing until it stops; each stop costs a run of the automaton and a new start of the scan. So a
+//! prefilter is only as good as its bytes are rare. The ranks are a rough estimate, for text in the Latin alphabet and for formats
+//! that are made of text; how often a byte comes in a thousand bytes is an estimate as rough. No result depends on either.
 ghost use Rattle.std.specs.Prelude.{◌≡◌, ◌≤◌, ◌*◌};
 ghost use Rattle.ac_literal.specs.RareBytes.{rank_of, paired_rank_of};
 ghost use Rattle.ac_literal.specs.declared.prefilter.rank.TheConstants.{COMMON_STOPS};
@@ -26,14 +25,14 @@ const HIGH: u8 = 50;
 /// How many of a thousand bytes of text one byte of the rank [`COMMON`] is.
 const COMMON_STOPS: u32 = 40;
 
-/// How often a scan may stop in a thousand bytes and still be worth it, where packed search serves too: that passes a thousand
-/// bytes in about the time of one stop.
+/// How often a scan may stop in a thousand bytes and still be worth it, if packed search serves too: packed search passes a
+/// thousand bytes in about the time of one stop.
 pub const STOPS_BESIDE_PACKED: u32 = 1;
 
-/// The same where packed search doesn't serve: an automaton alone takes as long for a thousand bytes as for a hundred stops.
+/// The same if packed search doesn't serve: an automaton alone takes as long for a thousand bytes as for a hundred stops.
 pub const STOPS_ALONE: u32 = 50;
 
-/// How common a byte is taken to be: the greater, the more common.
+/// How common a byte is estimated to be: the greater, the more common.
 pub fn rank(byte: u8) -> u8
     ensures { result ≡ rank_of byte }
 {
@@ -52,7 +51,7 @@ pub fn paired_rank(pairing: &Pairing, byte: u8) -> u8
     rank(byte).max(rank(pairing.other(byte)))
 }
 
-/// How many of a thousand bytes of text this one is taken to be. From 0x80 up it is more than the rank says, since in text of
+/// How many of a thousand bytes of text are estimated to be this one. From 0x80 up it is more than the rank says, since in text of
 /// another alphabet such bytes are common.
 fn stops_at(byte: u8) -> u32
     ensures { result ≤ COMMON_STOPS }
@@ -67,7 +66,7 @@ fn stops_at(byte: u8) -> u32
     }
 }
 
-/// How often a scan for these bytes is taken to stop in a thousand bytes of text.
+/// How often a scan for these bytes is estimated to stop in a thousand bytes of text.
 pub fn stops(needles: Needles) -> u32
     ensures { result ≤ 3 * COMMON_STOPS }
 {
@@ -78,7 +77,7 @@ pub fn stops(needles: Needles) -> u32
     }
 }
 
-/// Whether a scan for these bytes is taken to stop at most so often in a thousand bytes of text.
+/// Whether a scan for these bytes is estimated to stop at most this often in a thousand bytes of text.
 pub fn stops_within(needles: Needles, limit: u32) -> bool {
     stops(needles) <= limit
 }

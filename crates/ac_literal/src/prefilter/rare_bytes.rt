@@ -1,11 +1,11 @@
 //! Bytes of which each pattern holds one, chosen as the patterns come.
 //!
-//! A scan stops the less often the rarer its bytes are. So a pattern that holds none of the bytes chosen before adds its own
-//! rarest byte, by a rough guess of how often bytes occur in text. What is paired with the byte is added with it, and so
-//! counts when the rarest is chosen.
+//! The rarer its bytes, the less often a scan stops. So a pattern that holds none of the bytes chosen before adds its own rarest
+//! byte, by a rough estimate of how often bytes occur in text. What is paired with the byte is added with it, and so counts when
+//! the rarest is chosen.
 //!
 //! Where a rare byte is found, a match may have begun before it: as far before as the byte stands after the beginning of any
-//! pattern, and not only of the pattern for which it was chosen. So the place of each byte of each pattern is recorded.
+//! pattern, not only of the pattern for which it was chosen. So the place of each byte of each pattern is recorded.
 ghost use Rattle.std.specs.Prelude.{◌≡◌, ℕ, ◌<◌, [], List, length, slice_index, slice_set, max, IsTrue};
 ghost use Rattle.std.specs.List.{Contains};
 ghost use Rattle.ac_literal.specs.declared.prefilter.rare_bytes.TheConstants.{LEN_LIMIT};
@@ -66,8 +66,8 @@ fn record(distances: &mut [u8; 256], pairing: &Pairing, pattern: &[u8])
     }
 }
 
-/// The distances with those of one more pattern. Rare bytes don't serve a pattern that is too long for a distance, so nothing
-/// is recorded of it.
+/// The distances with those of one more pattern. Rare bytes don't serve a pattern that is too long for a distance, so nothing is
+/// recorded for it.
 fn reached(distances: [u8; 256], pairing: &Pairing, pattern: &[u8]) -> [u8; 256]
     ensures { AreReached pairing.now distances pattern.now result }
 {
@@ -92,7 +92,7 @@ fn chosen(few: FewBytes, pairing: &Pairing, pattern: &[u8]) -> FewBytes
 
 /// The rare bytes of the patterns so far.
 ///
-/// The place of every byte of every pattern is recorded, also of those after the rare one.
+/// The place of every byte of every pattern is recorded, including those after the rare one.
 #[derive(Clone, Copy)]
 pub struct RareBytesBuilder {
     pub few: FewBytes,

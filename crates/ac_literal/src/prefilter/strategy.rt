@@ -1,7 +1,7 @@
 //! The ways of finding candidates.
 //!
-//! Two of them search for whole patterns, and answer the match. The other two scan for single bytes by `memchr`, and answer a
-//! place where a match may begin. Each is right for patterns of its own sort, which the builder sees to.
+//! Two of them search for whole patterns, and return the match. The other two scan for single bytes by `memchr`, and return a
+//! place where a match may begin. Each is right for patterns of its own sort; the builder makes sure of that.
 ghost use Rattle.std.specs.Prelude.{◌≡◌, ◌≤◌, length, IfOk};
 ghost use Rattle.ac_input.specs.Dictionary.{Dictionary};
 ghost use Rattle.ac_literal.specs.Strategy.{IsMemmem, IsPacked, IsAnswer, ScansStarts, ScansRare};
@@ -35,7 +35,7 @@ pub struct RareBytes {
 }
 
 impl Strategy {
-    /// The same once more, in memory from `alloc`.
+    /// A copy, in memory from `alloc`.
     pub fn clone(&self, alloc: Global) -> Result<Strategy, AllocError>
         ensures { IfOk result (λ copy. copy ≡ self.now) }
     {
@@ -49,7 +49,7 @@ impl Strategy {
         })
     }
 
-    /// How many bytes of memory it takes, beside itself.
+    /// How many bytes of memory it takes, besides itself.
     pub fn memory_usage(&self) -> usize {
         match self {
             Strategy::Memmem(needle) => needle.needle().len(),

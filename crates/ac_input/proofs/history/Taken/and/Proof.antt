@@ -1,4 +1,4 @@
--- `and` makes the empty struct. The list with the bytes behind it is chosen here, as `made`.
+-- `and` makes the empty struct. The list followed by the bytes is chosen here, as `made`.
 use Rattle.std.proofs.Common.{List, [], ◌∷◌, ◌++◌, refl}
 use mir.Val.{Val, vptr}
 use prog.Wp.{WpFn}

@@ -1,16 +1,14 @@
 -- What is passed has no mark.
-use Rattle.std.proofs.Common.{arith}
-use Rattle.ac_literal.proofs.OpeningLemmas.{passed-none, below-lowest}
+use Rattle.std.proofs.Common.{ap, ◌∙◌}
+use Rattle.ac_literal.specs.Marks.{marked_in}
+use Rattle.ac_literal.specs.declared.openings.Marks.{Marks}
+use Rattle.ac_literal.proofs.OpeningLemmas.{passed-none}
 use Rattle.ac_literal.proofs.openings.Openings.pass.Goals as goal
 
-pub returns-then-marks-eq0-clause-passed : goal.returns-then-marks-eq0-clause-passed
-returns-then-marks-eq0-clause-passed c =
-    passed-none c.args.self.now c.args.bytes.now c.next_marks-block.result.0 (λ place within. c.next_marks-block.ensures.passed place (omega arith) within)
+pub returns-in-Few-clause-passed : goal.returns-in-Few-clause-passed
+returns-in-Few-clause-passed c =
+    passed-none c.args.self.now c.args.bytes.now c.pass_few.result (λ place within. ap (λ (m : Marks). marked_in m c.args.bytes.now place) c.in-Few.is ∙ c.pass_few.ensures.passed place within)
 
-pub returns-clause-passed : goal.returns-clause-passed
-returns-clause-passed c =
-    let m = c.next_marks-block.ensures in
-    let some = c.if-marks-eq0.false in
-    let low = c.lowest.ensures in
-    passed-none c.args.self.now c.args.bytes.now _
-    (below-lowest c.args.self.now.teddy c.args.bytes.now c.next_marks-block.result.0 c.next_marks-block.result.1 c.lowest.result low.within m.passed (m.set some) low.below)
+pub returns-in-Many-clause-passed : goal.returns-in-Many-clause-passed
+returns-in-Many-clause-passed c =
+    passed-none c.args.self.now c.args.bytes.now c.pass.result (λ place within. ap (λ (m : Marks). marked_in m c.args.bytes.now place) c.in-Many.is ∙ c.pass.ensures.passed place within)

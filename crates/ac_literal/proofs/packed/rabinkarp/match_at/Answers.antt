@@ -1,4 +1,4 @@
--- The comparison tells whether the pattern lies there.
+-- The comparison decides whether the pattern lies there.
 use Rattle.std.proofs.Common.{◌≡◌, ◌+◌, ℕ, List, length, ap, sym, subst, ◌∙◌, arith}
 use Rattle.std.specs.Prelude.{slice_range}
 use Rattle.std.proofs.lemmas.Bool.{false≢true}

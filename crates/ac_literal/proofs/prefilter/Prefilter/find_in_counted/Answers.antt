@@ -1,4 +1,4 @@
--- What a scan for needles promises is what the prefilter does: its model names those needles.
+-- The promise of a scan for needles is that of the prefilter: its model names those needles.
 use Rattle.std.proofs.Common.{sym, subst}
 use Rattle.ac_input.specs.Dictionary.{Dictionary}
 use Rattle.ac_input.specs.Candidate.{Filter}

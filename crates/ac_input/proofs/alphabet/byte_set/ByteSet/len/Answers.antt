@@ -1,4 +1,4 @@
--- The loop ends behind the last byte.
+-- The loop ends after the last byte.
 use Rattle.std.proofs.Common.{◌≡◌, arith, ap, ◌∙◌}
 use Rattle.ac_input.specs.Alphabet.{count_below, set_len}
 use Rattle.ac_input.proofs.alphabet.byte_set.ByteSet.len.Goals as goal

@@ -1,4 +1,4 @@
--- Where no way is taken, packed search doesn't serve, and start bytes don't.
+-- If no way is taken, packed search doesn't serve, and start bytes don't.
 use Rattle.std.proofs.Common.{◌≡◌, false, Option, None, Some, sym, subst, inl, inr}
 use Rattle.std.specs.Option.{is_some}
 use Rattle.std.proofs.lemmas.Bool.{false≢true}

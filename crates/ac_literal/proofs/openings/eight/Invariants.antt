@@ -1,8 +1,8 @@
 -- The patterns so far are in buckets.
-use Rattle.ac_literal.specs.Openings.{HaveOpened}
+use Rattle.ac_literal.specs.Marks.{HaveOpened}
 use Rattle.ac_literal.specs.Packed.{bytes_of}
 use Rattle.ac_literal.specs.Teddy.{LooksBefore}
-use Rattle.ac_literal.proofs.openings.Openings.new.Given as goal
+use Rattle.ac_literal.proofs.openings.eight.Given as goal
 
 abbrev pub invariant-loop-number : goal.invariant-loop-number
 invariant-loop-number l = record {

@@ -1,0 +1,32 @@
+-- One more pattern is in its bucket.
+use Rattle.std.proofs.Common.{ℕ, List, [], length, ap, arith}
+use Rattle.std.proofs.lemmas.List.{length-map}
+use Rattle.std.specs.Borrow.{Bor}
+use Rattle.ac_literal.specs.Packed.{bytes_of}
+use Rattle.ac_literal.proofs.OpeningLemmas.{all-more, keeps-look, pattern-lent}
+use Rattle.ac_literal.proofs.openings.buckets.Buckets.new.Goals as goal
+
+pub add-requires-clause-long : goal.add-requires-clause-long
+add-requires-clause-long c =
+    let patterns = c.args.patterns.now in
+    let d : Bor (List ℕ) = record { ref_ptr = (0, 0); now = [] } in
+    let count = length-map patterns (λ (p : Bor (List ℕ)). p.now) in
+    let short = c.requires.short c.loop-number.number (omega (arith, count, c.loop-number-test.true)) in
+    let same = ap length (pattern-lent patterns d c.loop-number.number c.loop-number-test.true) in
+    omega (arith, short, same)
+
+pub loop-number-preserved : goal.loop-number-preserved
+loop-number-preserved c =
+    let patterns = c.args.patterns.now in
+    let d : Bor (List ℕ) = record { ref_ptr = (0, 0); now = [] } in
+    let old = c.loop-number.buckets in
+    let new = c.add.new.self in
+    record {
+      near = keeps-look old new c.args.len c.add.ensures.kept c.loop-number.invariant.near;
+      all = all-more c.args.pairing.now c.args.len (bytes_of patterns) c.loop-number.number old new _ (pattern-lent patterns d c.loop-number.number c.loop-number-test.true) c.loop-number.invariant.all c.add.ensures.kept c.add.ensures.own;
+    }
+
+pub returns-clause-all : goal.returns-clause-all
+returns-clause-all c = λ number within.
+    let done = c.loop-number-test.false in
+    c.loop-number.invariant.all number (omega (arith, within, done))

@@ -1,15 +1,15 @@
 -- How what a search of a stream costs adds up.
 use Rattle.std.proofs.Common.{ℕ, ◌+◌, sym, ap, ◌∙◌, add_assoc, add-zero}
 use Rattle.ac_input.specs.declared.steps.Steps.{Steps}
-use Rattle.ac_automaton.specs.Stream.{ScanCounts, StreamProgress}
+use Rattle.ac_automaton.specs.Stream.{StreamCounts, StreamProgress}
 
 -- nothing was done yet
-pub ScanCounts-none : (s : StreamProgress) (steps : Steps) → ScanCounts s s steps steps
-ScanCounts-none s steps = (0, 0, 0, record { looked = sym (add-zero _); scanned = sym (add-zero _); moved = sym (add-zero _) }, sym (add-zero _), sym (add-zero _), sym (add-zero _))
+pub StreamCounts-none : (s : StreamProgress) (steps : Steps) → StreamCounts s s steps steps
+StreamCounts-none s steps = (0, 0, 0, record { looked = sym (add-zero _); scanned = sym (add-zero _); moved = sym (add-zero _) }, sym (add-zero _), sym (add-zero _), sym (add-zero _))
 
 -- what was done in turn was done
-pub ScanCounts-then : (s t u : StreamProgress) (before between after : Steps) → ScanCounts s t before between → ScanCounts t u between after → ScanCounts s u before after
-ScanCounts-then s t u before between after a b = (
+pub StreamCounts-then : (s t u : StreamProgress) (before between after : Steps) → StreamCounts s t before between → StreamCounts t u between after → StreamCounts s u before after
+StreamCounts-then s t u before between after a b = (
   a.0 + b.0,
   a.1 + b.1,
   a.2 + b.2,

@@ -9,7 +9,7 @@ use Rattle.ac_input.specs.declared.steps.Steps.{Steps}
 use Rattle.ac_input.specs.Occurrence.{Occurrence}
 use Rattle.ac_automaton.specs.Automaton.{Built}
 use Rattle.ac_automaton.specs.Replace.{matches_in}
-use Rattle.ac_automaton.specs.Stream.{AllIsDecided, AreAllGiven, CanBeCounted, FindsHeld, ReadsMore, ReadsNothing, ScanCounts, StreamProgress, read_by, room_of}
+use Rattle.ac_automaton.specs.Stream.{AllIsDecided, AreAllGiven, CanBeCounted, FindsHeld, ReadsMore, ReadsNothing, StreamCounts, StreamProgress, read_by, room_of}
 use Rattle.ac_automaton.specs.Moved.{AreFilled}
 use Rattle.ac_automaton.specs.StreamIter.{HasGained, IsStopped, NextGives, StaysStopped, TurnGives, TurnReads}
 use Rattle.ac_automaton.specs.Watched.{has_ended, pieces_of}
@@ -22,7 +22,7 @@ use Rattle.ac_automaton.proofs.MovedLemmas.{AreFilled-push, given-none, given-pu
 -- ---- counting
 
 -- what was done, and then more
-pub counts-join : (s u t : StreamProgress) (x y z : Steps) → ScanCounts s u x y → ScanCounts u t y z → ScanCounts s t x z
+pub counts-join : (s u t : StreamProgress) (x y z : Steps) → StreamCounts s u x y → StreamCounts u t y z → StreamCounts s t x z
 counts-join s u t x y z one two =
     let a = one.3 in
     let b = two.3 in
@@ -99,7 +99,7 @@ pub record HasTurned {R : Type 0} (remaining : R → Option (List ℕ)) (s t : S
   pub unended : gained ≢ [] → (has_ended before ≡ false) × CanBeCounted (read_by s)
   pub on : s.at ≤ t.at
   pub last : s.last ≤ t.last
-  pub counts : ScanCounts s t x y
+  pub counts : StreamCounts s t x y
 
 -- a list is empty or not
 none-or-some : {X : Type 0} (xs : List X) → (xs ≡ []) ⊎ (xs ≢ [])
@@ -123,7 +123,7 @@ open-first {R} remaining s t u before mid after x y piece failed has turn = ⊎_
     (none-or-some has.gained)
 
 -- one more
-pub turned-more : {R : Type 0} (remaining : R → Option (List ℕ)) (s t u : StreamProgress) (before mid after : Watched R) (x y z : Steps) → HasTurned remaining s t before mid x y → TurnGives remaining t u mid after More → ScanCounts t u y z → HasTurned remaining s u before after x z
+pub turned-more : {R : Type 0} (remaining : R → Option (List ℕ)) (s t u : StreamProgress) (before mid after : Watched R) (x y z : Steps) → HasTurned remaining s t before mid x y → TurnGives remaining t u mid after More → StreamCounts t u y z → HasTurned remaining s u before after x z
 turned-more remaining s t u before mid after x y z has turn counts =
     let read = turn.1.read in
     let piece = turn.0 in

@@ -20,7 +20,7 @@ use Rattle.ac_automaton.specs.Automaton.{Built}
 use Rattle.ac_automaton.specs.Buffer.{Filled, Held, IsRollPaid, room_for, kept_for, nothing_held}
 use Rattle.ac_automaton.specs.Replace.{matches_in}
 use Rattle.ac_automaton.specs.StreamSearch.{HoldsRead, IsStreamSearch, StandsInState, since_last, SearchesOn, after_search, progress_at, some_of}
-use Rattle.ac_automaton.specs.Stream.{CanBeCounted, HasRead, IsOnCourse, StreamProgress, fresh_progress, room_of, IsDecided, ScanCounts, read_by}
+use Rattle.ac_automaton.specs.Stream.{CanBeCounted, HasRead, IsOnCourse, StreamProgress, fresh_progress, room_of, IsDecided, StreamCounts, read_by}
 use Rattle.ac_automaton.specs.Moved.{HasGiven}
 use Rattle.ac_automaton.specs.declared.watched.Watched.{Watched}
 use Rattle.ac_automaton.specs.declared.stream.search.Progress.{Progress}
@@ -32,7 +32,7 @@ use Rattle.ac_automaton.proofs.StreamLemmas.{walk-any}
 -- ---- counting
 
 -- nothing was done
-pub counts-none : (s : StreamProgress) (x : Steps) → ScanCounts s s x x
+pub counts-none : (s : StreamProgress) (x : Steps) → StreamCounts s s x x
 counts-none s x = (0, 0, 0, record { looked = omega arith; scanned = omega arith; moved = omega arith }, omega arith, omega arith, omega arith)
 
 -- what was done is what was counted elsewhere
@@ -97,7 +97,7 @@ next-stream Reaches s start sid count buffer over r x y number is on numbered = 
 }
 
 -- and counts what was done
-pub next-counts : (s : StreamProgress) (r : Searched) (looks : ℕ) (fresh taken before after : Steps) → AreNone fresh → Done looks 0 0 fresh taken → Added taken before after → ScanCounts s (after_search s r looks) before after
+pub next-counts : (s : StreamProgress) (r : Searched) (looks : ℕ) (fresh taken before after : Steps) → AreNone fresh → Done looks 0 0 fresh taken → Added taken before after → StreamCounts s (after_search s r looks) before after
 next-counts s r looks fresh taken before after none done added = (looks, 0, 0, added-done looks fresh taken before after none done added, refl, omega arith, omega arith)
 
 -- ---- at first

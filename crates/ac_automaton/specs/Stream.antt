@@ -162,12 +162,12 @@ AnswersNew b supports (Err error) = IsStreamRefusal b supports error
 -- ---- what a call does
 
 -- so much more is counted as was done in between
-abbrev pub ScanCounts : StreamProgress → StreamProgress → Steps → Steps → Type 0
-ScanCounts s t before after = (states places bytes : ℕ) × Done states places bytes before after × (t.looked ≡ s.looked + states) × (t.scanned ≡ s.scanned + places) × (t.moved ≡ s.moved + bytes)
+abbrev pub StreamCounts : StreamProgress → StreamProgress → Steps → Steps → Type 0
+StreamCounts s t before after = (states places bytes : ℕ) × Done states places bytes before after × (t.looked ≡ s.looked + states) × (t.scanned ≡ s.scanned + places) × (t.moved ≡ s.moved + bytes)
 
 -- what was done was counted, and the search is on its course
 abbrev pub GoesOn : StreamProgress → StreamProgress → Steps → Steps → Type 0
-GoesOn s t before after = ScanCounts s t before after × IsOnCourse t
+GoesOn s t before after = StreamCounts s t before after × IsOnCourse t
 
 -- the same is counted
 pub record CountsNothing (s t : StreamProgress) : Type 0 where

@@ -11,7 +11,7 @@ use Rattle.ac_automaton.specs.Automaton.{Built}
 use Rattle.ac_automaton.specs.Moved.{AllFit, AreFilled, HasGiven, HasMoved, HasTaken, Moved, NoneTouched, but_last}
 use Rattle.ac_automaton.specs.Output.{Sent, Stopped}
 use Rattle.ac_automaton.specs.Replace.{LieInOrder, matches_in, with_replaced}
-use Rattle.ac_automaton.specs.Stream.{AreAllGiven, CanBeCounted, CanStream, IsConfigRefusal, IsFront, IsOnCourse, IsSearched, ReadsNothing, ScanCounts, StreamProgress, cut_of, read_by, room_of}
+use Rattle.ac_automaton.specs.Stream.{AreAllGiven, CanBeCounted, CanStream, IsConfigRefusal, IsFront, IsOnCourse, IsSearched, ReadsNothing, StreamCounts, StreamProgress, cut_of, read_by, room_of}
 use Rattle.ac_automaton.specs.StreamAnswer.{AnswersWriting}
 use Rattle.ac_automaton.specs.Watched.{IsOfWrite, pieces_of}
 use Rattle.ac_automaton.specs.declared.error.StreamError.{StreamError}
@@ -133,7 +133,7 @@ pub record IsReading {W : Type 0} (contents : W → Option (List ℕ)) (replacem
 pub record HasSearched {R : Type 0} (s t : StreamProgress) (reader_before reader_after : Watched R) (before after : Steps) (result : Result (Unit {0}) StreamError) : Type 0 where
   pub built : t.built ≡ s.built
   pub read : pieces_of reader_after ≡ pieces_of reader_before ++ t.pieces
-  pub counts : ScanCounts s t before after
+  pub counts : StreamCounts s t before after
   pub course : IsOnCourse t
   pub searched : OnOk result (IsSearched t)
 

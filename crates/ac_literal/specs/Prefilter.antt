@@ -97,3 +97,9 @@ IsWayOf m (byte ∷ bytes) = AreStartBytes m (byte ∷ bytes) ⊎ AreRareBytes m
 -- the way of a prefilter that is built
 abbrev pub IsStrategyFor : Filter → Type 0
 IsStrategyFor f = IsWayOf f.dictionary f.needles
+
+-- a prefilter was made for a dictionary, in a way that serves it
+pub record IsPrefilterOf (m : Dictionary) (f : Filter) : Type 0 where
+  pub dictionary : f.dictionary ≡ m
+  pub admissible : IsAdmissible m
+  pub way : IsStrategyFor f

@@ -8,7 +8,7 @@ use Rattle.ac_input.specs.Dictionary.{Dictionary, dictionary_of}
 use Rattle.ac_input.specs.Limits.{IsWithinLimits}
 use Rattle.ac_literal.specs.declared.openings.Openings.{Openings}
 use Rattle.ac_literal.specs.Openings.{AreOpenings, OpenAll}
-use Rattle.ac_literal.specs.Prefilter.{IsDemanded, IsAdmissible, IsStrategyFor}
+use Rattle.ac_literal.specs.Prefilter.{IsDemanded, IsAdmissible, IsStrategyFor, IsPrefilterOf}
 use Rattle.ac_noncontiguous.specs.Builder.{Settings, AreCompiled, IsBuiltBy, IsHeld}
 use Rattle.ac_noncontiguous.specs.Nfa.{AreParts}
 use Rattle.ac_noncontiguous.specs.ReadCalls.{IsMadeOf}
@@ -32,23 +32,21 @@ none-held m wanted off =
 
 -- where one is wanted it is what the build of the prefilter says
 pub some-held : (m b : Dictionary) (wanted : Bool) (r : Result (Option Filter) AllocError) → b ≡ m → wanted ≡ true
-    → IfOk r (λ made. IfSome made (λ f. f.dictionary ≡ b))
-    → IfOk r (λ made. IsSome made → IsAdmissible b)
+    → IfOk r (λ made. IfSome made (IsPrefilterOf b))
     → IfOk r (λ made. IsDemanded b → IsSome made)
-    → IfOk r (λ made. IfSome made IsStrategyFor)
     → IfOk r (λ held. IsHeld wanted m held)
-some-held m b wanted (Err e) same on d a n y = tt
-some-held m b wanted (Ok None) same on d a n y =
+some-held m b wanted (Err e) same on p n = tt
+some-held m b wanted (Ok None) same on p n =
     record {
       off = λ _. refl;
       demanded = λ _ demand. absurd (false≢true (n (subst IsDemanded (sym same) demand)));
       made = λ f is. absurd (let e : None ≡ Some f = is in cc);
     }
-some-held m b wanted (Ok (Some f)) same on d a n y =
+some-held m b wanted (Ok (Some f)) same on p n =
     record {
       off = λ off. absurd (let e : true ≡ false = sym on ∙ off in cc);
       demanded = λ _ _ is. absurd (let e : Some f ≡ None = is in cc);
-      made = λ g is. let e : f ≡ g = cc in subst (λ (h : Filter). IsAdmissible m × IsStrategyFor h × (h.dictionary ≡ m)) e (subst IsAdmissible same (a refl), y, d ∙ same);
+      made = λ g is. let e : f ≡ g = cc in subst (λ (h : Filter). IsAdmissible m × IsStrategyFor h × (h.dictionary ≡ m)) e (subst IsAdmissible same p.admissible, p.way, p.dictionary ∙ same);
     }
 
 -- what an automaton is made from

@@ -7,7 +7,7 @@ use Rattle.ac_automaton.specs.Automaton.{Built}
 use Rattle.ac_automaton.specs.Moved.{AllFit, AreFilled, HasGiven, HasMoved, HasTaken, Moved}
 use Rattle.ac_automaton.specs.Output.{Sent, Stopped}
 use Rattle.ac_automaton.specs.Replace.{matches_in}
-use Rattle.ac_automaton.specs.Stream.{AreAllGiven, CanBeCounted, ReadsNothing, ScanCounts, StreamProgress, read_by, room_of}
+use Rattle.ac_automaton.specs.Stream.{AreAllGiven, CanBeCounted, ReadsNothing, StreamCounts, StreamProgress, read_by, room_of}
 use Rattle.ac_automaton.specs.StreamAnswer.{AnswersWriting}
 use Rattle.ac_automaton.specs.StreamIter.{progress_of, reader_of}
 use Rattle.ac_automaton.specs.StreamReplace.{CostsStream}
@@ -44,7 +44,7 @@ module _ {A R : Type 0} where
 
   -- what was counted for it
   abbrev pub CountsOn : StreamFindIter A R → StreamFindIter A R → Steps → Steps → Type 0
-  CountsOn from to before after = ScanCounts (progress_of from) (progress_of to) before after
+  CountsOn from to before after = StreamCounts (progress_of from) (progress_of to) before after
 
 -- ---- what stands at each point of it
 

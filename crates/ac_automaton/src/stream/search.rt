@@ -17,7 +17,7 @@ ghost use Rattle.std.specs.Prelude.{◌≡◌, ◌≢◌, ◌↔◌, ◌+◌, �
 ghost use Rattle.ac_input.specs.declared.search.Anchored.TheVariants.{No};
 ghost use Rattle.ac_automaton.specs.StreamSearch.{some_of};
 ghost use Rattle.ac_automaton.specs.StreamWalk.{MayWalk, WalksOn};
-ghost use Rattle.ac_automaton.specs.Stream.{AnswersNew, CanBeCounted, CanStream, CountsNothing, FindsHeld, HasRoom, IsConfigRefusal, IsOnCourse, IsRolled, IsSearched, ReadsMore, ScanCounts, StreamProgress, cut_of, held_by, read_by};
+ghost use Rattle.ac_automaton.specs.Stream.{AnswersNew, CanBeCounted, CanStream, CountsNothing, FindsHeld, HasRoom, IsConfigRefusal, IsOnCourse, IsRolled, IsSearched, ReadsMore, StreamCounts, StreamProgress, cut_of, held_by, read_by};
 ghost use Rattle.ac_automaton.specs.Watched.{has_ended};
 
 use crate::automaton::Automaton;
@@ -220,7 +220,7 @@ impl<'a, A: Automaton> StreamSearch<'a, A> {
     /// After a read with which there are more bytes than places it is always none.
     pub fn next_held(&mut self, steps: &mut Steps) -> Option<Match>
         ensures finds { FindsHeld self.old result self.new }
-        ensures counts { ScanCounts self.old self.new steps.old steps.new }
+        ensures counts { StreamCounts self.old self.new steps.old steps.new }
         ensures kept { IsOnCourse self.new }
     {
         if self.over {
@@ -246,7 +246,7 @@ impl<'a, A: Automaton> StreamSearch<'a, A> {
         requires { IsSearched self.old }
         ensures room { HasRoom self.new }
         ensures same { IsRolled self.old self.new }
-        ensures counts { ScanCounts self.old self.new steps.old steps.new }
+        ensures counts { StreamCounts self.old self.new steps.old steps.new }
         ensures kept { IsOnCourse self.new }
     {
         if self.buffer.is_full() {
@@ -269,7 +269,7 @@ impl<'a, A: Automaton> StreamSearch<'a, A> {
         requires open { has_ended reader.old ≡ false }
         requires searched { IsSearched self.old }
         ensures read { ReadsMore R.remaining self.old self.new reader.old reader.new result }
-        ensures counts { ScanCounts self.old self.new steps.old steps.new }
+        ensures counts { StreamCounts self.old self.new steps.old steps.new }
         ensures kept { IsOnCourse self.new }
     {
         self.make_room(steps);

@@ -8,7 +8,7 @@ ghost use Rattle.ac_input.specs.Same.{IsUnpaired};
 ghost use Rattle.ac_input.specs.Pairing.{IsFolded};
 ghost use Rattle.ac_input.specs.Dictionary.{Dictionary};
 ghost use Rattle.ac_literal.specs.Packed.{search_kind, added};
-ghost use Rattle.ac_literal.specs.Prefilter.{IsDemanded, IsAdmissible, MemmemServes, IsStrategyFor};
+ghost use Rattle.ac_literal.specs.Prefilter.{IsDemanded, IsPrefilterOf, MemmemServes};
 ghost use Rattle.ac_literal.specs.Builder.{IsPackedSoFar, IsCollected, AddsMemmem, AddsStart, AddsPattern, BuildsWhere, BuildsPacked, BuildsStartBytes, BuildsRareBytes, TakesOne};
 ghost use Rattle.ac_input.specs.Limits.{with_pattern};
 
@@ -365,10 +365,8 @@ impl PrefilterBuilder {
     /// It takes memory for a copy of the patterns that the prefilter searches for, and none where it scans for bytes.
     /// A caller: `uses::callers::packed::prefilter_of`.
     pub fn build(&self) -> Result<Option<Prefilter>, AllocError>
-        ensures dictionary { IfOk result (λ made. IfSome made (λ p. p.dictionary ≡ self.now)) }
-        ensures admissible { IfOk result (λ made. IsSome made → IsAdmissible self.now) }
+        ensures made { IfOk result (λ made. IfSome made (IsPrefilterOf self.now)) }
         ensures demanded { IfOk result (λ made. IsDemanded self.now → IsSome made) }
-        ensures way { IfOk result (λ made. IfSome made IsStrategyFor) }
     {
         if self.has_empty {
             return Ok(None);

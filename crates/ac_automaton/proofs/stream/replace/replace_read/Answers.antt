@@ -3,7 +3,7 @@ use Rattle.std.proofs.Common.{◌≤◌, map, arith, sym, subst, ◌∙◌}
 use Rattle.std.proofs.lemmas.Result.{err_from_is_err_and}
 use Rattle.ac_automaton.specs.Stream.{IsOnCourse, StreamProgress}
 use Rattle.ac_automaton.specs.StreamReplace.{HasReplaced}
-use Rattle.ac_automaton.proofs.StreamCountLemmas.{ScanCounts-none, ScanCounts-then}
+use Rattle.ac_automaton.proofs.StreamCountLemmas.{StreamCounts-none, StreamCounts-then}
 use Rattle.ac_automaton.proofs.StreamReplaceLemmas.{all-filled, given-more, less-left, on-ok, piece-some, read-kept, read-stopped, reading, replaced-fresh, replaced-more, rest-answers, rest-read, rest-searched, sending-stopped, still-open}
 use Rattle.ac_automaton.proofs.stream.replace.replace_read.Goals as goal
 
@@ -16,7 +16,7 @@ loop-stream-init g c =
           (replaced-fresh g.R.Read.remaining g.W.Write.contents (map (λ r. r.now) c.args.replacements.now) s.built c.args.reader.now c.args.writer.now course);
       empty = c.requires.none;
       more = c.requires.open;
-      counted = ScanCounts-none s c.args.steps.now;
+      counted = StreamCounts-none s c.args.steps.now;
     }
 
 pub returns-in_err-read_more-clause-replaced : goal.returns-in_err-read_more-clause-replaced
@@ -31,7 +31,7 @@ returns-in_err-read_more-clause-read g c =
     rw p.1 (record {
       built = told.0;
       read = told.1;
-      counts = ScanCounts-then c.args.stream.now c.loop-stream.stream c.read_more.new.self c.args.steps.now c.loop-stream.steps c.read_more.new.steps c.loop-stream.invariant.counted c.read_more.ensures.counts;
+      counts = StreamCounts-then c.args.stream.now c.loop-stream.stream c.read_more.new.self c.args.steps.now c.loop-stream.steps c.read_more.new.steps c.loop-stream.invariant.counted c.read_more.ensures.counts;
       course = c.read_more.ensures.kept;
       searched = tt;
     })
@@ -51,11 +51,11 @@ returns-in_err-at-clause-read g c =
     let p = err_from_is_err_and c.from_residual-in_err-at.result c.from_residual-in_err-at.ensures.1 in
     let told = read-kept _ _ _ _ c.loop-stream.stream c.read_more.new.self _ _ _ _ _ _ c.loop-stream.invariant.replaced c.read_more.result c.read_more.ensures.read in
     let same = c.in_err-at.ensures.sent.0.same in
-    let first = ScanCounts-then c.args.stream.now c.loop-stream.stream c.read_more.new.self c.args.steps.now c.loop-stream.steps c.read_more.new.steps c.loop-stream.invariant.counted c.read_more.ensures.counts in
+    let first = StreamCounts-then c.args.stream.now c.loop-stream.stream c.read_more.new.self c.args.steps.now c.loop-stream.steps c.read_more.new.steps c.loop-stream.invariant.counted c.read_more.ensures.counts in
     rw p.1 (record {
       built = same.built ∙ told.0;
       read = rw same.pieces told.1;
-      counts = ScanCounts-then c.args.stream.now c.read_more.new.self c.send_decided.new.stream c.args.steps.now c.read_more.new.steps c.send_decided.new.steps first c.send_decided.ensures.goes.0;
+      counts = StreamCounts-then c.args.stream.now c.read_more.new.self c.send_decided.new.stream c.args.steps.now c.read_more.new.steps c.send_decided.new.steps first c.send_decided.ensures.goes.0;
       course = c.send_decided.ensures.goes.1;
       searched = tt;
     })
@@ -74,12 +74,12 @@ loop-stream-preserved g c =
     let now = reading _ _ _ _ c.loop-stream.stream c.read_more.new.self _ _ _ _ _ _ read.0 0 before read.1 c.in_ok-read_more.ensures.kept read.3 in
     let given = given-more _ c.loop-stream.stream c.read_more.new.self _ _ _ read.0 0 before.read read.1 in
     let sent = rw c.loop-stream.invariant.empty at c.in_ok-at.ensures.sent in
-    let first = ScanCounts-then c.args.stream.now c.loop-stream.stream c.read_more.new.self c.args.steps.now c.loop-stream.steps c.read_more.new.steps c.loop-stream.invariant.counted c.read_more.ensures.counts in
+    let first = StreamCounts-then c.args.stream.now c.loop-stream.stream c.read_more.new.self c.args.steps.now c.loop-stream.steps c.read_more.new.steps c.loop-stream.invariant.counted c.read_more.ensures.counts in
     record {
       replaced = replaced-more _ _ _ _ _ _ _ _ _ _ _ now given c.send_decided.new.stream c.in_ok-at.at (all-filled _ _ _ _ c.loop-stream.stream c.read_more.new.self _ _ _ _ _ _ read.0 0 before read.1 some) sent.0 sent.1;
       empty = c.in_ok-at.ensures.sent.2;
       more = still-open _ read.0 read.1.read.turns.1 some;
-      counted = ScanCounts-then c.args.stream.now c.read_more.new.self c.send_decided.new.stream c.args.steps.now c.read_more.new.steps c.send_decided.new.steps first c.send_decided.ensures.goes.0;
+      counted = StreamCounts-then c.args.stream.now c.read_more.new.self c.send_decided.new.stream c.args.steps.now c.read_more.new.steps c.send_decided.new.steps first c.send_decided.ensures.goes.0;
     }
 
 pub returns-clause-replaced : goal.returns-clause-replaced
@@ -99,7 +99,7 @@ returns-clause-read g c =
     record {
       built = told.0;
       read = told.1;
-      counts = ScanCounts-then c.args.stream.now c.loop-stream.stream c.read_more.new.self c.args.steps.now c.loop-stream.steps c.read_more.new.steps c.loop-stream.invariant.counted c.read_more.ensures.counts;
+      counts = StreamCounts-then c.args.stream.now c.loop-stream.stream c.read_more.new.self c.args.steps.now c.loop-stream.steps c.read_more.new.steps c.loop-stream.invariant.counted c.read_more.ensures.counts;
       course = c.read_more.ensures.kept;
       searched = on-ok c.send_all.result all;
     }

@@ -1,5 +1,5 @@
 use Rattle.std.proofs.Common.{◌≡◌, ◌-◌, [], false, length, map}
-use Rattle.ac_automaton.specs.Stream.{ScanCounts, read_by}
+use Rattle.ac_automaton.specs.Stream.{StreamCounts, read_by}
 use Rattle.ac_automaton.specs.StreamReplace.{HasReplaced}
 use Rattle.ac_automaton.specs.Watched.{has_ended}
 use Rattle.ac_automaton.proofs.stream.replace.replace_read.Given as goal
@@ -9,7 +9,7 @@ invariant-loop-stream g l = record {
   replaced : HasReplaced g.R.Read.remaining g.W.Write.contents (map (λ r. r.now) l.replacements) l.fn.stream.built l.stream l.at l.fn.reader l.reader l.fn.writer l.writer;
   empty : l.output ≡ [];
   more : has_ended l.reader ≡ false;
-  counted : ScanCounts l.fn.stream l.stream l.fn.steps l.steps;
+  counted : StreamCounts l.fn.stream l.stream l.fn.steps l.steps;
 }
 
 abbrev pub decreases-loop-stream : goal.decreases-loop-stream

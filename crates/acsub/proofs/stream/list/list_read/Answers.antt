@@ -2,7 +2,7 @@
 use Rattle.std.proofs.Common.{Err, Ok, refl, sym, subst, ◌∙◌}
 use Rattle.std.proofs.lemmas.Result.{err_from_is_err_and}
 use Rattle.ac_automaton.specs.Stream.{StreamProgress}
-use Rattle.ac_automaton.proofs.StreamCountLemmas.{ScanCounts-none, ScanCounts-then}
+use Rattle.ac_automaton.proofs.StreamCountLemmas.{StreamCounts-none, StreamCounts-then}
 use Rattle.ac_automaton.proofs.StreamAnswerLemmas.{cost-read}
 use Rattle.ac_automaton.proofs.StreamReplaceLemmas.{write-begun}
 use Rattle.acsub.specs.StreamList.{HasListed}
@@ -18,7 +18,7 @@ loop-next-init g c =
           (listed-fresh g.R.Read.remaining g.W.Write.contents s.built reader c.args.writer.now c.requires.standard c.requires.filled c.requires.unended);
       empty = c.requires.empty;
       same_reference = refl;
-      counted = ScanCounts-none s c.args.steps.now;
+      counted = StreamCounts-none s c.args.steps.now;
     }
 
 pub returns-in_err-found-clause-list : goal.returns-in_err-found-clause-list
@@ -33,7 +33,7 @@ returns-in_err-found-clause-costs g c =
     rw p.1 (cost-read c.args.matches.now.stream.built c.args.matches.now.stream c.next_counted.new.self.stream c.args.matches.now.reader.now c.next_counted.new.self.reader.now c.args.steps.now c.next_counted.new.steps (Err p.0) c.requires.fresh (record {
       built = told.0;
       read = told.1;
-      counts = ScanCounts-then c.args.matches.now.stream c.loop-next.matches.stream c.next_counted.new.self.stream c.args.steps.now c.loop-next.steps c.next_counted.new.steps c.loop-next.invariant.counted c.next_counted.ensures.goes.0;
+      counts = StreamCounts-then c.args.matches.now.stream c.loop-next.matches.stream c.next_counted.new.self.stream c.args.steps.now c.loop-next.steps c.next_counted.new.steps c.loop-next.invariant.counted c.next_counted.ensures.goes.0;
       course = c.next_counted.ensures.goes.1;
       searched = tt;
     }))
@@ -46,13 +46,13 @@ loop-next-smaller g c =
 pub loop-next-preserved : goal.loop-next-preserved
 loop-next-preserved g c =
     let next = rw c.in_ok-found.was at c.in-Some.ensures.gives.0 in
-    let first = ScanCounts-then c.args.matches.now.stream c.loop-next.matches.stream c.next_counted.new.self.stream c.args.steps.now c.loop-next.steps c.next_counted.new.steps c.loop-next.invariant.counted c.next_counted.ensures.goes.0 in
+    let first = StreamCounts-then c.args.matches.now.stream c.loop-next.matches.stream c.next_counted.new.self.stream c.args.steps.now c.loop-next.steps c.next_counted.new.steps c.loop-next.invariant.counted c.next_counted.ensures.goes.0 in
     let listed = listed-more g.R.Read.remaining g.W.Write.contents c.args.matches.now.stream.built c.loop-next.matches.stream c.next_counted.new.self.stream c.args.matches.now.reader.now c.loop-next.matches.reader.now c.next_counted.new.self.reader.now c.args.writer.now c.loop-next.writer c.loop-next.invariant.listed c.next_counted.ensures.goes.1 c.in_ok-found.found next c.write_lines.new.matches.stream c.write_lines.new.writer c.in_ok-write_lines.ensures.written in
     record {
       listed = rw c.write_lines.ensures.reader listed;
       empty = c.in_ok-write_lines.ensures.none;
       same_reference = c.write_lines.ensures.same_reference ∙ c.next_counted.ensures.gives.2 ∙ c.loop-next.invariant.same_reference;
-      counted = ScanCounts-then c.args.matches.now.stream c.next_counted.new.self.stream c.write_lines.new.matches.stream c.args.steps.now c.next_counted.new.steps c.write_lines.new.steps first c.write_lines.ensures.counts;
+      counted = StreamCounts-then c.args.matches.now.stream c.next_counted.new.self.stream c.write_lines.new.matches.stream c.args.steps.now c.next_counted.new.steps c.write_lines.new.steps first c.write_lines.ensures.counts;
     }
 
 pub returns-in_err-write_lines-clause-list : goal.returns-in_err-write_lines-clause-list
@@ -67,11 +67,11 @@ returns-in_err-write_lines-clause-costs g c =
     let p = err_from_is_err_and c.from_residual-in_err-write_lines.result c.from_residual-in_err-write_lines.ensures.1 in
     let next = rw c.in_ok-found.was at c.in-Some.ensures.gives.0 in
     let told = found-read g.R.Read.remaining g.W.Write.contents c.args.matches.now.stream.built c.loop-next.matches.stream c.next_counted.new.self.stream c.args.matches.now.reader.now c.loop-next.matches.reader.now c.next_counted.new.self.reader.now c.args.writer.now c.loop-next.writer c.loop-next.invariant.listed c.next_counted.ensures.goes.1 c.in_ok-found.found next c.write_lines.new.matches.stream c.in_err-write_lines.ensures.stopped.same in
-    let first = ScanCounts-then c.args.matches.now.stream c.loop-next.matches.stream c.next_counted.new.self.stream c.args.steps.now c.loop-next.steps c.next_counted.new.steps c.loop-next.invariant.counted c.next_counted.ensures.goes.0 in
+    let first = StreamCounts-then c.args.matches.now.stream c.loop-next.matches.stream c.next_counted.new.self.stream c.args.steps.now c.loop-next.steps c.next_counted.new.steps c.loop-next.invariant.counted c.next_counted.ensures.goes.0 in
     rw p.1 (cost-read c.args.matches.now.stream.built c.args.matches.now.stream c.write_lines.new.matches.stream c.args.matches.now.reader.now c.write_lines.new.matches.reader.now c.args.steps.now c.write_lines.new.steps (Err p.0) c.requires.fresh (record {
       built = told.0;
       read = rw c.write_lines.ensures.reader told.1;
-      counts = ScanCounts-then c.args.matches.now.stream c.next_counted.new.self.stream c.write_lines.new.matches.stream c.args.steps.now c.next_counted.new.steps c.write_lines.new.steps first c.write_lines.ensures.counts;
+      counts = StreamCounts-then c.args.matches.now.stream c.next_counted.new.self.stream c.write_lines.new.matches.stream c.args.steps.now c.next_counted.new.steps c.write_lines.new.steps first c.write_lines.ensures.counts;
       course = c.write_lines.ensures.kept;
       searched = tt;
     }))
@@ -88,7 +88,7 @@ returns-clause-costs g c =
     cost-read c.args.matches.now.stream.built c.args.matches.now.stream c.next_counted.new.self.stream c.args.matches.now.reader.now c.next_counted.new.self.reader.now c.args.steps.now c.next_counted.new.steps (Ok tt) c.requires.fresh (record {
       built = told.0;
       read = told.1;
-      counts = ScanCounts-then c.args.matches.now.stream c.loop-next.matches.stream c.next_counted.new.self.stream c.args.steps.now c.loop-next.steps c.next_counted.new.steps c.loop-next.invariant.counted c.next_counted.ensures.goes.0;
+      counts = StreamCounts-then c.args.matches.now.stream c.loop-next.matches.stream c.next_counted.new.self.stream c.args.steps.now c.loop-next.steps c.next_counted.new.steps c.loop-next.invariant.counted c.next_counted.ensures.goes.0;
       course = c.next_counted.ensures.goes.1;
       searched = (ends-whole g.R.Read.remaining g.W.Write.contents c.args.matches.now.stream.built c.loop-next.matches.stream c.next_counted.new.self.stream c.args.matches.now.reader.now c.loop-next.matches.reader.now c.next_counted.new.self.reader.now c.args.writer.now c.loop-next.writer c.loop-next.invariant.listed c.next_counted.ensures.goes.1 next).1;
     })

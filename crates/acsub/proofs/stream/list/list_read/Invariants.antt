@@ -1,5 +1,5 @@
 use Rattle.std.proofs.Common.{◌≡◌, ◌-◌, [], length}
-use Rattle.ac_automaton.specs.Stream.{ScanCounts, read_by}
+use Rattle.ac_automaton.specs.Stream.{StreamCounts, read_by}
 use Rattle.ac_automaton.specs.StreamIter.{progress_of, reader_name, reader_of}
 use Rattle.acsub.specs.StreamList.{HasListed}
 use Rattle.acsub.proofs.stream.list.list_read.Given as goal
@@ -9,7 +9,7 @@ invariant-loop-next g l = record {
   listed : HasListed g.R.Read.remaining g.W.Write.contents (progress_of l.fn.matches).built (progress_of l.matches) (reader_of l.fn.matches) (reader_of l.matches) l.fn.writer l.writer;
   empty : l.output ≡ [];
   same_reference : reader_name l.matches ≡ reader_name l.fn.matches;
-  counted : ScanCounts (progress_of l.fn.matches) (progress_of l.matches) l.fn.steps l.steps;
+  counted : StreamCounts (progress_of l.fn.matches) (progress_of l.matches) l.fn.steps l.steps;
 }
 
 abbrev pub decreases-loop-next : goal.decreases-loop-next

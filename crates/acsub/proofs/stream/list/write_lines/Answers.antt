@@ -1,6 +1,6 @@
 -- The line of the match, and then those that are held.
 use Rattle.std.proofs.lemmas.Result.{err_from_is_err_and, on_err_weaker}
-use Rattle.ac_automaton.proofs.StreamCountLemmas.{ScanCounts-none}
+use Rattle.ac_automaton.proofs.StreamCountLemmas.{StreamCounts-none}
 use Rattle.acsub.proofs.StreamListLemmas.{first-stopped, on-ok_three, writing-stopped, written-all}
 use Rattle.acsub.proofs.stream.list.write_lines.Goals as goal
 
@@ -11,7 +11,7 @@ returns-in_err-send-clause-stopped g c =
     rw p.1 (first-stopped g.W.Write.contents c.args.found.now c.args.matches.now.stream c.args.writer.now c.send.new.writer stopped)
 
 pub returns-in_err-send-clause-counts : goal.returns-in_err-send-clause-counts
-returns-in_err-send-clause-counts g c = ScanCounts-none c.args.matches.now.stream c.args.steps.now
+returns-in_err-send-clause-counts g c = StreamCounts-none c.args.matches.now.stream c.args.steps.now
 
 pub returns-clause-written : goal.returns-clause-written
 returns-clause-written g c =

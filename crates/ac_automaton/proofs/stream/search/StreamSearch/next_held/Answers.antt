@@ -2,7 +2,7 @@
 use Rattle.std.proofs.Common.{sym, subst, refl, ◌∙◌}
 use Rattle.ac_input.specs.declared.search.Anchored.TheVariants.{No}
 use Rattle.ac_automaton.specs.StreamSearch.{IsStreamSearch, SearchesOn, progress_at}
-use Rattle.ac_automaton.specs.Stream.{FindsHeld, IsOnCourse, ScanCounts, StreamProgress}
+use Rattle.ac_automaton.specs.Stream.{FindsHeld, IsOnCourse, StreamCounts, StreamProgress}
 use Rattle.ac_automaton.proofs.StreamSearchLemmas.{added-done, counts-none, next-counts, next-stream, next-view}
 use Rattle.ac_automaton.proofs.stream.search.StreamSearch.next_held.Goals as goal
 
@@ -45,8 +45,8 @@ returns-clause-counts g c =
     let on : SearchesOn Reaches s i.start c.search-searched.result _ _ = c.search-searched.ensures s (record { built = refl; stands = inv.stands; from = refl; at = refl; last = refl; bytes = c.held.ensures ∙ inv.holds.bytes; countable = inv.countable c.if-self.false }) in
     let done = added-done on.looks _ _ _ _ c.new-taken.ensures on.done c.add-2.ensures in
     let view = next-view b i.pieces.items i.given.value i.progress i.buffer i.sums c.search-searched.result on.looks _ _ inv.number on.stands.course.decided on.from c.given_then-self-inside.ensures done in
-    subst (λ (t : StreamProgress). ScanCounts t (progress_at b i.pieces.items c.given_then-self-inside.result.value c.search-searched.result.progress i.buffer c.add-2.new.self) c.args.steps.now c.add.new.self) c.self.view_is
-    (subst (λ (t : StreamProgress). ScanCounts s t c.args.steps.now c.add.new.self) (sym view) (next-counts s c.search-searched.result on.looks _ _ _ _ c.new-taken.ensures on.done c.add.ensures))
+    subst (λ (t : StreamProgress). StreamCounts t (progress_at b i.pieces.items c.given_then-self-inside.result.value c.search-searched.result.progress i.buffer c.add-2.new.self) c.args.steps.now c.add.new.self) c.self.view_is
+    (subst (λ (t : StreamProgress). StreamCounts s t c.args.steps.now c.add.new.self) (sym view) (next-counts s c.search-searched.result on.looks _ _ _ _ c.new-taken.ensures on.done c.add.ensures))
 
 pub returns-clause-kept : goal.returns-clause-kept
 returns-clause-kept g c =

@@ -28,7 +28,7 @@ use Rattle.acsub.specs.declared.settings.Engine.TheVariants as engine
 use Rattle.acsub.specs.declared.settings.Mode.TheVariants as mode
 use Rattle.acsub.specs.declared.settings.SettingError.TheVariants as error
 use Rattle.acsub.specs.declared.settings.Settings.{Settings}
-use Rattle.acsub.proofs.RewriteLemmas.{walk-lies}
+use Rattle.ac_automaton.proofs.ReplaceLemmas.{walk-lies}
 
 -- the walk of a packed search that serves a plan is the one that the plan asks
 pub packed-walk : {A : Type 0} (built : A → Built) (supports : A → Anchored → Type 0) (plan : Plan) (input : List ℕ) (searcher : Packed) → IsFinderOf built supports plan.settings plan.rules (finders.Packed searcher)

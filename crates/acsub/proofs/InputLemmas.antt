@@ -5,16 +5,6 @@ use Rattle.std.proofs.Math.Seq.{take-append-add, take-append_seam}
 use Rattle.std.proofs.lemmas.List.{append-nil, take-take, take-append-le, length-take-le}
 use Rattle.std.proofs.lemmas.List.Folds.{concat-append}
 
--- the front of a buffer after a read beyond it
-pub filled-more : (xs ys tail rest : List ℕ) (len filled n : ℕ) → filled + n ≤ len → filled ≤ length xs → n ≤ length ys → take (filled + n) (take len ((take filled xs ++ (ys ++ tail)) ++ rest)) ≡ take filled xs ++ take n ys
-filled-more xs ys tail rest len filled n fits within enough =
-    let front : length (take filled xs) ≡ filled = length-take-le filled xs within in
-    take-take (filled + n) len ((take filled xs ++ (ys ++ tail)) ++ rest) fits
-    ∙ ap (take (filled + n)) (append_assoc (take filled xs) (ys ++ tail) rest ∙ ap (λ (t : List ℕ). take filled xs ++ t) (append_assoc ys tail rest))
-    ∙ ap (λ (k : ℕ). take (k + n) (take filled xs ++ (ys ++ (tail ++ rest)))) (sym front)
-    ∙ take-append-add (take filled xs) (ys ++ (tail ++ rest)) n
-    ∙ ap (λ (t : List ℕ). take filled xs ++ t) (take-append-le n ys (tail ++ rest) enough)
-
 -- and where the read gave nothing
 pub filled-same : (xs more rest : List ℕ) (len filled : ℕ) → filled ≤ len → filled ≤ length xs → take filled (take len ((take filled xs ++ more) ++ rest)) ≡ take filled xs
 filled-same xs more rest len filled fits within =

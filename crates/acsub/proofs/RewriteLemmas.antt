@@ -52,19 +52,6 @@ pub replaced-end : (at : ℕ) (picks : List Occurrence) (input : List ℕ) (repl
     → front ++ drop at input ≡ text
 replaced-end at picks input replacements front text is e = ap (λ (os : List Occurrence). front ++ replaced_from at input replacements os) (sym is) ∙ e
 
--- the first of picks that lie in order
-pub lies-first : (patterns len at : ℕ) (picks rest : List Occurrence) (o : Occurrence) → picks ≡ o ∷ rest → LieInOrder patterns len at picks → LieInOrder patterns len at (o ∷ rest)
-lies-first patterns len at picks rest o is lies = subst (LieInOrder patterns len at) is lies
-
--- the picks of a walk lie in order
-pub walk-lies : (kind : MatchKind) (s : Search) (at : ℕ) (last : Option ℕ) (os : List Occurrence) → IsWalk kind s at last os → LieInOrder (length s.patterns) s.end at os
-walk-lies kind s at last [] walk = tt
-walk-lies kind s at last (o ∷ os) walk =
-    let from = pick-occurs kind s at last o walk.0 in
-    let number = slice_get_within s.patterns o.pattern from.2.same.0 from.2.same.1 in
-    let within = pick-within kind s at last o walk.0 in
-    (number, within.0, within.1, within.2, walk-lies kind s o.end (Some o.end) os walk.1)
-
 -- one more line
 pub listed-step : (o : Occurrence) (os rest : List Occurrence) (front text : List ℕ) → os ≡ o ∷ rest → front ++ listed os ≡ text → (front ++ line o) ++ listed rest ≡ text
 listed-step o os rest front text is e = append_assoc front (line o) (listed rest) ∙ ap (λ (t : List Occurrence). front ++ listed t) (sym is) ∙ e

@@ -3,7 +3,8 @@ use Rattle.std.proofs.Common.{◌≡◌, ◌+◌, ◌-◌, ◌≤◌, [], ◌∷
 use Rattle.std.specs.List.{concat}
 use Rattle.std.proofs.lemmas.List.{append-nil}
 use Rattle.ac_automaton.proofs.MovedLemmas.{AreFilled-push, given-none, given-gave, given-failed, given-push, still-open}
-use Rattle.acsub.proofs.InputLemmas.{filled-more, filled-same, piece_filled, concat-push}
+use Rattle.ac_automaton.proofs.BufferLemmas.{front-more}
+use Rattle.acsub.proofs.InputLemmas.{filled-same, piece_filled, concat-push}
 use Rattle.acsub.proofs.input.read_whole.Goals as goal
 
 pub loop-input-init : goal.loop-input-init
@@ -56,7 +57,7 @@ loop-input-preserved g c =
       gained = before.gained ++ piece ∷ [];
       gave = given-push g.R.Read.remaining c.args.reader.now c.loop-input.reader c.read.new.self before.gained piece 0 before.gave one;
       filled = AreFilled-push before.gained piece before.filled some;
-      is = filled-more buffer c.read.new.buf _ _ c.make_room.new.input.len filled c.in-Ok.n fits (omega arith) within
+      is = front-more buffer c.read.new.buf _ _ c.make_room.new.input.len filled c.in-Ok.n fits (omega arith) within
           ∙ ap (λ front. front ++ piece) (ap (take filled) c.deref_mut.ensures.value ∙ c.make_room.ensures.kept ∙ before.is)
           ∙ sym (concat-push before.gained piece);
       within = fits;

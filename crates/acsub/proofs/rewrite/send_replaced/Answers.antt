@@ -7,7 +7,8 @@ use Rattle.acsub.specs.Lines.{rule_at}
 use Rattle.acsub.specs.Matches.{left_in}
 use Rattle.acsub.specs.Sides.{replacements_of}
 use Rattle.ac_automaton.proofs.OutputLemmas.{Sent-none, Sent-then}
-use Rattle.acsub.proofs.RewriteLemmas.{lies-first, replaced-end, replaced-step, replacement_of_rule}
+use Rattle.acsub.proofs.RewriteLemmas.{replaced-end, replaced-step, replacement_of_rule}
+use Rattle.ac_automaton.proofs.ReplaceLemmas.{lies-first}
 use Rattle.acsub.proofs.SendingLemmas.{sends-last, sends-stopped}
 use Rattle.acsub.proofs.rewrite.send_replaced.Goals as goal
 

@@ -30,8 +30,8 @@
 //! entries. The second is for anchored searches; there a byte that leads to no longer state leads to the dead one. Where bytes
 //! aren't put into classes a row has 256 entries, and the 9 states have 2304.
 //!
-//! A build takes time and memory in proportion to the table. It is refused, before it takes any, where the last row would begin past
-//! the greatest number of a state.
+//! A build takes time and memory in proportion to the table. It fails, before it takes any, if the last row would begin past the
+//! greatest number of a state.
 mod automaton;
 pub mod builder;
 mod fill;

@@ -1,7 +1,7 @@
 //! Replacement in memory.
 //!
-//! It takes the matches of a whole haystack, by an unanchored search. The calls with `try_` are refused where the automaton has no
-//! start for one; the others ask that it has. All are refused where memory is.
+//! It takes the matches of a whole haystack, by an unanchored search. The calls with `try_` return an error if the automaton has
+//! no start for one; the others require that it has. All return an error if memory runs out.
 ghost use Rattle.std.specs.Prelude.{◌≡◌, length, IfOk};
 ghost use Rattle.ac_automaton.specs.declared.error.ReplaceError.TheVariants.{Memory};
 ghost use Rattle.ac_automaton.specs.Replace.{IsForMatches, ReplacesText, ReplacesBytes, ReplacesTextWith, ReplacesBytesWith};
@@ -14,7 +14,7 @@ use ac_automaton::error::ReplaceError;
 use ac_input::search::{Anchored, Match};
 use std::alloc::{AllocError, Global};
 
-/// The error of a replacement of which the search can't be refused.
+/// The error of a replacement whose search can't fail.
 fn out_of_memory(error: ReplaceError) -> AllocError
     requires { error ≡ Memory }
 {
@@ -155,7 +155,7 @@ impl AhoCorasick {
     /// and the destination. A match that begins or ends within a character is passed over. A closure that returns `false` is not
     /// called again, and the rest is copied.
     ///
-    /// Where memory is refused, what was appended stays. The destination grows by the allocator that it was made with.
+    /// If memory runs out, what was appended stays. The destination grows with the allocator that it was made with.
     ///
     /// A caller: `uses::callers::front_replace::try_append_first_replaced`.
     pub fn try_replace_all_with<F>(

@@ -7,8 +7,8 @@
 //! The words of a state are, in this order:
 //!
 //! - Its kind, in the low eight bits. It is 255 if the state has an entry for each class of bytes, and 254 if it has a single
-//! transition and no pattern; the class of that one stands in the next eight bits. Otherwise it says how many transitions there
-//! are.
+//!   transition and no pattern; the class of that one stands in the next eight bits. Otherwise it says how many transitions
+//!   there are.
 //! - The state to which it fails.
 //! - Its transitions. With an entry for each class: the next states, 1 where a class leads nowhere. A single one: the next state. Else
 //!   their classes, four in a word from the lowest bits up, where the last class fills the last word; and then the next states.

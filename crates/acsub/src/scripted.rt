@@ -105,7 +105,7 @@ impl Read for Source<'_> {
     }
 }
 
-/// All of an input, at most so many bytes a read.
+/// All of an input, at most this many bytes a read.
 pub fn whole(bytes: &[u8], most: usize) -> Source<'_> {
     Source {
         bytes,
@@ -116,8 +116,8 @@ pub fn whole(bytes: &[u8], most: usize) -> Source<'_> {
     }
 }
 
-/// A writer that compares what it takes with a text, and takes no memory. After so many bytes it stops once, by a failed write or
-/// by one that takes nothing, and would then go on.
+/// A writer that compares what it takes with a text, and takes no memory. After this many bytes it stops once, by a failed write
+/// or by one that takes nothing, and would then go on.
 #[derive(Drop)]
 pub struct Sink<'a> {
     /// What is left of the text.

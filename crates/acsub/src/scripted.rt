@@ -1,4 +1,4 @@
-//! What tests ask of a run, and readers and writers that follow a script.
+//! The settings of a test's run, and readers and writers that follow a script.
 //!
 //! A device stops once and would then go on. So a body that tries a call again, or reads after an empty read, ends with another
 //! text and with other counts.
@@ -52,7 +52,7 @@ impl Told {
     }
 }
 
-/// What a command line with no option asks for.
+/// The settings of a command line with no option.
 pub const PLAIN: Told = Told {
     mode: Mode::Replace,
     kind: MatchKind::Standard,

@@ -15,7 +15,7 @@ use std::fmt;
 /// What is written.
 #[derive(Clone, Copy, Debug, PartialEq, Eq)]
 pub enum Mode {
-    /// The input, with each match exchanged for its replacement.
+    /// The input, with each match replaced.
     Replace,
     /// A line for each match.
     List,

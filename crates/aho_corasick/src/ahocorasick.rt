@@ -54,13 +54,13 @@ pub struct AhoCorasick {
     ghost starts: { HasStarts start_kind engine.value },
 }
 
-/// The matches of an input that are left to come. From [`AhoCorasick::find_iter`].
+/// The remaining matches of an input. From [`AhoCorasick::find_iter`].
 pub type FindIter<'a, 'h> = iter::FindIter<'a, 'h, AhoCorasick>;
 
-/// The overlapping matches of an input that are left to come. From [`AhoCorasick::find_overlapping_iter`].
+/// The remaining overlapping matches of an input. From [`AhoCorasick::find_overlapping_iter`].
 pub type FindOverlappingIter<'a, 'h> = overlapping::FindOverlappingIter<'a, 'h, AhoCorasick>;
 
-/// The matches of a stream that are left to come. From [`AhoCorasick::stream_find_iter`].
+/// The remaining matches of a stream. From [`AhoCorasick::stream_find_iter`].
 pub type StreamFindIter<'a, R> = streams::StreamFindIter<'a, AhoCorasick, R>;
 
 impl AhoCorasick {

@@ -25,7 +25,7 @@ fn out_of_memory(error: ReplaceError) -> AllocError
 }
 
 impl AhoCorasick {
-    /// The text with each match exchanged for the replacement of its pattern: see [`AhoCorasick::try_replace_all`].
+    /// The text with each match replaced by the replacement of its pattern: see [`AhoCorasick::try_replace_all`].
     ///
     /// ```text
     /// let ac = AhoCorasick::new(alloc, &[b"fox", b"brown", b"quick"])?;
@@ -118,8 +118,8 @@ impl AhoCorasick {
         }
     }
 
-    /// The text with each match exchanged for the replacement of its pattern. There is one replacement for each pattern. A match
-    /// that begins or ends within a character is passed over: its bytes stay.
+    /// The text with each match replaced by the replacement of its pattern. There is one replacement for each pattern. A match
+    /// that begins or ends within a character is skipped: its bytes stay.
     ///
     /// A caller: `uses::callers::front_replace::try_replaced_text`.
     pub fn try_replace_all(

@@ -44,7 +44,7 @@ pub record HasReadOn (b : Built) (anchored : Anchored) (s : Search) (from to : C
       → IsLive b.dictionary (is_anchored anchored) (read_to (walked s from) to.at) live_after
       → IsLookups b.deterministic (to.at - from.at) (live_len (read_to (walked s from) from.at) live) (live_len (read_to (walked s from) to.at) live_after) before after
 
--- Whether an entry counts of a state that was reached by this many bytes: from the anchored start only those that are as long.
+-- Whether an entry counts, for a state that was reached by this many bytes: from the anchored start only entries that are as long.
 abbrev pub counts : Dictionary → Bool → ℕ → ℕ → Bool
 counts m anchored read n = not anchored || (length (get_or m.patterns n []) == read)
 

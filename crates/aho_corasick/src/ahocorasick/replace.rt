@@ -152,7 +152,7 @@ impl AhoCorasick {
     }
 
     /// Appends the text to the destination, and in place of each match what the closure appends: it is given the match, its text
-    /// and the destination. A match that begins or ends within a character is passed over. A closure that returns `false` is not
+    /// and the destination. A match that begins or ends within a character is skipped. A closure that returns `false` is not
     /// called again, and the rest is copied.
     ///
     /// If memory runs out, what was appended stays. The destination grows with the allocator that it was made with.

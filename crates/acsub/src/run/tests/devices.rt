@@ -265,7 +265,7 @@ fn writes_what_is_decided(rt: HostRuntime) -> Result<(), Fail> {
     Ok(())
 }
 
-/// A run that holds its input before it writes: what it is told, its rules and what serves it.
+/// A run that holds its input before it writes: its settings, its rules and what serves it.
 struct Held {
     told: Told,
     rules: &'static str,

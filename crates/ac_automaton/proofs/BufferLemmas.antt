@@ -10,7 +10,7 @@ use Rattle.ac_automaton.specs.declared.watched.Watched.{Watched}
 pub held_from_parts : (a b : Held) → a.bytes ≡ b.bytes → a.room ≡ b.room → a.keep ≡ b.keep → a.read ≡ b.read → a.moved ≡ b.moved → a ≡ b
 held_from_parts a b p q r s t = λ i. record { bytes = p i; room = q i; keep = r i; read = s i; moved = t i }
 
--- the front of a buffer after a read behind it
+-- the front of a buffer to which a read has appended
 pub front-more : (xs ys tail rest : List ℕ) (len filled n : ℕ) → filled + n ≤ len → filled ≤ length xs → n ≤ length ys → take (filled + n) (take len ((take filled xs ++ (ys ++ tail)) ++ rest)) ≡ take filled xs ++ take n ys
 front-more xs ys tail rest len filled n fits within enough =
     let front : length (take filled xs) ≡ filled = length-take-le filled xs within in

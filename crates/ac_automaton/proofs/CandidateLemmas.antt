@@ -83,7 +83,7 @@ ending_from-back m s at is inverse live =
     ))
     (listing_of-lists (starting_at s at) is.inside))
 
--- where nothing is told and every entry counts, there is no entry
+-- where the state has no occurrence and every entry counts, there is no entry
 pub told_from-nil : (m : Dictionary) (s : Search) (at : ℕ) (ns : List ℕ) → s.anchored ≡ false → told_from m s at ns 0 ≡ [] → ns ≡ []
 told_from-nil m s at [] free none = refl
 told_from-nil m s at (n ∷ ns) free none =
@@ -97,7 +97,7 @@ told_from-nil m s at (n ∷ ns) free none =
 pub over-reads : (Reaches : List ℕ → StateID → Type 0) (matches : StateID → List ℕ) (m : Dictionary) (s : Search) (at : ℕ) (left : List Occurrence) (r : Shown) → left ≡ [] → r.found ≡ None → r.place ≡ Over → ReadsOn Reaches matches m s at left (Found r)
 over-reads Reaches matches m s at left r none found place = (shows-none Reaches matches m s left r none found place, subst (IsBehind at) (sym place) tt)
 
--- where a state that was reached further on tells something, that is shown
+-- where a state that was reached further on has an occurrence, that is shown
 pub some-reads : (Reaches : List ℕ → StateID → Type 0) (matches : StateID → List ℕ) (m : Dictionary) (s : Search) (at : ℕ) (left : List Occurrence) (cursor : Cursor) (index : ℕ) (r : Shown)
     → at < cursor.at → IsCursor Reaches s cursor
     → left ≡ told_from m (walked s cursor) cursor.at (matches cursor.sid) index ++ ending_from (walked s cursor) (cursor.at + 1)
@@ -120,7 +120,7 @@ pub listing-none : (s : Search) → s.end ≤ length s.haystack → ((o : Occurr
 listing-none s inside none =
     ListsAll-unique (Occurs s) (listing_of s) [] (listing_of-lists s inside) (tt, λ o. (λ c. absurd (Contains-nil o c), λ h. absurd (none o h)))
 
--- the search that a prefilter is asked about is the rest of the search
+-- the search that a prefilter runs for is the rest of the search
 pub ahead-same : (m n : Dictionary) (asked : Asked) (haystack : List ℕ) (at end : ℕ) → n ≡ m → haystack ≡ asked.haystack → end ≡ asked.span.end → asked.anchored ≡ No → search_of n No haystack (record { start = at; end = end }) ≡ starting_at (search_in m asked) at
 ahead-same m n asked haystack at end made hays ends free =
     ap (λ (k : Dictionary). search_of k No haystack (record { start = at; end = end })) made
@@ -183,14 +183,14 @@ pub paid-further : (deterministic : Bool) (s : Search) (at to looks : ℕ) → a
 paid-further true s at to looks le h = omega arith
 paid-further false s at to looks le h = omega arith
 
--- and so it is by a search that is behind it
+-- and so it is by a search that stands after it
 pub come-behind : (s : Search) (at : ℕ) (place : Position) → at ≤ s.end → IsBehind at place → at ≤ come_to s place
 come-behind s at (At sid from place index) le h = omega arith
 come-behind s at Over le h = le
 
 -- ---- by candidates
 
--- a search that is behind a place is behind an earlier one
+-- a search that stands after a place stands after an earlier one
 behind-earlier : (at from : ℕ) (place : Position) → at ≤ from → IsBehind from place → IsBehind at place
 behind-earlier at from (At sid start to index) le h = omega arith
 behind-earlier at from Over le h = h
@@ -200,12 +200,12 @@ pub reads_on-earlier : (Reaches : List ℕ → StateID → Type 0) (matches : St
 reads_on-earlier Reaches matches m s at from one other (Found shown) le same h = (subst (λ (left : List Occurrence). ShowsFirst Reaches matches m s left shown) same h.0, behind-earlier at from shown.place le h.1)
 reads_on-earlier Reaches matches m s at from one other (Idle to) le same h = (omega (arith, h.0), h.1, sym same ∙ h.2)
 
--- what was scanned to be told a place, where a search shows something behind it
+-- what was scanned for a candidate, where a search shows something after it
 scans-shown : (s : Search) (at from places : ℕ) (place : Position) → at ≤ from → at + places ≤ s.end → at + places ≤ from + 255 → IsBehind from place → places ≤ 256 * (come_to s place - at)
 scans-shown s at from places (At sid start to index) le within near h = omega arith
 scans-shown s at from places Over le within near h = omega arith
 
--- The places that were scanned to be told a place are paid for by the bytes up to where reading on from there ends.
+-- The places that were scanned for a candidate are paid for by the bytes up to where reading on from there ends.
 scans-paid : (Reaches : List ℕ → StateID → Type 0) (matches : StateID → List ℕ) (m : Dictionary) (s : Search) (at from places : ℕ) (left : List Occurrence) (reading : End Shown) → at ≤ from → at + places ≤ s.end → at + places ≤ from + 255 → ReadsOn Reaches matches m s from left reading → places ≤ 256 * (read_on_to s reading - at)
 scans-paid Reaches matches m s at from places left (Found shown) le within near h = scans-shown s at from places shown.place le within near h.1
 scans-paid Reaches matches m s at from places left (Idle to) le within near h = let lt = h.0 in omega arith

@@ -51,7 +51,7 @@ take-more [] n x is = absurd (let e : None ≡ Some x = is in cc)
 take-more (y ∷ ys) zero x is = let e : Some y ≡ Some x = is in let d : y ≡ x = cc in ap (λ (z : ℕ). z ∷ []) d
 take-more (y ∷ ys) (suc n) x is = ap (λ (l : List ℕ). y ∷ l) (take-more ys n x is)
 
--- an element behind some that are dropped
+-- an element after some that are dropped
 slice_get-drop : (xs : List ℕ) (k n : ℕ) → slice_get (drop k xs) n ≡ slice_get xs (k + n)
 slice_get-drop xs zero n = let e : 0 + n ≡ n = omega arith in rw e
 slice_get-drop [] (suc k) n = refl
@@ -115,7 +115,7 @@ reached-state Reaches anchored sid h = ∥∥₁_map h (λ w. (anchored, w.0, w.
 
 -- ---- one look-up after another
 
--- what is known of a state to which so many bytes led, where none on the way was special
+-- what is known about a state to which this many bytes led, if none on the way was special
 pub record HasAdvanced (b : Built) (Reaches : Anchored → List ℕ → StateID → Type 0) (anchored : Anchored) (special : StateID → Bool) (sid : StateID) (bytes : List ℕ) (n : ℕ) (current : StateID) (before after : Steps) : Type 0 where
   pub reads : Leads (Reaches anchored) sid (take n bytes) current
   pub plain : PassesPlain (Reaches anchored) special sid bytes (n + 1)

@@ -97,25 +97,25 @@ leftmost-goes_on kind s b leftmost h = record {
   none = λ o occurs. leftmost-no_later kind b o leftmost (h.1 o occurs);
 }
 
--- a match that a prefilter knows is the asked best where the search asks the automaton's kind
+-- a match that a prefilter returns is the best, if the search uses the automaton's kind
 pub match-asked_best : (kind : MatchKind) (earliest : Bool) (s : Search) (b : Occurrence) → IsCandidate kind s (candidates.Match b) → asked_kind kind earliest ≡ kind → IsBest (asked_kind kind earliest) s (Some b)
 match-asked_best Standard earliest s b h asked = h.2 (h.1 refl) (asked_kind Standard earliest)
 match-asked_best LeftmostFirst earliest s b h asked = subst (λ (k : MatchKind). IsBest k s (Some b)) (sym asked) (h.0 (λ e. cc))
 match-asked_best LeftmostLongest earliest s b h asked = subst (λ (k : MatchKind). IsBest k s (Some b)) (sym asked) (h.0 (λ e. cc))
 
--- and where the search asks another one nothing begins before it
+-- and if the search uses another kind, nothing begins before it
 pub match-goes_on : (kind : MatchKind) (earliest : Bool) (s : Search) (b : Occurrence) → IsCandidate kind s (candidates.Match b) → asked_kind kind earliest ≢ kind → MayGoOnFrom s b.start
 match-goes_on Standard true s b h other = absurd (other refl)
 match-goes_on Standard false s b h other = absurd (other refl)
 match-goes_on LeftmostFirst earliest s b h other = let leftmost : LeftmostFirst ≢ Standard = λ e. cc in leftmost-goes_on LeftmostFirst s b leftmost (h.0 leftmost)
 match-goes_on LeftmostLongest earliest s b h other = let leftmost : LeftmostLongest ≢ Standard = λ e. cc in leftmost-goes_on LeftmostLongest s b leftmost (h.0 leftmost)
 
--- what is scanned to be told never passes the best of the search
+-- what a prefilter scans never passes the best of the search
 told_work-scanned : (kind : MatchKind) (s : Search) (told : End (Option Occurrence)) (r : Option Occurrence) (x y : Steps) → s.start ≤ s.end → IsBest kind s r → IsCandidateWork s told x y → scanned_of y ≤ scanned_of x + 256 * (over_at s r - s.start)
 told_work-scanned kind s told None x y ordered best h = omega (arith, h.within)
 told_work-scanned kind s told (Some b) x y ordered best h = omega (arith, best.0.within.0, best.0.within.1, h.before_ends b best.0)
 
--- what it costs to be told the answer is what the search costs, whatever preference is asked
+-- the cost of a prefilter that returns the match is within that of the search, whatever its kind
 pub told_work-answer : (asked kind : MatchKind) (deterministic : Bool) (s : Search) (r : Option Occurrence) (x y : Steps) → s.start ≤ s.end → IsBest asked s r → IsCandidateWork s (Found r) x y → IsFindWork kind deterministic s r x y
 told_work-answer asked kind deterministic s r x y ordered best h = record {
   looked = omega (arith, h.looked);
@@ -131,7 +131,7 @@ end_says-from kind s at (Found r) free here h = best-from kind s at r free here 
 end_says-from kind s at (Idle from) free here h =
     (omega (arith, here.behind, h.0), h.1, λ o occurs. h.2 o (occurs_behind s at o free (here.none o occurs) occurs))
 
--- what it costs to be told a place, and a walk from there, is the work of both
+-- the cost of a prefilter that returns a place, and of a walk from there, is within the work of both
 pub told_work-walk : (kind : MatchKind) (deterministic : Bool) (s : Search) (at : ℕ) (end : End (Option Occurrence)) (x y z : Steps) → MayGoOnFrom s at → s.anchored ≡ false → IsCandidateWork s (Idle at) x y → EndSays kind (starting_at s at) end → IsWalkWork kind deterministic (starting_at s at) end y z → IsSearchWork kind deterministic s end x z
 told_work-walk kind deterministic s at (Found r) x y z here free told says h =
     let best = best-from kind s at r free here says in

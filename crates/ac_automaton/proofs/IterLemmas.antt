@@ -66,7 +66,7 @@ repeat-free kind deterministic s (Some l) (Some o) before after le rep work =
 pub pick-ended : (kind : MatchKind) (s : Search) (at : ℕ) (last : Option ℕ) (best : Option Occurrence) → s.end ≤ at → IsBest kind (starting_at s at) best → Repeats last best → IsPick kind s at last None
 pick-ended kind s at last best le h rep = Further best h rep (best-past kind (starting_at s (at + 1)) (omega arith))
 
--- an answer is over where it is over for the same search from another place
+-- a result is over where it is over for the same search from another place
 over-wherever : (s : Search) (at : ℕ) (r : Option Occurrence) → over_at (starting_at s at) r ≡ over_at s r
 over-wherever s at None = refl
 over-wherever s at (Some o) = refl
@@ -95,7 +95,7 @@ work-further kind deterministic s last first r before between after inside le be
       moved = twice.moved ∙ free.moved;
     }
 
--- What comes of the next pick: it is the first of those that were left, and the others are left behind it; where there is none,
+-- What comes of the next pick: it is the first of those that were left, and the others are left after it; where there is none,
 -- none was left, and none is.
 pub pick-yields : (w v : Walk) (r : Option Occurrence) → v.asked.span.end ≤ length v.asked.haystack → IsNextPick w r → IsWalkAfter w r v → YieldsFirst left_of w r v
 pick-yields w v None inside h e = (

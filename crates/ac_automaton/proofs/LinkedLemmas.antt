@@ -163,7 +163,8 @@ paid-dead m names start sid byte next dead before after edge nothing met none on
 
 -- ---- over the numbers to which one fails
 
--- A look-up that began at a number has come to this one, over so many others: it leads on to where the number does, and each one on
+-- A look-up that began at a number has come to this one, over this many others: it leads on to where the number does, and each one
+-- on
 -- the way has cost a byte.
 pub record IsFollowing (m : Dictionary) (names : Naming) (sid byte from looks : ℕ) : Type 0 where
   pub met : IsTrue (names.met false from)
@@ -235,7 +236,7 @@ paid-followed m names sid byte next before between after one h =
 
 -- ---- the same by whichever naming the automaton is laid out
 
--- A look-up has come over so many numbers to one from which the byte leads nowhere.
+-- A look-up has come over this many numbers to one from which the byte leads nowhere.
 pub record HasFollowed (m : Dictionary) (Fits : Naming → Type 0) (start sid byte from : ℕ) (before after : Steps) : Type 0 where
   pub looks : ℕ
   pub counted : Done looks 0 0 before after
@@ -292,7 +293,7 @@ followed-few m Fits start sid byte from before after h numbers some =
 
 -- ---- every text leads somewhere
 
--- where a byte leads from a number, over so many numbers to which it fails at most
+-- where a byte leads from a number, over at most this many numbers to which it fails
 pub follow_by : (ℕ → ℕ → ℕ) → (ℕ → ℕ) → ℕ → ℕ → ℕ → ℕ
 follow_by edge fail zero sid byte = edge sid byte
 follow_by edge fail (suc most) sid byte = if edge sid byte == nowhere then follow_by edge fail most (fail sid) byte else edge sid byte

@@ -68,7 +68,7 @@ pub still-open : (ended : Bool) (piece : List ℕ) → ended ≡ is_empty piece 
 still-open ended [] is some = absurd (some refl)
 still-open ended (x ∷ xs) is some = is
 
--- pieces of some bytes leave it as it was
+-- pieces that aren't empty leave `has_ended` unchanged
 pub turns-filled : (before after : Bool) (pieces : List (List ℕ)) → AreInTurn before pieces after → AreFilled pieces → after ≡ before
 turns-filled before after [] turns filled = turns
 turns-filled before after (p ∷ ps) turns filled = turns-filled (is_empty p) after ps turns.1 filled.1 ∙ still-open (is_empty p) p refl filled.0 ∙ sym turns.0

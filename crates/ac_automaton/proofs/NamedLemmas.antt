@@ -93,7 +93,7 @@ reached-none : (b : Built) (Fits : Naming → Type 0) (matches : ℕ → List �
 reached-none b Fits matches starts special anchored text sid all h dead =
     ∥∥₁_elim h (Coded-set (coded_list coded_ℕ) (matches sid) []) (λ w. ((all w.0 w.1).none anchored sid w.2.met ((named-dead b.dictionary w.0 anchored text sid w.2).1 dead)).0)
 
--- so the list tells of the text
+-- so the list describes the text
 reached-tells : (b : Built) (Fits : Naming → Type 0) (matches : ℕ → List ℕ) (starts special : ℕ → Bool) (anchored : Anchored) (text : List ℕ) (sid : ℕ) → AllNames b Fits matches starts special → IsOwnInverse b.dictionary.pairing → IsReachedBy b.dictionary Fits (is_anchored anchored) text sid → Tells b.dictionary anchored text (matches sid)
 reached-tells b Fits matches starts special anchored text sid all inverse h = by (leads-some b.dictionary (is_anchored anchored) text inverse).0 (leads-some b.dictionary (is_anchored anchored) text inverse).1
   where
@@ -251,7 +251,7 @@ read-cost b Fits matches starts special anchored sid byte next old new many step
 
 -- ---- what its tests say
 
--- a test that says of a number whether it stands for the dead state, tells whether the text is dead
+-- a test whether a number stands for the dead state decides whether the text is dead
 pub read-dead : (b : Built) (Fits : Naming → Type 0) (matches : ℕ → List ℕ) (starts special : ℕ → Bool) (sid : ℕ) (dead : Bool) → ((anchored : Bool) → OfNames Fits anchored sid (λ names. (names.text sid ≡ None) ↔ IsTrue dead)) → AtEach (IsReadBy b Fits matches starts special) sid (TellsDead b dead)
 read-dead b Fits matches starts special sid dead tests = λ anchored text reads. (
   λ is_true. there anchored text reads is_true (leads-some b.dictionary (is_anchored anchored) text reads.inverse).0 (leads-some b.dictionary (is_anchored anchored) text reads.inverse).1,
@@ -296,7 +296,7 @@ empty-start b Fits matches starts special anchored text sid all h live =
     ((all w.0 w.1).starting anchored sid some.0 w.2.met some.1).1 (nil_from_length some.0 (omega (arith, long))))
     (stands-for w.0 sid))
 
--- what the answer whether a number is a start tells
+-- what the test whether a number is a start says
 pub read-starts : (b : Built) (Fits : Naming → Type 0) (matches : ℕ → List ℕ) (starts special : ℕ → Bool) (sid : ℕ) → AllNames b Fits matches starts special → TellsStart b (IsReadBy b Fits matches starts special) matches sid (starts sid)
 read-starts b Fits matches starts special sid all = λ anchored text reads.
     record {

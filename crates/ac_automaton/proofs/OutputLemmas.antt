@@ -15,7 +15,7 @@ use Rattle.ac_automaton.specs.declared.error.StreamError.TheVariants.{Config, Re
 NoneRead-then : {W : Type 0} {old mid new : Watched W} → NoneRead old mid → NoneRead mid new → NoneRead old new
 NoneRead-then a b = record { pieces = b.pieces ∙ a.pieces; ended = b.ended ∙ a.ended }
 
--- what the writer tells of a sending
+-- what the writer's history says about a send
 pub HasTaken-from_sent : {W : Type 0} (contents : W → Option (List ℕ)) (old new : Watched W) (held after bytes : List ℕ) (s : Sent contents old new held after bytes) → HasTaken contents old new s.gained 0 0
 HasTaken-from_sent contents old new held after bytes s = record { taken = s.taken; flushed = s.flushed; failures = s.fine.failures ∙ sym (add-zero _); stalls = s.fine.stalls ∙ sym (add-zero _); reads = s.reads; device = s.device }
 
@@ -83,7 +83,7 @@ Stopped-held contents old new held s = record { gained = s.gained; lost = s.lost
 pub Stopped-from_front : {W : Type 0} (contents : W → Option (List ℕ)) (old new : Watched W) (bytes : List ℕ) → TookFront contents old new bytes → NoneRead old new → Stopped contents old new [] bytes
 Stopped-from_front contents old new bytes f reads = record { gained = f.front; lost = f.rest; taken = f.taken; flushed = f.flushed; reads = reads; order = sym f.split; failures = f.failures; device = f.device }
 
--- ---- by the answer
+-- ---- by the result
 
 -- the error of a write after a sending is of both
 pub IsOfWrite-then : {W : Type 0} (old mid new : Watched W) (error : StreamError) → stalls_of mid ≡ stalls_of old → IsOfWrite mid new error → IsOfWrite old new error
@@ -119,7 +119,7 @@ pub Sends-whole : {W : Type 0} (contents : W → Option (List ℕ)) (old new : W
 Sends-whole contents old new bytes (Ok done) took reads = Sent-from_all contents old new bytes took.0 reads took.1
 Sends-whole contents old new bytes (Err error) took reads = (Stopped-from_front contents old new bytes took.0 reads, took.1, refl)
 
--- what an answer says where it is a value, and where it is an error
+-- what a result says if it is a value, and if it is an error
 pub sent-of : {W : Type 0} (contents : W → Option (List ℕ)) (old new : Watched W) (held after bytes : List ℕ) (result : Result (Unit {0}) StreamError) → Sends contents bytes old new held after result → OnOk result (Sent contents old new held after bytes)
 sent-of contents old new held after bytes (Ok done) s = s
 sent-of contents old new held after bytes (Err error) s = tt

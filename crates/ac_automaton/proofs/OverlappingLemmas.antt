@@ -59,7 +59,7 @@ pub counted-skip : (m : Dictionary) (anchored : Bool) (read : ℕ) (ns : List �
 counted-skip m anchored read ns index n is this =
     ap (filter (counts m anchored read)) (drop-slice_get ns index n is) ∙ cond-left_out (counts m anchored read n) n (counted m anchored read (drop (index + 1) ns)) this
 
--- behind the last entry none counts
+-- after the last entry none counts
 pub counted-past : (m : Dictionary) (anchored : Bool) (read : ℕ) (ns : List ℕ) (index : ℕ) → length ns ≤ index → counted m anchored read (drop index ns) ≡ []
 counted-past m anchored read ns index past = ap (filter (counts m anchored read)) (drop_of_length-le ns past)
 
@@ -103,13 +103,13 @@ Contains-from_map {X} {Y} f (x ∷ xs) y c =
     (λ rest. let found = later rest in let r : (z : X) × Contains (x ∷ xs) z × (f z ≡ y) = (found.0, Contains-tail x xs found.0 found.1, found.2) in r)
     (Contains-cases (f x) (map f xs) y c)
 
--- a rising list rises so many bytes further on
+-- a rising list rises when it is shifted
 IsRising-shifted : (n : ℕ) (os : List Occurrence) → IsRising os → IsRising (map (shifted n) os)
 IsRising-shifted n [] h = tt
 IsRising-shifted n (o ∷ []) h = tt
 IsRising-shifted n (o ∷ q ∷ os) h = (preference-shifted Standard n o q ∙ h.0, IsRising-shifted n (q ∷ os) h.1)
 
--- where one fact holds of just those of which another one holds, so many bytes further on, the list of one is the other's
+-- where one fact holds of exactly those of which another one holds, shifted, the list of one is the other's, shifted
 ListsAll-shifted : (n : ℕ) (P Q : Occurrence → Type 0) (os : List Occurrence) → ((o : Occurrence) → P o → Q (shifted n o)) → ((o : Occurrence) → Q o → (inner : Occurrence) × P inner × (o ≡ shifted n inner)) → ListsAll P os → ListsAll Q (map (shifted n) os)
 ListsAll-shifted n P Q os f g h = (
   IsRising-shifted n os h.0,
@@ -155,7 +155,7 @@ ending_from-none : (s : Search) (at : ℕ) → s.end ≤ length s.haystack → (
 ending_from-none s at inside none =
     ListsAll-unique (λ o. Occurs s o × (at ≤ o.end)) (ending_from s at) [] (ending_from-lists s at inside) (tt, λ o. (λ c. absurd (Contains-nil o c), λ h. absurd (none o h.0 h.1)))
 
--- nothing ends behind the span
+-- nothing ends after the span
 pub ending_from-end : (s : Search) (at : ℕ) → s.end ≤ length s.haystack → s.end < at → ending_from s at ≡ []
 ending_from-end s at inside past = ending_from-none s at inside (λ o h le. let w = h.within in omega arith)
 
@@ -176,7 +176,7 @@ read_to-more s at g h inside =
     ∙ take_more (drop s.start s.haystack) i 0 (omega arith)
     ∙ ap (λ (b : ℕ). take i (drop s.start s.haystack) ++ b ∷ []) (get_or-drop s.start s.haystack i 0 ∙ ap (λ (k : ℕ). get_or s.haystack k 0) j)
 
--- ---- what a state tells
+-- ---- the occurrences of a state
 
 -- where every entry counts, a filter keeps all
 filter-all : (ns : List ℕ) → filter (λ (n : ℕ). true) ns ≡ ns
@@ -208,7 +208,7 @@ pub record IsPlace (m : Dictionary) (anchored : Anchored) (s : Search) (at : ℕ
 pub place_of-cursor : (Reaches : List ℕ → StateID → Type 0) (m : Dictionary) (asked : Asked) (cursor : Cursor) → m.kind ≡ Standard → IsCursor Reaches (search_in m asked) cursor → IsPlace m asked.anchored (walked (search_in m asked) cursor) cursor.at
 place_of-cursor Reaches m asked cursor standard h = record { by = (refl, refl); anchor = refl; standard = standard; from = h.ordered; to = h.within; inside = h.inside }
 
--- what a state tells at a place is all that ends there
+-- the occurrences of a state at a place are all that end there
 pub told-lists : (m : Dictionary) (anchored : Anchored) (s : Search) (at : ℕ) (ns : List ℕ) → IsPlace m anchored s at → Tells m anchored (read_to s at) ns → ListsAll (λ o. Occurs s o × (o.end ≡ at)) (told_from m s at ns 0)
 told-lists m anchored s at ns is h =
     let w = read_to s at in
@@ -225,7 +225,7 @@ told-lists m anchored s at ns is h =
     r)
     inner
 
--- what ends from a place on is what the state there tells, and what ends later
+-- what ends from a place on is the occurrences of the state there, and what ends later
 pub ending_from-split : (m : Dictionary) (anchored : Anchored) (s : Search) (at : ℕ) (ns : List ℕ) → IsPlace m anchored s at → Tells m anchored (read_to s at) ns → ending_from s at ≡ told_from m s at ns 0 ++ ending_from s (at + 1)
 ending_from-split m anchored s at ns is h =
     let told = told-lists m anchored s at ns is h in
@@ -244,7 +244,7 @@ ending_from-split m anchored s at ns is h =
       ),
     )
 
--- Under the standard kind nothing ends behind a dead text, nor at its end.
+-- Under the standard kind nothing ends after a dead text, nor at its end.
 dead-over : (m : Dictionary) (anchored : Bool) (text more : List ℕ) (o : Occurrence) → IsOwnInverse m.pairing → m.kind ≡ Standard → IsLive m anchored text None → Occurs (whole m (text ++ more) anchored) o → length text ≤ o.end → ⊥
 dead-over m true text more o inverse standard dead h past =
     let first : o.start ≡ 0 = h.anchor refl in
@@ -290,7 +290,7 @@ entry-lies m anchored s at ns index n is h c =
       occurrence_from_parts (shifted s.start (ending m w n)) (ending_at m at n) refl (omega arith) (omega arith),
     )
 
--- so it is the first of what is told from its index on
+-- so it is the first of the state's occurrences from its index on
 pub told_from-entry : (m : Dictionary) (anchored : Anchored) (s : Search) (at : ℕ) (ns : List ℕ) (index n next : ℕ) → IsPlace m anchored s at → Tells m anchored (read_to s at) ns
     → counted m s.anchored (at - s.start) (drop index ns) ≡ n ∷ counted m s.anchored (at - s.start) (drop next ns)
     → (length (get_or m.patterns n []) ≤ at - s.start) × (told_from m s at ns index ≡ ending_at m at n ∷ told_from m s at ns next)
@@ -301,6 +301,6 @@ told_from-entry m anchored s at ns index n next is h e =
       ap (λ (xs : List ℕ). map (shifted s.start) (map (ending m (read_to s at)) xs)) e ∙ ap (λ (o : Occurrence). o ∷ told_from m s at ns next) lies.1,
     )
 
--- where no entry counts from an index on, nothing is told
+-- where no entry counts from an index on, the state has no occurrence
 pub told_from-none : (m : Dictionary) (s : Search) (at : ℕ) (ns : List ℕ) (index : ℕ) → counted m s.anchored (at - s.start) (drop index ns) ≡ [] → told_from m s at ns index ≡ []
 told_from-none m s at ns index e = ap (λ (xs : List ℕ). map (shifted s.start) (map (ending m (read_to s at)) xs)) e

@@ -38,7 +38,7 @@ paid-start m false s at looks g h inside paid live is =
     let within = live_len-within (read_to (starting_at s at) at) live in
     (omega arith, λ d. absurd (false≢true d))
 
--- so many bytes more pay for themselves
+-- more bytes pay for themselves
 pub paid-on : (m : Dictionary) (deterministic : Bool) (s : Search) (from at to looks more : ℕ) (before after : Steps) → s.start ≤ from → from ≤ at → at ≤ to
     → ((live : Option ℕ) × IsLive m s.anchored (read_to (starting_at s from) at) live)
     → ((live live_after : Option ℕ) → IsLive m s.anchored (read_to (starting_at s from) at) live → IsLive m s.anchored (read_to (starting_at s from) to) live_after → IsLookups deterministic (to - at) (live_len (read_to (starting_at s from) at) live) (live_len (read_to (starting_at s from) to) live_after) before after)
@@ -65,7 +65,7 @@ shows-none Reaches matches m s left r none found place =
     let all : (None ≡ slice_get left 0) × (drop 1 left ≡ []) = subst (λ (xs : List Occurrence). (None ≡ slice_get xs 0) × (drop 1 xs ≡ [])) (sym none) (refl, refl) in
     (found ∙ all.0, subst (λ (p : Position). IsLeft Reaches matches m s p (drop 1 left)) (sym place) all.1)
 
--- what a state tells first is the first that is left
+-- the first occurrence of a state is the first that is left
 pub shows-some : (Reaches : List ℕ → StateID → Type 0) (matches : StateID → List ℕ) (m : Dictionary) (s : Search) (left : List Occurrence) (cursor : Cursor) (index : ℕ) (r : Shown)
     → IsCursor Reaches s cursor
     → left ≡ told_from m (walked s cursor) cursor.at (matches cursor.sid) index ++ ending_from (walked s cursor) (cursor.at + 1)
@@ -78,7 +78,7 @@ shows-some Reaches matches m s left cursor index r reads e (o, next, found, plac
     let all : (Some o ≡ slice_get left 0) × (drop 1 left ≡ rest) = subst (λ (xs : List Occurrence). (Some o ≡ slice_get xs 0) × (drop 1 xs ≡ rest)) (sym is) (refl, refl) in
     (found ∙ all.0, subst (λ (p : Position). IsLeft Reaches matches m s p (drop 1 left)) (sym place) (reads, all.1))
 
--- A walk that began at one place stood at another, and has read on to a further one. What ends behind the second ends from
+-- A walk that began at one place stood at another, and has read on to a further one. What ends after the second ends from
 -- `next` on, and the looks are paid for.
 pub record HasWalkedOn (Reaches : List ℕ → StateID → Type 0) (m : Dictionary) (deterministic : Bool) (s : Search) (from at i next : ℕ) (sid : StateID) (before after : Steps) : Type 0 where
   pub reads : Reaches (read_to (starting_at s from) i) sid
@@ -96,11 +96,11 @@ read_on-start Reaches m deterministic s from at sid steps reads =
       only = record { rose = omega arith; scanned = refl; moved = refl };
     }
 
--- a state with no matches tells nothing
+-- a state with no matches has no occurrence
 pub told_from-empty : (m : Dictionary) (s : Search) (at : ℕ) (ns : List ℕ) → ns ≡ [] → told_from m s at ns 0 ≡ []
 told_from-empty m s at ns none = told_from-none m s at ns 0 (counted-past m s.anchored (at - s.start) ns 0 (omega (arith, ap length none)))
 
--- What ends after a place is what ends at a further one or later, where nothing is told in between.
+-- What ends after a place is what ends at a further one or later, where no state in between has an occurrence.
 ending_from-quiet : (m : Dictionary) (anchored : Anchored) (t : Search) (i bytes : ℕ) → IsPlace m anchored t i → i + 1 + bytes ≤ t.end + 1
     → ((k : ℕ) → i < k → k < i + 1 + bytes → IsQuiet m anchored (read_to t k))
     → ending_from t (i + 1) ≡ ending_from t (i + 1 + bytes)
@@ -115,7 +115,7 @@ ending_from-quiet m anchored t i (suc bytes) is le quiet =
     let next : at + 1 ≡ i + 1 + suc bytes = omega arith in
     first ∙ told ∙ ap (λ (xs : List Occurrence). xs ++ ending_from t (at + 1)) none ∙ ap (ending_from t) next
 
--- on to the next state that is asked
+-- on to the next special state
 pub walked_on-further : (Reaches : List ℕ → StateID → Type 0) (b : Built) (anchored : Anchored) (s : Search) (from at : ℕ) (cursor next : Cursor) (before mid after : Steps)
     → IsPlace b.dictionary anchored (starting_at s from) cursor.at → s.start ≤ from → cursor.from ≡ from → is_anchored anchored ≡ s.anchored
     → IsCursor Reaches s next → next.from ≡ from
@@ -152,7 +152,7 @@ walked_on-further Reaches b anchored s from at cursor next before mid after plac
       only = record { rose = omega arith; scanned = done.scanned ∙ had.only.scanned; moved = done.moved ∙ had.only.moved };
     }
 
--- a place where nothing is told is behind the search
+-- a search stands after a place whose state has no occurrence
 pub read_on-settled : (Reaches : List ℕ → StateID → Type 0) (m : Dictionary) (deterministic : Bool) (anchored : Anchored) (s : Search) (from at i : ℕ) (ns : List ℕ) (sid : StateID) (before after : Steps)
     → IsPlace m anchored (starting_at s from) i → Tells m anchored (read_to (starting_at s from) i) ns → told_from m (starting_at s from) i ns 0 ≡ []
     → HasWalkedOn Reaches m deterministic s from at i i sid before after → HasWalkedOn Reaches m deterministic s from at i (i + 1) sid before after
@@ -165,7 +165,7 @@ read_on-settled Reaches m deterministic anchored s from at i ns sid before after
       only = read.only;
     }
 
--- where the search is over behind a place, all is paid for
+-- where the search is over after a place, all is paid for
 pub pays-over : (Reaches : List ℕ → StateID → Type 0) (m : Dictionary) (deterministic : Bool) (s : Search) (from at i next : ℕ) (sid : StateID) (before after : Steps) (r : Shown)
     → s.start ≤ i → i ≤ s.end
     → ((text : List ℕ) (state : StateID) → Reaches text state → (live : Option ℕ) × IsLive m s.anchored text live)

@@ -26,14 +26,14 @@ use Rattle.ac_automaton.proofs.OverlappingReadLemmas.{paid-to}
 pub read_to-start : (s : Search) → read_to s s.start ≡ []
 read_to-start s = let none : s.start - s.start ≡ 0 = omega arith in ap (λ (k : ℕ). take k (drop s.start s.haystack)) none
 
--- the element at an index is the first behind so many
+-- the element at index n is the first after n elements
 slice_get-drop : {X : Type 0} (xs : List X) (n : ℕ) → slice_get (drop n xs) 0 ≡ slice_get xs n
 slice_get-drop [] zero = refl
 slice_get-drop [] (suc n) = refl
 slice_get-drop (x ∷ xs) zero = refl
 slice_get-drop (x ∷ xs) (suc n) = slice_get-drop xs n
 
--- behind the first of what is behind so many is what is behind one more
+-- after the first of what comes after n elements comes what comes after n + 1
 drop-one_more : {X : Type 0} (xs : List X) (n : ℕ) → drop 1 (drop n xs) ≡ drop (n + 1) xs
 drop-one_more xs n = drop-drop 1 n xs
 
@@ -52,7 +52,7 @@ slice_get-first : {X : Type 0} (xs : List X) (x : X) → Some x ≡ slice_get xs
 slice_get-first [] x e = cc
 slice_get-first (y ∷ ys) x e = cc
 
--- what is left behind a call that showed the first of it
+-- what is left after a call that showed the first of it
 left-after : (L : List Occurrence) (n : ℕ) (found : Option Occurrence) → found ≡ slice_get (drop n L) 0 → drop 1 (drop n L) ≡ drop (if is_some found then n + 1 else n) L
 left-after L n None e = slice_get-none (drop n L) e
 left-after L n (Some o) e = drop-one_more L n
@@ -78,7 +78,7 @@ came-stands b Reaches matches asked state first left paid came =
     subst (λ (p : Option Position). StandsAt (Reaches asked.anchored) matches m deterministic s (unwrap_or p first) (shown_of state) (sums_of state)) (sym stands.1) stands.2)
     came
 
--- where it stands behind a call
+-- where it stands after a call
 pub stands-after : (Reaches : List ℕ → StateID → Type 0) (matches : StateID → List ℕ) (m : Dictionary) (deterministic : Bool) (s : Search) (place : Position) (n : ℕ) (r : Shown) (sums start done after : Steps)
     → StandsAt Reaches matches m deterministic s place n sums → ShowsFirst Reaches matches m s (drop n (listing_of s)) r → KeepsBudget m deterministic s place r.place start done → AreNone start → Added done sums after
     → StandsAt Reaches matches m deterministic s r.place (if is_some r.found then n + 1 else n) after

@@ -16,7 +16,7 @@ use Rattle.ac_automaton.specs.declared.cursor.Cursor.{Cursor}
 use Rattle.ac_automaton.proofs.CursorLemmas.{cursor-read, cursor-read_on}
 use Rattle.ac_automaton.proofs.PassLemmas.{matching-some, some-matching}
 
--- the automaton, where its prefilter isn't asked
+-- the automaton without its prefilter
 abbrev unasked : Built → Built
 unasked b = record { dictionary = b.dictionary; deterministic = b.deterministic; prefilter = None }
 

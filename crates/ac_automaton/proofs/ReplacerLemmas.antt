@@ -12,7 +12,7 @@ pub callable-next : {F D A : Type 0} (g : Replacer F D A) (patterns : ℕ) (f af
     → IsForMatches g patterns f → found.now.pattern < patterns → Called g f (found, (bytes, (dst, tt))) (r, (left, tt)) after → IsForMatches g patterns after
 callable-next g patterns f after found bytes dst left r h lt called = record { takes = h.keeps f found bytes dst r left after h.takes lt called; keeps = h.keeps }
 
--- the same of a call that is told by what it shows
+-- the same for a call that is given by what it shows
 pub callable-after : {F D A : Type 0} (g : Replacer F D A) (patterns : ℕ) (f after : F) (o : Occurrence) (bytes : List ℕ) (old new : D) (r : A)
     → IsForMatches g patterns f → o.pattern < patterns → RepliesAt g f o bytes old r after new → IsForMatches g patterns after
 callable-after g patterns f after o bytes old new r h lt reply = callable-next g patterns f after reply.found reply.text reply.dst reply.left r h (subst (λ (q : Occurrence). q.pattern < patterns) (sym reply.shows.0) lt) reply.called
@@ -21,7 +21,7 @@ callable-after g patterns f after o bytes old new r h lt reply = callable-next g
 pub takes-one : {F D A : Type 0} (g : Replacer F D A) (patterns : ℕ) (f : F) (o : Occurrence) → IsForMatches g patterns f → o.pattern < patterns → TakesMatches g (o.pattern + 1) f
 takes-one g patterns f o h lt found bytes dst le = h.takes found bytes dst (omega arith)
 
--- a call that is told so is one of the closure's
+-- a call that is given so is one of the closure's
 pub told : {F D : Type 0} (held : D → List ℕ) (g : MemoryReplacer F D) (f after : F) (o : Occurrence) (bytes reads before : List ℕ) (old new : D) (r : Result Bool AllocError) (more : Bool)
     → RepliesAt g f o reads old r after new → r ≡ Ok more → reads ≡ bytes → held old ≡ before → calls_of held g f o bytes before (Some more) after (held new)
 told {F} {D} held g f after o bytes reads before old new r more reply is same was =
@@ -32,14 +32,14 @@ pub told-refused : {F D : Type 0} (held : D → List ℕ) (g : MemoryReplacer F 
 told-refused {F} {D} held g f after o bytes reads before old new r error reply is same was =
     (old, new, error, was, refl, subst (λ (q : Result Bool AllocError). RepliesAt g f o bytes old q after new) is (subst (λ (t : List ℕ). RepliesAt g f o t old r after new) same reply))
 
--- a call that answered
+-- a call that returned
 pub replied : {F D : Type 0} (held : D → List ℕ) (g : MemoryReplacer F D) (f after : F) (found : Bor Occurrence) (text : Bor (List ℕ)) (dst left : MutBor D) (r : Result Bool AllocError) (more : Bool) (o : Occurrence) (bytes before : List ℕ)
     → Called g f (found, (text, (dst, tt))) (r, (left, tt)) after → r ≡ Ok more → found.now ≡ o → text.now ≡ bytes → held dst.now ≡ before
     → calls_of held g f o bytes before (Some more) after (held left.now)
 replied {F} {D} held g f after found text dst left r more o bytes before called is at reads was =
     (dst.now, left.now, was, refl, record { found = found; text = text; dst = dst; shows = (at, reads, refl); left = left; called = subst (λ (q : Result Bool AllocError). Called g f (found, (text, (dst, tt))) (q, (left, tt)) after) is called; leaves = refl })
 
--- a call that refused
+-- a call that failed
 pub refused : {F D : Type 0} (held : D → List ℕ) (g : MemoryReplacer F D) (f after : F) (found : Bor Occurrence) (text : Bor (List ℕ)) (dst left : MutBor D) (r : Result Bool AllocError) (error : AllocError) (o : Occurrence) (bytes before : List ℕ)
     → Called g f (found, (text, (dst, tt))) (r, (left, tt)) after → r ≡ Err error → found.now ≡ o → text.now ≡ bytes → held dst.now ≡ before
     → calls_of held g f o bytes before None after (held left.now)
@@ -61,14 +61,14 @@ comes-first Call x all os f old is = record {
 
 module _ {F : Type 0} (Call : Calls F) (x : List ℕ) (all : List Occurrence) (first : F) (begun : List ℕ) (at : ℕ) (os : List Occurrence) (f : F) (old : List ℕ) (h : ComesTo Call x all first begun at os f old) where
   module _ (rest : List Occurrence) (o : Occurrence) (is : os ≡ o ∷ rest) where
-    -- a call that answers true leads to the rest of them
+    -- a call that returns true leads to the rest of them
     pub comes-further : (mid : F) (answered : List ℕ) → Call f o (slice_range x o.start o.end) (old ++ slice_range x at o.start) (Some true) mid answered → ComesTo Call x all first begun o.end rest mid answered
     comes-further mid answered call = record {
       ends = λ last new more. h.ends last new (subst (λ (qs : List Occurrence). IsChain Call x at qs f old last new) (sym is) (mid, answered, inl (call, more)));
       breaks = λ last new more. h.breaks last new (subst (λ (qs : List Occurrence). IsRefusedChain Call x at qs f old last new) (sym is) (inr (inr (mid, answered, inl (call, more)))));
     }
 
-    -- after one that answers false the rest is appended
+    -- after one that returns false the rest is appended
     pub comes-to_false : (mid : F) (answered end new : List ℕ) → Call f o (slice_range x o.start o.end) (old ++ slice_range x at o.start) (Some false) mid answered → new ≡ answered ++ end → end ≡ drop o.end x → (last : F) × IsChain Call x 0 all first begun last new
     comes-to_false mid answered end new call e rest_is = (mid, h.ends mid new (subst (λ (qs : List Occurrence). IsChain Call x at qs f old mid new) (sym is) (mid, answered, inr (call, refl, e ∙ ap (λ (t : List ℕ). answered ++ t) rest_is))))
 

@@ -1,4 +1,4 @@
--- A search over the bytes that are held: where it stands after it, and what it found.
+-- A search over the held bytes: where it stands after it, and what it found.
 use Rattle.std.proofs.Common.{◌≡◌, ◌≢◌, ⊎_elim, ℕ, ◌+◌, ◌-◌, ◌*◌, ◌<◌, ◌≤◌, Bool, true, false, IsTrue, List, [], ◌∷◌, ◌++◌, length, take, drop, Option, None, Some, slice_get, slice_range, sym, ap, subst, refl, ◌∙◌, arith, append-nil, length-drop}
 use Rattle.std.proofs.lemmas.List.{length-take-le}
 use Rattle.std.specs.Option.{option_map}
@@ -40,7 +40,7 @@ use Rattle.ac_automaton.proofs.WalkLemmas.{occurs-bound}
 pub text-on : (x : List ℕ) (last at k : ℕ) → last ≤ at → k ≤ length x - at → slice_range x last at ++ take k (drop at x) ≡ slice_range x last (at + k)
 text-on x last at k g h = ap (λ (l : List ℕ). slice_range x last at ++ take k l) (sym (take_rest x at)) ∙ part-front x last at (length x) k g h
 
--- what is behind a place of the bytes that are held
+-- what comes after a place of the held bytes
 pub rest-held : (x held : List ℕ) (from at first place : ℕ) → first ≡ from → place ≡ at → held ≡ drop from x → from ≤ at → drop (place - first) held ≡ drop at x
 rest-held x held from at first place f p is le =
     let k : place - first ≡ at - from = omega arith in
@@ -113,7 +113,7 @@ stands-from Reaches t start sid standard filled ordered inside ended kept behind
 
 -- ---- reading on
 
--- on the way the states told nothing
+-- on the way the lists of the states were empty
 tells-on : (s : StreamProgress) (Reaches : Anchored → List ℕ → StateID → Type 0) (matches : StateID → List ℕ) (sid : StateID) (stop : Advance) (matched : Bool) (y z : Steps)
     → ((text : List ℕ) (state : StateID) → Reaches No text state → Tells s.built.dictionary No text (matches state))
     → s.last ≤ s.at
@@ -150,7 +150,7 @@ cost-on s Reaches matches sid stop matched y z before after ordered here stops g
     subst (λ (n : ℕ). IsLookups s.built.deterministic n (live_len (since_last s) before) (live_len (slice_range x s.last (s.at + stop.taken)) after) y z) long
     (subst (λ (l : List ℕ). IsLookups s.built.deterministic (length (take stop.taken (drop s.at x))) (live_len (since_last s) before) (live_len l after) y z) text run)
 
--- so many looks more
+-- this many looks more
 paid-on : (deterministic : Bool) (looked live at n more : ℕ) (y z : Steps) → looked + live ≤ 2 * at → at ≤ looked → (IsTrue deterministic → looked ≡ at) → IsLookups deterministic n live more y z
     → (looked + (looked_of z - looked_of y) + more ≤ 2 * (at + n)) × (at + n ≤ looked + (looked_of z - looked_of y)) × (IsTrue deterministic → looked + (looked_of z - looked_of y) ≡ at + n)
 paid-on deterministic looked live at n more y z paid some one run =
@@ -171,7 +171,7 @@ reads-on s Reaches matches sid stop matched y z ordered here stops =
 
 -- ---- to the end
 
--- nothing is in the text where the last state tells nothing either
+-- nothing is in the text where the list of the last state is empty, too
 quiet-on : (m : Dictionary) (x : List ℕ) (last at to : ℕ) → m.kind ≡ Standard → last ≤ at → at ≤ to → to ≤ length x
     → IsBest Standard (whole m (slice_range x last at) false) None
     → ((k : ℕ) → at < k → k < to → Tells m No (slice_range x last k) [])
@@ -319,7 +319,7 @@ module _ (s : StreamProgress) (Reaches : Anchored → List ℕ → StateID → T
 
 -- ---- to a match
 
--- what the state tells at the end of a text in which nothing ended before is its best
+-- the state's match at the end of a text in which nothing ended before is the best of the text
 told-best_at : (m : Dictionary) (text ns : List ℕ) (last at : ℕ) (o : Occurrence) → m.kind ≡ Standard → last + length text ≡ at → ((q : Occurrence) → Occurs (whole m text false) q → ¬ (q.end < length text)) → Tells m No text ns → ns ≢ []
     → Some o ≡ option_map (ending_at m at) (slice_get ns 0) → (b : Occurrence) × IsBest Standard (whole m text false) (Some b) × (shifted last b ≡ o) × (o.end ≡ at)
 told-best_at m text [] last at o standard long none tells some is = absurd (some refl)
@@ -331,7 +331,7 @@ told-best_at m text (n ∷ ns) last at o standard long none tells some is =
     let same : ending_at m at n ≡ o = sym (same_Some o (ending_at m at n) is) in
     (ending m text n, best, occurrence_from_parts (shifted last (ending m text n)) (ending_at m at n) refl (omega arith) long ∙ same, sym (ap (λ (q : Occurrence). q.end) same))
 
--- a state at the end of a text in which nothing is tells nothing
+-- the list of a state at the end of a text in which nothing ends is empty
 told-some : (m : Dictionary) (text ns : List ℕ) → m.kind ≡ Standard → Tells m No text ns → ns ≢ [] → ¬ IsBest Standard (whole m text false) None
 told-some m text [] standard tells some quiet = some refl
 told-some m text (n ∷ ns) standard tells some quiet =
@@ -424,7 +424,7 @@ search-some s Reaches matches start sid stop o y z tells lives stands stops coun
           live.0 live.1;
     }
 
--- ---- the same, told of what the search keeps
+-- ---- the same, in terms of what the search keeps
 
 -- the places of a search, put together
 progress-same : (s : StreamProgress) (p : Progress) → p.from ≡ s.from → p.at ≡ s.at → p.last ≡ s.last → record { sid = p.sid; from = s.from; at = s.at; last = s.last } ≡ p

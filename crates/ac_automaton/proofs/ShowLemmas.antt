@@ -36,7 +36,7 @@ shows-dead A a asked cursor r standard inverse is dead found place =
     let none = ending_from-dead (A.built a).dictionary asked.anchored (walked s cursor) cursor.at at inverse dead in
     (shows-none (A.Reaches a asked.anchored) (A.matches a) (A.built a).dictionary s (ending_from (walked s cursor) cursor.at) r none found place, inl place)
 
--- else what it tells first
+-- else the first that it has
 pub shows-told : {S : Type 0} (A : Ghosts S) (a : S) (asked : Asked) (cursor : Cursor) (r : Option Shown)
     → (A.built a).dictionary.kind ≡ Standard → IsCursor (A.Reaches a asked.anchored) (searched (A.built a) asked) cursor
     → Tells (A.built a).dictionary asked.anchored (read_to (walked (searched (A.built a) asked) cursor) cursor.at) (A.matches a cursor.sid)
@@ -48,7 +48,7 @@ shows-told A a asked cursor (Some r) standard is tells (o, next, found, place, t
     let split = ending_from-split (A.built a).dictionary asked.anchored (walked s cursor) cursor.at (A.matches a cursor.sid) at tells in
     (shows-some (A.Reaches a asked.anchored) (A.matches a) (A.built a).dictionary s (ending_from (walked s cursor) cursor.at) cursor 0 r is split (o, next, found, place, told), inr (next, place))
 
--- a search that stands at a further place is behind an earlier one
+-- a search that stands at a further place stands after an earlier one
 shown-behind : (at : ℕ) (cursor : Cursor) (place : Position) → at < cursor.at → (place ≡ Over) ⊎ ((index : ℕ) × (place ≡ At cursor.sid cursor.from cursor.at index)) → IsBehind at place
 shown-behind at cursor place lt where_ =
     ⊎_elim
@@ -81,7 +81,7 @@ pays-shown b Reaches s from at cursor r x y g h begun lives had where_ =
     pays-at Reaches b.dictionary b.deterministic s from at cursor.at cursor.at cursor.sid cursor.sid x y here.0 r had (here.1 ∙ ap (λ (f : ℕ). At cursor.sid f cursor.at here.0) begun))
     where_
 
--- where nothing is told, the walk goes on after the place
+-- where no state has an occurrence, the walk goes on after the place
 pub walked_on-settled : (b : Built) (Reaches : Anchored → List ℕ → StateID → Type 0) (matches : StateID → List ℕ) (asked : Asked) (from at : ℕ) (cursor : Cursor) (x y : Steps)
     → b.dictionary.kind ≡ Standard → IsCursor (Reaches asked.anchored) (searched b asked) cursor → cursor.from ≡ from
     → Tells b.dictionary asked.anchored (read_to (walked (searched b asked) cursor) cursor.at) (matches cursor.sid)

@@ -1,4 +1,4 @@
--- What a replacement over a stream answers where it did not begin, and what it costs.
+-- What a replacement over a stream returns if it did not begin, and what it costs.
 use Rattle.std.proofs.Common.{◌≡◌, ℕ, ◌+◌, ◌*◌, ◌≤◌, Bool, true, false, List, [], length, Option, Result, Ok, Err, refl, sym, ap, ◌∙◌, subst, arith, zero-add}
 use Rattle.std.specs.Prelude.{IfErr}
 use Rattle.std.proofs.lemmas.List.{append-nil}
@@ -76,7 +76,7 @@ cost-read b s t r0 r1 before after result fresh h =
     let three : moved_of after ≡ moved_of before + counts.2 = counts.3.moved in
     (t.pieces, h.read, record { looked = omega arith; scanned = omega arith; moved = omega arith }, on_ok_weaker result (λ (all : t.at ≡ length (read_by t)). let z : looked_of before + length (read_by t) ≤ looked_of after = omega arith in z) h.searched)
 
--- the same of an answer
+-- the same for a result
 pub accepted-later : {R W : Type 0} (b : Built) (supports : Anchored → Type 0) (r0 r1 : Watched R) (w0 w1 : Watched W) (result : Result (Unit {0}) StreamError) → CanStream b supports → IfErr result IsBegun → AcceptsReplacing b supports r0 r1 w0 w1 result
 accepted-later b supports r0 r1 w0 w1 (Ok done) can begun = can
 accepted-later b supports r0 r1 w0 w1 (Err error) can begun = begun-later b supports r0 r1 w0 w1 error can begun

@@ -1,4 +1,4 @@
--- What a search of a stream gave, of the matches of all that was read: up to its cut, and nothing of what comes behind.
+-- What a search of a stream returned, of the matches of all that was read: those up to its cut, and none that comes after.
 use Rattle.std.proofs.Common.{◌≡◌, ℕ, ◌<◌, ◌≤◌, true, false, List, [], ◌∷◌, ◌++◌, length, take, drop, Option, Some, None, Contains, refl, sym, ap, ◌∙◌, subst, arith, take-append-drop, ⊎_elim}
 use Rattle.std.specs.List.{All, AllByRecursion}
 use Rattle.std.proofs.lemmas.List.{length-take-le}
@@ -20,7 +20,7 @@ use Rattle.ac_automaton.specs.Automaton.{Built}
 use Rattle.ac_automaton.specs.Replace.{LieInOrder, matches_in}
 use Rattle.ac_automaton.proofs.IterLemmas.{occurs-not_empty, repeat-empty}
 
--- where a search that isn't anchored finds nothing more in a beginning of the text, the next match ends behind that beginning
+-- where a search that isn't anchored finds nothing more in a beginning of the text, the next match ends after that beginning
 none-ends_behind : (s : Search) (more : List ℕ) (end at : ℕ) (last : Option ℕ) (r : Occurrence) → s.end ≤ length s.haystack → s.anchored ≡ false → 1 ≤ shortest s.patterns → IsPick Standard s at last None → IsPick Standard (longer s more end) at last (Some r) → r.end ≤ s.end → ⊥
 none-ends_behind s more end at last r inside free some (Here h n) pick early =
     let found = pick-occurs Standard (longer s more end) at last r pick in
@@ -28,11 +28,11 @@ none-ends_behind s more end at last r inside free some (Here h n) pick early =
     h r (occurs-earlier s at found.0 r found.1 (λ anchored. let z : false ≡ true = sym free ∙ anchored in absurd (cc)) here)
 none-ends_behind s more end at last r inside free some (Further b h rep k) pick early = repeat-empty Standard (starting_at s at) last b inside some h rep
 
--- all of these occurrences end behind a place
+-- all of these occurrences end after a place
 abbrev EndBehind : ℕ → List Occurrence → Type 0
 EndBehind place os = AllByRecursion (λ o. place < o.end) os
 
--- The walk of a beginning of a text is what the walk of the text has of it, where each other match ends behind it.
+-- The walk of a beginning of a text is what the walk of the text has of it, where each other match ends after it.
 walk-front : (s : Search) (more : List ℕ) (end at : ℕ) (last : Option ℕ) (patterns : ℕ) (fewer given rest : List Occurrence) → s.end ≤ length s.haystack → s.end ≤ end → s.anchored ≡ false → 1 ≤ shortest s.patterns
     → IsWalk Standard s at last fewer → IsWalk Standard (longer s more end) at last (given ++ rest) → LieInOrder patterns s.end at given → EndBehind s.end rest → fewer ≡ given
 walk-front s more end at last patterns [] [] rest inside le free some g h lies behind = refl
@@ -53,7 +53,7 @@ walk-front s more end at last patterns (f ∷ fs) (o ∷ os) rest inside le free
     let more_same : fs ≡ os = walk-front s more end f.end (Some f.end) patterns fs os rest inside le free some g.1 walk order behind in
     let z : f ∷ fs ≡ o ∷ os = cc in z
 
--- matches of a text that are not empty and begin at a place or behind it end behind it
+-- matches that are not empty and begin at a place or after it end after it
 pub ends-behind : (s : Search) (at : ℕ) (last : Option ℕ) (place : ℕ) (given rest : List Occurrence) → s.end ≤ length s.haystack → 1 ≤ shortest s.patterns → IsWalk Standard s at last (given ++ rest) → AllByRecursion (λ o. place ≤ o.start) rest → EndBehind place rest
 ends-behind s at last place [] [] inside some walk begin = tt
 ends-behind s at last place [] (o ∷ rest) inside some walk begin =
@@ -69,7 +69,7 @@ matches-walk b x standard =
     let s = whole b.dictionary x false in
     subst (λ (kind : MatchKind). IsWalk kind s 0 None (matches_in b x)) standard (walk_of-walk b.dictionary.kind s (omega arith))
 
--- What was given are the matches of the text up to a place, where the others of the text begin there or behind.
+-- The returned matches are those of the text up to a place, where the others of the text begin there or after.
 pub matches-front : (b : Built) (x : List ℕ) (cut patterns : ℕ) (given rest : List Occurrence) → b.dictionary.kind ≡ Standard → 1 ≤ shortest b.dictionary.patterns → cut ≤ length x
     → matches_in b x ≡ given ++ rest → LieInOrder patterns cut 0 given → All (λ o. cut ≤ o.start) rest → matches_in b (take cut x) ≡ given
 matches-front b x cut patterns given rest standard some within is lies begin =

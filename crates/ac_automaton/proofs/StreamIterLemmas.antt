@@ -268,7 +268,7 @@ none-found s u before o stopped finds = ⊎_elim
     (λ (many : ¬ CanBeCounted (read_by s)). many finds.5)
     stopped
 
--- so a match is no answer there
+-- so a match is not the result there
 pub stopped-found : {R : Type 0} (remaining : R → Option (List ℕ)) (s t u : StreamProgress) (before mid after : Watched R) (x y : Steps) (o : Occurrence) → HasTurned remaining s t before mid x y → TurnGives remaining t u mid after (Found o) → ¬ IsStopped s before
 stopped-found remaining s t u before mid after x y o has turn stopped =
     let same = has.first (none-gained s before has.gained stopped has.unended) in
@@ -289,7 +289,7 @@ stopped-failed remaining s t u before mid after x y WriteZero has turn = absurd 
 stopped-failed remaining s t u before mid after x y Memory has turn = absurd turn
 stopped-failed remaining s t u before mid after x y Position has turn = stopped-read remaining s t u before mid after x y turn.0 0 has turn.1
 
--- none is the answer, and all is as it was
+-- none is the result, and everything is unchanged
 pub stopped-over : {R : Type 0} (remaining : R → Option (List ℕ)) (s t u : StreamProgress) (before mid after : Watched R) (x y : Steps) → HasTurned remaining s t before mid x y → TurnGives remaining t u mid after Over → StaysStopped s u before after None
 stopped-over {R} remaining s t u before mid after x y has (inl over) = λ stopped.
     let same = has.first (none-gained s before has.gained stopped has.unended) in (

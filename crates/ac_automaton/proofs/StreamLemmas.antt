@@ -59,13 +59,13 @@ pick-since m x more last at b g h some best =
     let there : IsBest Standard (starting_at (whole m y false) last) (Some (shifted last b)) = (best-of_rest Standard m (whole m y false) last (Some b) (refl, refl) refl (omega arith) (omega arith)).0 longer in
     Here there (repeat-empty Standard (starting_at (whole m y false) last) (Some last) (Some (shifted last b)) (omega arith) some there)
 
--- Where the text since the last match has none, there is no pick in the text as it is.
+-- Where the text since the last match has none, there is no pick in the present text.
 pub pick-none : (m : Dictionary) (x : List ℕ) (last : ℕ) → last ≤ length x → IsBest Standard (whole m (slice_range x last (length x)) false) None → IsPick Standard (whole m x false) last (Some last) None
 pick-none m x last h quiet = Here ((best-of_rest Standard m (whole m x false) last None (refl, refl) refl h (omega arith)).0 quiet) (λ r. r)
 
 -- ---- what comes later
 
--- what occurs behind the last match ends behind the bytes that were searched
+-- what occurs after the last match ends after the bytes that were searched
 ends-behind : (m : Dictionary) (x more : List ℕ) (last at : ℕ) (o : Occurrence) → last ≤ at → at ≤ length x → IsBest Standard (whole m (slice_range x last at) false) None → Occurs (starting_at (whole m (x ++ more) false) last) o → at < o.end
 ends-behind m x more last at o g h quiet occurs = ⊎_elim
     (λ (lt : at < o.end). lt)
@@ -75,7 +75,7 @@ ends-behind m x more last at o g h quiet occurs = ⊎_elim
     absurd (quiet (back_by last o) (subst (λ (l : List ℕ). Occurs (whole m l false) (back_by last o)) (slice_range-append x more last at g h) here)))
     (cases_lt at o.end)
 
--- so it begins at the cut or behind it
+-- so it begins at the cut or after it
 pub begins-behind : (m : Dictionary) (x more : List ℕ) (last at : ℕ) (o : Occurrence) → last ≤ at → at ≤ length x → IsBest Standard (whole m (slice_range x last at) false) None → Occurs (starting_at (whole m (x ++ more) false) last) o → max last (at - max (longest m.patterns) 1) ≤ o.start
 begins-behind m x more last at o g h quiet occurs =
     let ends = ends-behind m x more last at o g h quiet occurs in
@@ -170,7 +170,7 @@ walk-matches b x os standard walk =
     ap (λ (k : MatchKind). walk_of k (whole b.dictionary x false)) standard
     ∙ sym (walk-computed Standard (whole b.dictionary x false) 0 None (omega arith) os walk)
 
--- What is still to come begins at the cut or behind it.
+-- What is still to come begins at the cut or after it.
 pub decided-from : (s : StreamProgress) → s.built.dictionary.kind ≡ Standard → s.last ≤ s.at → s.at ≤ length (read_by s) → IsBest Standard (whole s.built.dictionary (since_last s) false) None → ContinuesWalk s → IsDecided s
 decided-from s standard g h quiet goes = λ more.
     let y = read_by s ++ more in
@@ -196,15 +196,15 @@ all-given s standard h quiet goes =
     let walk = subst (λ (l : List ℕ). IsWalk Standard (whole s.built.dictionary l false) 0 None (s.given ++ [])) none (goes [] [] pick) in
     sym (walk-matches s.built (read_by s) (s.given ++ []) standard walk ∙ append-nil s.given)
 
--- ---- what the states tell
+-- ---- what the lists of states say
 
--- where a state tells nothing, nothing ends where its text ends
+-- where the list of a state is empty, nothing ends where its text ends
 pub nothing-ends : (m : Dictionary) (text : List ℕ) (o : Occurrence) → m.kind ≡ Standard → Tells m No text [] → Occurs (whole m text false) o → o.end ≡ length text → ⊥
 nothing-ends m text o standard tells h e =
     let all : TellsUnanchored Standard m text [] = subst (λ (k : MatchKind). TellsUnanchored k m text []) standard tells in
     Contains-nil o ((all.1 o).1 (h, e))
 
--- Where the states on the way told nothing, nothing ends before the place to which they led.
+-- Where the lists of the states on the way were empty, nothing ends before the place to which they led.
 pub none-ends_before : (m : Dictionary) (x : List ℕ) (last at to : ℕ) (o : Occurrence) → m.kind ≡ Standard → last ≤ at → at ≤ to → to ≤ length x
     → IsBest Standard (whole m (slice_range x last at) false) None
     → ((k : ℕ) → at < k → k < to → Tells m No (slice_range x last k) [])

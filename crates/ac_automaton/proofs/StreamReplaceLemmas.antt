@@ -43,7 +43,7 @@ but_last-push [] piece = refl
 but_last-push (p ∷ []) piece = refl
 but_last-push (p ∷ (q ∷ ps)) piece = ap (λ (t : List (List ℕ)). p ∷ t) (but_last-push (q ∷ ps) piece)
 
--- ---- what devices tell
+-- ---- what the models of devices say
 
 -- one more read
 pub given-more : {R : Type 0} (remaining : R → Option (List ℕ)) (s t : StreamProgress) (old mid new : Watched R) (piece : List ℕ) (failed : ℕ) → HasGiven remaining old mid s.pieces 0 → HasRead remaining s t mid new piece failed → HasGiven remaining old new t.pieces failed
@@ -96,7 +96,7 @@ nothing-matches b (o ∷ os) some walk =
     let within : o.end ≤ 0 = (pick-within Standard s 0 None o walk.0).2 in
     absurd (omega arith)
 
--- ---- what a read leaves as it was
+-- ---- what a read leaves unchanged
 
 module _ {R : Type 0} (remaining : R → Option (List ℕ)) (s t : StreamProgress) (at : ℕ) (r r1 : Watched R) (piece : List ℕ) (failed : ℕ) (place : IsAtCut s at) (read : HasRead remaining s t r r1 piece failed) where
   -- all that was read
@@ -308,7 +308,7 @@ write-begun old new WriteZero kind = tt
 write-begun old new Memory kind = absurd kind
 write-begun old new Position kind = absurd kind
 
--- ---- what a read answered
+-- ---- what a read returned
 
 -- a piece of some bytes isn't empty
 pub piece-some : (piece : List ℕ) (n : ℕ) → length piece ≡ n → 0 < n → piece ≢ []
@@ -379,7 +379,7 @@ module _ {R W : Type 0} (remaining : R → Option (List ℕ)) (contents : W → 
   pub rest-searched : (n : ℕ) → ReadsMore remaining s t r r1 (Ok n) → n ≤ 0 → IsSearched t
   rest-searched n read none = all-searched remaining contents replacements b s t at r0 r r1 w0 w read.0 0 h read.1 (piece-none read.0 n read.2 none)
 
--- what holds, holds where the answer is a value
+-- what holds, holds where the result is a value
 pub on-ok : {P : Type 0} (result : Result (Unit {0}) StreamError) → P → OnOk result P
 on-ok (Ok done) p = p
 on-ok (Err error) p = tt

@@ -145,7 +145,7 @@ fresh-right b Reaches start n count buffer standard filled begins live long none
 
 -- ---- a read
 
--- what is held is so much more, behind what it was
+-- what is held has grown by this much, at its end
 pub record IsGrown (old new : Held) (piece : List ℕ) : Type 0 where
   pub bytes : new.bytes ≡ old.bytes ++ piece
   pub read : new.read ≡ old.read + length piece
@@ -157,7 +157,7 @@ pub record IsGrown (old new : Held) (piece : List ℕ) : Type 0 where
 abbrev pub after_read : StreamProgress → List ℕ → StreamProgress
 after_read s piece = record s { pieces = s.pieces ++ piece ∷ [] }
 
--- it read so many bytes more
+-- it read this many bytes more
 pub read-more : (s : StreamProgress) (piece : List ℕ) → read_by (after_read s piece) ≡ read_by s ++ piece
 read-more s piece = concat-append s.pieces (piece ∷ []) ∙ ap (λ (l : List ℕ). read_by s ++ l) (append-nil piece)
 
@@ -317,7 +317,7 @@ read-failed {R} remaining before after b Reaches start pieces all count p old ne
           }),
     )
 
--- After a read that gave some: what is kept is right, and it gave so many bytes.
+-- After a read that returned some bytes: what is kept is right, and it returned this many bytes.
 pub read-gave : {R : Type 0} (remaining : R → Option (List ℕ)) (before after : Watched R) (b : Built) (Reaches : List ℕ → StateID → Type 0) (start : StateID) (pieces all : List (List ℕ)) (count : ℕ) (p : Progress) (old new : Held) (sums : Steps) (was : Bool) (n : ℕ) (held : List ℕ)
     → IsStreamSearch Reaches (progress_at b pieces count p old sums) start p.sid count old was
     → ((live : Option ℕ) × IsLive b.dictionary false (since_last (progress_at b pieces count p old sums)) live)

@@ -22,12 +22,12 @@ pub lies-wider : (patterns len more at : ℕ) (os : List Occurrence) → len ≤
 lies-wider patterns len more at [] le lies = tt
 lies-wider patterns len more at (o ∷ os) le lies = (lies.0, lies.1, lies.2, omega arith, lies-wider patterns len more o.end os le lies.4)
 
--- one more match, which begins behind a place before which the others end
+-- one more match, which begins after a place before which the others end
 pub lies-push : (patterns len at : ℕ) (os : List Occurrence) (o : Occurrence) → LieInOrder patterns len at os → at ≤ len → len ≤ o.start → o.start ≤ o.end → o.pattern < patterns → LieInOrder patterns o.end at (os ++ o ∷ [])
 lies-push patterns len at [] o lies from before order number = (number, omega arith, order, omega arith, tt)
 lies-push patterns len at (q ∷ os) o lies from before order number = (lies.0, lies.1, lies.2, omega arith, lies-push patterns len q.end os o lies.4 lies.3 before order number)
 
--- the last of matches that lie in order, where they all begin at a place or behind it
+-- the last of matches that lie in order, where they all begin at a place or after it
 pub lies-behind : (patterns len at place : ℕ) (os rest : List Occurrence) → LieInOrder patterns len at (os ++ rest) → AllByRecursion (λ o. place ≤ o.start) rest → LieInOrder patterns len place rest
 lies-behind patterns len at place [] [] lies begin = tt
 lies-behind patterns len at place [] (o ∷ rest) lies begin = (lies.0, begin.0, lies.2, lies.3, lies.4)
@@ -41,7 +41,7 @@ cut-within s course = let a = course.ordered.0 in let e = course.ordered.1 in om
 pub near-later : (m : Dictionary) (x : List ℕ) (place later : ℕ) → place ≤ later → IsNear m x place → IsNear m x later
 near-later m x place later le near = record { kept = let k = near.kept in omega arith; all = λ done. let a = near.all done in omega arith }
 
--- the next match begins at the cut or behind it
+-- the next match begins at the cut or after it
 next-begins : (all given rest others : List Occurrence) (o : Occurrence) (cut : ℕ) → all ≡ given ++ rest → all ≡ (given ++ o ∷ []) ++ others → All (λ q. cut ≤ q.start) rest → cut ≤ o.start
 next-begins all given rest others o cut one two begin =
     let same : rest ≡ o ∷ others = append_cancel_left given rest (o ∷ others) (sym one ∙ two ∙ append_assoc given (o ∷ []) others) in
@@ -55,7 +55,7 @@ match-begins s t o same before after is =
     let all : matches_in t.built (read_by t ++ []) ≡ matches_in s.built (read_by s ++ []) = ap (λ (b : Built). matches_in b (read_by t ++ [])) same.built ∙ ap (λ (pieces : List (List ℕ)). matches_in s.built (concat pieces ++ [])) same.pieces in
     next-begins (matches_in s.built (read_by s ++ [])) s.given one.0 two.0 o (cut_of s) one.1 (sym all ∙ two.1 ∙ ap (λ (os : List Occurrence). os ++ two.0) is) one.2
 
--- what begins at a place or behind it begins at an earlier place or behind it
+-- what begins at a place or after it begins at an earlier place or after it
 sooner : (place later : ℕ) (os : List Occurrence) → place ≤ later → AllByRecursion (λ o. later ≤ o.start) os → AllByRecursion (λ o. place ≤ o.start) os
 sooner place later [] le begin = tt
 sooner place later (o ∷ os) le begin = let first : later ≤ o.start = begin.0 in (omega arith, sooner place later os le begin.1)
@@ -103,7 +103,7 @@ module _ (replacements : List (List ℕ)) (s t : StreamProgress) (at : ℕ) (o :
   same-read : read_by t ≡ read_by s
   same-read = ap concat finds.0.pieces
 
-  -- the match begins behind what was written
+  -- the match begins after what was written
   pub match-behind : at ≤ o.start
   match-behind = let from = match-begins s t o finds.0 placed.course.decided course.decided finds.1 in let le = placed.cut in omega arith
 

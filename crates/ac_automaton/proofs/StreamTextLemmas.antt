@@ -29,7 +29,7 @@ drop-take_is x a q le within =
     let len : length (drop a (take q x)) ≡ q - a = omega (arith, length-drop a (take q x), length-take-le q x within) in
     sym (take_all (q - a) (drop a (take q x)) (omega arith)) ∙ slice_range-take x q a q le (omega arith) within
 
--- the text grows by what stands between two places, where no match ends behind the first
+-- the text grows by what stands between two places, where no match ends after the first
 pub replaced-grows : (x : List ℕ) (replacements : List (List ℕ)) (patterns a p q : ℕ) (os : List Occurrence) → LieInOrder patterns p a os → a ≤ p → p ≤ q → q ≤ length x
     → replaced_from a (take p x) replacements os ++ slice_range x p q ≡ replaced_from a (take q x) replacements os
 replaced-grows x replacements patterns a p q [] lies from le within = drop-split x a p q from le within
@@ -77,7 +77,7 @@ drop-replaced x replacements patterns a p (o ∷ rest) from within lies =
     sym (append_assoc (drop a (take p x)) (slice_range x p o.start ++ replacement) behind)
     ∙ ap (λ (t : List ℕ). t ++ behind) (sym (append_assoc (drop a (take p x)) (slice_range x p o.start) replacement) ∙ ap (λ (t : List ℕ). t ++ replacement) part)
 
--- the text up to a place that no match lies across, and what comes of the text behind it, is the whole text
+-- the text up to a place that no match lies across, and what comes of the text after it, is the whole text
 pub replaced-split : (x : List ℕ) (replacements : List (List ℕ)) (patterns a p : ℕ) (os rest : List Occurrence) → LieInOrder patterns p a os → LieInOrder patterns (length x) p rest → a ≤ p → p ≤ length x
     → replaced_from a (take p x) replacements os ++ replaced_from p x replacements rest ≡ replaced_from a x replacements (os ++ rest)
 replaced-split x replacements patterns a p [] rest lies after from within = drop-replaced x replacements patterns a p rest from within after

@@ -20,13 +20,13 @@ use Rattle.ac_automaton.proofs.StreamCutLemmas.{matches-cut}
 use Rattle.ac_automaton.proofs.StreamSendLemmas.{ReadsNothing-then, cut-placed, cut-within, lies-wider, match-behind, match-none, match-placed, near-later}
 use Rattle.ac_automaton.proofs.WriterChainLemmas.{HasTaken-from_front, chain-grows, chain-push, slice_range-front}
 
--- the matches that are left of what was read: all begin at the cut or behind it
+-- the matches that are left of what was read: all begin at the cut or after it
 pub rest-left : (s : StreamProgress) → IsOnCourse s → (rest : List Occurrence) × (matches_read s ≡ s.given ++ rest) × All (λ o. cut_of s ≤ o.start) rest
 rest-left s course =
     let decided = course.decided [] in
     (decided.0, ap (matches_in s.built) (sym (append-nil (read_by s))) ∙ decided.1, decided.2)
 
--- what begins behind a place begins at an earlier one or behind it
+-- what begins after a place begins at an earlier one or after it
 pub all-later : (place later : ℕ) (os : List Occurrence) → place ≤ later → All (λ o. later ≤ o.start) os → All (λ o. place ≤ o.start) os
 all-later place later os le all = λ (k : ℕ) (d : Occurrence) (lt : k < length os). let late = all k d lt in let z : place ≤ (slice_index_or os k d).start = omega arith in z
 
@@ -96,7 +96,7 @@ module _ {F W : Type 0} (contents : W → Option (List ℕ)) (g : StreamReplacer
   -- ---- one match
 
   module _ (s t : StreamProgress) (at : ℕ) (o : Occurrence) (placed : IsPlaced s at) (course : IsOnCourse t) (finds : FindsHeld s (Some o) t) where
-    -- it begins behind what was written
+    -- it begins after what was written
     begins-behind : at ≤ o.start
     begins-behind = match-behind [] s t at o placed course finds
 
@@ -116,7 +116,7 @@ module _ {F W : Type 0} (contents : W → Option (List ℕ)) (g : StreamReplacer
       to-match : (first : F) (begun : Watched W) → IsWriterChain contents g (read_by s) 0 s.given at first begun f old → IsWriterChain contents g (read_by s) 0 s.given o.start first begun f mid
       to-match first begun chain = chain-grows contents g (read_by s) (length s.built.dictionary.patterns) 0 s.given at o.start first f begun old mid placed.lies (omega arith) begins-behind chain taken
 
-      -- the closure refused it
+      -- the closure failed at it
       pub match-refused : (r : Result (Unit {0}) StreamError) (error : StreamError) → RepliesAt g f o matched mid r after new → r ≡ Err error → StopsChain contents g s at f old new error
       match-refused r error reply answer =
           let left = next-left s t o course finds in

@@ -128,7 +128,7 @@ module _ {F W : Type 0} (contents : W → Option (List ℕ)) (g : StreamReplacer
         (All-from_recursion (λ (o : Occurrence). length x ≤ o.start) [] tt) near-stays chain-stays (is ∙ sym (take_rest x at)) took reads kind in
         (t.pieces, 0, subst (HasGiven remaining r0 r1 t.pieces) fine given-read, fit-read course, inr (subst (λ (c : Built). IsStreamFault contents g c t.pieces 0 first w0 w1 error) built-read fault))
 
-    -- the same by the answer
+    -- the same by the result
     pub rest-answered : (w1 : Watched W) (bytes : List ℕ) (result : Result (Unit {0}) StreamError) → IsOnCourse t → CanBeCounted (read_by t) → failed ≡ 0 → piece ≡ [] → bytes ≡ drop at (read_by t)
         → WritesWhole contents w w1 bytes result → NoneRead w w1 → ReadsAndReplaces contents g remaining b first r0 r1 w0 w1 result
     rest-answered w1 bytes (Ok done) course countable fine none is took reads =

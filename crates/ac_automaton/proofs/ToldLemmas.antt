@@ -117,7 +117,7 @@ told-standard m text ns earlier tells =
     subst (λ (r : Option Occurrence). IsBest Standard (whole m text false) r) (slice_get-map (ending m text) ns 0)
     (best-first (whole m text false) (length text) (map (ending m text) ns) (earlier-ends Standard m false text earlier) tells)
 
--- where it is a leftmost one, and asked for its kind
+-- where it is a leftmost one, in a search of its own kind
 told-leftmost : (kind : MatchKind) (m : Dictionary) (text ns : List ℕ) (r : Option Occurrence) → kind ≢ Standard → IsEarlier kind m false text r → TellsUnanchored kind m text ns → IsBest kind (whole m text false) (option_or (option_map (ending m text) (slice_get ns 0)) r)
 told-leftmost Standard m text ns r leftmost earlier tells = absurd (leftmost refl)
 told-leftmost LeftmostFirst m [] [] r leftmost earlier tells = earlier-stays LeftmostFirst m false [] r earlier (λ o best. absurd (tells o best.0))
@@ -138,7 +138,7 @@ option_or-none (Some x) = refl
 earlier-none : (kind other : MatchKind) (m : Dictionary) (anchored : Bool) (text : List ℕ) → IsEarlier kind m anchored text None → IsEarlier other m anchored text None
 earlier-none kind other m anchored text earlier = record { least = earlier.least }
 
--- where it is a leftmost one, and asked for the standard best: nothing ended before
+-- where it is a leftmost one, in a search for the standard best: nothing ended before
 told-earliest : (kind : MatchKind) (m : Dictionary) (text ns : List ℕ) → kind ≢ Standard → IsEarlier Standard m false text None → TellsUnanchored kind m text ns → IsBest Standard (whole m text false) (option_map (ending m text) (slice_get ns 0))
 told-earliest kind m text ns leftmost earlier tells =
     best-one_end kind (whole m text false) (length text) (option_map (ending m text) (slice_get ns 0)) (earlier-ends Standard m false text earlier)
@@ -204,7 +204,7 @@ anchored-new_first m text old new p inverse leftmost g h sooner entered = by m.k
         subst (λ (k : MatchKind). preference k old new ≡ Greater) (sym is)
         (ap (λ (r : Ordering). ordering_then r (ordering_then (nat_cmp new.end old.end) (nat_cmp old.pattern new.pattern))) (nat_cmp-equal old.start new.start starts) ∙ ap (λ (r : Ordering). ordering_then r (nat_cmp old.pattern new.pattern)) (nat_cmp-greater new.end old.end sooner))
 
--- an asked kind is the standard one or the dictionary's own
+-- the kind of a search is the standard one or the dictionary's own
 pub asked_cases : (kind : MatchKind) (earliest : Bool) → (asked_kind kind earliest ≡ Standard) ⊎ ((asked_kind kind earliest ≡ kind) × (kind ≢ Standard) × (earliest ≡ false))
 asked_cases kind true = inl refl
 asked_cases Standard false = inl refl

@@ -1,4 +1,4 @@
--- How a walk ends, and how it goes on to the next state that is asked.
+-- How a walk ends, and how it goes on to the next special state.
 use Rattle.std.proofs.Common.{◌≡◌, ◌≢◌, ⊎_elim, ℕ, zero, suc, ◌+◌, ◌-◌, ◌*◌, ◌<◌, ◌≤◌, ◌&&◌, not, Bool, true, false, List, [], ◌∷◌, ◌++◌, length, take, drop, Option, Some, None, get_or, slice_get, slice_range, sym, ap, subst, refl, ◌∙◌, arith, length-append, take-append-drop}
 use Rattle.std.specs.Option.{option_map, option_or, is_some}
 use Rattle.std.proofs.lemmas.Bool.{false≢true, cases_lt}
@@ -68,7 +68,7 @@ done-over m anchored earliest deterministic haystack span at best s t more withi
 done-over m anchored earliest deterministic haystack span at best s t more within has long (Died dead) = AtDead dead
 done-over m anchored earliest deterministic haystack span at best s t more within has long (Won o standard some) = let r = unshifted span.start has.found o (sym has.kept ∙ some) in AtFirst r.0 standard r.1
 
--- what a walk answers
+-- what a walk returns
 pub answer-says : (m : Dictionary) (anchored : Anchored) (earliest deterministic : Bool) (haystack : List ℕ) (span : Span) (at : ℕ) (best : Option Occurrence) (s t : Steps)
     → span.end ≤ length haystack
     → IsOwnInverse m.pairing
@@ -86,7 +86,7 @@ answer-says m anchored earliest deterministic haystack span at best s t within i
     subst (λ (x : Option Occurrence). IsBest (asked_kind m.kind earliest) (search_of m anchored haystack span) x) (sym has.kept)
     ((best-of_span (asked_kind m.kind earliest) m (search_of m anchored haystack span) has.found (refl, refl) (omega arith) within).0 all)
 
--- what was looked at for so many bytes
+-- what was looked at for this many bytes
 looks-within : (deterministic : Bool) (n k live : ℕ) (s t : Steps) → IsLookups deterministic n 0 live s t → n ≤ k → looked_of t ≤ looked_of s + lookups_per_byte deterministic * k
 looks-within true n k live s t run le = let one = run.one refl in omega arith
 looks-within false n k live s t run le = let bound = run.bound in omega arith
@@ -128,7 +128,7 @@ over-bound : (m : Dictionary) (anchored : Anchored) (earliest deterministic : Bo
 over-bound m anchored earliest deterministic haystack span at best s t None has is standard = let inside = has.inside in omega arith
 over-bound m anchored earliest deterministic haystack span at best s t (Some b) has is standard = let end = has.ends b standard is in omega arith
 
--- what a walk cost that answers
+-- what a walk cost that returns
 pub answer-work : (m : Dictionary) (anchored : Anchored) (earliest deterministic : Bool) (haystack : List ℕ) (span : Span) (at : ℕ) (best : Option Occurrence) (s t : Steps)
     → span.end ≤ length haystack
     → IsOwnInverse m.pairing
@@ -160,7 +160,7 @@ unshifted-none : (start : ℕ) (r : Option Occurrence) → shifted_best start r 
 unshifted-none start None e = refl
 unshifted-none start (Some b) e = absurd (let d : Some (shifted start b) ≡ None = e in cc)
 
--- where no byte of a text is live and nothing occurs in it, what occurs in the text and more starts behind the text
+-- where no byte of a text is live and nothing occurs in it, what occurs in the text and more starts after the text
 behind-empty : (m : Dictionary) (text more : List ℕ) (o : Occurrence) → IsOwnInverse m.pairing → ((q : Occurrence) → ¬ Occurs (whole m text false) q) → IsLive m false text (Some (length text)) → Occurs (whole m (text ++ more) false) o → length text ≤ o.start
 behind-empty m text more o inverse none live h = ⊎_elim
     (λ (sooner : o.end < length text). absurd (none o (occurs-front m false text more o (omega arith) h)))
@@ -205,7 +205,7 @@ back-work m anchored earliest deterministic haystack span at best s t has lives 
     let run = has.work lives.0 lives.1 in
     (looks-within deterministic (at - span.start) (at - span.start) (live_len (read haystack span at) lives.0) s t run (omega arith), run.scanned, run.moved)
 
--- ---- on to the next state that is asked
+-- ---- on to the next special state
 
 -- an empty list has no entry that counts
 counted-none : (m : Dictionary) (anchored : Anchored) (bytes : ℕ) → slice_get (counted m (is_anchored anchored) bytes []) 0 ≡ None
@@ -220,7 +220,7 @@ earlier-read : (kind : MatchKind) (m : Dictionary) (anchored : Bool) (haystack :
 earlier-read kind m anchored haystack span at r behind inside best =
     subst (λ (l : List ℕ). IsEarlier kind m anchored l r) (sym (read-more haystack span at behind inside)) (earlier-append kind m anchored (read haystack span at) (get_or haystack at 0) r best)
 
--- states that bring nothing leave the best as it was
+-- states with empty lists leave the best unchanged
 best-quiet : (bytes : ℕ) (m : Dictionary) (anchored : Anchored) (earliest : Bool) (haystack : List ℕ) (span : Span) (at : ℕ) (r : Option Occurrence)
     → IsOwnInverse m.pairing
     → span.start ≤ at

@@ -37,7 +37,7 @@ standard-final m anchored text more b best = (
       (cases_lt (length text) o.end),
 )
 
--- why a walk stops: nothing is left to read, or the text is dead, or it has a match and the first one is asked
+-- why a walk stops: nothing is left to read, or the text is dead, or it has a match and the search is for the first one
 pub data IsOver (m : Dictionary) (anchored : Bool) (kind : MatchKind) (text more : List ℕ) (r : Option Occurrence) : Type 0 where
   AtEnd : more ≡ [] → IsOver m anchored kind text more r
   AtDead : IsLive m anchored text None → IsOver m anchored kind text more r
@@ -52,7 +52,7 @@ best-over m anchored earliest text more r inverse best (AtFirst o standard some)
     (subst (λ (k : MatchKind). IsBest k (whole m (text ++ more) anchored) (Some o)) (sym standard)
     (standard-final m anchored text more o (subst (λ (k : MatchKind). IsBest k (whole m text anchored) (Some o)) standard (subst (λ (x : Option Occurrence). IsBest (asked_kind m.kind earliest) (whole m text anchored) x) some best))))
 
--- ---- how far a walk may be behind a match
+-- ---- how far a walk may go past a match
 
 -- a pattern is no longer than the longest
 longest-bound : (ps : List (List ℕ)) (n : ℕ) (p : List ℕ) → slice_get ps n ≡ Some p → length p ≤ longest ps
@@ -92,7 +92,7 @@ live-bound m false text more from o inverse leftmost live h =
 abbrev pub read : List ℕ → Span → ℕ → List ℕ
 read haystack span at = slice_range haystack span.start at
 
--- before the state is asked: the best of what ended before, of a text that was alive up to its last byte
+-- before the list of the state is read: the best of what ended before, of a text that was alive up to its last byte
 pub record HasWalked (m : Dictionary) (anchored : Anchored) (earliest deterministic : Bool) (haystack : List ℕ) (span : Span) (at : ℕ) (best : Option Occurrence) (before after : Steps) : Type 0 where
   pub behind : span.start ≤ at
   pub inside : at ≤ span.end
@@ -159,7 +159,7 @@ taken-occurs kind m anchored text r old n best is =
     let here : IsBest kind (whole m text anchored) (Some (ending m text n)) = subst (λ (x : Option ℕ). IsBest kind (whole m text anchored) (option_or (option_map (ending m text) x) old)) is best in
     here.0
 
--- the state tells the best of the text
+-- the list of the state gives the best of the text
 pub told-walked : (m : Dictionary) (anchored : Anchored) (earliest deterministic : Bool) (haystack : List ℕ) (span : Span) (at : ℕ) (best : Option Occurrence) (ns : List ℕ) (s t : Steps)
     → span.end ≤ length haystack
     → IsOwnInverse m.pairing

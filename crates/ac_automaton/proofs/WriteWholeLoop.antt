@@ -19,7 +19,7 @@ pub record HasWritten {T : Type 0} (contents : T → Option (List ℕ)) (old new
 abbrev left : ℕ → List ℕ → List ℕ
 left written bytes = take (length bytes - written) (drop written bytes)
 
--- a beginning of what is left goes behind the beginning that was written
+-- a beginning of what is left goes after the beginning that was written
 take_further : (written n : ℕ) (bytes : List ℕ) → take (written + n) bytes ≡ take written bytes ++ take n (left written bytes)
 take_further written n bytes =
     let whole = take-append-drop written (take (written + n) bytes) in
@@ -28,7 +28,7 @@ take_further written n bytes =
     let rest = take_rest bytes written in
     sym whole ∙ ap (λ (l : List ℕ). l ++ drop written (take (written + n) bytes)) front ∙ ap (λ (l : List ℕ). take written bytes ++ l) (back ∙ ap (take n) (sym rest))
 
--- so many more were taken of what is left
+-- this many more were taken of what is left
 pub written_more : {T : Type 0} (contents : T → Option (List ℕ)) (old mid new : Watched T) (bytes : List ℕ) (written n : ℕ)
     → HasWritten contents old mid bytes written
     → WriteTook mid new (left written bytes) n

@@ -1,4 +1,4 @@
--- What an automaton was built as, what its calls on states say, and what its searches answer and cost.
+-- What an automaton was built as, what its calls on states return, and what its searches return and cost.
 use Rattle.std.specs.Prelude.{◌≡◌, ◌≢◌, ◌⊎◌, ◌↔◌, ℕ, ◌<◌, ◌≤◌, Bool, false, true, List, [], ◌∷◌, ◌++◌, length, take, IsTrue, Option, None, Some, Result, Ok, Err}
 use Rattle.ac_input.specs.Number.{StateID}
 use Rattle.ac_input.specs.declared.search.Anchored.{Anchored}
@@ -16,19 +16,19 @@ use Rattle.ac_automaton.specs.declared.automaton.Advance.{Advance}
 use Rattle.ac_automaton.specs.declared.error.MatchErrorKind.{MatchErrorKind}
 use Rattle.ac_automaton.specs.declared.error.MatchErrorKind.TheVariants.{InvalidInputAnchored, InvalidInputUnanchored}
 
--- What an automaton was built as: what it finds, whether it looks at exactly one state for a byte, and the prefilter that it holds.
+-- What an automaton was built as: what it finds, whether it looks at exactly one state for a byte, and its prefilter.
 pub record Built : Type 0 where
   pub dictionary : Dictionary
   pub deterministic : Bool
   pub prefilter : Option Filter
 
--- the prefilter that it holds was made for its own dictionary
+-- its prefilter was made for its own dictionary
 abbrev pub OwnsPrefilter : Built → Type 0
 OwnsPrefilter b = (f : Filter) → b.prefilter ≡ Some f → f.dictionary ≡ b.dictionary
 
 -- ---- states
 
--- A state that is reached from one start, by some text. By which is not told: a caller may know only that there is one.
+-- A state that is reached from one start, by some text. Which text is left open: a caller may know only that there is one.
 abbrev pub IsReached : (List ℕ → StateID → Type 0) → StateID → Type 0
 IsReached Reaches sid = ∥ ((text : List ℕ) × Reaches text sid) ∥₁
 
@@ -52,43 +52,43 @@ IsReadCost b Reaches anchored sid bytes old new =
     → IsLive b.dictionary (is_anchored anchored) (text ++ bytes) after
     → IsLookups b.deterministic (length bytes) (live_len text before) (live_len (text ++ bytes) after) old new
 
--- a text after which nothing more can be found
+-- a dead text: no later byte can lead to a match
 abbrev pub IsDead : Built → Anchored → List ℕ → Type 0
 IsDead b anchored text = IsLive b.dictionary (is_anchored anchored) text None
 
--- the answer tells whether the text is dead
+-- the result says whether the text is dead
 abbrev pub TellsDead : Built → Bool → Anchored → List ℕ → Type 0
 TellsDead b dead anchored text = IsTrue dead ↔ IsDead b anchored text
 
--- at a start that matches nothing no byte that was read is live any more
+-- at a start that matches nothing none of the bytes read is live any more
 abbrev pub StartIsEmpty : Built → List ℕ → Bool → Anchored → List ℕ → Type 0
 StartIsEmpty b matches start anchored text = IsTrue start → matches ≡ [] → IsLive b.dictionary (is_anchored anchored) text (Some (length text))
 
--- What the answer whether a state is a start tells: a start is not dead, and one that matches nothing has nothing live; and where
--- nothing is live of what was read, the state is a start.
+-- What `is_start` says about a text: a start is not dead, and one that matches nothing has nothing live; and where nothing is live
+-- of what was read, the state is a start.
 pub record StartTells (b : Built) (matches : List ℕ) (start : Bool) (anchored : Anchored) (text : List ℕ) : Type 0 where
   pub alive : IsTrue start → ¬ IsDead b anchored text
   pub empty : StartIsEmpty b matches start anchored text
   pub back : IsLive b.dictionary (is_anchored anchored) text (Some (length text)) → IsTrue start
 
--- the same of each text by which the state is reached
+-- the same for each text by which the state is reached
 abbrev pub TellsStart : Built → (Anchored → List ℕ → StateID → Type 0) → (StateID → List ℕ) → StateID → Bool → Type 0
 TellsStart b Reaches matches sid start = AtEach Reaches sid (StartTells b (matches sid) start)
 
 -- A state at which a search has more to do than to read on: the text is dead, or patterns match, or it is a start and there is a
--- prefilter to ask.
+-- prefilter to run.
 abbrev pub IsSpecial : Built → List ℕ → Bool → Anchored → List ℕ → Type 0
 IsSpecial b matches start anchored text = IsDead b anchored text ⊎ (matches ≢ []) ⊎ (IsTrue start × (b.prefilter ≢ None))
 
--- at least one byte is taken where there is one, and no more than there are
+-- at least one byte is read if there is one, and no more than there are
 abbrev pub TakesSome : List ℕ → ℕ → Type 0
 TakesSome bytes taken = (taken ≤ length bytes) × (0 < length bytes → 0 < taken)
 
--- no state on the way is special, but for the one after the last of so many bytes
+-- no state on the way is special, except perhaps the last one
 abbrev pub PassesPlain : (List ℕ → StateID → Type 0) → (StateID → Bool) → StateID → List ℕ → ℕ → Type 0
 PassesPlain Reaches special sid bytes taken = (at : ℕ) → 0 < at → at < taken → (mid : StateID) × Leads Reaches sid (take at bytes) mid × ¬ IsTrue (special mid)
 
--- What reading on over bytes gives: it stops at the first state that is special, or after the last byte.
+-- The result of reading on over bytes: it stops at the first state that is special, or after the last byte.
 pub record Advances (Reaches : List ℕ → StateID → Type 0) (special : StateID → Bool) (sid : StateID) (bytes : List ℕ) (stop : Advance) : Type 0 where
   pub taken : TakesSome bytes stop.taken
   pub reads : Leads Reaches sid (take stop.taken bytes) stop.sid
@@ -110,29 +110,29 @@ AdvancesToMatch Reaches matches sid bytes stop = Advances Reaches (is_matching m
 
 -- ---- searches
 
--- why a search of this anchoring is refused where there is no start for it
+-- why a search of this anchoring is an error if there is no start for it
 abbrev pub refusal_of : Anchored → MatchErrorKind
 refusal_of No = InvalidInputUnanchored
 refusal_of Yes = InvalidInputAnchored
 
--- a search is refused: there is no start for its anchoring
+-- a search returns an error: there is no start for its anchoring
 abbrev pub IsStartRefusal : (Anchored → Type 0) → Anchored → MatchErrorKind → Type 0
 IsStartRefusal supports anchored error = ¬ supports anchored × (error ≡ refusal_of anchored)
 
--- the answer is the start of this anchoring, where there is one
+-- the result is the start of this anchoring, if there is one
 abbrev pub AnswersStart : (Anchored → Type 0) → (Anchored → List ℕ → StateID → Type 0) → Anchored → Result StateID MatchErrorKind → Type 0
 AnswersStart supports Reaches anchored (Ok sid) = supports anchored × Reaches anchored [] sid
 AnswersStart supports Reaches anchored (Err error) = IsStartRefusal supports anchored error
 
--- the kind of match that a search asks
+-- the kind of match that a search uses
 abbrev pub kind_asked : Built → Asked → MatchKind
 kind_asked b asked = asked_kind b.dictionary.kind asked.earliest
 
--- the search that is asked
+-- the search that an input describes
 abbrev pub searched : Built → Asked → Search
 searched b asked = search_in b.dictionary asked
 
--- the match that a find answers
+-- the match that a find returns
 abbrev pub IsFound : Built → Asked → Option Occurrence → Type 0
 IsFound b asked r = IsBest (kind_asked b asked) (searched b asked) r
 
@@ -140,12 +140,12 @@ IsFound b asked r = IsBest (kind_asked b asked) (searched b asked) r
 abbrev pub IsFindCost : Built → Asked → Steps → Steps → Option Occurrence → Type 0
 IsFindCost b asked before after r = IsFindWork (kind_asked b asked) b.deterministic (searched b asked) r before after
 
--- the answer is the match of the search, if it has one, where there is a start for it
+-- the result is the match of the search, if it has one, provided that there is a start for it
 abbrev pub AnswersFind : Built → (Anchored → Type 0) → Asked → Result (Option Occurrence) MatchErrorKind → Type 0
 AnswersFind b supports asked (Ok r) = supports asked.anchored × IsFound b asked r
 AnswersFind b supports asked (Err error) = IsStartRefusal supports asked.anchored error
 
--- what that may cost; nothing where the search is refused
+-- what that may cost; nothing if the search is an error
 abbrev pub CostsFind : Built → Asked → Steps → Steps → Result (Option Occurrence) MatchErrorKind → Type 0
 CostsFind b asked before after (Ok r) = IsFindCost b asked before after r
 CostsFind b asked before after (Err error) = after ≡ before

@@ -3,7 +3,7 @@ use Rattle.std.specs.Prelude.{◌≡◌, ℕ, ◌+◌, ◌-◌, ◌*◌, ◌≤�
 use Rattle.ac_automaton.specs.Moved.{HasGiven}
 use Rattle.ac_automaton.specs.declared.watched.Watched.{Watched}
 
--- What is held: some bytes, in a room that never grows; how many of them are kept at most where the room is full; how many were
+-- What is held: some bytes, in a room that never grows; how many of them are kept at most when the room is full; how many were
 -- read so far, and how many were moved within the room.
 pub record Held : Type 0 where
   pub bytes : List ℕ
@@ -12,11 +12,11 @@ pub record Held : Type 0 where
   pub read : ℕ
   pub moved : ℕ
 
--- how many bytes are kept at most: as many as the longest pattern has, and one at least
+-- how many bytes are kept at most: as many as the longest pattern has, and at least one
 abbrev pub kept_for : ℕ → ℕ
 kept_for longest = max longest 1
 
--- how much room there is for so many that are kept: they take an eighth of it at most
+-- how much room there is for this many kept bytes: they take an eighth of it at most
 abbrev pub room_for : ℕ → ℕ
 room_for keep = max (keep * 8) 65536
 
@@ -24,26 +24,26 @@ room_for keep = max (keep * 8) 65536
 abbrev pub nothing_held : ℕ → Held
 nothing_held keep = record { bytes = []; room = room_for keep; keep = keep; read = 0; moved = 0 }
 
--- What holds of a buffer at any time. For each byte that was moved seven were read; what is held past those that may be kept was
--- read and not yet paid for.
+-- What holds of a buffer at any time. For each byte that was moved seven were read; the bytes held past those that may be kept
+-- were read and not yet paid for.
 pub record IsRollPaid (h : Held) : Type 0 where
   pub keeps : 1 ≤ h.keep
   pub room : h.room ≡ room_for h.keep
   pub within : length h.bytes ≤ h.room
   pub paid : 7 * h.moved + (length h.bytes - h.keep) ≤ h.read
 
--- one read gave so many bytes, which are held after the others
+-- one read returned this many bytes, which are held after the others
 pub record Filled {R : Type 0} (remaining : R → Option (List ℕ)) (old new : Held) (before after : Watched R) (n : ℕ) : Type 0 where
   pub piece : List ℕ
   pub count : length piece ≡ n
   pub held : new ≡ record old { bytes = old.bytes ++ piece; read = old.read + n }
   pub read : HasGiven remaining before after (piece ∷ []) 0
 
--- a read filled the buffer further, or failed and left it as it was
+-- a read filled the buffer further, or failed and left it unchanged
 abbrev pub Fills : {R E : Type 0} → (R → Option (List ℕ)) → Held → Held → Watched R → Watched R → Result ℕ E → Type 0
 Fills remaining old new before after (Ok n) = Filled remaining old new before after n
 Fills remaining old new before after (Err error) = HasGiven remaining before after ([] ∷ []) 1 × (new ≡ old)
 
--- what is held from a place on was moved to the front
+-- the held bytes from a place on were moved to the front
 abbrev pub rolled : Held → ℕ → Held
 rolled old from = record old { bytes = drop from old.bytes; moved = old.moved + (length old.bytes - from) }

@@ -1,4 +1,4 @@
--- Where a search stands, what a state tells there, and what it costs to read on.
+-- Where a search stands, which match the state has there, and what it costs to read on.
 use Rattle.std.specs.Prelude.{◌≡◌, ℕ, ◌-◌, ◌<◌, ◌≤◌, ◌==◌, ◌||◌, not, Bool, List, [], length, Option, Some, get_or, slice_get, slice_range, option_map}
 use Rattle.std.specs.List.{filter}
 use Rattle.ac_input.specs.Number.{StateID}
@@ -35,7 +35,7 @@ pub record IsQuiet (m : Dictionary) (anchored : Anchored) (text : List ℕ) : Ty
   pub nothing : Tells m anchored text []
   pub alive : (from : ℕ) × IsLive m (is_anchored anchored) text (Some from)
 
--- A cursor went further on: nothing was told on the way, and that is what was looked at.
+-- A cursor went further on: no match was met on the way, and this is what was looked at.
 pub record HasReadOn (b : Built) (anchored : Anchored) (s : Search) (from to : Cursor) (before after : Steps) : Type 0 where
   pub further : from.at < to.at
   pub quiet : (at : ℕ) → from.at < at → at < to.at → IsQuiet b.dictionary anchored (read_to (walked s from) at)
@@ -44,7 +44,7 @@ pub record HasReadOn (b : Built) (anchored : Anchored) (s : Search) (from to : C
       → IsLive b.dictionary (is_anchored anchored) (read_to (walked s from) to.at) live_after
       → IsLookups b.deterministic (to.at - from.at) (live_len (read_to (walked s from) from.at) live) (live_len (read_to (walked s from) to.at) live_after) before after
 
--- Whether an entry of a state counts that was reached by so many bytes: from the anchored start those alone that are as long.
+-- Whether an entry counts, for a state that was reached by this many bytes: from the anchored start only entries that are as long.
 abbrev pub counts : Dictionary → Bool → ℕ → ℕ → Bool
 counts m anchored read n = not anchored || (length (get_or m.patterns n []) == read)
 
@@ -52,15 +52,15 @@ counts m anchored read n = not anchored || (length (get_or m.patterns n []) == r
 abbrev pub counted : Dictionary → Bool → ℕ → List ℕ → List ℕ
 counted m anchored read ns = filter (counts m anchored read) ns
 
--- the match that a list tells at a place: its first entry
+-- the match of a list at a place: its first entry
 abbrev pub IsFirstAt : Dictionary → ℕ → List ℕ → Occurrence → Type 0
 IsFirstAt m at ns o = Some o ≡ option_map (ending_at m at) (slice_get ns 0)
 
--- the match that it tells after so many bytes: the first that counts
+-- the match of the list after this many bytes: the first entry that counts
 abbrev pub taken : Dictionary → Anchored → ℕ → ℕ → List ℕ → Option Occurrence
 taken m anchored at bytes ns = option_map (ending_at m at) (slice_get (counted m (is_anchored anchored) bytes ns) 0)
 
--- ---- the same, of a search that is asked
+-- ---- the same, for the search of an input
 
 -- the state was reached by bytes of the input
 abbrev pub StandsIn : Built → (Anchored → List ℕ → StateID → Type 0) → Asked → Cursor → Type 0
@@ -70,7 +70,7 @@ StandsIn b Reaches asked cursor = IsCursor (Reaches asked.anchored) (searched b 
 abbrev pub ReadsFurther : Built → Asked → Cursor → Cursor → Steps → Steps → Type 0
 ReadsFurther b asked from to before after = HasReadOn b asked.anchored (searched b asked) from to before after
 
--- the answer is the match that the state tells where a walk stands
+-- the result is the match of the state where a walk stands
 abbrev pub IsTaken : Built → (StateID → List ℕ) → Asked → Cursor → Option Occurrence → Type 0
 IsTaken b matches asked cursor r = r ≡ taken b.dictionary asked.anchored cursor.at (cursor.at - cursor.from) (matches cursor.sid)
 
@@ -78,6 +78,6 @@ IsTaken b matches asked cursor r = r ≡ taken b.dictionary asked.anchored curso
 abbrev pub IsReachedWithin : (List ℕ → StateID → Type 0) → StateID → ℕ → Type 0
 IsReachedWithin Reaches sid at = (text : List ℕ) × Reaches text sid × (length text ≤ at)
 
--- the answer is the match that a state tells at the end of a span, of patterns that are as long as the span
+-- the result is the match of a state at the end of a span, by patterns that are as long as the span
 abbrev pub IsWholeTaken : Built → (StateID → List ℕ) → StateID → Span → Option Occurrence → Type 0
 IsWholeTaken b matches sid span r = r ≡ taken b.dictionary Yes span.end (span.end - span.start) (matches sid)

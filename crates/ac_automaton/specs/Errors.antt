@@ -7,7 +7,7 @@ use Rattle.ac_automaton.specs.declared.error.ReplaceError.TheVariants.{Match, Me
 use Rattle.ac_automaton.specs.declared.error.StreamError.{StreamError}
 use Rattle.ac_automaton.specs.declared.error.StreamError.TheVariants.{Config, Read, Write, WriteZero, Memory, Position}
 
--- the text of a refused search
+-- the text of a search error
 abbrev pub match_error_text : MatchErrorKind → List ℕ
 match_error_text InvalidInputAnchored = codes "anchored search is not supported"
 match_error_text InvalidInputUnanchored = codes "unanchored search is not supported"
@@ -15,7 +15,7 @@ match_error_text (UnsupportedStream got) = codes "stream search needs the standa
 match_error_text (UnsupportedOverlapping got) = codes "overlapping search needs the standard kind"
 match_error_text UnsupportedEmpty = codes "stream search takes no empty pattern"
 
--- the text of a refused replacement
+-- the text of a replacement error
 abbrev pub replace_error_text : ReplaceError → List ℕ
 replace_error_text (Match error) = match_error_text error
 replace_error_text NoMemory = codes "out of memory"

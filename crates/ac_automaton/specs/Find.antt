@@ -1,4 +1,4 @@
--- How a part of a search ends, what a prefilter's answer means for it, and what that costs.
+-- How a part of a search ends, what a prefilter's result means for it, and what that costs.
 use Rattle.std.specs.Prelude.{◌≡◌, ◌≢◌, ◌⊎◌, ℕ, ◌+◌, ◌-◌, ◌*◌, ◌<◌, ◌≤◌, Bool, List, [], Option, None, Some}
 use denote.Ref.{Bor}
 use Rattle.ac_input.specs.Number.{StateID}
@@ -17,16 +17,17 @@ use Rattle.ac_automaton.specs.declared.automaton.Automaton.{Ghosts}
 use Rattle.ac_automaton.specs.declared.cursor.End.{End}
 use Rattle.ac_automaton.specs.declared.cursor.End.TheVariants.{Found, Idle}
 
--- the search that is asked, from a place on
+-- the search of an input, from a place on
 abbrev pub search_from : Built → Asked → ℕ → Search
 search_from b asked at = starting_at (searched b asked) at
 
--- How a walk from the start of the span ends: this is the answer; or it is back at the start, and nothing starts before that place.
+-- How a walk from the start of the span ends: this is the result; or it is back at the start, and nothing starts before that
+-- place.
 abbrev pub EndSays : MatchKind → Search → End (Option Occurrence) → Type 0
 EndSays kind s (Found r) = IsBest kind s r
 EndSays kind s (Idle at) = (s.start < at) × (at ≤ s.end) × ((o : Occurrence) → Occurs s o → at ≤ o.start)
 
--- the same of a walk from a place on of the search that is asked
+-- the same for a walk from a place on of an input's search
 abbrev pub WalkSays : Built → Asked → ℕ → End (Option Occurrence) → Type 0
 WalkSays b asked at end = EndSays (kind_asked b asked) (search_from b asked at) end
 
@@ -45,13 +46,13 @@ pub record MayGoOnFrom (s : Search) (at : ℕ) : Type 0 where
   pub within : at ≤ s.end
   pub none : (o : Occurrence) → Occurs s o → at ≤ o.start
 
--- what a prefilter's answer means: this is the answer; or the search goes on from here, and nothing begins before
+-- what a prefilter's result means: this is the match; or the search goes on from here, and nothing begins before
 abbrev pub CandidateSays : MatchKind → Search → End (Option Occurrence) → Type 0
 CandidateSays kind s (Found r) = IsBest kind s r
 CandidateSays kind s (Idle at) = MayGoOnFrom s at
 
--- What it costs to be told. No state is looked at. The scans for bytes cover places of the span, each before the end of every
--- occurrence; and where the search goes on the last of them is at most 254 after that place.
+-- What a prefilter's call costs. No state is looked at. The scans for bytes cover places of the span, each before the end of every
+-- occurrence; and if the search goes on the last of them is at most 254 after that place.
 pub record IsCandidateWork (s : Search) (told : End (Option Occurrence)) (before after : Steps) : Type 0 where
   pub looked : looked_of after ≡ looked_of before
   pub within : scanned_of after + s.start ≤ scanned_of before + s.end
@@ -59,13 +60,13 @@ pub record IsCandidateWork (s : Search) (told : End (Option Occurrence)) (before
   pub near : (at : ℕ) → told ≡ Idle at → scanned_of after + s.start ≤ scanned_of before + at + 255
   pub moved : moved_of after ≡ moved_of before
 
--- what a search may have cost that has come to a place
+-- what a search may have cost when it has come to a place
 pub record IsWorkTo (deterministic : Bool) (s : Search) (at : ℕ) (before after : Steps) : Type 0 where
   pub looked : looked_of after ≤ looked_of before + lookups_per_byte deterministic * (at - s.start)
   pub scanned : scanned_of after ≤ scanned_of before + 256 * (at - s.start)
   pub moved : moved_of after ≡ moved_of before
 
--- what a walk may cost for which a prefilter was asked
+-- what a walk may cost that follows a call of a prefilter
 abbrev pub IsSearchWork : MatchKind → Bool → Search → End (Option Occurrence) → Steps → Steps → Type 0
 IsSearchWork kind deterministic s (Found r) before after = IsFindWork kind deterministic s r before after
 IsSearchWork kind deterministic s (Idle at) before after = IsWorkTo deterministic s at before after
@@ -74,19 +75,19 @@ IsSearchWork kind deterministic s (Idle at) before after = IsWorkTo deterministi
 abbrev pub IsSearchCost : Built → Asked → ℕ → End (Option Occurrence) → Steps → Steps → Type 0
 IsSearchCost b asked at end before after = IsSearchWork (kind_asked b asked) b.deterministic (search_from b asked at) end before after
 
--- the same of a prefilter's answer from a place on of the search that is asked, and of its cost
+-- the same for a prefilter's result from a place on of an input's search, and for its cost
 abbrev pub CandidateEnds : Built → Asked → ℕ → End (Option Occurrence) → Type 0
 CandidateEnds b asked at told = CandidateSays (kind_asked b asked) (search_from b asked at) told
 
 abbrev pub IsCandidateCost : Built → Asked → ℕ → End (Option Occurrence) → Steps → Steps → Type 0
 IsCandidateCost b asked at told before after = IsCandidateWork (search_from b asked at) told before after
 
--- The prefilter that a search may ask, if there is one: it is the automaton's own, the search isn't anchored, and nothing matches
+-- The prefilter that a search may use, if there is one: it is the automaton's own, the search isn't anchored, and nothing matches
 -- at the start itself.
 abbrev pub IsUsable : Built → (StateID → List ℕ) → Anchored → StateID → Option (Bor Filter) → Type 0
 IsUsable b matches anchored start (Some p) = (p.now.dictionary ≡ b.dictionary) × (anchored ≡ No) × (matches start ≡ [])
 IsUsable b matches anchored start None = (anchored ≡ Yes) ⊎ (matches start ≢ []) ⊎ (b.prefilter ≡ None)
 
--- Where a search is back at a start at which nothing matches, no byte that was read is live any more.
+-- Where a search is back at a start at which nothing matches, none of the bytes read is live any more.
 abbrev pub BackIsEmpty : {S : Type 0} → Ghosts S → S → StateID → Bool → Type 0
 BackIsEmpty A automaton sid back = AtEach (A.Reaches automaton) sid (StartIsEmpty (A.built automaton) (A.matches automaton sid) back)

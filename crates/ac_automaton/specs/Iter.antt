@@ -13,8 +13,8 @@ use Rattle.ac_input.specs.Work.{lookups_per_byte, longest, shortest, over_at}
 use Rattle.ac_automaton.specs.Automaton.{Built, IsStartRefusal, kind_asked, searched, walk_in}
 use Rattle.ac_automaton.specs.declared.error.MatchErrorKind.{MatchErrorKind}
 
--- A walk: by what, and over what, it goes; the place where it stands, and where its last pick ended; and how many states it
--- looked at, how many places it scanned and how many bytes it moved so far.
+-- A walk: the automaton and the input; the place where it stands, and where its last pick ended; and how many states it looked at,
+-- how many places it scanned and how many bytes it moved so far.
 pub record Walk : Type 0 where
   pub built : Built
   pub asked : Asked
@@ -41,7 +41,7 @@ walk_at b first left last sums =
       moved = moved_of sums;
     }
 
--- the kind that a walk asks
+-- the kind that a walk uses
 abbrev pub kind_of : Walk → MatchKind
 kind_of w = kind_asked w.built w.asked
 
@@ -49,11 +49,11 @@ kind_of w = kind_asked w.built w.asked
 abbrev pub search_of_walk : Walk → Search
 search_of_walk w = searched w.built w.asked
 
--- the picks that are left to come
+-- the remaining picks
 abbrev pub left_of : Walk → List Occurrence
 left_of w = walk_after (kind_of w) (search_of_walk w) w.at w.last
 
--- the answer is a walk over all matches that has not begun, where there is a start for it
+-- the result is a walk over all matches that has not begun, if there is a start for it
 abbrev pub AnswersFindIter : Built → (Anchored → Type 0) → Asked → Result Walk MatchErrorKind → Type 0
 AnswersFindIter b supports asked (Ok walk) = supports asked.anchored × (walk ≡ fresh_walk b asked) × (left_of walk ≡ walk_in b asked)
 AnswersFindIter b supports asked (Err error) = IsStartRefusal supports asked.anchored error
@@ -71,7 +71,7 @@ walk_after_pick w (Some o) = record w { at = o.end; last = Some o.end }
 abbrev pub IsWalkAfter : Walk → Option Occurrence → Walk → Type 0
 IsWalkAfter w r v = v ≡ record (walk_after_pick w r) { looked = v.looked; scanned = v.scanned; moved = v.moved }
 
--- the answer is the next pick of the first walk, and the second one is the first after it
+-- the result is the next pick of the first walk, and the second one is the first after it
 abbrev pub GivesPick : Walk → Option Occurrence → Walk → Type 0
 GivesPick w r v = IsNextPick w r × IsWalkAfter w r v
 
@@ -79,9 +79,9 @@ GivesPick w r v = IsNextPick w r × IsWalkAfter w r v
 abbrev pub WalkCounts : Walk → Walk → Steps → Steps → Type 0
 WalkCounts w v before after = (states places bytes : ℕ) × Done states places bytes before after × (v.looked ≡ w.looked + states) × (v.scanned ≡ w.scanned + places) × (v.moved ≡ w.moved + bytes)
 
--- What the next pick of a walk that stands at a place may cost, where this is the pick. The looks are linear in what is left of
--- the span. Those that standard takes end with the pick; without an empty pattern those that a leftmost kind takes end at most
--- the longest pattern and a byte after its start. Scans for bytes never pass the pick.
+-- What the next pick of a walk that stands at a place may cost, where this is the pick. The looks are linear in the rest of the
+-- span. Under standard they end with the pick; without an empty pattern those under a leftmost kind end at most the longest
+-- pattern and one byte after its start. Scans for bytes never pass the pick.
 pub record IsPickWork (kind : MatchKind) (deterministic : Bool) (s : Search) (at : ℕ) (r : Option Occurrence) (before after : Steps) : Type 0 where
   pub looked : looked_of after ≤ looked_of before + 2 * (lookups_per_byte deterministic * (s.end - at))
   pub standard : kind ≡ Standard → looked_of after ≤ looked_of before + lookups_per_byte deterministic * (over_at s r - at)
@@ -102,7 +102,7 @@ CostsPick w v before after r = WalkCounts w v before after × IsNextWork w r bef
 abbrev pub passed : Walk → ℕ
 passed w = min w.at w.asked.span.end - w.asked.span.start
 
--- What a walk has cost so far. Under standard for each byte of the span that lies before it at most one look, or two where the
+-- What a walk has cost so far. Under standard at most one look for each byte of the span that lies before it, or two if the
 -- automaton is not deterministic; in scans for bytes at most 256 places for each. It never moves a byte.
 pub record IsWithinBudget (w : Walk) : Type 0 where
   pub looked : kind_of w ≡ Standard → w.looked ≤ lookups_per_byte w.built.deterministic * passed w
@@ -120,7 +120,7 @@ pub record IsOnItsWay (w : Walk) : Type 0 where
 abbrev pub IsPickOf : Built → Asked → Option ℕ → Option Occurrence → Type 0
 IsPickOf b asked last r = IsPick (kind_asked b asked) (searched b asked) asked.span.start last r
 
--- the same input, of which another part is left
+-- the same input with another part left
 abbrev pub IsRestOf : Asked → Asked → Type 0
 IsRestOf asked rest = rest ≡ record asked { span = record asked.span { start = rest.span.start } }
 

@@ -29,14 +29,14 @@ abbrev pub is_empty : List ℕ → Bool
 is_empty [] = true
 is_empty (byte ∷ bytes) = false
 
--- Reads gave these pieces in turn, from one value of `has_ended` to another: each was made of an input that had not ended, and
--- ended it exactly where its piece is empty. So nothing was read after an empty read, nor after one that failed.
+-- Reads returned these pieces in turn, from one value of `has_ended` to another: each was made on an input that had not ended, and
+-- ended it exactly where its piece is empty. So nothing was read after an empty read, nor after a failed one.
 abbrev pub AreInTurn : Bool → List (List ℕ) → Bool → Type 0
 AreInTurn before [] after = after ≡ before
 AreInTurn before (piece ∷ pieces) after = (before ≡ false) × AreInTurn (is_empty piece) pieces after
 
--- what was moved: the pieces that reads gave, how many reads failed, the bytes that writes took, how many writes failed, and how
--- many of those were handed bytes and took none
+-- what was moved: the pieces that reads returned, how many reads failed, the bytes that writes took, how many writes failed, and
+-- how many of those were passed bytes and took none
 pub record Moved : Type 0 where
   pub pieces : List (List ℕ)
   pub failed_reads : ℕ
@@ -44,8 +44,8 @@ pub record Moved : Type 0 where
   pub failed_writes : ℕ
   pub stalled_writes : ℕ
 
--- A reader, before and after, tells that it gave these pieces, that so many reads failed, and that nothing was written to it. A
--- device in memory tells it by its bytes too: what is left to read lost what was read, and is at its end where that was all.
+-- A reader, before and after: it returned these pieces, this many reads failed, and nothing was written to it. For a device in
+-- memory its bytes say so too: the bytes left to read lost what was read, and it is at its end if that was all.
 pub record HasGiven {R : Type 0} (remaining : R → Option (List ℕ)) (before after : Watched R) (gained : List (List ℕ)) (failed : ℕ) : Type 0 where
   pub pieces : pieces_of after ≡ pieces_of before ++ gained
   pub turns : AreInTurn (has_ended before) gained (has_ended after)
@@ -54,8 +54,8 @@ pub record HasGiven {R : Type 0} (remaining : R → Option (List ℕ)) (before a
   pub device : Consumes (remaining (inner_of before)) (remaining (inner_of after)) (concat gained)
   pub at_end : failed ≡ 0 → AreWhole gained → IsAtEnd (remaining (inner_of after))
 
--- A writer, before and after, tells that it took these bytes, how many writes failed and stalled, and that nothing was flushed
--- and nothing read from it. What a device in memory holds grew by these bytes.
+-- A writer, before and after: it took these bytes, this many writes failed and stalled, nothing was flushed and nothing read from
+-- it. The contents of a device in memory grew by these bytes.
 pub record HasTaken {W : Type 0} (contents : W → Option (List ℕ)) (before after : Watched W) (bytes : List ℕ) (failed stalled : ℕ) : Type 0 where
   pub taken : taken_of after ≡ taken_of before ++ bytes
   pub flushed : flushed_of after ≡ flushed_of before
@@ -64,12 +64,12 @@ pub record HasTaken {W : Type 0} (contents : W → Option (List ℕ)) (before af
   pub reads : NoneRead before after
   pub device : Appends (contents (inner_of before)) (contents (inner_of after)) bytes
 
--- a reader and a writer, before and after, tell that this was moved
+-- this was moved between a reader and a writer, each before and after
 pub record HasMoved {R W : Type 0} (remaining : R → Option (List ℕ)) (contents : W → Option (List ℕ)) (reader_before reader_after : Watched R) (writer_before writer_after : Watched W) (m : Moved) : Type 0 where
   pub reader : HasGiven remaining reader_before reader_after m.pieces m.failed_reads
   pub writer : HasTaken contents writer_before writer_after m.taken m.failed_writes m.stalled_writes
 
--- so many reads failed, so many writes, and so many of those took no byte
+-- this many reads failed, this many writes, and this many of those took no byte
 abbrev pub Failed : Moved → ℕ → ℕ → ℕ → Type 0
 Failed m reads writes stalls = (m.failed_reads ≡ reads) × (m.failed_writes ≡ writes) × (m.stalled_writes ≡ stalls)
 

@@ -1,9 +1,9 @@
--- One automaton over named states: what its numbers stand for, and what follows for its calls.
+-- An automaton over named states: what its numbers stand for, and what follows for its calls.
 --
 -- A number of an automaton stands for a state of the definitions: a text of canonical bytes, or the dead state. How the number is
--- made differs from automaton to automaton; what follows from it doesn't. So an automaton proves three things of its own: for which
--- states its numbers stand, that the list and the tests of a number are those of its state, and that one look-up is one step. The
--- lemmas are in NamedLemmas, and those of automata that follow failures in LinkedLemmas.
+-- made differs between automata; what follows from it doesn't. So an automaton proves three things of its own: for which states
+-- its numbers stand, that the list and the tests of a number are those of its state, and that one look-up is one step. The lemmas
+-- are in NamedLemmas, and those of automata that follow failures in LinkedLemmas.
 use Rattle.std.specs.Prelude.{◌≡◌, ◌≢◌, ◌↔◌, ◌⊎◌, ℕ, ◌+◌, ◌<◌, ◌≤◌, Bool, true, false, IsTrue, map, List, [], ◌∷◌, ◌++◌, length, Option, Some, None}
 use Rattle.ac_input.specs.declared.search.Anchored.{Anchored}
 use Rattle.ac_input.specs.declared.steps.Steps.{Steps}
@@ -16,7 +16,7 @@ use Rattle.ac_input.specs.Steps.{Done}
 use Rattle.ac_input.specs.Tells.{Tells}
 use Rattle.ac_automaton.specs.Automaton.{Built, IsSpecial}
 
--- For which state each number stands, none for the dead one; and to which numbers a search of either anchoring may come.
+-- For which state each number stands, none for the dead one; and which numbers a search of either anchoring may reach.
 pub record Naming : Type 0 where
   pub text : ℕ → Option (List ℕ)
   pub met : Bool → ℕ → Bool
@@ -26,8 +26,8 @@ pub record IsNamed (m : Dictionary) (names : Naming) (anchored : Bool) (text : L
   pub met : IsTrue (names.met anchored sid)
   pub leads : LeadsTo m anchored text (names.text sid)
 
--- A state at which a search has more to do than to read on: the dead one, one at which patterns match, or a start where there is a
--- prefilter to ask.
+-- A state at which a search has more to do than to read on: the dead one, one at which patterns match, or a start if there is a
+-- prefilter to run.
 abbrev pub IsSpecialState : Built → List ℕ → Bool → Option (List ℕ) → Type 0
 IsSpecialState b matches start state = (state ≡ None) ⊎ (matches ≢ []) ⊎ (IsTrue start × (b.prefilter ≢ None))
 
@@ -39,11 +39,11 @@ pub record AreNames (b : Built) (matches : ℕ → List ℕ) (starts special : �
   pub starting : (anchored : Bool) (sid : ℕ) (text : List ℕ) → IsTrue (names.met anchored sid) → names.text sid ≡ Some text → IsTrue (starts sid) ↔ (text ≡ [])
   pub stopping : (anchored : Bool) (sid : ℕ) → IsTrue (names.met anchored sid) → IsTrue (special sid) ↔ IsSpecialState b (matches sid) (starts sid) (names.text sid)
 
--- every naming by which the automaton is laid out is such
+-- this is so for every naming by which the automaton is laid out
 abbrev pub AllNames : Built → (Naming → Type 0) → (ℕ → List ℕ) → (ℕ → Bool) → (ℕ → Bool) → Type 0
 AllNames b Fits matches starts special = (names : Naming) → Fits names → AreNames b matches starts special names
 
--- by whichever naming the automaton is laid out, where a search of this anchoring may come to the number, this holds
+-- by whichever naming the automaton is laid out, if a search of this anchoring may reach the number, this holds
 abbrev pub OfNames : (Naming → Type 0) → Bool → ℕ → (Naming → Type 0) → Type 0
 OfNames Fits anchored sid P = (names : Naming) → Fits names → IsTrue (names.met anchored sid) → P names
 
@@ -60,17 +60,17 @@ abbrev pub text_len : Option (List ℕ) → ℕ
 text_len None = 0
 text_len (Some text) = length text
 
--- Some states were looked at, after so many for the same byte: all in all at most two more than the bytes that were given up.
+-- Some states were looked at, after this many for the same byte: in total at most two more than the bytes that were given up.
 abbrev pub IsLooked : ℕ → ℕ → ℕ → Steps → Steps → Type 0
 IsLooked done bytes next before after = (looks : ℕ) × Done looks 0 0 before after × (1 ≤ looks) × (done + looks + next ≤ bytes + 2)
 
--- A byte leads from one number to another, and that is what it costs to find out, after so many looks for the same byte.
+-- A byte leads from one number to another, and this is the cost of the look-up, after this many looks for the same byte.
 abbrev pub IsPaidStep : Dictionary → Naming → Bool → ℕ → ℕ → ℕ → ℕ → Steps → Steps → Type 0
 IsPaidStep m names anchored done sid byte next before after = IsStep m names anchored sid byte next × IsLooked done (text_len (names.text sid)) (text_len (names.text next)) before after
 
 -- ---- the start of a search
 
--- the number stands for the empty text, and a search of this anchoring may come to it
+-- the number stands for the empty text, and a search of this anchoring may reach it
 pub record IsFirst (names : Naming) (anchored : Bool) (sid : ℕ) : Type 0 where
   pub met : IsTrue (names.met anchored sid)
   pub empty : names.text sid ≡ Some []
@@ -81,8 +81,8 @@ pub record IsFirst (names : Naming) (anchored : Bool) (sid : ℕ) : Type 0 where
 abbrev pub IsReachedBy : Dictionary → (Naming → Type 0) → Bool → List ℕ → ℕ → Type 0
 IsReachedBy m Fits anchored text sid = ∥ ((names : Naming) × Fits names × IsNamed m names anchored text sid) ∥₁
 
--- A number is read by a search: the text leads to the state for which it stands, where the automaton is laid out by some naming,
--- and its list and tests say what the definitions ask of them.
+-- A search reaches a number by a text: the text leads to the state for which it stands, if the automaton is laid out by some
+-- naming, and its list and tests say what the definitions require.
 pub record IsReadBy (b : Built) (Fits : Naming → Type 0) (matches : ℕ → List ℕ) (starts special : ℕ → Bool) (anchored : Anchored) (text : List ℕ) (sid : ℕ) : Type 0 where
   pub reached : IsReachedBy b.dictionary Fits (is_anchored anchored) text sid
   pub tells : Tells b.dictionary anchored text (matches sid)
@@ -92,7 +92,7 @@ pub record IsReadBy (b : Built) (Fits : Naming → Type 0) (matches : ℕ → Li
 
 -- ---- automata that follow failures
 
--- the number that stands for no state: a byte leads to it that leads nowhere
+-- the number that stands for no state: a byte that leads nowhere leads to it
 abbrev pub nowhere : ℕ
 nowhere = 1
 
@@ -104,13 +104,14 @@ pub record IsEdgeBy (m : Dictionary) (names : Naming) (start sid byte next : ℕ
   pub none : (text : List ℕ) → names.text sid ≡ Some text → sid ≢ start → ¬ BeginsEntered m (text ++ byte ∷ []) → next ≡ nowhere
   pub back : (text : List ℕ) → names.text sid ≡ Some text → sid ≡ start → ¬ BeginsEntered m (text ++ byte ∷ []) → IsTrue (names.met false next) × (next ≢ nowhere) × (text_len (names.text next) ≡ 0) × LeadsTo m false (text ++ byte ∷ []) (names.text next)
 
--- The number to which one fails stands for the failure of its text; unanchored searches may come to it.
+-- The failure of a number stands for the failure of its text; unanchored searches may reach it.
 pub record IsFailureBy (m : Dictionary) (names : Naming) (sid fail : ℕ) : Type 0 where
   pub met : IsTrue (names.met false fail)
   pub fails : (text : List ℕ) → names.text sid ≡ Some text → FailsTo m text (names.text fail)
 
--- The numbers of an automaton stand for texts of canonical bytes that begin entered patterns. The unanchored start alone stands for
--- the empty text among those to which unanchored searches come; anchored ones don't come to it. None that is met is that of nowhere.
+-- The numbers of an automaton stand for texts of canonical bytes that begin entered patterns. Among those that unanchored searches
+-- reach, only the unanchored start stands for the empty text; anchored ones don't reach it. No search reaches the number of
+-- nowhere.
 pub record AreNumbers (m : Dictionary) (names : Naming) (start : ℕ) : Type 0 where
   pub inverse : IsOwnInverse m.pairing
   pub apart : (anchored : Bool) (sid : ℕ) → IsTrue (names.met anchored sid) → sid ≢ nowhere
@@ -118,16 +119,16 @@ pub record AreNumbers (m : Dictionary) (names : Naming) (start : ℕ) : Type 0 w
   pub only : (sid : ℕ) → IsTrue (names.met false sid) → names.text sid ≡ Some [] → sid ≡ start
   pub begin : (anchored : Bool) (sid : ℕ) (text : List ℕ) → IsTrue (names.met anchored sid) → names.text sid ≡ Some text → BeginsEntered m text × (map (canonical m.pairing) text ≡ text)
 
--- The edges and failures of an automaton are right: which number each byte leads to, and which number each one fails to.
+-- The edges and failures of an automaton are right: which number each byte leads to, and to which number each one fails.
 pub record AreLinked (m : Dictionary) (names : Naming) (start : ℕ) (edge : ℕ → ℕ → ℕ) (fail : ℕ → ℕ) : Type 0 where
   pub numbers : AreNumbers m names start
   pub edges : (anchored : Bool) (sid byte : ℕ) → IsTrue (names.met anchored sid) → byte < 256 → IsEdgeBy m names start sid byte (edge sid byte)
   pub failures : (sid : ℕ) → IsTrue (names.met false sid) → IsFailureBy m names sid (fail sid)
 
--- ---- bytes over which a search passes in the start
+-- ---- bytes that a search in the start may pass over
 
--- Over this byte a search that stands in the start stays there, by whichever naming the automaton is laid out, and the start matches
--- nothing.
+-- A search that stands in the start stays there over this byte, by whichever naming the automaton is laid out, and the start
+-- matches nothing.
 pub record IsIdleBy (m : Dictionary) (Fits : Naming → Type 0) (matches : ℕ → List ℕ) (start byte : ℕ) : Type 0 where
   pub plain : matches start ≡ []
   pub stays : (anchored : Bool) → OfNames Fits anchored start (λ names. IsStep m names anchored start byte start)

@@ -1,4 +1,4 @@
--- What an overlapping search still has to show where it stands, and what its calls may cost on the whole.
+-- What an overlapping search still has to show where it stands, and what its calls may cost in total.
 use Rattle.std.specs.Prelude.{◌≡◌, ◌≢◌, ◌⊎◌, ℕ, ◌+◌, ◌-◌, ◌*◌, ◌<◌, ◌≤◌, nat_le, Bool, List, [], ◌∷◌, ◌++◌, map, drop, slice_get, IsTrue, Option, None, Some, Result, Ok, Err, is_some, filter, if◌then◌else◌}
 use Rattle.ac_input.specs.Number.{StateID}
 use Rattle.ac_input.specs.declared.search.Anchored.{Anchored}
@@ -28,18 +28,18 @@ use Rattle.ac_automaton.specs.declared.overlapping.Shown.{Shown}
 abbrev pub ending_from : Search → ℕ → List Occurrence
 ending_from s at = filter (λ o. nat_le at o.end) (listing_of s)
 
--- the occurrences that a state tells at a place by its matches from an index on
+-- the occurrences of a state at a place, by its matches from an index on
 abbrev pub told_from : Dictionary → Search → ℕ → List ℕ → ℕ → List Occurrence
 told_from m s at ns index = map (shifted s.start) (map (ending m (read_to s at)) (counted m s.anchored (at - s.start) (drop index ns)))
 
--- what a state tells first by its matches from an index on, and where that leaves the search
+-- the first occurrence of a state by its matches from an index on, and where that leaves the search
 abbrev pub TellsFirst : (StateID → List ℕ) → Dictionary → Search → Cursor → ℕ → Option Shown → Type 0
 TellsFirst matches m s cursor index None = told_from m (walked s cursor) cursor.at (matches cursor.sid) index ≡ []
 TellsFirst matches m s cursor index (Some shown) =
     (o : Occurrence) × (next : ℕ) × (shown.found ≡ Some o) × (shown.place ≡ At cursor.sid cursor.from cursor.at next) × (told_from m (walked s cursor) cursor.at (matches cursor.sid) index ≡ o ∷ told_from m (walked s cursor) cursor.at (matches cursor.sid) next)
 
--- This is what is still to be shown of the listing where a search stands: what its state tells from an index on, and all that
--- ends later.
+-- What is still to be shown of the listing where a search stands: the occurrences of its state from an index on, and all that end
+-- later.
 abbrev pub IsLeft : (List ℕ → StateID → Type 0) → (StateID → List ℕ) → Dictionary → Search → Position → List Occurrence → Type 0
 IsLeft Reaches matches m s (At sid from at index) left =
     IsCursor Reaches s (record { sid = sid; from = from; at = at }) × (left ≡ told_from m (starting_at s from) at (matches sid) index ++ ending_from (starting_at s from) (at + 1))
@@ -49,7 +49,7 @@ IsLeft Reaches matches m s Over left = left ≡ []
 abbrev pub ShowsFirst : (List ℕ → StateID → Type 0) → (StateID → List ℕ) → Dictionary → Search → List Occurrence → Shown → Type 0
 ShowsFirst Reaches matches m s left r = (r.found ≡ slice_get left 0) × IsLeft Reaches matches m s r.place (drop 1 left)
 
--- So many looks are paid for by the bytes up to a place of the span.
+-- This many looks are paid for by the bytes up to a place of the span.
 abbrev pub IsPaidTo : Bool → Search → ℕ → ℕ → Type 0
 IsPaidTo deterministic s at looks = looks ≤ lookups_per_byte deterministic * (at - s.start)
 
@@ -69,17 +69,17 @@ abbrev pub come_to : Search → Position → ℕ
 come_to s (At sid from at index) = at
 come_to s Over = s.end
 
--- So many places were scanned for bytes by a search that has come so far.
+-- This many places were scanned for bytes by a search that has come so far.
 abbrev pub IsScanPaidTo : Search → ℕ → ℕ → Type 0
 IsScanPaidTo s at scans = scans ≤ 256 * (at - s.start)
 
--- A call goes on paying: its looks and its scans, which its steps count, come to those before.
+-- A call stays within the budget: its looks and its scans, which its steps count, are added to those before.
 pub record KeepsBudget (m : Dictionary) (deterministic : Bool) (s : Search) (from to : Position) (before after : Steps) : Type 0 where
   pub looks : (looks more : ℕ) → IsPlacePaid m deterministic s from looks → looks + looked_of after ≡ more + looked_of before → IsPlacePaid m deterministic s to more
   pub scans : (scans more : ℕ) → IsScanPaidTo s (come_to s from) scans → scans + scanned_of after ≡ more + scanned_of before → IsScanPaidTo s (come_to s to) more
   pub moved : moved_of after ≡ moved_of before
 
--- a search stands behind a place, or is over
+-- a search stands after a place, or is over
 abbrev pub IsBehind : ℕ → Position → Type 0
 IsBehind place (At sid from at index) = place < at
 IsBehind place Over = Unit {0}
@@ -90,7 +90,7 @@ abbrev pub ReadsOn : (List ℕ → StateID → Type 0) → (StateID → List ℕ
 ReadsOn Reaches matches m s at left (Found shown) = ShowsFirst Reaches matches m s left shown × IsBehind at shown.place
 ReadsOn Reaches matches m s at left (Idle to) = (at < to) × (to ≤ s.end) × (left ≡ listing_of (starting_at s to))
 
--- so many looks are paid for where reading on ends
+-- this many looks are paid for where reading on ends
 abbrev pub IsPaidBy : Dictionary → Bool → Search → End Shown → ℕ → Type 0
 IsPaidBy m deterministic s (Found shown) looks = IsPlacePaid m deterministic s shown.place looks
 IsPaidBy m deterministic s (Idle to) looks = IsPaidTo deterministic s to looks
@@ -100,14 +100,14 @@ abbrev pub read_on_to : Search → End Shown → ℕ
 read_on_to s (Found shown) = come_to s shown.place
 read_on_to s (Idle to) = to
 
--- What it costs to read on by candidates from a place up to which so many looks and scans were paid for.
+-- What it costs to read on from one candidate to the next, from a place up to which this many looks and scans were paid for.
 pub record IsSkipCost (m : Dictionary) (deterministic : Bool) (s : Search) (at : ℕ) (reading : End Shown) (before after : Steps) : Type 0 where
   pub rose : looked_of before ≤ looked_of after
   pub looks : (looks more : ℕ) → IsPaidTo deterministic s at looks → looks + looked_of after ≡ more + looked_of before → IsPaidBy m deterministic s reading more
   pub scans : scanned_of after ≤ scanned_of before + 256 * (read_on_to s reading - at)
   pub moved : moved_of after ≡ moved_of before
 
--- it looked at states alone
+-- it only looked at states
 pub record OnlyLooked (before after : Steps) : Type 0 where
   pub rose : looked_of before ≤ looked_of after
   pub scanned : scanned_of after ≡ scanned_of before
@@ -120,7 +120,7 @@ shown_of state = state.shown.value
 abbrev pub found_of : OverlappingState → Option Occurrence
 found_of state = state.found
 
--- so many, and one more where there is one
+-- the number, and one more if there is an occurrence
 abbrev pub and_one : Option Occurrence → ℕ → ℕ
 and_one found n = if is_some found then n + 1 else n
 
@@ -140,15 +140,15 @@ pub record IsFreshState (state : OverlappingState) : Type 0 where
   pub shown : state.shown.value ≡ 0
   pub sums : AreNone state.sums
 
--- So many of the listing were shown, what is still to come of it is what is left where the search stands, and all looks and
--- scans are paid for.
+-- This many of the listing were shown, the rest of it is what is left where the search stands, and all looks and scans are paid
+-- for.
 pub record StandsAt (Reaches : List ℕ → StateID → Type 0) (matches : StateID → List ℕ) (m : Dictionary) (deterministic : Bool) (s : Search) (place : Position) (shown : ℕ) (sums : Steps) : Type 0 where
   pub left : IsLeft Reaches matches m s place (drop shown (listing_of s))
   pub paid : IsPlacePaid m deterministic s place (looked_of sums)
   pub scanned : IsScanPaidTo s (come_to s place) (scanned_of sums)
   pub moved : moved_of sums ≡ 0
 
--- A state that is fresh, or that came from earlier calls with the same automaton and input alone.
+-- A state that is fresh, or that came only from earlier calls with the same automaton and input.
 abbrev pub CameFrom : Built → (Anchored → List ℕ → StateID → Type 0) → (StateID → List ℕ) → Asked → OverlappingState → Type 0
 CameFrom b Reaches matches asked state =
     IsFreshState state ⊎ ((place : Position) × (state.place ≡ Some place) × StandsAt (Reaches asked.anchored) matches b.dictionary b.deterministic (searched b asked) place (shown_of state) state.sums)
@@ -162,23 +162,23 @@ pub record ShowsNext (b : Built) (asked : Asked) (before after : OverlappingStat
 abbrev pub sums_of : OverlappingState → Steps
 sums_of state = state.sums
 
--- what was done in one course of steps was done in the other too
+-- what was done between the first two steps was done between the other two as well
 pub record DoneAlike (before after one another : Steps) : Type 0 where
   pub looked : looked_of after + looked_of one ≡ looked_of before + looked_of another
   pub scanned : scanned_of after + scanned_of one ≡ scanned_of before + scanned_of another
   pub moved : moved_of after + moved_of one ≡ moved_of before + moved_of another
 
--- an overlapping search of this input can be made: there is a start for its anchoring, and the kind is the standard one
+-- an overlapping search of this input is supported: there is a start for its anchoring, and the kind is the standard one
 abbrev pub CanOverlap : Built → (Anchored → Type 0) → Asked → Type 0
 CanOverlap b supports asked = supports asked.anchored × (b.dictionary.kind ≡ Standard)
 
--- why an overlapping search is refused: first because there is no start, and then because of the kind
+-- why an overlapping search is an error: first because there is no start, and then because of the kind
 abbrev pub IsOverlappingRefusal : Built → (Anchored → Type 0) → Asked → MatchErrorKind → Type 0
 IsOverlappingRefusal b supports asked error =
     IsStartRefusal supports asked.anchored error
     ⊎ (supports asked.anchored × (b.dictionary.kind ≢ Standard) × (error ≡ UnsupportedOverlapping b.dictionary.kind))
 
--- A call shows the next of the listing, where an overlapping search can be made; else the state is as it was.
+-- A call shows the next of the listing, if an overlapping search is supported; otherwise the state is unchanged.
 abbrev pub AnswersOverlapping : Built → (Anchored → Type 0) → Asked → OverlappingState → OverlappingState → Result (Unit {0}) MatchErrorKind → Type 0
 AnswersOverlapping b supports asked before after (Ok done) = CanOverlap b supports asked × ShowsNext b asked before after
 AnswersOverlapping b supports asked before after (Err error) = IsOverlappingRefusal b supports asked error × (after ≡ before)

@@ -13,7 +13,8 @@ use Rattle.ac_automaton.specs.declared.error.MatchErrorKind.TheVariants.{Invalid
 use Rattle.ac_automaton.specs.Overlapping.{CanOverlap, IsOverlappingRefusal, and_one}
 use Rattle.ac_automaton.specs.Automaton.{Built, listing_in}
 
--- A run through a listing: by what, and over what, it goes; how many of the listing were shown; and how many states were looked at, how many places were scanned and how many bytes were moved so far.
+-- A run through a listing: the automaton and the input; how many of the listing were shown; and how many states were looked at,
+-- how many places were scanned and how many bytes were moved so far.
 pub record Run : Type 0 where
   pub built : Built
   pub asked : Asked
@@ -22,7 +23,7 @@ pub record Run : Type 0 where
   pub scanned : ℕ
   pub moved : ℕ
 
--- a run of which so many were shown, in these steps
+-- a run of which this many were shown, in these steps
 abbrev pub run_at : Built → Asked → ℕ → Steps → Run
 run_at b asked shown sums = record { built = b; asked = asked; shown = shown; looked = looked_of sums; scanned = scanned_of sums; moved = moved_of sums }
 
@@ -30,15 +31,15 @@ run_at b asked shown sums = record { built = b; asked = asked; shown = shown; lo
 abbrev pub fresh_run : Built → Asked → Run
 fresh_run b asked = record { built = b; asked = asked; shown = 0; looked = 0; scanned = 0; moved = 0 }
 
--- the occurrences that are left to come: the listing, less those that were shown
+-- the remaining occurrences: the listing, less those that were shown
 abbrev pub rest_of : Run → List Occurrence
 rest_of run = drop run.shown (listing_in run.built run.asked)
 
--- the second run is the first one after what was shown, if something was, whatever that cost
+-- the second run is the first one after what was shown, if anything was, whatever that cost
 abbrev pub IsRunAfter : Run → Option Occurrence → Run → Type 0
 IsRunAfter run r later = later ≡ record run { shown = and_one r run.shown; looked = later.looked; scanned = later.scanned; moved = later.moved }
 
--- the answer is the first of the rest of the first run, if there is one, and the second run is the first one after it
+-- the result is the first of the rest of the first run, if there is one, and the second run is the first one after it
 abbrev pub GivesFirst : Run → Option Occurrence → Run → Type 0
 GivesFirst run r later = YieldsFirst rest_of run r later × IsRunAfter run r later
 
@@ -48,21 +49,21 @@ pub record RunCounts (run later : Run) (before after : Steps) : Type 0 where
   pub scanned : scanned_of after + run.scanned ≡ scanned_of before + later.scanned
   pub moved : moved_of after + run.moved ≡ moved_of before + later.moved
 
--- what a run may cost on the whole: the looks and the scans of one walk over the span, however much it shows
+-- what a run may cost in total: the looks and the scans of one walk over the span, however much it shows
 pub record IsWithinOneWalk (run : Run) : Type 0 where
   pub looked : run.looked ≤ lookups_per_byte run.built.deterministic * (run.asked.span.end - run.asked.span.start)
   pub scanned : run.scanned ≤ 256 * (run.asked.span.end - run.asked.span.start)
   pub moved : run.moved ≡ 0
 
--- a run over the overlapping matches can be made: an overlapping search can, and the input isn't anchored
+-- a run over the overlapping matches is supported: an overlapping search is, and the input isn't anchored
 abbrev pub CanRun : Built → (Anchored → Type 0) → Asked → Type 0
 CanRun b supports asked = CanOverlap b supports asked × (asked.anchored ≡ No)
 
--- why a run is refused: as an overlapping search is, and then because the input is anchored
+-- why a run is an error: as an overlapping search is, and then because the input is anchored
 abbrev pub IsRunRefusal : Built → (Anchored → Type 0) → Asked → MatchErrorKind → Type 0
 IsRunRefusal b supports asked error = IsOverlappingRefusal b supports asked error ⊎ (CanOverlap b supports asked × (asked.anchored ≡ Yes) × (error ≡ InvalidInputAnchored))
 
--- the answer is a run over all occurrences that has not begun, where one can be made
+-- the result is a run over all occurrences that has not begun, if it is supported
 abbrev pub AnswersOverlappingIter : Built → (Anchored → Type 0) → Asked → Result Run MatchErrorKind → Type 0
 AnswersOverlappingIter b supports asked (Ok run) = CanRun b supports asked × (run ≡ fresh_run b asked) × (rest_of run ≡ listing_in b asked)
 AnswersOverlappingIter b supports asked (Err error) = IsRunRefusal b supports asked error

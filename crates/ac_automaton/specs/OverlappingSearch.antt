@@ -1,4 +1,5 @@
--- What the parts of an overlapping search say of an automaton and an input: what is shown where the search stands, and what it costs.
+-- What the parts of an overlapping search say about an automaton and an input: what is shown where the search stands, and its
+-- cost.
 use Rattle.std.specs.Prelude.{◌≡◌, ◌⊎◌, ℕ, ◌+◌, ◌<◌, ◌≤◌, List, [], ◌∷◌, ◌++◌, drop, length, Option, None, Some, Result, Ok, Err}
 use Rattle.ac_input.specs.Number.{StateID}
 use Rattle.ac_input.specs.declared.search.Anchored.{Anchored}
@@ -27,30 +28,30 @@ use Rattle.ac_automaton.specs.declared.overlapping.Shown.{Shown}
 
 -- ---- what it costs
 
--- what is paid for where a walk stands pays for what it costs to read on
+-- if the looks are paid for where a walk stands, they still are after reading on
 abbrev pub PaysOn : Built → Asked → Cursor → End Shown → Steps → Steps → Type 0
 PaysOn b asked cursor end before after =
     (looks more : ℕ) → IsPaidAt b.dictionary b.deterministic (searched b asked) cursor.from cursor.at looks
     → looks + looked_of after ≡ more + looked_of before
     → IsPaidBy b.dictionary b.deterministic (searched b asked) end more
 
--- what is paid for where a search stands pays for what a call costs that shows this
+-- if the looks and scans are paid for where a search stands, they still are after a call that shows this
 abbrev pub KeepsPaying : Built → Asked → Position → Shown → Steps → Steps → Type 0
 KeepsPaying b asked place shown before after = KeepsBudget b.dictionary b.deterministic (searched b asked) place shown.place before after
 
--- the same of a search that stands at a state, and has shown its list up to an index
+-- the same for a search that stands at a state, and has shown its list up to an index
 abbrev pub PaysAt : Built → Asked → Cursor → ℕ → Shown → Steps → Steps → Type 0
 PaysAt b asked cursor index shown before after = KeepsPaying b asked (At cursor.sid cursor.from cursor.at index) shown before after
 
--- what it costs to read on by candidates from a place
+-- what it costs to read on from one candidate to the next, from a place on
 abbrev pub SkipsAtCost : Built → Asked → ℕ → End Shown → Steps → Steps → Type 0
 SkipsAtCost b asked at end before after = IsSkipCost b.dictionary b.deterministic (searched b asked) at end before after
 
 -- ---- what is shown
 
 module _ {S : Type 0} (A : Ghosts S) (automaton : S) where
-  -- The first entry of a state's list that counts from an index on, and the index after it. The search reached the state by so many
-  -- bytes from the start of this anchoring.
+  -- The first entry of a state's list that counts from an index on, and the index after it. The search reached the state by this
+  -- many bytes from the start of this anchoring.
   abbrev pub IsNextEntry : Anchored → StateID → ℕ → ℕ → Option Entry → Type 0
   IsNextEntry anchored sid read index None =
       counted (A.built automaton).dictionary (is_anchored anchored) read (drop index (A.matches automaton sid)) ≡ []
@@ -60,12 +61,12 @@ module _ {S : Type 0} (A : Ghosts S) (automaton : S) where
       × (entry.pattern < length (A.built automaton).dictionary.patterns)
 
   module _ (asked : Asked) where
-    -- an overlapping search of the standard kind stands where it may show what a state tells
+    -- an overlapping search of the standard kind stands where it may show the matches of a state
     pub record MayShow (here : Cursor) : Type 0 where
       pub standard : (A.built automaton).dictionary.kind ≡ Standard
       pub cursor : StandsIn (A.built automaton) (A.Reaches automaton) asked here
 
-    -- it may ask the prefilter from a place on, and go on from the start
+    -- it may run the prefilter from a place on, and go on from the start
     pub record MaySkip (prefilter : Filter) (start : StateID) (at : ℕ) : Type 0 where
       pub standard : (A.built automaton).dictionary.kind ≡ Standard
       pub made : prefilter.dictionary ≡ (A.built automaton).dictionary
@@ -79,7 +80,7 @@ module _ {S : Type 0} (A : Ghosts S) (automaton : S) where
     abbrev pub ShowsAt : Cursor → ℕ → Option Shown → Type 0
     ShowsAt cursor index shown = TellsFirst (A.matches automaton) (A.built automaton).dictionary (searched (A.built automaton) asked) cursor index shown
 
-    -- what the state of a walk tells from an index of its list on
+    -- the occurrences of the state of a walk from an index of its list on
     abbrev pub told_at : Cursor → ℕ → List Occurrence
     told_at cursor index = told_from (A.built automaton).dictionary (walked (searched (A.built automaton) asked) cursor) cursor.at (A.matches automaton cursor.sid) index
 
@@ -99,16 +100,16 @@ module _ {S : Type 0} (A : Ghosts S) (automaton : S) where
     abbrev pub ReadsOnFrom : ℕ → List Occurrence → End Shown → Type 0
     ReadsOnFrom at left end = ReadsOn (A.Reaches automaton asked.anchored) (A.matches automaton) (A.built automaton).dictionary (searched (A.built automaton) asked) at left end
 
-    -- What is shown where a walk stands: the first of what is left there, which is nothing where the state is dead; none where the
-    -- state tells nothing.
+    -- What is shown where a walk stands: the first of what is left there, which is nothing if the state is dead; none if the state
+    -- has no occurrence.
     abbrev pub ShowsHere : Cursor → Option Shown → Type 0
     ShowsHere cursor None = told_at cursor 0 ≡ []
     ShowsHere cursor (Some shown) =
         ShowsFirstOf (left_for cursor cursor.at) shown
         × ((shown.place ≡ Over) ⊎ ((index : ℕ) × (shown.place ≡ At cursor.sid cursor.from cursor.at index)))
 
-    -- How a search ends where a walk stands: with what is shown there; or nothing is told, and what is left begins here or later.
-    -- None where it goes on: nothing is told.
+    -- How a search ends where a walk stands: with what is shown there; or the state has no occurrence, and what is left begins
+    -- here or later. None if it goes on: the state has no occurrence.
     abbrev pub EndsHere : Cursor → Option (End Shown) → Type 0
     EndsHere cursor None = told_at cursor 0 ≡ []
     EndsHere cursor (Some (Found shown)) = ShowsHere cursor (Some shown)
@@ -126,11 +127,11 @@ module _ {S : Type 0} (A : Ghosts S) (automaton : S) where
     abbrev pub ShowsAfter : Cursor → Shown → Type 0
     ShowsAfter cursor shown = ShowsFirstOf (left_for cursor (cursor.at + 1)) shown
 
-    -- the first is shown of what the state tells from an index of its list on, and of what ends later
+    -- the first is shown of the state's occurrences from an index of its list on, and of what ends later
     abbrev pub ShowsRest : Cursor → ℕ → Shown → Type 0
     ShowsRest cursor index shown = ShowsFirstOf (told_at cursor index ++ left_for cursor (cursor.at + 1)) shown
 
-    -- something is left where a search stands, or nothing: what that is can be said
+    -- it is determined what is left where a search stands
     abbrev pub HasLeft : Position → Type 0
     HasLeft place = (left : List Occurrence) × IsLeftAt place left
 
@@ -138,7 +139,7 @@ module _ {S : Type 0} (A : Ghosts S) (automaton : S) where
     abbrev pub ShowsNextAt : Position → Shown → Type 0
     ShowsNextAt place shown = (left : List Occurrence) → IsLeftAt place left → ShowsFirstOf left shown
 
-    -- A search begins at the start, where all of the listing is left and nothing has to be paid for; or it is refused.
+    -- A search begins at the start, where all of the listing is left and nothing has to be paid for; or it is an error.
     abbrev pub AnswersBegin : Result Beginning MatchErrorKind → Type 0
     AnswersBegin (Ok beginning) =
         CanOverlap (A.built automaton) (A.supports automaton) asked
@@ -147,10 +148,10 @@ module _ {S : Type 0} (A : Ghosts S) (automaton : S) where
         × IsPlacePaid (A.built automaton).dictionary (A.built automaton).deterministic (searched (A.built automaton) asked) beginning.place 0
     AnswersBegin (Err error) = IsOverlappingRefusal (A.built automaton) (A.supports automaton) asked error
 
-    -- the state is fresh, or came from earlier calls with this automaton and input alone
+    -- the state is fresh, or came only from earlier calls with this automaton and input
     abbrev pub CameFromCalls : OverlappingState → Type 0
     CameFromCalls state = CameFrom (A.built automaton) (A.Reaches automaton) (A.matches automaton) asked state
 
-    -- what a call answers, and how it leaves the state
+    -- what a call returns, and how it leaves the state
     abbrev pub AnswersCall : OverlappingState → OverlappingState → Result (Unit {0}) MatchErrorKind → Type 0
     AnswersCall before after result = AnswersOverlapping (A.built automaton) (A.supports automaton) asked before after result

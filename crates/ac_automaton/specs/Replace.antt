@@ -1,4 +1,4 @@
--- Replacement in memory: of which matches, what it gives, and when it is refused.
+-- Replacement in memory: which matches are replaced, what it returns, and when it is an error.
 use Rattle.std.specs.Prelude.{◌≡◌, ℕ, ◌<◌, ◌≤◌, ◌==◌, ◌&&◌, ◌||◌, nat_lt, nat_le, Bool, List, [], ◌∷◌, length, map, slice_index, Some, None, Result, Ok, Err, String}
 use Rattle.std.specs.Fn.{Called, Mut}
 use Rattle.std.specs.List.{filter}
@@ -29,56 +29,56 @@ is_boundary text at = (at == length text) || (nat_lt at (length text) && (nat_lt
 abbrev pub cuts_none : List ℕ → Occurrence → Bool
 cuts_none text o = is_boundary text o.start && is_boundary text o.end
 
--- those of the matches of a text that cut no character
+-- the matches of a text that cut no character
 abbrev pub text_matches_in : Built → List ℕ → List Occurrence
 text_matches_in b text = filter (cuts_none text) (matches_in b text)
 
--- of the matches that are left to come
+-- those of the remaining matches
 abbrev pub text_left_of : List ℕ → Walk → List Occurrence
 text_left_of text w = filter (cuts_none text) (left_of w)
 
--- a haystack with each of these exchanged for its pattern's replacement
+-- a haystack with each of these replaced by its pattern's replacement
 abbrev pub with_replaced : List ℕ → List (List ℕ) → List Occurrence → List ℕ
 with_replaced haystack replacements os = replaced_from 0 haystack replacements os
 
--- Occurrences of patterns below a number, in a text of a length: from a place on, each begins where the one before it ended or
+-- Occurrences of patterns below a number, in a text of this length: from a place on, each begins where the one before it ended or
 -- later.
 abbrev pub LieInOrder : ℕ → ℕ → ℕ → List Occurrence → Type 0
 LieInOrder patterns len at [] = Unit {0}
 LieInOrder patterns len at (o ∷ os) = (o.pattern < patterns) × (at ≤ o.start) × (o.start ≤ o.end) × (o.end ≤ len) × LieInOrder patterns len o.end os
 
--- The error says what was refused: the search, exactly where there is no start for one that isn't anchored; or else memory.
+-- The error says what failed: the search, exactly if there is no start for one that isn't anchored; otherwise memory.
 abbrev pub IsReplaceRefusal : (Anchored → Type 0) → ReplaceError → Type 0
 IsReplaceRefusal supports (Match error) = IsStartRefusal supports No error
 IsReplaceRefusal supports Memory = supports No
 
--- The answer holds the haystack with each of its matches exchanged for its pattern's replacement; or it says what was refused.
+-- The result holds the haystack with each of its matches replaced by its pattern's replacement; or it says what failed.
 abbrev pub AnswersReplaceAll : {D : Type 0} → (D → List ℕ) → (Built → List ℕ → List Occurrence) → Built → (Anchored → Type 0) → List ℕ → List (Bor (List ℕ)) → Result D ReplaceError → Type 0
 AnswersReplaceAll held matches b supports haystack replacements (Ok d) = supports No × (held d ≡ with_replaced haystack (map (λ r. r.now) replacements) (matches b haystack))
 AnswersReplaceAll held matches b supports haystack replacements (Err error) = IsReplaceRefusal supports error
 
--- the same of a text, of which the matches that cut no character are exchanged, and of bytes
+-- the same for a text, where the matches that cut no character are replaced, and for bytes
 abbrev pub ReplacesText : Built → (Anchored → Type 0) → List ℕ → List (Bor (List ℕ)) → Result (String Global) ReplaceError → Type 0
 ReplacesText b supports haystack replacements r = AnswersReplaceAll string_bytes text_matches_in b supports haystack replacements r
 
 abbrev pub ReplacesBytes : Built → (Anchored → Type 0) → List ℕ → List (Bor (List ℕ)) → Result (Vec ℕ) ReplaceError → Type 0
 ReplacesBytes b supports haystack replacements r = AnswersReplaceAll (λ v. v.items) matches_in b supports haystack replacements r
 
--- What a closure of replacement takes and gives: a match, its bytes and the destination; its answer, and the destination.
+-- What a closure of replacement takes and returns: a match, its bytes and the destination; its result, and the destination.
 abbrev pub Replacer : Type 0 → Type 0 → Type 0 → Type 1
 Replacer F D A = Mut F (Bor Occurrence × (Bor (List ℕ) × (MutBor D × Unit {0}))) (A × (MutBor D × Unit {0}))
 
--- in this state it may be called at every match of a pattern below a number, whatever else it is given
+-- in this state it may be called at every match of a pattern below a number, whatever else it is passed
 abbrev pub TakesMatches : {F D A : Type 0} → Replacer F D A → ℕ → F → Type 0
 TakesMatches {F} {D} g patterns f = (found : Bor Occurrence) (bytes : Bor (List ℕ)) (dst : MutBor D) → found.now.pattern < patterns → g.pre f (found, (bytes, (dst, tt)))
 
--- it may be called so, and where it may, it may again after each call
+-- it may be called so, and if so, it may be again after each call
 pub record IsForMatches {F D A : Type 0} (g : Replacer F D A) (patterns : ℕ) (f : F) : Type 0 where
   pub takes : TakesMatches g patterns f
   pub keeps : (state : F) (found : Bor Occurrence) (bytes : Bor (List ℕ)) (dst : MutBor D) (r : A) (left : MutBor D) (after : F)
       → TakesMatches g patterns state → found.now.pattern < patterns → Called g state (found, (bytes, (dst, tt))) (r, (left, tt)) after → TakesMatches g patterns after
 
--- one call: at this occurrence, with these bytes and this destination it may answer so, and leave itself and the destination so
+-- one call: for this occurrence, these bytes and this destination it may return this, and leave itself and the destination so
 pub record RepliesAt {F D A : Type 0} (g : Replacer F D A) (f : F) (o : Occurrence) (bytes : List ℕ) (old : D) (r : A) (after : F) (new : D) : Type 0 where
   pub found : Bor Occurrence
   pub text : Bor (List ℕ)
@@ -88,7 +88,7 @@ pub record RepliesAt {F D A : Type 0} (g : Replacer F D A) (f : F) (o : Occurren
   pub called : Called g f (found, (text, (dst, tt))) (r, (left, tt)) after
   pub leaves : left.now ≡ new
 
--- the closure of a replacement in memory: it answers whether to go on, or a refusal
+-- the closure of a replacement in memory: it returns whether to go on, or an error
 abbrev pub MemoryReplacer : Type 0 → Type 0 → Type 1
 MemoryReplacer F D = Replacer F D (Result Bool AllocError)
 
@@ -101,22 +101,22 @@ calls_of {F} {D} held g f o bytes old None after new = (from to : D) × (error :
 abbrev pub IsReplacedWith : {F D : Type 0} → (D → List ℕ) → MemoryReplacer F D → List ℕ → List Occurrence → F → D → D → Type 0
 IsReplacedWith {F} held g haystack os f old new = (last : F) × IsChain (calls_of held g) haystack 0 os f (held old) last (held new)
 
--- what it has made of them where memory was refused
+-- what it has made of them when memory ran out
 abbrev pub IsBrokenOff : {F D : Type 0} → (D → List ℕ) → MemoryReplacer F D → List ℕ → List Occurrence → F → D → D → Type 0
 IsBrokenOff {F} held g haystack os f old new = (last : F) × IsRefusedChain (calls_of held g) haystack 0 os f (held old) last (held new)
 
--- The error says what was refused, and what that leaves: the destination as it was where the search is refused, and a value of
--- the chain where memory is.
+-- The error says what failed, and what that leaves: the destination unchanged if the search is an error, and a value of the chain
+-- if memory ran out.
 abbrev pub IsRefusedWith : {F D : Type 0} → (D → List ℕ) → MemoryReplacer F D → List ℕ → List Occurrence → F → D → D → (Anchored → Type 0) → ReplaceError → Type 0
 IsRefusedWith held g haystack os f old new supports (Match error) = IsReplaceRefusal supports (Match error) × (new ≡ old)
 IsRefusedWith held g haystack os f old new supports Memory = supports No × IsBrokenOff held g haystack os f old new
 
--- The destination holds what the closure makes of the matches of the haystack; or the error says what was refused.
+-- The destination holds what the closure makes of the matches of the haystack; or the error says what failed.
 abbrev pub AnswersReplaceAllWith : {F D : Type 0} → (D → List ℕ) → (Built → List ℕ → List Occurrence) → MemoryReplacer F D → Built → (Anchored → Type 0) → List ℕ → F → D → D → Result (Unit {0}) ReplaceError → Type 0
 AnswersReplaceAllWith held matches g b supports haystack f old new (Ok done) = supports No × IsReplacedWith held g haystack (matches b haystack) f old new
 AnswersReplaceAllWith held matches g b supports haystack f old new (Err error) = IsRefusedWith held g haystack (matches b haystack) f old new supports error
 
--- the same of a text and of bytes
+-- the same for a text and for bytes
 abbrev pub ReplacesTextWith : {F : Type 0} → MemoryReplacer F (String Global) → Built → (Anchored → Type 0) → List ℕ → F → String Global → String Global → Result (Unit {0}) ReplaceError → Type 0
 ReplacesTextWith g b supports haystack f old new r = AnswersReplaceAllWith string_bytes text_matches_in g b supports haystack f old new r
 

@@ -22,10 +22,11 @@ use Rattle.ac_automaton.specs.declared.error.StreamError.{StreamError}
 use Rattle.ac_automaton.specs.declared.error.StreamError.TheVariants.{Config, Read, Write, WriteZero, Memory, Position}
 use Rattle.ac_automaton.specs.declared.watched.Watched.{Watched}
 
--- How far a search of a stream has come: by what it goes; what its reads gave, each a piece; the matches that it gave; the place
--- of the first byte that is held, which are those from there to the end of what was read; up to which place the automaton has
--- read; where it last began anew, at first, after a match, or where nothing of what was read was live; and how many states it
--- looked at, how many places it scanned and how many bytes it moved. Places are counted from the first byte that the search read.
+-- How far a search of a stream has come: its automaton; the pieces that its reads returned; the matches that it returned; the
+-- place of the first byte that is held, where the held bytes reach from there to the end of what was read; up to which place the
+-- automaton has read; where it last began anew: at first, after a match, or where nothing of what was read was live; and how many
+-- states it looked at, how many places it scanned and how many bytes it moved. Places are counted from the first byte that the
+-- search read.
 pub record StreamProgress : Type 0 where
   pub built : Built
   pub pieces : List (List ℕ)
@@ -61,7 +62,7 @@ keep_of b = kept_for (longest b.dictionary.patterns)
 abbrev pub room_of : Built → ℕ
 room_of b = room_for (keep_of b)
 
--- The place up to which all is decided: no match begins before it that was not given yet, whatever is still read.
+-- The place up to which everything is decided: each match not returned yet begins there or later, whatever is still read.
 abbrev pub cut_of : StreamProgress → ℕ
 cut_of s = max s.last (s.at - keep_of s.built)
 
@@ -73,7 +74,7 @@ CanBeCounted x = length x ≤ 18446744073709551615
 abbrev pub IsSearched : StreamProgress → Type 0
 IsSearched s = s.at ≡ length (read_by s)
 
--- ---- when all is decided
+-- ---- when everything is decided
 
 -- where the last of some matches ends; 0 where there is none
 abbrev pub end_of : List Occurrence → ℕ
@@ -81,7 +82,7 @@ end_of [] = 0
 end_of (o ∷ []) = o.end
 end_of (o ∷ (next ∷ os)) = end_of (next ∷ os)
 
--- what stands in a text after its last match
+-- the rest of a text after its last match
 abbrev pub after_matches : Dictionary → List ℕ → List ℕ
 after_matches m x = drop (end_of (walk_of m.kind (whole m x false))) x
 
@@ -89,11 +90,11 @@ after_matches m x = drop (end_of (walk_of m.kind (whole m x false))) x
 abbrev pub NothingIsLive : Dictionary → List ℕ → Type 0
 NothingIsLive m text = IsLive m false text (Some (length text))
 
--- all of a text is decided: nothing is live of what stands after its last match
+-- all of a text is decided: nothing is live of what comes after its last match
 abbrev pub AllIsDecided : Dictionary → List ℕ → Type 0
 AllIsDecided m x = NothingIsLive m (after_matches m x)
 
--- No more of a text is left after a place than the longest pattern has bytes, or one byte; and nothing, where all of it is decided.
+-- After a place, a text has at most as many bytes left as the longest pattern has, or one byte; and none, if all of it is decided.
 pub record IsNear (m : Dictionary) (x : List ℕ) (place : ℕ) : Type 0 where
   pub kept : length x ≤ place + kept_for (longest m.patterns)
   pub all : AllIsDecided m x → length x ≤ place
@@ -111,14 +112,14 @@ pub record IsFront (m : Dictionary) (output : List ℕ → List ℕ) (x text : L
 abbrev pub CanStream : Built → (Anchored → Type 0) → Type 0
 CanStream b supports = supports No × (b.dictionary.kind ≡ Standard) × (1 ≤ shortest b.dictionary.patterns)
 
--- why it is refused: first because there is no start, then because of the kind, then because of an empty pattern
+-- why it is an error: first because there is no start, then because of the kind, then because of an empty pattern
 abbrev pub IsConfigRefusal : Built → (Anchored → Type 0) → MatchErrorKind → Type 0
 IsConfigRefusal b supports error =
     (¬ supports No × (error ≡ refusal_of No))
     ⊎ (supports No × (b.dictionary.kind ≢ Standard) × (error ≡ UnsupportedStream b.dictionary.kind))
     ⊎ (supports No × (b.dictionary.kind ≡ Standard) × (shortest b.dictionary.patterns ≡ 0) × (error ≡ UnsupportedEmpty))
 
--- the error says what was refused: the search, or else the memory for the buffer
+-- the error says what failed: the search, or the memory for the buffer
 abbrev pub IsStreamRefusal : Built → (Anchored → Type 0) → StreamError → Type 0
 IsStreamRefusal b supports (Config error) = IsConfigRefusal b supports error
 IsStreamRefusal b supports (Read error) = ⊥
@@ -129,20 +130,20 @@ IsStreamRefusal b supports Position = ⊥
 
 -- ---- what holds wherever a search stands
 
--- Whatever is still read, the matches that were given are the first ones, and all others begin at the cut or later.
+-- Whatever is still read, the matches that were returned are the first ones, and all others begin at the cut or later.
 abbrev pub IsDecided : StreamProgress → Type 0
 IsDecided s = (more : List ℕ) → (rest : List Occurrence) × (matches_in s.built (read_by s ++ more) ≡ s.given ++ rest) × All (λ o. cut_of s ≤ o.start) rest
 
--- What a search has cost: at least one look for each byte that the automaton has read, and at most so many for a byte as it takes
--- on the whole; no scan; and a seventh of the bytes that were read moved at most.
+-- What a search has cost: at least one look for each byte that the automaton has read, and at most as many for a byte, amortised,
+-- as its engine takes; no scan; and at most a seventh of the bytes that were read was moved.
 pub record IsWithinStreamBudget (s : StreamProgress) : Type 0 where
   pub some : s.at ≤ s.looked
   pub looked : s.looked ≤ lookups_per_byte s.built.deterministic * s.at
   pub scanned : s.scanned ≡ 0
   pub moved : 7 * s.moved ≤ length (read_by s)
 
--- What holds of a search wherever it stands. No read gave more than the buffer has room for. The matches that it gave are the
--- first of those of what was read.
+-- What holds of a search wherever it stands. No read returned more than the buffer has room for. The matches that it returned are
+-- the first of those of what was read.
 pub record IsOnCourse (s : StreamProgress) : Type 0 where
   pub standard : s.built.dictionary.kind ≡ Standard
   pub filled : 1 ≤ shortest s.built.dictionary.patterns
@@ -154,14 +155,14 @@ pub record IsOnCourse (s : StreamProgress) : Type 0 where
   pub decided : IsDecided s
   pub paid : IsWithinStreamBudget s
 
--- A search of a stream was made, which has read nothing yet; or it was refused.
+-- A search of a stream was made, which has read nothing yet; or the error says why not.
 abbrev pub AnswersNew : Built → (Anchored → Type 0) → Result StreamProgress StreamError → Type 0
 AnswersNew b supports (Ok s) = CanStream b supports × (s ≡ fresh_progress b) × IsOnCourse s
 AnswersNew b supports (Err error) = IsStreamRefusal b supports error
 
 -- ---- what a call does
 
--- so much more is counted as was done in between
+-- as much more is counted as was done in between
 abbrev pub StreamCounts : StreamProgress → StreamProgress → Steps → Steps → Type 0
 StreamCounts s t before after = (states places bytes : ℕ) × Done states places bytes before after × (t.looked ≡ s.looked + states) × (t.scanned ≡ s.scanned + places) × (t.moved ≡ s.moved + bytes)
 
@@ -179,7 +180,7 @@ pub record CountsNothing (s t : StreamProgress) : Type 0 where
 abbrev pub HasRoom : StreamProgress → Type 0
 HasRoom s = length (read_by s) < s.from + room_of s.built
 
--- all is as it was, but that what is before the cut may be held no longer
+-- everything is unchanged, except that bytes before the cut may be held no longer
 pub record IsRolled (s t : StreamProgress) : Type 0 where
   pub from : (s.from ≤ t.from) × (t.from ≤ cut_of s)
   pub same : t ≡ record s { from = t.from; moved = t.moved }
@@ -191,7 +192,7 @@ pub record ReadsNothing (s t : StreamProgress) : Type 0 where
   pub pieces : t.pieces ≡ s.pieces
   pub from : t.from ≡ s.from
 
--- a match among the bytes that are held, of which the automaton had not read the last
+-- a match among the held bytes; the automaton had not read its last byte before
 pub record IsHeldMatch (s : StreamProgress) (o : Occurrence) : Type 0 where
   pub pattern : o.pattern < length s.built.dictionary.patterns
   pub held : s.from ≤ o.start
@@ -200,18 +201,18 @@ pub record IsHeldMatch (s : StreamProgress) (o : Occurrence) : Type 0 where
   pub new : s.at < o.end
   pub within : o.end ≤ length (read_by s)
 
--- All that was read was searched, and all its matches were given; where all of it is decided, the search begins anew.
+-- All that was read was searched, and all its matches were returned; if all of it is decided, the search begins anew.
 pub record AreAllGiven (s : StreamProgress) : Type 0 where
   pub searched : IsSearched s
   pub all : s.given ≡ matches_read s
   pub anew : AllIsDecided s.built.dictionary (read_by s) → s.last ≡ s.at
 
--- The next match of what was read is this one; or there is none: then, if places can be counted, all were given.
+-- The next match of what was read is this one; or there is none: then, if places can be counted, all were returned.
 abbrev pub FindsHeld : StreamProgress → Option Occurrence → StreamProgress → Type 0
 FindsHeld s None t = ReadsNothing s t × (t.given ≡ s.given) × (s.last ≤ t.last) × (CanBeCounted (read_by s) → AreAllGiven t)
 FindsHeld s (Some o) t = ReadsNothing s t × (t.given ≡ s.given ++ o ∷ []) × (t.last ≡ o.end) × (t.at ≡ o.end) × IsHeldMatch s o × CanBeCounted (read_by s)
 
--- One read gave a piece, which the search has after what it had; what is before the cut may be held no longer.
+-- One read returned a piece, which the search has after what it had; bytes before the cut may be held no longer.
 pub record HasRead {R : Type 0} (remaining : R → Option (List ℕ)) (s t : StreamProgress) (before after : Watched R) (piece : List ℕ) (failed : ℕ) : Type 0 where
   pub built : t.built ≡ s.built
   pub pieces : t.pieces ≡ s.pieces ++ piece ∷ []
@@ -222,7 +223,7 @@ pub record HasRead {R : Type 0} (remaining : R → Option (List ℕ)) (s t : Str
   pub short : length piece ≤ room_of s.built
   pub read : HasGiven remaining before after (piece ∷ []) failed
 
--- What a read comes to: so many bytes more, none at the end; or an error, of a read that failed, or of one with which there are
+-- The result of a read: this many bytes more, none at the end; or an error, of a read that failed, or of one after which there are
 -- more bytes than places.
 abbrev pub ReadsMore : {R : Type 0} → (R → Option (List ℕ)) → StreamProgress → StreamProgress → Watched R → Watched R → Result ℕ StreamError → Type 0
 ReadsMore remaining s t before after (Ok n) = (piece : List ℕ) × HasRead remaining s t before after piece 0 × (length piece ≡ n) × CanBeCounted (read_by t)

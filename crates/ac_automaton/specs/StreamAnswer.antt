@@ -1,4 +1,4 @@
--- What an answer says of a call that writes a text while it reads: how much of the text was written of what was read.
+-- The results of a call that writes a text while it reads: how much of the text was written, given what was read.
 use Rattle.std.specs.Prelude.{◌≡◌, ℕ, List, [], Result, Ok, Err}
 use Rattle.std.specs.List.{concat}
 use Rattle.ac_input.specs.BeginningLaws.{IsBeginning}
@@ -13,11 +13,11 @@ pub record MovedNothing (m : Moved) : Type 0 where
   pub taken : m.taken ≡ []
   pub failed : Failed m 0 0 0
 
--- all was written at least that can be before the last read
+-- at least everything was written that can be before the last read
 abbrev pub WroteEarly : (List ℕ → List ℕ → Type 0) → Moved → Type 0
 WroteEarly front m = (early : List ℕ) × front (concat (but_last m.pieces)) early × IsBeginning early m.taken
 
--- The text that is made of an input; and what of it can be written once no more was read than this.
+-- The text that is made of an input; and what of it can be written when no more was read than this.
 module _ (output : List ℕ → List ℕ) (front : List ℕ → List ℕ → Type 0) where
   -- The input was read to its end, and all of its text was written.
   pub record WroteWhole (m : Moved) : Type 0 where
@@ -25,24 +25,24 @@ module _ (output : List ℕ → List ℕ) (front : List ℕ → List ℕ → Typ
     pub written : m.taken ≡ output (concat m.pieces)
     pub failed : Failed m 0 0 0
 
-  -- A read failed: all that can be written of what was read was written.
+  -- A read failed: everything that can be written of what was read was written.
   pub record WroteToFailedRead (m : Moved) : Type 0 where
     pub written : front (concat m.pieces) m.taken
     pub failed : Failed m 1 0 0
 
-  -- A write failed, or was handed bytes and took none: a beginning of the text of what was read was written.
+  -- A write failed, or was passed bytes and took none: a front part of the text of what was read was written.
   pub record WroteToFailedWrite (m : Moved) (stalls : ℕ) : Type 0 where
     pub at_least : WroteEarly front m
     pub at_most : IsBeginning m.taken (output (concat m.pieces))
     pub failed : Failed m 0 1 stalls
 
-  -- The input is longer than places can be counted; a beginning of its text was written.
+  -- The input is longer than places can be counted; a front part of its text was written.
   pub record WroteOutOfPlaces (m : Moved) : Type 0 where
     pub long : ¬ CanBeCounted (concat m.pieces)
     pub written : IsBeginning m.taken (output (concat m.pieces))
     pub failed : Failed m 0 0 0
 
-  -- what an answer says of what was moved
+  -- what a result says about what was moved
   abbrev pub AnswersWriting : Moved → Result (Unit {0}) StreamError → Type 0
   AnswersWriting m (Ok done) = WroteWhole m
   AnswersWriting m (Err (Config error)) = MovedNothing m

@@ -1,4 +1,4 @@
--- What the matches of a stream, as an iterator, give and read.
+-- What the matches of a stream, as an iterator, return and read.
 use Rattle.std.specs.Prelude.{◌≡◌, ◌≢◌, ◌⊎◌, ℕ, ◌-◌, ◌<◌, ◌≤◌, true, List, [], ◌∷◌, ◌++◌, length, take, Option, None, Some, Result, Ok, Err}
 use Rattle.std.specs.Borrow.{Fml, GName, MutBor, RattleType, RestsIfErr}
 use Rattle.std.specs.Io.KnownBytes.{IsAtEnd}
@@ -19,22 +19,23 @@ use Rattle.ac_automaton.specs.declared.watched.Watched.{Watched}
 
 -- ---- what was read
 
--- reads gave these pieces, none longer than the buffer, and so many of them failed
+-- reads returned these pieces, none longer than the buffer, and this many of them failed
 pub record HasGained {R : Type 0} (remaining : R → Option (List ℕ)) (s t : StreamProgress) (before after : Watched R) (gained : List (List ℕ)) (failed : ℕ) : Type 0 where
   pub built : t.built ≡ s.built
   pub pieces : t.pieces ≡ s.pieces ++ gained
   pub short : AllFit (room_of s.built) gained
   pub read : HasGiven remaining before after gained failed
 
--- Nothing is left to come: the input has ended and all was given, or there are more bytes than places.
+-- No item is left: the input has ended and all matches were returned, or there are more bytes than places.
 abbrev pub IsStopped : {R : Type 0} → StreamProgress → Watched R → Type 0
 IsStopped s reader = ((has_ended reader ≡ true) × AreAllGiven s) ⊎ (¬ CanBeCounted (read_by s))
 
--- A match that is given after reads ends in the last piece: nothing is read while a match of what was read is still to be given.
+-- A match that is returned after reads ends in the last piece: nothing is read while a match of what was read is still to be
+-- returned.
 abbrev pub EndsInLastPiece : StreamProgress → List (List ℕ) → Occurrence → Type 0
 EndsInLastPiece t gained o = gained ≢ [] → length (concat (take (length t.pieces - 1) t.pieces)) < o.end
 
--- a match of what was read by then, of which the automaton had not read the last byte before
+-- a match of what was read by then; the automaton had not read its last byte before
 pub record IsNextMatch (s t : StreamProgress) (o : Occurrence) : Type 0 where
   pub pattern : o.pattern < length s.built.dictionary.patterns
   pub behind : s.last ≤ o.start
@@ -43,9 +44,9 @@ pub record IsNextMatch (s t : StreamProgress) (o : Occurrence) : Type 0 where
   pub within : o.end ≤ length (read_by t)
   pub countable : CanBeCounted (read_by t)
 
--- What the next item is, and what was read for it. A match is the next one of those that were not given yet. An error is of a read
--- that failed, when all matches of what was read were given; or there are now more bytes than places. None: nothing is left to
--- come; if anything was read for it, that was to the end, and all matches were given.
+-- What the next item is, and what was read for it. A match is the next one of those that were not returned yet. An error is of a
+-- read that failed, when all matches of what was read were returned; or there are now more bytes than places. None: no item is
+-- left; if anything was read for it, that was to the end, and all matches were returned.
 abbrev pub NextGives : {R : Type 0} → (R → Option (List ℕ)) → StreamProgress → StreamProgress → Watched R → Watched R → Option (Result Occurrence StreamError) → Type 0
 NextGives remaining s t before after (Some (Ok o)) = (gained : List (List ℕ)) × HasGained remaining s t before after gained 0 × AreFilled gained × (t.given ≡ s.given ++ o ∷ []) × (t.last ≡ o.end) × IsNextMatch s t o × EndsInLastPiece t gained o
 NextGives remaining s t before after (Some (Err (Config error))) = ⊥
@@ -56,13 +57,13 @@ NextGives remaining s t before after (Some (Err Memory)) = ⊥
 NextGives remaining s t before after (Some (Err Position)) = (gained : List (List ℕ)) × HasGained remaining s t before after gained 0 × AreFilled gained × (t.given ≡ s.given) × ¬ CanBeCounted (read_by t)
 NextGives remaining s t before after None = (gained : List (List ℕ)) × HasGained remaining s t before after gained 0 × ((gained ≡ []) ⊎ (AreWhole gained × AreAllGiven t × IsAtEnd (remaining (inner_of after)))) × (t.given ≡ s.given) × IsStopped t after
 
--- where nothing was left to come, nothing comes, and nothing is read
+-- if no item was left, none comes, and nothing is read
 abbrev pub StaysStopped : {R : Type 0} → StreamProgress → StreamProgress → Watched R → Watched R → Option (Result Occurrence StreamError) → Type 0
 StaysStopped s t before after r = IsStopped s before → (r ≡ None) × (t.pieces ≡ s.pieces) × (t.given ≡ s.given) × (pieces_of after ≡ pieces_of before)
 
 -- ---- one turn
 
--- All of what was read before was searched and given, and one read gave this piece.
+-- All of what was read before was searched and returned, and one read returned this piece.
 pub record TurnReads {R : Type 0} (remaining : R → Option (List ℕ)) (s t : StreamProgress) (before after : Watched R) (piece : List ℕ) (failed : ℕ) : Type 0 where
   pub mid : StreamProgress
   pub few : CanBeCounted (read_by mid)
@@ -72,8 +73,8 @@ pub record TurnReads {R : Type 0} (remaining : R → Option (List ℕ)) (s t : S
   pub all : AreAllGiven mid
   pub read : HasRead remaining mid t before after piece failed
 
--- What one turn comes to: a match of what was read; or, when there is none, one read, which gave some bytes, or none, or failed;
--- or none, where nothing is left to come.
+-- The outcome of one turn: a match of what was read; or, if there is none, one read, which returned some bytes, or none, or
+-- failed; or none, if no item is left.
 abbrev pub TurnGives : {R : Type 0} → (R → Option (List ℕ)) → StreamProgress → StreamProgress → Watched R → Watched R → Turn → Type 0
 TurnGives remaining s t before after (Found o) = FindsHeld s (Some o) t × (after ≡ before)
 TurnGives remaining s t before after More = (piece : List ℕ) × TurnReads remaining s t before after piece 0 × (piece ≢ []) × CanBeCounted (read_by t)
@@ -113,12 +114,13 @@ module _ {A R : Type 0} where
       × StaysStopped (progress_of i) (progress_of j) (reader_of i) (reader_of j) r
       × (reader_name j ≡ reader_name i)
 
-  -- The search was accepted: it has read nothing yet, and holds the reader that was lent, by the same reference; or it was refused.
+  -- The search is supported: it has read nothing yet, and holds the reader that it borrowed, by the same reference; or it is an
+  -- error.
   abbrev pub AnswersStreamIter : Built → (Anchored → Type 0) → MutBor (Watched R) → Result (StreamFindIter A R) StreamError → Type 0
   AnswersStreamIter b supports lent (Ok i) = CanStream b supports × (progress_of i ≡ fresh_progress b) × (reader_of i ≡ lent.now) × (reader_name i ≡ lent.ghost_name)
   AnswersStreamIter b supports lent (Err error) = IsStreamRefusal b supports error
 
--- Where the search is refused, the reader ends as it was. Else the search holds the reference to it, and the reader ends as the last
--- value under that name.
+-- If the search is an error, the reader is unchanged. Otherwise the search holds the reference to it, and the reader ends as the
+-- last value under that name.
 abbrev pub RestsIfRefused : (R : RattleType) {A E : Type 0} → MutBor (Watched R.Denot) → Result (StreamFindIter A R.Denot) E → Fml
 RestsIfRefused R reader result = RestsIfErr (the_row R) reader reader_name result (λ last. last ≡ reader.now)

@@ -1,4 +1,4 @@
--- Replacement over streams: what each answer says of what was read and written, and what it costs.
+-- Replacement over streams: what each result says about what was read and written, and what it costs.
 use Rattle.std.specs.Prelude.{◌≡◌, ℕ, ◌+◌, ◌*◌, ◌<◌, ◌≤◌, List, [], ◌++◌, length, take, Option, Some, None, Result, Ok, Err, OnOk}
 use Rattle.std.specs.List.{concat}
 use Rattle.ac_input.specs.declared.search.Anchored.{Anchored}
@@ -18,23 +18,23 @@ use Rattle.ac_automaton.specs.declared.error.StreamError.{StreamError}
 use Rattle.ac_automaton.specs.declared.error.StreamError.TheVariants.{Config, Read, Write, WriteZero, Memory, Position}
 use Rattle.ac_automaton.specs.declared.watched.Watched.{Watched}
 
--- the text with each match exchanged for its pattern's replacement
+-- the text with each match replaced by its pattern's replacement
 abbrev pub replaced_in : Built → List (List ℕ) → List ℕ → List ℕ
 replaced_in b replacements x = with_replaced x replacements (matches_in b x)
 
--- ---- what an answer says
+-- ---- what a result says
 
 -- the front of a text, as far as it can be written, replaced
 abbrev pub IsReplacedFront : Built → List (List ℕ) → List ℕ → List ℕ → Type 0
 IsReplacedFront b replacements x text = IsFront b.dictionary (replaced_in b replacements) x text
 
--- What a replacement over a stream read, no piece longer than the buffer, and wrote, and what it answered.
+-- What a replacement over a stream read, no piece longer than the buffer, what it wrote, and what it returned.
 abbrev pub ReplacesStream : {R W : Type 0} → (R → Option (List ℕ)) → (W → Option (List ℕ)) → Built → List (List ℕ) → Watched R → Watched R → Watched W → Watched W → Result (Unit {0}) StreamError → Type 0
 ReplacesStream remaining contents b replacements reader_before reader_after writer_before writer_after result =
     (m : Moved) × HasMoved remaining contents reader_before reader_after writer_before writer_after m × AllFit (room_of b) m.pieces × AnswersWriting (replaced_in b replacements) (IsReplacedFront b replacements) m result
 
--- An error that is of no device says why the replacement did not begin, and both devices are as they were; with any other answer
--- the search was accepted.
+-- An error that is of no device says why the replacement did not begin, and both devices are unchanged; with any other result the
+-- search is supported.
 abbrev pub AcceptsReplacing : {R W : Type 0} → Built → (Anchored → Type 0) → Watched R → Watched R → Watched W → Watched W → Result (Unit {0}) StreamError → Type 0
 AcceptsReplacing b supports reader_before reader_after writer_before writer_after (Ok done) = CanStream b supports
 AcceptsReplacing b supports reader_before reader_after writer_before writer_after (Err (Config error)) = IsConfigRefusal b supports error × NoneTouched reader_before reader_after writer_before writer_after
@@ -46,13 +46,13 @@ AcceptsReplacing b supports reader_before reader_after writer_before writer_afte
 
 -- ---- what it costs
 
--- What a search of so many bytes of a stream may cost.
+-- What a search of this many bytes of a stream may cost.
 pub record IsStreamCost (b : Built) (n : ℕ) (before after : Steps) : Type 0 where
   pub looked : looked_of after ≤ looked_of before + lookups_per_byte b.deterministic * n
   pub scanned : scanned_of after ≡ scanned_of before
   pub moved : 7 * moved_of after ≤ 7 * moved_of before + n
 
--- What a call costs that searches a stream, by the bytes that it read; where it came to the end, each of them was looked at.
+-- The cost of a call that searches a stream, by the bytes that it read; if it reached the end, each of them was looked at.
 abbrev pub CostsStream : {R E : Type 0} → Built → Watched R → Watched R → Steps → Steps → Result (Unit {0}) E → Type 0
 CostsStream b reader_before reader_after before after result =
     (pieces : List (List ℕ)) × (pieces_of reader_after ≡ pieces_of reader_before ++ pieces)
@@ -61,12 +61,12 @@ CostsStream b reader_before reader_after before after result =
 
 -- ---- what stands at each point of it
 
--- the text up to a place, with each match that was given replaced
+-- the text up to a place, with each returned match replaced
 abbrev pub text_to : StreamProgress → List (List ℕ) → ℕ → List ℕ
 text_to s replacements at = replaced_from 0 (take at (read_by s)) replacements s.given
 
--- The text may be written up to this place: the matches that were given lie before it, and all others after it; what comes
--- after it is held.
+-- The text may be written up to this place: the returned matches lie before it, and all others after it; what comes after it is
+-- held.
 pub record IsPlaced (s : StreamProgress) (at : ℕ) : Type 0 where
   pub course : IsOnCourse s
   pub countable : CanBeCounted (read_by s)
@@ -74,7 +74,7 @@ pub record IsPlaced (s : StreamProgress) (at : ℕ) : Type 0 where
   pub cut : at ≤ cut_of s
   pub lies : LieInOrder (length s.built.dictionary.patterns) at 0 s.given
 
--- All that is decided has been found, up to this place.
+-- Every match that is decided has been found, up to this place.
 pub record IsAtCut (s : StreamProgress) (at : ℕ) : Type 0 where
   pub placed : IsPlaced s at
   pub cut : at ≡ cut_of s
@@ -97,24 +97,24 @@ SendsMatch contents replacements s t from old new held_before held_after (Some t
 abbrev pub SendsDecided : {W : Type 0} → (W → Option (List ℕ)) → List (List ℕ) → StreamProgress → StreamProgress → ℕ → Watched W → Watched W → List ℕ → ℕ → Type 0
 SendsDecided contents replacements s t from old new held_before to = SendsTo contents replacements s t from to old new held_before [] × IsAtCut t to
 
--- In between nothing was read, and the sending of the text from a place on stopped at a write.
+-- In between nothing was read, and the send of the text from a place on stopped at a write.
 pub record StopsSending {W : Type 0} (contents : W → Option (List ℕ)) (replacements : List (List ℕ)) (s t : StreamProgress) (from : ℕ) (old new : Watched W) (held_before : List ℕ) : Type 0 where
   pub same : ReadsNothing s t
   pub bytes : List ℕ
   pub text : IsBeginning (text_to s replacements from ++ bytes) (replaced_in s.built replacements (read_by s))
   pub stopped : Stopped contents old new held_before bytes
 
--- The same by the answer: the next match was sent, or there is none; or the sending stopped at a write, as the error says.
+-- The same by the result: the next match was sent, or there is none; or the send stopped at a write, as the error says.
 abbrev pub AnswersMatch : {W : Type 0} → (W → Option (List ℕ)) → List (List ℕ) → StreamProgress → StreamProgress → ℕ → Watched W → Watched W → List ℕ → List ℕ → Result (Option ℕ) StreamError → Type 0
 AnswersMatch contents replacements s t from old new held_before held_after (Ok to) = SendsMatch contents replacements s t from old new held_before held_after to
 AnswersMatch contents replacements s t from old new held_before held_after (Err error) = StopsSending contents replacements s t from old new held_before × IsOfWrite old new error
 
--- the text was sent up to the cut, and nothing is held back; or the sending stopped
+-- the text was sent up to the cut, and nothing is held back; or the send stopped
 abbrev pub AnswersDecided : {W : Type 0} → (W → Option (List ℕ)) → List (List ℕ) → StreamProgress → StreamProgress → ℕ → Watched W → Watched W → List ℕ → List ℕ → Result ℕ StreamError → Type 0
 AnswersDecided contents replacements s t from old new held_before held_after (Ok to) = SendsTo contents replacements s t from to old new held_before [] × IsAtCut t to × (held_after ≡ [])
 AnswersDecided contents replacements s t from old new held_before held_after (Err error) = StopsSending contents replacements s t from old new held_before × IsOfWrite old new error
 
--- A replacement between two reads: all that is decided was written.
+-- A replacement between two reads: everything that is decided was written.
 pub record HasReplaced {R W : Type 0} (remaining : R → Option (List ℕ)) (contents : W → Option (List ℕ)) (replacements : List (List ℕ)) (b : Built) (s : StreamProgress) (at : ℕ) (reader_before reader_after : Watched R) (writer_before writer_after : Watched W) : Type 0 where
   pub built : s.built ≡ b
   pub place : IsAtCut s at
@@ -122,14 +122,14 @@ pub record HasReplaced {R W : Type 0} (remaining : R → Option (List ℕ)) (con
   pub read : HasGiven remaining reader_before reader_after s.pieces 0
   pub written : HasTaken contents writer_before writer_after (text_to s replacements at) 0 0
 
--- After a read: all that was decided before it was written.
+-- After a read: everything that was decided before it was written.
 pub record IsReading {W : Type 0} (contents : W → Option (List ℕ)) (replacements : List (List ℕ)) (b : Built) (s : StreamProgress) (at : ℕ) (before after : Watched W) : Type 0 where
   pub built : s.built ≡ b
   pub placed : IsPlaced s at
   pub front : IsReplacedFront b replacements (concat (but_last s.pieces)) (text_to s replacements at)
   pub written : HasTaken contents before after (text_to s replacements at) 0 0
 
--- What a search read and counted in between; where it came to the end, all of it was searched.
+-- What a search read and counted in between; if it reached the end, all of it was searched.
 pub record HasSearched {R : Type 0} (s t : StreamProgress) (reader_before reader_after : Watched R) (before after : Steps) (result : Result (Unit {0}) StreamError) : Type 0 where
   pub built : t.built ≡ s.built
   pub read : pieces_of reader_after ≡ pieces_of reader_before ++ t.pieces

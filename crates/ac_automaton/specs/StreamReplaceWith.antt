@@ -1,4 +1,4 @@
--- Replacement over streams by a closure: the values of the writer, one after another, and what each answer says of them.
+-- Replacement over streams by a closure: the values of the writer, one after another, and what each result says about them.
 use Rattle.std.specs.Prelude.{◌≡◌, ◌⊎◌, ℕ, ◌<◌, ◌≤◌, List, [], ◌∷◌, ◌++◌, length, slice_range, Option, Some, None, Result, Ok, Err}
 use Rattle.std.specs.List.{All, concat}
 use Rattle.ac_input.specs.declared.search.Anchored.{Anchored}
@@ -13,7 +13,7 @@ use Rattle.ac_automaton.specs.declared.error.StreamError.{StreamError}
 use Rattle.ac_automaton.specs.declared.error.StreamError.TheVariants.{Config, Read, Write, WriteZero, Memory, Position}
 use Rattle.ac_automaton.specs.declared.watched.Watched.{Watched}
 
--- the closure of a replacement over a stream: its destination is the writer, and it answers that it wrote, or a refusal
+-- the closure of a replacement over a stream: its destination is the writer, and it returns that it wrote, or an error
 abbrev pub StreamReplacer : Type 0 → Type 0 → Type 1
 StreamReplacer F W = Replacer F (Watched W) (Result (Unit {0}) StreamError)
 
@@ -30,8 +30,8 @@ module _ {F W : Type 0} (contents : W → Option (List ℕ)) (g : StreamReplacer
       × RepliesAt g f o (slice_range x o.start o.end) before (Ok tt) mid after
       × IsWriterChain x o.end os to mid after last new
 
-  -- The chain came to a place of what was read, with these matches left. The place is a cut, and of what was read before the last
-  -- read no more lies after it than the longest pattern has bytes, or one byte; and nothing, where all of that is decided.
+  -- The chain came to a place of what was read, with these matches left. The place is a cut. Of what was read before the last
+  -- read, at most as many bytes lie after it as the longest pattern has, or one byte; and none, if all of that is decided.
   pub record HasComeTo (b : Built) (pieces : List (List ℕ)) (place : ℕ) (rest : List Occurrence) (f : F) (old : Watched W) (last : F) (new : Watched W) : Type 0 where
     pub done : List Occurrence
     pub all : matches_in b (concat pieces) ≡ done ++ rest
@@ -40,7 +40,7 @@ module _ {F W : Type 0} (contents : W → Option (List ℕ)) (g : StreamReplacer
     pub near : IsNear b.dictionary (concat (but_last pieces)) place
     pub chain : IsWriterChain (concat pieces) 0 done place f old last new
 
-  -- ---- what an answer says
+  -- ---- what a result says
 
   -- The input was read to its end, and the chain is that of all of it.
   pub record ReplacedWholeWith (b : Built) (pieces : List (List ℕ)) (f : F) (old new : Watched W) : Type 0 where
@@ -48,7 +48,7 @@ module _ {F W : Type 0} (contents : W → Option (List ℕ)) (g : StreamReplacer
     pub last : F
     pub chain : IsWriterChain (concat pieces) 0 (matches_in b (concat pieces)) (length (concat pieces)) f old last new
 
-  -- The closure refused the next match: the chain came to it, and is left as the closure left it.
+  -- The closure failed at the next match: the chain came to it, and is left as the closure left it.
   pub record RefusedByClosure (b : Built) (pieces : List (List ℕ)) (f : F) (old new : Watched W) (error : StreamError) : Type 0 where
     pub found : Occurrence
     pub rest : List Occurrence
@@ -58,8 +58,8 @@ module _ {F W : Type 0} (contents : W → Option (List ℕ)) (g : StreamReplacer
     pub last : F
     pub refused : RepliesAt g mid found (slice_range (concat pieces) found.start found.end) before (Err error) last new
 
-  -- A write failed, and so many stalled: the chain came to a place, and of what stands before the next match, or before the end,
-  -- a beginning was taken.
+  -- A write failed, and this many stalled: the chain came to a place, and of the bytes before the next match, or before the end, a
+  -- front part was taken.
   pub record StoppedAtWrite (b : Built) (pieces : List (List ℕ)) (f : F) (old new : Watched W) (stalls : ℕ) : Type 0 where
     pub from : ℕ
     pub to : ℕ
@@ -75,7 +75,7 @@ module _ {F W : Type 0} (contents : W → Option (List ℕ)) (g : StreamReplacer
   abbrev pub HasCome : Built → List (List ℕ) → F → Watched W → Watched W → Type 0
   HasCome b pieces f old new = (place : ℕ) × (rest : List Occurrence) × (last : F) × HasComeTo b pieces place rest f old last new
 
-  -- a fault that is not the closure's: how many reads failed, and how far the chain came
+  -- an error that is not the closure's: how many reads failed, and how far the chain came
   abbrev pub IsStreamFault : Built → List (List ℕ) → ℕ → F → Watched W → Watched W → StreamError → Type 0
   IsStreamFault b pieces failed f old new (Config error) = ⊥
   IsStreamFault b pieces failed f old new (Read error) = (failed ≡ 1) × AreWhole pieces × HasCome b pieces f old new
@@ -84,7 +84,7 @@ module _ {F W : Type 0} (contents : W → Option (List ℕ)) (g : StreamReplacer
   IsStreamFault b pieces failed f old new Memory = ⊥
   IsStreamFault b pieces failed f old new Position = (failed ≡ 0) × (¬ CanBeCounted (concat pieces)) × HasCome b pieces f old new
 
-  -- what an answer after the first read says of the pieces that were read, and of how many reads failed
+  -- what a result after the first read says about the pieces that were read, and about how many reads failed
   abbrev pub AnswersReplaceWith : Built → List (List ℕ) → ℕ → F → Watched W → Watched W → Result (Unit {0}) StreamError → Type 0
   AnswersReplaceWith b pieces failed f old new (Ok done) = (failed ≡ 0) × ReplacedWholeWith b pieces f old new
   AnswersReplaceWith b pieces failed f old new (Err error) = ((failed ≡ 0) × RefusedByClosure b pieces f old new error) ⊎ IsStreamFault b pieces failed f old new error
@@ -95,7 +95,7 @@ module _ {F W : Type 0} (contents : W → Option (List ℕ)) (g : StreamReplacer
     ReadsAndReplaces b f reader_before reader_after writer_before writer_after result =
         (pieces : List (List ℕ)) × (failed : ℕ) × HasGiven remaining reader_before reader_after pieces failed × AllFit (room_of b) pieces × AnswersReplaceWith b pieces failed f writer_before writer_after result
 
-    -- The answer of a replacement: it was refused before anything happened; or it was accepted, and the chain says how far it came.
+    -- The result of a replacement: an error before anything happened; or the chain says how far it came.
     abbrev pub ReplacesStreamWith : Built → (Anchored → Type 0) → F → Watched R → Watched R → Watched W → Watched W → Result (Unit {0}) StreamError → Type 0
     ReplacesStreamWith b supports f reader_before reader_after writer_before writer_after (Ok done) = CanStream b supports × ReadsAndReplaces b f reader_before reader_after writer_before writer_after (Ok done)
     ReplacesStreamWith b supports f reader_before reader_after writer_before writer_after (Err error) =
@@ -126,8 +126,8 @@ module _ {F W : Type 0} (contents : W → Option (List ℕ)) (g : StreamReplacer
   PassesMatch s t from f after old new None = ContinuesChain s t from from f after old new × AreAllGiven t
   PassesMatch s t from f after old new (Some to) = ContinuesChain s t from to f after old new × (s.at < t.at)
 
-  -- In between nothing was read, and the chain, which had come to a place, stopped at it or later: the closure refused, or a
-  -- write failed.
+  -- In between nothing was read, and the chain, which had come to a place, stopped at it or later: the closure failed, or a write
+  -- did.
   pub record StopsChain (s : StreamProgress) (from : ℕ) (f : F) (old new : Watched W) (error : StreamError) : Type 0 where
     pub stops : (first : F) (begun : Watched W) → IsNear s.built.dictionary (concat (but_last s.pieces)) from → IsWriterChain (read_by s) 0 s.given from first begun f old
         → RefusedByClosure s.built s.pieces first begun new error ⊎ IsStreamFault s.built s.pieces 0 first begun new error

@@ -1,4 +1,4 @@
--- What a search of a stream keeps between its calls, and how it goes on over what is held.
+-- What a search of a stream keeps between its calls, and how it goes on over the held bytes.
 use Rattle.std.specs.Prelude.{◌≡◌, ℕ, ◌+◌, ◌*◌, ◌≤◌, Bool, true, false, IsTrue, List, [], ◌∷◌, ◌++◌, length, take, slice_range, Option, None, Some}
 use Rattle.std.specs.List.{concat}
 use Rattle.ac_input.specs.Number.{StateID}
@@ -22,14 +22,14 @@ use Rattle.ac_automaton.specs.declared.stream.search.Searched.{Searched}
 abbrev pub since_last : StreamProgress → List ℕ
 since_last s = slice_range (read_by s) s.last s.at
 
--- Whatever is still read, the matches that were given are the first of its walk, which goes on from the end of the last one.
+-- Whatever is still read, the returned matches are the first of its walk, which goes on from the end of the last one.
 abbrev pub ContinuesWalk : StreamProgress → Type 0
 ContinuesWalk s =
     (more : List ℕ) (rest : List Occurrence)
     → IsWalk Standard (whole s.built.dictionary (read_by s ++ more) false) s.last (Some s.last) rest
     → IsWalk Standard (whole s.built.dictionary (read_by s ++ more) false) 0 None (s.given ++ rest)
 
--- What was looked at is paid for by the bytes that the automaton has read, and what is live is paid for too.
+-- The looks are paid for by the bytes that the automaton has read, and what is live is paid for too.
 abbrev pub IsSearchPaid : StreamProgress → Type 0
 IsSearchPaid s =
     (live : Option ℕ) → IsLive s.built.dictionary false (since_last s) live
@@ -44,7 +44,7 @@ pub record StandsInState (Reaches : List ℕ → StateID → Type 0) (s : Stream
   pub goes : ContinuesWalk s
   pub lookups : IsSearchPaid s
 
--- what a search over the bytes that are held is told of how far it has come
+-- what a search over the held bytes is passed about how far it has come
 pub record IsHeldAt (b : Built) (Reaches : List ℕ → StateID → Type 0) (s : StreamProgress) (start : StateID) (p : Progress) (held : List ℕ) : Type 0 where
   pub built : s.built ≡ b
   pub stands : StandsInState Reaches s start p.sid
@@ -59,11 +59,11 @@ abbrev pub some_of : Option Occurrence → List Occurrence
 some_of None = []
 some_of (Some o) = o ∷ []
 
--- how far it has come then
+-- how far it has come afterwards
 abbrev pub after_search : StreamProgress → Searched → ℕ → StreamProgress
 after_search s r looks = record s { given = s.given ++ some_of r.found; at = r.progress.at; last = r.progress.last; looked = s.looked + looks }
 
--- A search over the bytes that are held went on to the next match, or to the end of these bytes.
+-- A search over the held bytes went on to the next match, or to the end of these bytes.
 pub record SearchesOn (Reaches : List ℕ → StateID → Type 0) (s : StreamProgress) (start : StateID) (r : Searched) (before after : Steps) : Type 0 where
   pub looks : ℕ
   pub done : Done looks 0 0 before after
@@ -94,7 +94,7 @@ progress_at b pieces count progress buffer sums =
       moved = buffer.moved;
     }
 
--- What a search keeps between its calls is right.
+-- The state that a search keeps between its calls is right.
 pub record IsStreamSearch (Reaches : List ℕ → StateID → Type 0) (s : StreamProgress) (start sid : StateID) (count : ℕ) (buffer : Held) (over : Bool) : Type 0 where
   pub stands : StandsInState Reaches s start sid
   pub number : length s.given ≡ count

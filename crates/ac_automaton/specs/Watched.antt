@@ -9,11 +9,11 @@ use Rattle.ac_automaton.specs.declared.error.StreamError.TheVariants.{Config, Re
 abbrev pub failures_of : {T : Type 0} → Watched T → ℕ
 failures_of watched = watched.failures.value
 
--- how many of its writes stalled: they were handed bytes and took none; each is a failure too
+-- how many of its writes stalled: they were passed bytes and took none; each is a failure too
 abbrev pub stalls_of : {T : Type 0} → Watched T → ℕ
 stalls_of watched = watched.stalls.value
 
--- what its reads gave, each a piece, in order
+-- the pieces that its reads returned, in order
 abbrev pub pieces_of : {T : Type 0} → Watched T → List (List ℕ)
 pieces_of watched = watched.pieces.items
 
@@ -42,7 +42,7 @@ pub record IsFresh {T : Type 0} (watched : Watched T) : Type 0 where
   pub flushed : flushed_of watched ≡ []
   pub ended : has_ended watched ≡ false
 
--- a read gave the first n bytes of the buffer, and the input has ended where there are none
+-- a read returned the first n bytes of the buffer, and the input has ended if there are none
 pub record ReadGave {T : Type 0} (old new : Watched T) (buffer : List ℕ) (n : ℕ) : Type 0 where
   pub within : n ≤ length buffer
   pub pieces : pieces_of new ≡ pieces_of old ++ take n buffer ∷ []
@@ -76,7 +76,7 @@ pub record HasStalled {T : Type 0} (old new : Watched T) : Type 0 where
   pub failures : failures_of new ≡ failures_of old + 1
   pub stalls : stalls_of new ≡ stalls_of old + 1
 
--- all that was taken was flushed, and no call failed
+-- everything that was taken was flushed, and no call failed
 pub record HasFlushed {T : Type 0} (old new : Watched T) : Type 0 where
   pub flushed : flushed_of new ≡ taken_of new
   pub taken : taken_of new ≡ taken_of old
@@ -102,8 +102,8 @@ pub record TookAll {T : Type 0} (old new : Watched T) (bytes : List ℕ) : Type 
   pub flushed : flushed_of new ≡ flushed_of old
   pub fine : NoneFailed old new
 
--- The bytes were taken up to the one call that failed, with some bytes left, and nothing was flushed. contents is what the
--- device tells that it holds.
+-- The bytes were taken up to the one call that failed, with some bytes left, and nothing was flushed. `contents` is the device's
+-- contents, if its model has them.
 pub record TookFront {T : Type 0} (contents : T → Option (List ℕ)) (old new : Watched T) (bytes : List ℕ) : Type 0 where
   pub front : List ℕ
   pub rest : List ℕ
@@ -123,14 +123,14 @@ IsOfWrite old new WriteZero = stalls_of new ≡ stalls_of old + 1
 IsOfWrite old new Memory = ⊥
 IsOfWrite old new Position = ⊥
 
--- ---- by the answer
+-- ---- by the result
 
--- a read gave the first bytes of the buffer, or failed
+-- a read returned the first bytes of the buffer, or failed
 abbrev pub AnswersRead : {T E : Type 0} → Watched T → Watched T → List ℕ → Result ℕ E → Type 0
 AnswersRead old new buffer (Ok n) = ReadGave old new buffer n
 AnswersRead old new buffer (Err error) = ReadFailed old new
 
--- the device tells that it has left what the read did not give
+-- the device has left what the read did not return, if its model has its bytes
 abbrev pub DeviceGives : {T E : Type 0} → (T → Option (List ℕ)) → Watched T → Watched T → Result ℕ E → List ℕ → Type 0
 DeviceGives remaining old new result buffer = ReadConsumes (remaining (inner_of old)) (remaining (inner_of new)) result buffer
 
@@ -139,16 +139,16 @@ abbrev pub AnswersWrite : {T E : Type 0} → Watched T → Watched T → List �
 AnswersWrite old new bytes (Ok n) = WriteTook old new bytes n
 AnswersWrite old new bytes (Err error) = TookNone old new
 
--- the device tells that it holds what the write took
+-- the contents of the device grew by what the write took, if its model has them
 abbrev pub DeviceTakes : {T E : Type 0} → (T → Option (List ℕ)) → Watched T → Watched T → Result ℕ E → List ℕ → Type 0
 DeviceTakes contents old new result bytes = WriteAppends (contents (inner_of old)) (contents (inner_of new)) result bytes
 
--- all that was taken was flushed, or the call failed
+-- everything that was taken was flushed, or the call failed
 abbrev pub AnswersFlush : {T E : Type 0} → Watched T → Watched T → Result (Unit {0}) E → Type 0
 AnswersFlush old new (Ok done) = HasFlushed old new
 AnswersFlush old new (Err error) = TookNone old new
 
--- The bytes were taken whole, and the device tells that it holds them; or up to the one call that failed, as the error says.
+-- All the bytes were taken, and the contents of the device grew by them; or up to the one call that failed, as the error says.
 abbrev pub WritesWhole : {T : Type 0} → (T → Option (List ℕ)) → Watched T → Watched T → List ℕ → Result (Unit {0}) StreamError → Type 0
 WritesWhole contents old new bytes (Ok done) = TookAll old new bytes × Appends (contents (inner_of old)) (contents (inner_of new)) bytes
 WritesWhole contents old new bytes (Err error) = TookFront contents old new bytes × IsOfWrite old new error

@@ -1,16 +1,16 @@
-//! What an automaton is, and every search by one.
+//! The definition of an automaton, and every search with one.
 //!
 //! An automaton reads a text byte by byte and is in one state after each. A state stands for the part of the text that may still
-//! grow into the answer, and tells the patterns that match where it stands. The trait [`Automaton`] says what its calls mean in
-//! those words, and no more: how states and transitions are kept is the implementation's. All searches are provided calls, proved
-//! once from the trait's clauses and laws, so every automaton that meets them gives the same answers.
+//! grow into a match, and stores the patterns that match there. The trait [`Automaton`] specifies its calls in those terms only;
+//! how states and transitions are stored is left to the implementation. All searches are provided methods, proved once from the
+//! trait's clauses and laws, so every automaton that meets them returns the same results.
 //!
-//! A caller who searches needs `try_find` and its kin alone. The calls on states serve those who write a search of their own: a
-//! state comes from `start_state`, `next_state` or `advance` of the same automaton, and each step goes on from there.
+//! A caller who searches needs only `try_find` and its relatives. The methods on states are for those who write a search of their
+//! own: a state comes from `start_state`, `next_state` or `advance` of the same automaton, and each step goes on from there.
 //!
-//! Nearly all the time of a search is spent in `advance`, which reads on over the states that ask for nothing but the next byte.
-//! So an automaton makes that call itself, as fast as its tables allow; the provided one looks up one byte after another, and serves
-//! an automaton that has nothing better.
+//! A search spends nearly all its time in `advance`, which reads on over the states that need nothing but the next byte. So an
+//! automaton implements that method itself, as fast as its tables allow. The provided one looks up one byte after another, for an
+//! automaton that has nothing better.
 pub mod reference;
 
 use crate::error::{MatchError, ReplaceError, StreamError};
@@ -26,12 +26,12 @@ use ac_literal::prefilter::Prefilter;
 use std::alloc::{AllocError, Global};
 use std::io::{Read, Write};
 
-/// A state, and how many bytes were taken to come to it.
+/// A state, and how many bytes were read to reach it.
 #[derive(Clone, Copy, Debug)]
 pub struct Advance {
     /// The state.
     pub sid: StateID,
-    /// How many bytes were taken.
+    /// How many bytes were read.
     pub taken: usize,
 }
 
@@ -73,12 +73,12 @@ pub trait Automaton {
     /// The states of which `is_special` is true.
     ghost special: { Self → StateID → Bool };
 
-    /// The state in which a search begins. It is refused where the automaton has no start for the anchoring.
+    /// The state in which a search begins. Returns an error if the automaton has no start for the anchoring.
     /// A caller: `uses::callers::states::ends_with_any`.
     fn start_state(&self, anchored: Anchored) -> Result<StateID, MatchError>
         ensures { AnswersStart (supports self.now) (Reaches self.now) anchored result };
 
-    /// The state after one more byte, where the search began with this anchoring; and counts the states that it looks at.
+    /// The state after one more byte, where the search began with this anchoring. Counts the states that it looks at.
     /// A caller: `uses::callers::states::next_by_one_look`.
     fn next_state_counted(
         &self,
@@ -92,10 +92,10 @@ pub trait Automaton {
         ensures cost { IsReadCost (built self.now) (Reaches self.now) anchored sid
             (byte ∷ []) steps.old steps.new };
 
-    /// Reads on from a state over bytes, to the first state that is special, or to the last byte. It takes a byte at least, where
-    /// there is one; and counts the states that it looks at, as many as `next_state_counted` would.
+    /// Reads on from a state over bytes, to the first state that is special, or to the last byte. It reads at least one byte, if
+    /// there is one. Counts the states that it looks at, as many as `next_state_counted` would.
     ///
-    /// This one makes a call of `next_state_counted` and one of `is_special` for each byte. An automaton with a faster way has its own.
+    /// The provided method calls `next_state_counted` and `is_special` for each byte. An automaton with a faster way overrides it.
     /// A caller: `uses::callers::states::next_special`.
     fn advance(&self, anchored: Anchored, sid: StateID, bytes: &[u8], steps: &mut Steps) -> Advance
         requires { IsReached (Reaches self.now anchored) sid }
@@ -119,10 +119,10 @@ pub trait Automaton {
         }
     }
 
-    /// Reads on from a state over bytes, to the first state that matches, or to the last byte; it passes over starts and dead states.
-    /// It takes a byte at least, where there is one; and counts the states that it looks at, as `advance` does.
+    /// Reads on from a state over bytes, to the first state that matches, or to the last byte; it passes over starts and dead
+    /// states. It reads at least one byte, if there is one. Counts the states that it looks at, as `advance` does.
     ///
-    /// So a search goes that asks no prefilter: there a start is a state like any other.
+    /// A search without a prefilter reads this way: there a start is a state like any other.
     /// A caller: `uses::callers::states::first_end`.
     fn advance_to_match(
         &self,
@@ -152,26 +152,26 @@ pub trait Automaton {
         }
     }
 
-    /// Whether a search has more to do here than to read on: the state is dead, or matches, or is a start and there is a
-    /// prefilter to ask.
+    /// Whether a search has more to do here than to read on: the state is dead, or matches, or is a start and there is a prefilter
+    /// to run.
     /// A caller: `uses::callers::states::next_special`.
     fn is_special(&self, sid: StateID) -> bool
         requires { IsState (Reaches self.now) sid }
         ensures { result ≡ special self.now sid };
 
-    /// Whether nothing more can be found from here on.
+    /// Whether the state is dead: no later byte can lead to a match.
     /// A caller: `uses::callers::states::is_over`.
     fn is_dead(&self, sid: StateID) -> bool
         requires { IsState (Reaches self.now) sid }
         ensures { AtEach (Reaches self.now) sid (TellsDead (built self.now) result) };
 
-    /// Whether a pattern matches here.
+    /// Whether a pattern matches at this state.
     /// A caller: `uses::callers::states::patterns_at`.
     fn is_match(&self, sid: StateID) -> bool
         requires { IsState (Reaches self.now) sid }
         ensures { IsTrue result ↔ (matches self.now sid ≢ []) };
 
-    /// Whether it is a start. Then no byte that was read is live any more, unless the state matches.
+    /// Whether it is a start. Then none of the bytes read is live any more, unless the state matches.
     /// A caller: `uses::callers::states::may_forget`.
     fn is_start(&self, sid: StateID) -> bool
         requires { IsState (Reaches self.now) sid }
@@ -219,16 +219,16 @@ pub trait Automaton {
     fn max_pattern_len(&self) -> usize
         ensures { result ≡ longest (built self.now).dictionary.patterns };
 
-    /// About how many bytes of memory it holds.
+    /// The approximate number of bytes of memory that it uses.
     fn memory_usage(&self) -> usize;
 
-    /// The prefilter that it holds, if it holds one.
+    /// Its prefilter, if it has one.
     /// A caller: `uses::callers::packed::own_skip`.
     fn prefilter(&self) -> Option<&Prefilter>
         ensures value { option_map (λ p. p.now) result ≡ (built self.now).prefilter }
         ensures made { OwnsPrefilter (built self.now) };
 
-    /// What the list of a state says of the bytes that were read.
+    /// What the list of a state says about the bytes that were read.
     ghost tells: { (self : Self) (anchored : Anchored) (text : List ℕ) (sid : StateID)
         → Reaches self anchored text sid
         → Tells (built self).dictionary anchored text (matches self sid) };
@@ -260,7 +260,7 @@ pub trait Automaton {
 
     /// The match of the input, if it has one: the best of the automaton's kind, or of the standard one in an earliest search.
     ///
-    /// It is refused where the automaton has no start for the input's anchoring, and for no other reason.
+    /// Returns an error if the automaton has no start for the input's anchoring, and for no other reason.
     /// A caller: `uses::callers::find::first_match`.
     final fn try_find(&self, input: &Input<'_>) -> Result<Option<Match>, MatchError>
         ensures { AnswersFind (built self.now) (supports self.now) input.now result }
@@ -269,7 +269,7 @@ pub trait Automaton {
         self.try_find_counted(input, &mut steps)
     }
 
-    /// The same, and counts what it does.
+    /// The same; counts what it does.
     /// A caller: `uses::callers::find::first_match_counted`.
     final fn try_find_counted(
         &self,
@@ -282,7 +282,7 @@ pub trait Automaton {
         find::find(self, input, steps)
     }
 
-    /// All matches of the input, one after another: see [`FindIter`]. It is refused as `try_find` is.
+    /// All matches of the input, one after another: see [`FindIter`]. Returns an error where `try_find` does.
     /// A caller: `uses::callers::iterate::all_matches`.
     final fn try_find_iter<'a, 'h>(
         &'a self,
@@ -295,12 +295,12 @@ pub trait Automaton {
         iter::find_iter(self, input)
     }
 
-    /// Shows the next occurrence of the search of the input, in the order of end, start and number, and each once; after the last
-    /// one it shows none. The state tells what was shown: it is fresh before the first call, and belongs to this automaton and this
-    /// input from then on.
+    /// Finds the next occurrence of the search of the input, in the order of end, start and number, and stores it in the state;
+    /// each comes once, and after the last one the state holds none. The state is fresh before the first call, and belongs to this
+    /// automaton and this input from then on.
     ///
-    /// It is refused where the automaton has no start for the input's anchoring, or isn't of the standard kind, which alone
-    /// remembers every occurrence. The state is then as it was.
+    /// Returns an error if the automaton has no start for the input's anchoring, or isn't of the standard kind, the only one that
+    /// stores every occurrence. The state is then unchanged.
     /// A caller: `uses::callers::overlap::occurrence`.
     final fn try_find_overlapping(
         &self,
@@ -321,7 +321,7 @@ pub trait Automaton {
 
     /// All occurrences in the input, one after another; see [`FindOverlappingIter`].
     ///
-    /// It is refused as `try_find_overlapping` is, and then where the input is anchored.
+    /// Returns an error where `try_find_overlapping` does, and also if the input is anchored.
     /// A caller: `uses::callers::overlap::all_occurrences`.
     final fn try_find_overlapping_iter<'a, 'h>(
         &'a self,
@@ -335,11 +335,11 @@ pub trait Automaton {
     }
 
     /// All matches of a stream, one after another: see [`StreamFindIter`]. Their places are counted from the first byte that is
-    /// read. It takes one buffer of `max(65536, 8 * max(1, longest))` bytes, and no memory after that.
+    /// read. It allocates one buffer of `max(65536, 8 * max(1, longest))` bytes, and nothing after that.
     ///
-    /// It is refused where the automaton has no start for a search that isn't anchored, or isn't of the standard kind, or has an
-    /// empty pattern, in that order, and then where there is no memory for the buffer. Nothing was read then: this call asks no
-    /// [`Read`] of the reader, so it can't read.
+    /// Returns an error if the automaton has no start for a search that isn't anchored, isn't of the standard kind, or has an
+    /// empty pattern, checked in that order, and then if there is no memory for the buffer. Nothing was read then: this call does
+    /// not require [`Read`], so it can't read.
     /// A caller: `uses::callers::stream::all_matches`.
     final fn try_stream_find_iter<'a, R>(
         &'a self,
@@ -354,10 +354,10 @@ pub trait Automaton {
         stream::stream_find_iter(reader, self, alloc)
     }
 
-    /// The text with each match exchanged for the replacement of its pattern. There is one replacement for each pattern. A match
-    /// that begins or ends within a character is passed over: its bytes stay.
+    /// The text with each match replaced by the replacement of its pattern. There is one replacement for each pattern. A match
+    /// that begins or ends within a character is skipped: its bytes stay.
     ///
-    /// It is refused where the automaton has no start for a search that isn't anchored, and where memory is.
+    /// Returns an error if the automaton has no start for a search that isn't anchored, and if memory runs out.
     /// A caller: `uses::callers::replace::replaced_text`.
     final fn try_replace_all(
         &self,
@@ -372,7 +372,7 @@ pub trait Automaton {
         replace::replace_all(self, alloc, haystack, replacements)
     }
 
-    /// The same of bytes: there every match is replaced.
+    /// The same for bytes: here every match is replaced.
     /// A caller: `uses::callers::replace::replaced_by_itself`.
     final fn try_replace_all_bytes(
         &self,
@@ -387,11 +387,11 @@ pub trait Automaton {
         replace::replace_all_bytes(self, alloc, haystack, replacements)
     }
 
-    /// Appends the text to the destination, and in place of each match what the closure appends: it is given the match, its text
-    /// and the destination. A match that begins or ends within a character is passed over. A closure that answers `false` is not
-    /// called again, and the rest is copied.
+    /// Appends the text to the destination, and in place of each match what the closure appends. The closure takes the match, its
+    /// text and the destination. A match that begins or ends within a character is skipped. Once the closure returns `false` it is
+    /// not called again, and the rest is copied.
     ///
-    /// It is refused as `try_replace_all` is. Where memory is refused, what was appended stays. The destination grows by the
+    /// Returns an error where `try_replace_all` does. If memory runs out, what was appended stays. The destination grows with the
     /// allocator that it was made with.
     /// A caller: `uses::callers::replace::append_first_replaced`.
     final fn try_replace_all_with<F>(
@@ -410,7 +410,7 @@ pub trait Automaton {
         replace::replace_all_with(self, haystack, dst, replace_with)
     }
 
-    /// The same of bytes: there the closure is called for every match.
+    /// The same for bytes: here the closure is called for every match.
     /// A caller: `uses::callers::replace::append_matched`.
     final fn try_replace_all_with_bytes<F>(
         &self,
@@ -428,12 +428,12 @@ pub trait Automaton {
         replace::replace_all_with_bytes(self, haystack, dst, replace_with)
     }
 
-    /// Writes what is read with each match exchanged for the replacement of its pattern, of which there is one for each pattern. The
-    /// input ends at its first empty read. Before each read all is written, where nothing of it may still begin a match; else at most
-    /// as many bytes are kept back as the longest pattern has. The writer isn't flushed.
+    /// Writes the input with each match replaced by the replacement of its pattern; there is one for each pattern. The input ends
+    /// at its first empty read. Before each read it writes everything, unless the last bytes may still begin a match; then it
+    /// holds back at most as many bytes as the longest pattern has. The writer isn't flushed.
     ///
-    /// It is refused where a stream can't be searched, and where there is no memory for its two buffers; the reader and the writer
-    /// are then as they were, and no memory is asked for after that. Where a read or a write fails, nothing is tried again.
+    /// Returns an error if a stream can't be searched, and if there is no memory for its two buffers; the reader and the writer
+    /// are then unchanged. It allocates nothing after that. Where a read or a write fails, nothing is tried again.
     /// A caller: `uses::callers::stream::replaced`.
     final fn try_stream_replace_all<R: Read, W: Write>(
         &self,
@@ -454,8 +454,8 @@ pub trait Automaton {
         self.try_stream_replace_all_counted(alloc, reader, writer, replacements, &mut steps)
     }
 
-    /// The same, and counts what it does. On the whole it looks at two states at most for each byte that it reads, and moves a seventh
-    /// of the bytes at most within its buffer; where it comes to the end it has looked at one state at least for each.
+    /// The same; counts what it does. In total it looks at two states at most for each byte that it reads, and moves a seventh of
+    /// the bytes at most within its buffer; if it reaches the end, it has looked at one state at least for each.
     /// A caller: `uses::callers::stream::replaced_counted`.
     final fn try_stream_replace_all_counted<R: Read, W: Write>(
         &self,
@@ -478,12 +478,12 @@ pub trait Automaton {
         stream::replace::replace_all_counted(self, alloc, reader, writer, replacements, steps)
     }
 
-    /// Writes what is read, and in place of each match what the closure writes: it is given the match, its bytes and the writer, which
-    /// has taken all that stands before the match. The closure must take every pattern's number below
+    /// Writes the input, and in place of each match what the closure writes. The closure takes the match, its bytes and the
+    /// writer, which has taken everything before the match. The closure must accept every pattern number below
     /// [`patterns_len`](Automaton::patterns_len), also after each call.
     ///
-    /// It reads, writes and is refused as `try_stream_replace_all` is, but gathers nothing, so that it takes one buffer alone. What the
-    /// closure refuses ends it, and is answered as it is; so an error may be the closure's.
+    /// It reads, writes and fails as `try_stream_replace_all` does, but gathers nothing, so that it takes only one buffer. The
+    /// closure's first error ends the call and is returned unchanged, so an error may be the closure's.
     /// A caller: `uses::callers::stream::copied`.
     final fn try_stream_replace_all_with<R: Read, W: Write, F>(
         &self,

@@ -1,9 +1,9 @@
 //! The bytes of a stream that are held in memory.
 //!
-//! A stream is searched by pieces, in one buffer of a size that never changes. What a read gives is put after what is held. A
-//! match may begin in one piece and end in another, so of what is held as many bytes are kept as the longest pattern has; they
-//! are moved to the front only where no room is left after them. They are an eighth of the buffer at most, and the rest of it is
-//! read before they are moved again: so for each byte that is moved seven are read. One function moves bytes, and counts them.
+//! A stream is searched by pieces, in one buffer of a size that never changes. Each read goes after what is held. A match may
+//! begin in one piece and end in another, so of the held bytes as many are kept as the longest pattern has. They are moved to the
+//! front only when no room is left after them. They are an eighth of the buffer at most, and the rest of it is read before they
+//! are moved again: so seven bytes are read for each byte that is moved. One function moves bytes, and counts them.
 ghost use Rattle.std.specs.Prelude.{◌≡◌, ◌+◌, ◌-◌, ◌≤◌, ◌<◌, ◌↔◌, false, length, IfOk, IsTrue, vec_len};
 ghost use Rattle.std.specs.List.{copy_within};
 ghost use Rattle.ac_input.specs.Steps.{Done};
@@ -59,7 +59,7 @@ impl Model for Buffer {
 }
 
 impl Buffer {
-    /// Takes the memory. Nothing is held yet.
+    /// Allocates the memory. Nothing is held yet.
     pub fn new(alloc: Global, longest: usize) -> Result<Buffer, AllocError>
         ensures fresh { IfOk result (λ buffer. buffer ≡ nothing_held (kept_for longest)) }
         ensures paid { IfOk result IsRollPaid }
@@ -86,21 +86,21 @@ impl Buffer {
         &self.bytes.as_slice()[..self.filled]
     }
 
-    /// How many bytes are kept at most where it is full.
+    /// The most bytes that are kept when it is full.
     pub fn keep(&self) -> usize
         ensures { result ≡ self.now.keep }
     {
         self.keep
     }
 
-    /// Whether no room is left after what is held.
+    /// Whether there is no room after the held bytes.
     pub fn is_full(&self) -> bool
         ensures { IsTrue result ↔ (length self.now.bytes ≡ self.now.room) }
     {
         self.filled == self.bytes.len()
     }
 
-    /// Reads once, into all the room that is left.
+    /// Reads once, into all the free room.
     pub fn fill<R: Read>(&mut self, reader: &mut Watched<R>) -> io::Result<usize>
         requires room { length self.old.bytes < self.old.room }
         requires open { has_ended reader.old ≡ false }
@@ -113,7 +113,7 @@ impl Buffer {
         Ok(n)
     }
 
-    /// Moves what is held from a place on to the front, where no room is left after it.
+    /// Moves the held bytes from a place on to the front, if there is no room after them.
     pub fn roll(&mut self, from: usize, steps: &mut Steps)
         requires full { length self.old.bytes ≡ self.old.room }
         requires from { from ≤ length self.old.bytes }

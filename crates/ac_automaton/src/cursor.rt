@@ -1,8 +1,8 @@
 //! Where a search stands, how it goes on, and how it ends.
 //!
-//! A search reads the span byte by byte. Almost every state asks for nothing but the next byte, and these are passed by the
-//! automaton itself, in one call: [`read_on`] takes a [`Cursor`] to the next state that is special, or to the end of the span.
-//! There the search looks at the state, whether it matches, or is dead, or is a start, and goes on or ends.
+//! A search reads the span byte by byte. Almost every state needs nothing but the next byte, and the automaton passes these
+//! itself, in one call: [`read_on`] takes a [`Cursor`] to the next state that is special, or to the end of the span. There the
+//! search checks whether the state matches, or is dead, or is a start, and goes on or ends.
 ghost use Rattle.std.specs.Prelude.{◌≡◌, ◌<◌};
 ghost use Rattle.ac_input.specs.declared.search.MatchKind.TheVariants.{Standard};
 ghost use Rattle.ac_automaton.specs.Cursor.{StandsIn, ReadsFurther};
@@ -23,9 +23,9 @@ pub(crate) struct Cursor {
 /// How a search over a part of the span ended.
 #[derive(Clone, Copy)]
 pub(crate) enum End<T> {
-    /// This is the answer.
+    /// This is the result.
     Found(T),
-    /// No byte that was read is live any more. There is no answer before this place, and the search goes on from here.
+    /// None of the bytes read is live any more. There is no match before this place, and the search goes on from here.
     Idle(usize),
 }
 
@@ -52,8 +52,8 @@ pub(crate) fn read_on<A: Automaton>(
     }
 }
 
-/// Reads on to the next state that matches, or to a place or the end of the span; it passes over starts. Under the standard kind no
-/// state of an unanchored search is dead, so that it passes over none at which a search ends.
+/// Reads on to the next state that matches, or to a place or the end of the span; it passes over starts. Under the standard kind
+/// no state of an unanchored search is dead, so it passes none at which a search ends.
 #[inline]
 pub(crate) fn read_to_match<A: Automaton>(
     automaton: &A,

@@ -1,8 +1,8 @@
-//! Why a search is refused, and why a search of a stream stops.
+//! Why a search returns an error, and why a search of a stream stops.
 //!
-//! A search is refused before it looks at a byte: the automaton wasn't built for it, or what it asks has no meaning for the
-//! automaton's kind. A [`MatchError`] says which. A search of a stream can stop also because reading, writing or memory
-//! failed; a [`StreamError`] tells these apart, so that a caller knows which side of a copy to blame.
+//! A search returns an error before it looks at a byte: the automaton wasn't built for it, or the search is not defined for the
+//! automaton's kind. A [`MatchError`] says which. A search of a stream can stop also because reading, writing or memory failed. A
+//! [`StreamError`] distinguishes these, so that a caller knows which side of a copy failed.
 ghost use Rattle.std.specs.Prelude.{◌≡◌, Some};
 ghost use Rattle.ac_automaton.specs.declared.error.StreamError.TheVariants.{Memory};
 ghost use Rattle.ac_automaton.specs.declared.error.ReplaceError.TheVariants.{Match, Memory as NoMemory};
@@ -14,30 +14,30 @@ use std::error::Error;
 use std::marker::Model;
 use std::{fmt, io};
 
-/// Why a search is refused.
+/// Why a search returns an error.
 #[derive(Clone, Copy, Debug, PartialEq, Eq)]
 pub enum MatchErrorKind {
-    /// An anchored search, of an automaton that was built for unanchored ones alone.
+    /// An anchored search, by an automaton that was built only for unanchored ones.
     InvalidInputAnchored,
-    /// An unanchored search, of an automaton that was built for anchored ones alone.
+    /// An unanchored search, by an automaton that was built only for anchored ones.
     InvalidInputUnanchored,
-    /// A search of a stream, of an automaton of a leftmost kind. Such a match can be settled only by bytes arbitrarily far behind it.
+    /// A search of a stream, by an automaton of a leftmost kind. Such a match may depend on bytes arbitrarily far after it.
     UnsupportedStream {
         /// The automaton's kind.
         got: MatchKind,
     },
-    /// A search for overlapping matches, of an automaton of a leftmost kind, which drops the overlapped ones when it is built.
+    /// A search for overlapping matches, by an automaton of a leftmost kind, which drops the overlapped ones when it is built.
     UnsupportedOverlapping {
         /// The automaton's kind.
         got: MatchKind,
     },
-    /// A search of a stream, of an automaton with an empty pattern.
+    /// A search of a stream, by an automaton with an empty pattern.
     UnsupportedEmpty,
 }
 
-/// A refused search.
+/// An unsupported search.
 ///
-/// It is a plain value, and making one allocates nothing. A contract sees its kind in its place.
+/// It is a plain value, and making one allocates nothing. A contract sees its kind instead.
 #[derive(Clone, Debug, PartialEq, Eq, Drop)]
 pub struct MatchError {
     kind: MatchErrorKind,
@@ -54,14 +54,14 @@ impl Model for MatchError {
 }
 
 impl MatchError {
-    /// A search that is refused for this reason.
+    /// The error for this reason.
     pub fn new(kind: MatchErrorKind) -> MatchError
         ensures { result ≡ kind }
     {
         MatchError { kind }
     }
 
-    /// Why it is refused.
+    /// The reason.
     pub fn kind(&self) -> &MatchErrorKind
         ensures { result.now ≡ self.now }
     {
@@ -130,10 +130,10 @@ impl fmt::Display for MatchError {
 
 impl Error for MatchError {}
 
-/// Why a replacement in memory was refused.
+/// Why a replacement in memory failed.
 #[derive(Debug, Drop)]
 pub enum ReplaceError {
-    /// The search was refused.
+    /// The search is not supported.
     Match(MatchError),
     /// There was no memory for the result.
     Memory,
@@ -170,16 +170,16 @@ impl Error for ReplaceError {}
 
 /// Why a search of a stream stopped.
 ///
-/// It is never taken back: what was read up to then is lost to the search, and what was written stays written.
+/// A stream doesn't resume: what was read so far is lost to the search, and what was written stays written.
 #[derive(Debug, Drop)]
 pub enum StreamError {
-    /// The search was refused, before anything was read or written.
+    /// The search is not supported; nothing was read or written.
     Config(MatchError),
     /// A read failed, with this error.
     Read(io::Error),
     /// A write failed, with this error.
     Write(io::Error),
-    /// A write was handed bytes and took none, as a full device may.
+    /// A write was passed bytes and took none, as a full device may.
     WriteZero,
     /// There was no memory for the buffer.
     Memory,

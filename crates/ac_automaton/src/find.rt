@@ -1,18 +1,18 @@
 //! The search for one match.
 //!
 //! A walk begins at the start state and reads on from one special state to the next. Under the standard kind the first match ends
-//! it. Under a leftmost kind a later match is better than an earlier one, since the automaton tells only those that are; so the
-//! walk keeps the last one, and ends where no more can come.
+//! it. Under a leftmost kind a later match is better than an earlier one, since the automaton stores no others. So the walk keeps
+//! the last one, and ends where no more can come.
 //!
-//! Without a prefilter a search is one walk over the span. With one, the prefilter is asked first, and the walk begins where it
-//! points: bytes that it skips cost no look at a state. Where the walk is back at the start of the automaton, nothing that was
-//! read can grow into a match any more, and the prefilter is asked again from there. Each walk ends further on than it began.
+//! Without a prefilter a search is one walk over the span. With one, the prefilter runs first, and the walk begins at its
+//! candidate: bytes that it skips cost no look at a state. When the walk is back at the start of the automaton, nothing that was
+//! read can grow into a match any more, and the prefilter runs again from there. Each walk ends further on than it began.
 //!
-//! Where a prefilter passes few bytes, to ask it costs more than it spares. Then a search of the standard kind leaves it for a while,
-//! and reads on to the next match: see [`Gain`].
+//! Where a prefilter skips few bytes, a call costs more than it saves. Then a search of the standard kind does without it for a
+//! while, and reads on to the next match: see [`Gain`].
 //!
-//! A prefilter may know the match itself. It is the best of the automaton's kind, so an earliest search, which stops at the first
-//! end, takes its place alone and walks from there.
+//! A prefilter may return the match itself. It is the best of the automaton's kind, so an earliest search, which stops at the
+//! first end, uses only its place and walks from there.
 ghost use Rattle.std.specs.Prelude.{◌≡◌, ◌≢◌, ◌↔◌, ℕ, ◌<◌, ◌≤◌, List, [], IfSome, IsTrue};
 ghost use Rattle.ac_automaton.specs.Automaton.{AnswersFind, CostsFind, IsFindCost, IsFound, IsState, kind_asked};
 ghost use Rattle.ac_automaton.specs.Cursor.{IsFirstAt, IsReachedWithin, IsTaken, IsWholeTaken, ReadsFurther, StandsIn};
@@ -27,7 +27,7 @@ use ac_input::search::{Anchored, Candidate, Input, Match, MatchKind, Span};
 use ac_input::steps::Steps;
 use ac_literal::prefilter::Prefilter;
 
-/// How many bytes a prefilter has to pass, to pay.
+/// How many bytes a prefilter has to skip to be worth its call.
 const COST: usize = 64;
 
 /// The first of the patterns that match at a state, where the search isn't anchored. It ends at the place.
@@ -57,7 +57,7 @@ fn whole_match<A: Automaton>(automaton: &A, sid: StateID, span: Span) -> Option<
     None
 }
 
-/// The match that the state tells where a search stands, if it tells one.
+/// The match at the state where a search stands, if there is one.
 fn match_at<A: Automaton>(automaton: &A, input: &Input<'_>, cursor: &Cursor) -> Option<Match>
     requires { StandsIn (A.built automaton.now) (A.Reaches automaton.now) input.now cursor.now }
     ensures { IsTaken (A.built automaton.now) (A.matches automaton.now) input.now cursor.now result }
@@ -77,7 +77,7 @@ fn match_at<A: Automaton>(automaton: &A, input: &Input<'_>, cursor: &Cursor) -> 
     }
 }
 
-/// Whether the first match that is found is the answer.
+/// Whether the first match that is found is the result.
 fn takes_first<A: Automaton>(automaton: &A, input: &Input<'_>) -> bool
     ensures { IsTrue result ↔ (kind_asked (A.built automaton.now) input.now ≡ MatchKind.Standard) }
 {
@@ -120,7 +120,7 @@ fn read_past_starts<A: Automaton>(
     read_on(automaton, input, cursor, steps)
 }
 
-/// Walks from the start state on, over what is left of the span from a place on. Under the standard kind it doesn't stop at a start
+/// Walks from the start state over the rest of the span, from a place on. Under the standard kind it doesn't stop at a start
 /// before `until`.
 fn walk<A: Automaton>(
     automaton: &A,
@@ -158,7 +158,7 @@ fn walk<A: Automaton>(
     }
 }
 
-/// The prefilter that a search may ask, if there is one: where it isn't anchored, and nothing matches at the start itself.
+/// The prefilter that a search may use: there is one, the search isn't anchored, and nothing matches at the start itself.
 pub(crate) fn usable_prefilter<'a, A: Automaton>(
     automaton: &'a A,
     anchored: Anchored,
@@ -179,9 +179,9 @@ pub(crate) fn usable_prefilter<'a, A: Automaton>(
     }
 }
 
-/// Asks the prefilter where in what is left of the span a match may start.
+/// Runs the prefilter on the rest of the span, to find where a match may start.
 ///
-/// Its match is the answer, but in an earliest search under a leftmost kind: there another one may end sooner.
+/// Its match is the result, except in an earliest search under a leftmost kind: there another one may end sooner.
 fn candidate<A: Automaton>(
     automaton: &A,
     prefilter: &Prefilter,
@@ -214,7 +214,7 @@ fn candidate<A: Automaton>(
     }
 }
 
-/// Walks over what is left of the span from a place on, or from where the prefilter points.
+/// Walks over the rest of the span from a place on, or from the prefilter's candidate.
 fn search_from_candidate<A: Automaton>(
     automaton: &A,
     prefilter: Option<&Prefilter>,
@@ -275,9 +275,9 @@ fn search<A: Automaton>(
     }
 }
 
-/// The match of the input, if it has one; and counts what it does.
+/// The match of the input, if it has one; counts what it does.
 ///
-/// It is refused where the automaton has no start for the input's anchoring, also where the search is over before it begins.
+/// Returns an error if the automaton has no start for the input's anchoring, even where the search is over before it begins.
 pub fn find<A: Automaton>(
     automaton: &A,
     input: &Input<'_>,

@@ -1,7 +1,7 @@
-//! What every automaton keeps beside its states: a prefilter, if it holds one, and the number of its last special state.
+//! What every automaton stores beside its states: a prefilter, if it has one, and the number of its last special state.
 //!
-//! The numbers of the states come in one order everywhere: those that match, the starts, the others. So one comparison shows whether
-//! a search has more to do at a state than to read on.
+//! The numbers of the states have one order everywhere: those that match, the starts, the others. So one comparison decides
+//! whether a search has more to do at a state than to read on.
 ghost use Rattle.std.specs.Prelude.{◌≡◌, IfOk, option_map};
 ghost use Rattle.ac_automaton.specs.Held.{last_special_of};
 
@@ -9,8 +9,8 @@ use ac_input::primitives::StateID;
 use ac_literal::prefilter::Prefilter;
 use std::alloc::{AllocError, Global};
 
-/// The last state at which a search has more to do than to read on: the anchored start where a prefilter is held, since the search
-/// asks it at a start, else the last state that matches.
+/// The last state at which a search has more to do than to read on: the anchored start if there is a prefilter, since the search
+/// runs it at a start; otherwise the last state that matches.
 pub fn last_special(
     held: &Option<Prefilter>,
     start_anchored: StateID,
@@ -24,7 +24,7 @@ pub fn last_special(
     }
 }
 
-/// The prefilter once more, if one is held, in memory from `alloc`.
+/// A copy of the prefilter, if there is one, in memory from `alloc`.
 pub fn clone_held(alloc: Global, held: Option<&Prefilter>) -> Result<Option<Prefilter>, AllocError>
     ensures { IfOk result (λ copy. copy ≡ option_map (λ p. p.now) held.entry) }
 {

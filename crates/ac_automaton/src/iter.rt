@@ -1,12 +1,12 @@
 //! The matches of an input, one after another.
 //!
 //! A walk takes the match of the input, goes on where that match ends, and so on to the end of the span. It takes no empty match
-//! where the match before it ended: there it looks again from one byte further on, so that it always comes to its end. An anchored
-//! walk takes at each turn what starts at the very place where it looks, and ends where nothing does.
+//! where the match before it ended. It searches again from one byte further on instead, so that it always reaches its end. An
+//! anchored walk takes at each turn only what starts at the very place where it searches, and ends where nothing does.
 //!
-//! [`FindIter`] is the walk as an iterator. It holds two references and a few numbers, and takes no memory. Under the standard kind
-//! it reads on from the end of each match, and so each byte of the span once. Under a leftmost kind it has to read past a match
-//! before it knows that it is the one, by as much as the longest pattern, and reads those bytes again.
+//! [`FindIter`] is the walk as an iterator. It holds two references and a few numbers, and takes no memory. Under the standard
+//! kind it reads on from the end of each match, so it reads each byte of the span once. Under a leftmost kind it has to read past
+//! a match, by as much as the longest pattern, before it knows that it is the one; it reads those bytes again.
 ghost use Rattle.std.specs.Prelude.{◌↔◌, ◌≤◌, IfSome, IsTrue};
 ghost use Rattle.std.specs.Iterator.{YieldsFirst, item_count};
 ghost use Rattle.ac_input.specs.Walk.{Repeats};
@@ -20,9 +20,9 @@ use ac_input::search::{Input, Match};
 use ac_input::steps::Steps;
 use std::marker::Model;
 
-/// The matches of an input that are left to come. From [`Automaton::try_find_iter`].
+/// The remaining matches of an input. From [`Automaton::try_find_iter`].
 ///
-/// Once it has answered `None` it answers nothing else, and does nothing.
+/// After its first `None` it always returns `None`, and does nothing.
 /// A caller: `uses::callers::iterate::count_matches`.
 #[derive(Drop)]
 pub struct FindIter<'a, 'h, A: Automaton> {
@@ -108,7 +108,7 @@ fn next_pick<A: Automaton>(
 }
 
 impl<'a, 'h, A: Automaton> FindIter<'a, 'h, A> {
-    /// The next match, as `next` gives it; and counts what it does.
+    /// The next match, as `next` returns it; counts what it does.
     /// A caller: `uses::callers::iterate::pass_matches`.
     pub fn next_counted(&mut self, steps: &mut Steps) -> Option<Match>
         ensures gives { GivesPick self.old result self.new }

@@ -1,16 +1,16 @@
 //! Overlapping searches: every occurrence in turn, in the order of end, start and number.
 //!
-//! Under the standard kind the list of a state names every pattern that the bytes read end in. So one walk over the span meets
-//! each occurrence once, at the state where it ends: a call goes through the rest of the list where the last call stood, and then
+//! Under the standard kind the list of a state holds every pattern that the bytes read end in. So one walk over the span meets
+//! each occurrence once, at the state where it ends. A call goes through the rest of the list where the last call stood, and then
 //! reads on to the next state whose list has something to show. All calls together look at the states of one walk, whatever they
 //! show; nothing is read twice.
 //!
-//! Where the automaton holds a prefilter, it is asked at the start and wherever the walk is back at the start: no occurrence is
-//! left then that begins before that place, and the walk goes on from the next place where one may begin. Of a prefilter's match
-//! only the start is used, since others may overlap it.
+//! If the automaton has a prefilter, it runs at the start and wherever the walk is back at the start: no remaining occurrence
+//! begins before that place, and the walk goes on from the next place where one may begin. Of a prefilter's match only the start
+//! is used, since others may overlap it.
 //!
-//! Where a search stands between two calls is kept by the caller, in an [`OverlappingState`]. It belongs to one automaton and one
-//! input from its first search on. [`FindOverlappingIter`] keeps all three together.
+//! The caller keeps the place of a search between two calls, in an [`OverlappingState`]. It belongs to one automaton and one input
+//! from its first search on. [`FindOverlappingIter`] keeps all three together.
 ghost use Rattle.std.specs.Prelude.{◌≡◌, ⊤, None, Some};
 ghost use Rattle.ac_input.specs.Steps.{Added};
 ghost use Rattle.ac_automaton.specs.Overlapping.{IsFreshState, CostsOverlapping, and_one, found_of, shown_of, sums_of};
@@ -99,7 +99,7 @@ impl OverlappingState {
         self.found
     }
 
-    /// A call showed this, and did so much.
+    /// A call showed this, and did this much.
     fn keep(&mut self, shown: Shown, done: &Steps)
         ensures place { self.new.place ≡ Some shown.place }
         ensures found { found_of self.new ≡ shown.found }
@@ -140,10 +140,10 @@ pub(crate) fn with_found(shown: &Count, found: &Option<Match>) -> Count
     }
 }
 
-/// Found the next occurrence of the search of the input, if there is one more, and counts what it does. The state tells it.
+/// Finds the next occurrence of the search of the input, if there is one more, stores it in the state, and counts what it does.
 ///
-/// All calls with one state together look at the states of one walk over the span. The search is refused where the automaton
-/// has no start for the input's anchoring, or isn't of the standard kind; the state is then as it was.
+/// All calls with one state together look at the states of one walk over the span. Returns an error if the automaton has no start
+/// for the input's anchoring, or isn't of the standard kind; the state is then unchanged.
 pub fn find_overlapping<A: Automaton>(
     automaton: &A,
     input: &Input<'_>,

@@ -1,11 +1,11 @@
 //! Replacement in memory.
 //!
-//! The matches of a haystack are taken one after another, as [`FindIter`](crate::iter::FindIter) gives them. What lies between two
-//! of them is copied, and what replaces a match is put in its place. The result is made in one piece of memory that is at first as
-//! large as the haystack, and grows as any `Vec` does where the replacements are longer than what they replace.
+//! The matches of a haystack are taken one after another, as [`FindIter`](crate::iter::FindIter) returns them. The text between
+//! two of them is copied, and the replacement is put in place of the match. The result is one piece of memory, at first as large
+//! as the haystack; it grows as any `Vec` does if the replacements are longer than what they replace.
 //!
-//! In a text a match may begin or end within a character, where a pattern isn't text itself. Such a match is passed over, so that
-//! what is made stays text.
+//! In a text a match may begin or end within a character, if a pattern isn't text itself. Such a match is skipped, so that the
+//! result stays text.
 ghost use Rattle.std.specs.Prelude.{◌≡◌, ◌+◌, length, IfSome, IsTrue};
 ghost use Rattle.std.specs.Iterator.{YieldsFirst};
 ghost use Rattle.ac_automaton.specs.Replace.{IsForMatches, TakesMatches, RepliesAt, ReplacesText, ReplacesBytes, ReplacesTextWith, ReplacesBytesWith, cuts_none, text_left_of};
@@ -16,7 +16,7 @@ use crate::iter::FindIter;
 use ac_input::search::{Anchored, Input, Match};
 use std::alloc::{AllocError, Global};
 
-/// The haystack with each match exchanged for the replacement of its pattern.
+/// The haystack with each match replaced by the replacement of its pattern.
 pub fn replace_all_bytes<A: Automaton>(
     automaton: &A,
     alloc: Global,
@@ -59,7 +59,7 @@ fn next_whole<A: Automaton>(matches: &mut FindIter<'_, '_, A>, text: &str) -> Op
     None
 }
 
-/// The text with each match that cuts no character exchanged for the replacement of its pattern.
+/// The text with each match that cuts no character replaced by the replacement of its pattern.
 pub fn replace_all<A: Automaton>(
     automaton: &A,
     alloc: Global,
@@ -82,8 +82,8 @@ pub fn replace_all<A: Automaton>(
     Ok(replaced)
 }
 
-/// Appends the haystack to the destination, and in place of each match what the closure appends. A closure that answers `false`
-/// is not called again, and the rest is copied.
+/// Appends the haystack to the destination, and in place of each match what the closure appends. Once the closure returns `false`
+/// it is not called again, and the rest is copied.
 pub fn replace_all_with_bytes<A: Automaton, F>(
     automaton: &A,
     haystack: &[u8],
@@ -113,7 +113,7 @@ where
 }
 
 /// Calls the closure at a match of a text.
-// It stands by itself since the check gives such a call, in a loop that slices the text, a goal that is not what the code needs.
+// A function of its own, since in a loop that slices the text the check states a goal for such a call that the code does not need.
 fn call<F>(f: &mut F, found: &Match, matched: &str, dst: &mut String) -> Result<bool, AllocError>
 where
     F: FnMut(&Match, &str, &mut String) -> Result<bool, AllocError>,
@@ -124,8 +124,8 @@ where
     f(found, matched, dst)
 }
 
-/// Appends the text to the destination, and in place of each match that cuts no character what the closure appends. A closure
-/// that answers `false` is not called again, and the rest is copied.
+/// Appends the text to the destination, and in place of each match that cuts no character what the closure appends. Once the
+/// closure returns `false` it is not called again, and the rest is copied.
 pub fn replace_all_with<A: Automaton, F>(
     automaton: &A,
     haystack: &str,

@@ -1,11 +1,11 @@
 //! The matches of a stream, one after another.
 //!
-//! A stream is read piece by piece into one buffer, which is taken before the first read, and each piece is searched before the
-//! next one is read. So a match is given as soon as its last byte was read, a stream may be as long as places can be counted, and
-//! no memory is taken on the way. A match may begin in one piece and end in another; what the pieces are changes nothing.
+//! A stream is read in pieces into one buffer, which is allocated before the first read, and each piece is searched before the
+//! next one is read. So a match is returned as soon as its last byte was read, a stream may be as long as places can be counted,
+//! and no memory is taken on the way. A match may begin in one piece and end in another; the sizes of the pieces change nothing.
 //!
-//! Only an automaton of the standard kind can do so: a leftmost match may be settled only by bytes far after it. An empty pattern
-//! is refused, since it would match at each place before anything is read. No prefilter is asked.
+//! Only an automaton of the standard kind can do so: a leftmost match may depend on bytes far after it. An empty pattern is an
+//! error, since it would match at each place before anything is read. No prefilter is used.
 //!
 //! [`StreamFindIter`] is the search as an iterator, from
 //! [`try_stream_find_iter`](crate::automaton::Automaton::try_stream_find_iter). The first empty read ends it, and so does the first
@@ -29,32 +29,31 @@ use search::StreamSearch;
 use std::alloc::Global;
 use std::io::Read;
 
-/// The matches of a stream that are left to come. From
+/// The remaining matches of a stream. From
 /// [`try_stream_find_iter`](crate::automaton::Automaton::try_stream_find_iter).
 ///
-/// After its first error, and after its first `None`, it gives `None` for good, and asks the reader no more.
+/// After its first error, and after its first `None`, it always returns `None`, and never calls the reader again.
 #[derive(Drop)]
 pub struct StreamFindIter<'a, A: Automaton, R> {
     stream: StreamSearch<'a, A>,
     reader: &'a mut Watched<R>,
 }
 
-/// What one turn of a search comes to.
+/// The outcome of one turn of a search.
 enum Turn {
     /// A match among the bytes that were read.
     Found(Match),
-    /// All of these were given, and more bytes were read.
+    /// All of these were returned, and more bytes were read.
     More,
-    /// All were given, and nothing is left to read.
+    /// All were returned, and nothing is left to read.
     Over,
-    /// All were given, and the read failed, or there are more bytes than places.
+    /// All were returned, and the read failed, or there are more bytes than places.
     Failed(StreamError),
 }
 
-/// The matches of a stream, one after another: as
-/// [`try_stream_find_iter`](crate::automaton::Automaton::try_stream_find_iter), with the reader first. A caller whose own contract
-/// speaks of the reader calls this one: it says of the reader what it is where the search is refused, and only of a first parameter
-/// can a contract say what becomes of what was lent.
+/// The matches of a stream, one after another: as [`try_stream_find_iter`](crate::automaton::Automaton::try_stream_find_iter), but
+/// the reader is the first parameter. Call this one where your own contract speaks of the reader: it says that the reader is
+/// unchanged if the search returns an error. A contract can say what becomes of a borrowed value only for the first parameter.
 /// A caller: `uses::callers::stream::first_match`.
 pub fn stream_find_iter<'a, A: Automaton, R>(
     reader: &'a mut Watched<R>,
@@ -70,7 +69,7 @@ pub fn stream_find_iter<'a, A: Automaton, R>(
     Ok(StreamFindIter { stream, reader })
 }
 
-/// The next match of what was read; or one read, where there is none.
+/// The next match of what was read; or one read, if there is none.
 fn search_or_read<A: Automaton, R: Read>(
     stream: &mut StreamSearch<'_, A>,
     reader: &mut Watched<R>,
@@ -95,8 +94,8 @@ fn search_or_read<A: Automaton, R: Read>(
 impl<'a, A: Automaton, R: Read> StreamFindIter<'a, A, R> {
     /// The reader, as the search left it.
     ///
-    /// A caller whose own contract speaks of the reader ends the search so. Where the search is dropped, the reader is the same, but
-    /// no contract says so.
+    /// A caller whose own contract speaks of the reader ends the search this way. If the search is dropped, the reader is the
+    /// same, but no contract says so.
     /// A caller: `uses::callers::stream::first_match`.
     pub fn into_reader(self) -> &'a mut Watched<R>
         ensures reader { result.now ≡ reader_of self.entry }
@@ -105,8 +104,8 @@ impl<'a, A: Automaton, R: Read> StreamFindIter<'a, A, R> {
         self.reader
     }
 
-    /// The next match among the bytes that were read, without a read; and counts what it does. None says that all of them were
-    /// given.
+    /// The next match among the bytes that were read, without a read; counts what it does. None means that all of them were
+    /// returned.
     /// A caller: `uses::callers::stream::pass_held`.
     pub fn next_held_counted(&mut self, steps: &mut Steps) -> Option<Match>
         ensures finds { FindsHeld (progress_of self.old) result (progress_of self.new) }
@@ -116,7 +115,7 @@ impl<'a, A: Automaton, R: Read> StreamFindIter<'a, A, R> {
         self.stream.next_held(steps)
     }
 
-    /// The next item, as `next` gives it; and counts what it does.
+    /// The next item, as `next` returns it; counts what it does.
     /// A caller: `uses::callers::stream::all_matches`.
     pub fn next_counted(&mut self, steps: &mut Steps) -> Option<Result<Match, StreamError>>
         ensures gives { GivesItem R.remaining self.old self.new result }

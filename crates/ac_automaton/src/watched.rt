@@ -1,17 +1,17 @@
-//! Devices that are watched: what their reads gave, what their writes took, what was flushed, and how often they failed.
+//! Watched devices: what their reads returned, what their writes took, what was flushed, and how often they failed.
 //!
-//! No contract can say what a file or a socket gives. What a search did with it can be said all the same, by a device that keeps
-//! its own history. A [`Watched`] reader has the pieces that its reads gave, in order. A [`Watched`] writer has the bytes that its
-//! writes took, and those that they had taken when it was last flushed without a failure. A contract above then speaks of these,
-//! whatever the device is, and rests on nothing but that `Ok` means what `Read` and `Write` say that it means. Where the device is
-//! in memory and tells its bytes, as a slice or a `Vec`, the contracts here say how those moved too.
+//! No contract can say what a file or a socket returns. It can say what a search did with it, if the device keeps its own history.
+//! A [`Watched`] reader has the pieces that its reads returned, in order. A [`Watched`] writer has the bytes that its writes took,
+//! and those that they had taken when it was last flushed without a failure. A contract above refers to these, whatever the device
+//! is, and assumes only that `Ok` means what `Read` and `Write` say it means. If the device is in memory and its model is its
+//! bytes, as for a slice or a `Vec`, the contracts here say how those changed too.
 //!
 //! The histories take no memory and no time, and code cannot read them. A `Watched` holds the device and one `bool`: whether the
-//! input has ended. An empty read ends it, and so does a failed one, an interrupted one too; nothing is read after that, and
+//! input has ended. An empty read ends it, and so does a failed one, even an interrupted one; nothing is read after that, and
 //! nothing is tried again.
 //!
-//! Each call of a `Watched` makes one call of the device. That it makes no more, no contract can say, since a device keeps no
-//! count of its own.
+//! Each call of a `Watched` makes one call of the device. No contract can say that it makes no more, since a device keeps no count
+//! of its own.
 ghost use Rattle.std.specs.Prelude.{◌≡◌, ◌<◌, false, length};
 ghost use Rattle.std.specs.Io.KnownBytes.{Keeps};
 ghost use Rattle.ac_automaton.specs.Watched.{has_ended, inner_of, AnswersFlush, AnswersRead, AnswersWrite, DeviceGives, DeviceTakes, IsFresh, NoneRead, NoneTaken, WritesWhole};
@@ -36,7 +36,7 @@ pub struct Watched<T> {
 }
 
 impl<T> Watched<T> {
-    /// The device, watched from here on. What it gave or took before is no part of the history.
+    /// The device, watched from now on. What it returned or took before is no part of the history.
     /// A caller: `uses::callers::stream::replaced`.
     pub fn new(inner: T) -> Watched<T>
         ensures device { inner_of result ≡ inner }
@@ -53,7 +53,7 @@ impl<T> Watched<T> {
         }
     }
 
-    /// The device, watched no longer.
+    /// The device, no longer watched.
     /// A caller: `uses::callers::stream::joined`.
     pub fn into_inner(self) -> T
         ensures { result ≡ inner_of self }
@@ -72,7 +72,7 @@ impl<T> Watched<T> {
 impl<T: Read> Watched<T> {
     /// One read into the buffer, which has room, of an input that has not ended.
     ///
-    /// An error ends the input, whatever it is: a caller that would try again after an interruption can't.
+    /// Any error ends the input: a caller that would try again after an interruption can't.
     /// A caller: `uses::callers::stream::read_front`.
     pub fn read(&mut self, buf: &mut [u8]) -> io::Result<usize>
         requires room { 0 < length buf.old }
@@ -98,7 +98,8 @@ impl<T: Read> Watched<T> {
 }
 
 impl<T: Write> Watched<T> {
-    /// One write of the bytes, or of the first of them. One that is handed bytes and takes none stalls, which counts as a failure.
+    /// One write of the bytes, or of the first of them. A write that is passed bytes and takes none is stalled, which counts as a
+    /// failure.
     pub fn write(&mut self, buf: &[u8]) -> io::Result<usize>
         ensures took { AnswersWrite self.old self.new buf.now result }
         ensures reads { NoneRead self.old self.new }
@@ -120,7 +121,7 @@ impl<T: Write> Watched<T> {
         }
     }
 
-    /// Has the device pass on what it holds back.
+    /// Flushes the device.
     pub fn flush(&mut self) -> io::Result<()>
         ensures passed { AnswersFlush self.old self.new result }
         ensures reads { NoneRead self.old self.new }
@@ -141,7 +142,7 @@ impl<T: Write> Watched<T> {
 
 /// Writes all the bytes, by as many writes as that takes, and stops at the first that fails or takes none.
 ///
-/// Nothing is tried again, also not after an interruption.
+/// Nothing is tried again, not even after an interruption.
 /// A caller: `uses::callers::stream::is_written`.
 pub fn write_whole<W: Write>(writer: &mut Watched<W>, bytes: &[u8]) -> Result<(), StreamError>
     ensures took { WritesWhole W.contents writer.old writer.new bytes.now result }

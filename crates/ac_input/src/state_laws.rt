@@ -1,4 +1,4 @@
-//! The laws of states that automata rely on which are tables made from another automaton.
+//! The laws of states, for automata that are tables made from another automaton.
 //!
 //! A table has one entry for each class of bytes, so bytes of one class must lead alike from every state. And it copies a state's
 //! list of patterns unchanged, so the list's length must be a number that fits.

@@ -35,7 +35,7 @@ kept-more trie numbering links transitions rows to from row states s is_from is_
           (cases_lt i to);
     }
 
--- and the entry behind the last one
+-- and the entry after the last one
 pub kept-all : (trie : Trie) (numbering : Numbering) (links : Links) (transitions rows : List ℕ) (to : ℕ) (states : List State) (s : State) → to ≡ length numbering.at.items → s.transitions ≡ slice_index transitions (length numbering.at.items) → AreKeptBelow trie numbering links transitions rows to states → AreKept trie numbering links transitions rows (states ++ s ∷ [])
 kept-all trie numbering links transitions rows to states s all end h =
     record {

@@ -29,7 +29,7 @@ first-more m n p is =
 pub first-all : (m : Dictionary) (n : ℕ) → length m.patterns ≤ n → first_patterns m n ≡ m
 first-all m n past = let f : List (List ℕ) → Dictionary = λ ps. record m { patterns = ps } in ap f (take_all n m.patterns past)
 
--- the first pattern that is refused decides
+-- the first pattern that is an error decides
 pub refused-at : (m : Dictionary) (n : ℕ) (p : List ℕ) (kind : BuildErrorKind) → IsPattern m n p → IsWithinLimits (first_patterns m n) → IsPatternRefused (first_patterns m n) p kind → IsBuildRefused m kind
 refused-at m n p (StateIDOverflow max requested) is before r = (r.0, r.1, (n, record { before = before; passed = (p, is, r.2) }))
 refused-at m n p (PatternIDOverflow max requested) is before r = (r.0, r.1, (n, record { before = before; passed = (p, is, r.2) }))

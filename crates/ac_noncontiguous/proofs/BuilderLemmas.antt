@@ -16,7 +16,7 @@ use Rattle.ac_noncontiguous.specs.Reads.{built_as}
 use Rattle.ac_noncontiguous.specs.declared.nfa.NFA.{NFA}
 use Rattle.ac_noncontiguous.specs.declared.nfa.tables.Tables.{Tables}
 
--- two things that hold of an answer give a third
+-- two facts about a result give a third
 pub if_ok-both : {T E : Type 0} (r : Result T E) (P Q R : T → Type 0) → IfOk r P → IfOk r Q → ((t : T) → P t → Q t → R t) → IfOk r R
 if_ok-both (Ok t) P Q R p q f = f t p q
 if_ok-both (Err e) P Q R p q f = tt

@@ -70,7 +70,7 @@ targets-all states numbers of other from at targets none f t =
       cases = t.cases;
     }
 
--- the next sibling is the first child from the byte behind on
+-- the next sibling is the first child from the next byte on
 pub sibling-first : (states : List State) (of from at : ℕ) → IsTree states → 0 < at → IsFirstChild (length states) (parent states) (byte states) of from at → IsFirstChild (length states) (parent states) (byte states) of (byte states at + 1) (sibling states at)
 sibling-first states of from at tree some f =
     let h = f.is_child some in

@@ -21,7 +21,7 @@ use Rattle.ac_noncontiguous.proofs.BridgeLemmas.{Stands, text-settled, child-beg
 pub text-some : (states : List State) → IsTree states → (i : ℕ) → i < length states → i ≢ 0 → text states i ≢ []
 text-some states tree i within ne none = omega (arith, child-deep states tree i (omega arith) within, length-text states i, ap length none)
 
--- what a state tells of a byte is where it leads
+-- the edge of a state for a byte is where the byte leads
 pub told-leads : (m : Dictionary) (states : List State) (ends : List (Option ℕ)) → Stands m states ends → GoesOnFromStart m → (of low id : ℕ) → of < length states → canonical m.pairing low ≡ low → IsToldBy states of low (Some id) → NextOf m states of low (Some id)
 told-leads m states ends s goes of low id within settled told =
     ⊎_elim
@@ -41,7 +41,7 @@ told-leads m states ends s goes of low id within settled told =
     (subst (λ (xs : List ℕ). LeadsTo m false (low ∷ []) (Some xs)) (sym id_empty) h))
     told
 
--- what a state tells of a byte is no deeper than one byte more
+-- the edge of a state for a byte leads at most one level deeper
 pub told-deep : (states : List State) → IsTree states → (of low id : ℕ) → of < length states → IsToldBy states of low (Some id) → (id < length states) × (depth states id ≤ depth states of + 1)
 told-deep states tree of low id within told =
     ⊎_elim
@@ -72,7 +72,7 @@ follows-more m states ends fails s low from at None within shallow settled known
     let fails_to = known at None within (omega arith) given in
     follows None (leads-failure_none m (text states at) low (text-some states s.tree at within told.0) fails_to none)
 
--- at most so many more failures are followed
+-- at most this many more failures are followed
 abbrev pub failures_left : List State → Option ℕ → ℕ
 failures_left states (Some at) = depth states at + 1
 failures_left states None = 0
@@ -92,7 +92,7 @@ failure-within states fails most id r s shallow given f is =
     let h = s.shallower id f (given ∙ ap Some is) in
     (h.0, omega (arith, h.1))
 
--- what a state told is where the byte leads from the first one
+-- the edge found at a state is where the byte leads from the first one
 pub told-returns : (m : Dictionary) (states : List State) (ends : List (Option ℕ)) → Stands m states ends → GoesOnFromStart m → (low from at : ℕ) (told : Option ℕ) → at < length states → canonical m.pairing low ≡ low → is_some told ≡ true → IsToldBy states at low told → Follows m states low from (Some at) → NextOf m states from low told
 told-returns m states ends s goes low from at (Some id) within settled some told follows = follows (Some id) (told-leads m states ends s goes at low id within settled told)
 told-returns m states ends s goes low from at None within settled some told follows = cc

@@ -57,7 +57,7 @@ order-apart states order o j k lt within same =
 
 -- ---- the failures so far
 
--- the failures are given of the first so many states
+-- the failures of the first n states are set
 abbrev pub AreFirstFails : Dictionary → List State → List (Option ℕ) → List ℕ → ℕ → Type 0
 AreFirstFails m states fails order most = (k : ℕ) (r : Option ℕ) → k < most → slice_get fails (slice_index order k) ≡ Some r → FailsTo m (text states (slice_index order k)) (option_map (text states) r)
 

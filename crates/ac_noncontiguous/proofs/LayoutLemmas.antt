@@ -25,7 +25,7 @@ keeps-push old new t h =
       same = λ k within. get_or_append_left new (t ∷ []) no_transition k (omega (arith, h.longer)) ∙ h.same k within;
     }
 
--- a byte whose transition is put behind the others
+-- a byte whose transition is put after the others
 pub appended-push : (edges : List ℕ) (all : Bool) (to next : ℕ) (old new : List Transition) → next ≡ slice_index edges to → (all ≡ false → next ≢ 1) → AreAppended edges all to old new → AreAppended edges all (to + 1) old (new ++ record { byte = to; next = next } ∷ [])
 appended-push edges all to next old new read some h =
     let t : Transition = record { byte = to; next = next } in

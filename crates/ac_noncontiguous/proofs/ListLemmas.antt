@@ -194,7 +194,7 @@ room-more states ends ranges matches new i rest range room within above listed =
 
 -- ---- the lists so far
 
--- the first so many states have their lists
+-- the first n states have their lists
 abbrev pub AreFirstLists : Dictionary → List State → List Range → List ℕ → List ℕ → ℕ → Type 0
 AreFirstLists m states ranges matches order most = (k : ℕ) → k < most → IsList m (text states (slice_index order k)) (in_range matches (range_at ranges (slice_index order k)))
 

@@ -85,7 +85,7 @@ order-start states order tree b =
     (cases_eq c.0 0) in
     (omega (arith, c.1), ap (slice_index order) (sym first) ∙ here, λ k some within. later 0 k some within)
 
--- the states behind the start
+-- the states after the start
 pub order-rest : (states : List State) (order : List ℕ) → IsTree states → IsBreadthFirst states order → (i : ℕ) → (Contains (drop 1 order) i → (0 < i) × (i < length states)) × (0 < i → i < length states → Contains (drop 1 order) i)
 order-rest states order tree b i =
     let s = order-start states order tree b in
@@ -185,7 +185,7 @@ numbered-first first second x c =
     let there : slice_index first c.0 ≡ x = get_or_default first c.0 0 x c.1 ∙ c.2 in
     (j, omega arith, omega (arith, length-append h second), get_or_append_left h second 0 j (omega arith) ∙ (get_or_append_left g (0 ∷ []) 0 j (omega arith) ∙ (get_or_append_left f (0 ∷ []) 0 j low ∙ there)))
 
--- and what the second list has behind them
+-- and what the second list has after them
 pub numbered-second : (first second : List ℕ) (x : ℕ) → Contains second x → (j : ℕ) × (1 < j) × (j < length (numbered first second)) × (slice_index (numbered first second) j ≡ x)
 numbered-second first second x c =
     let f = 0 ∷ (0 ∷ first) in

@@ -1,4 +1,4 @@
--- What the number of a state tells of the text that was read, and what its patterns do.
+-- What the number of a state says about the text that was read, and what its patterns do.
 use Rattle.std.proofs.Common.{◌≡◌, ◌≢◌, ◌⊎◌, ◌↔◌, ℕ, ◌+◌, ◌<◌, ◌≤◌, Bool, true, false, IsTrue, List, [], ◌∷◌, length, take, drop, get_or, slice_get, Option, None, Some, inl, inr, ⊎_elim, refl, sym, ap, subst, ◌∙◌, arith, length-drop}
 use Rattle.std.specs.Prelude.{◌==◌, nat_le}
 use Rattle.std.specs.Coded.{le_prop, Coded-set, coded_ℕ, coded_list}
@@ -294,7 +294,7 @@ start-plain nfa apart =
     let s = w.1.texts.starts in
     list-none (matches_at nfa nfa.tables.start) (λ some. let m = list-some (dictionary nfa) nfa.tables w.0 nfa.tables.start w.1 (omega (arith, s.1)) (λ e. omega (arith, s.0, e)) some in omega (arith, m.1, apart)))
 
--- ---- what its tests tell
+-- ---- what its tests say
 
 -- whether it is the dead state
 pub dead-said : (nfa : NFA) (sid : ℕ) (dead : Bool) → IsTrue dead ↔ (sid ≡ 0) → AtEach (IsRead nfa) sid (TellsDead (built_as nfa) dead)

@@ -1,4 +1,4 @@
--- In front of the starts and behind them the states come in breadth-first order, and none stands for what another one does.
+-- Before the starts and after them the states come in breadth-first order, and no two stand for the same one.
 use Rattle.std.proofs.Common.{◌≡◌, ◌≢◌, ◌⊎◌, ℕ, suc, ◌+◌, ◌-◌, ◌<◌, ◌≤◌, Bool, true, false, List, [], ◌∷◌, ◌++◌, length, get_or, drop, refl, sym, ap, subst, ◌∙◌, inl, inr, ⊎_elim, arith, slice_index, length-append, length-drop}
 use Rattle.std.specs.List.{Contains, AllPairs}
 use Rattle.std.proofs.lemmas.Bool.{cases_lt, cases_eq}
@@ -31,7 +31,7 @@ numbered-low first second j past low =
     let inner : slice_index f (suc (suc k)) ≡ slice_index first k = refl in
     get_or_append_left h second 0 j (omega arith) ∙ (get_or_append_left g (0 ∷ []) 0 j (omega arith) ∙ (get_or_append_left f (0 ∷ []) 0 j (omega arith) ∙ (ap (slice_index f) (sym back) ∙ inner)))
 
--- and behind them the second one
+-- and after them the second one
 numbered-high : (first second : List ℕ) (j : ℕ) → length first + 3 < j → slice_index (numbered first second) j ≡ slice_index second (j - (length first + 4))
 numbered-high first second j past =
     let f = 0 ∷ (0 ∷ first) in
@@ -72,7 +72,7 @@ at-starts at start k zero_start zero_next low high =
     (λ (two : k ≢ start). let e : k ≡ start + 1 = omega (arith, low, high, two) in ap (slice_index at) e ∙ zero_next)
     (cases_eq k start)
 
--- the states in front of the starts and behind them
+-- the states before the starts and after them
 pub places-runs : (states : List State) (ranges : List Range) (order : List ℕ) (places : Listed) → IsTree states → IsBreadthFirst states order → AreListed ranges (drop 1 order) places → AreInRuns states places.at.items places.start
 places-runs states ranges order places tree b listed =
     let rest = drop 1 order in

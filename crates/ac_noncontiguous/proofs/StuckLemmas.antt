@@ -42,7 +42,7 @@ stuck-passes m p old mid ends read at inverse s tree mid_tree few short w more f
     let entered = entered-walked m p old mid ends 0 0 inverse s tree w.extends (λ first i within shallow spelled. stuck-free m.kind old mid (canonical_text m p) read at mid_tree w more free none first i within (omega arith) spelled) in
     (omega (arith, s.counted), short, (length mid - 1 + (length p - read) + 4, stuck-counts m p old mid ends read at tree mid_tree s w (omega arith) entered none, omega (arith, mid_tree.start.0)))
 
--- what a trie that stands for a dictionary tells of a pattern that it can't enter
+-- what a trie that stands for a dictionary says about a pattern that it can't enter
 pub trie-stuck : (m : Dictionary) (p : List ℕ) (old : Trie) (error : BuildErrorKind) → IsTrieOf m old → length old.ends.items ≤ GREATEST → length p ≤ GREATEST → IsStuck old.kind old.states.items (map (canonical old.pairing) p) error → IsPatternRefused m p error
 trie-stuck m p old (StateIDOverflow max requested) t few short stuck =
     let h : IsStuck m.kind old.states.items (canonical_text m p) (StateIDOverflow max requested) =

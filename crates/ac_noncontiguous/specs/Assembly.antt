@@ -35,19 +35,19 @@ pub record IsKeptOf (trie : Trie) (numbering : Numbering) (links : Links) (i fro
   pub matches : 1 < i → (state.matches ≡ (slice_index_or links.ranges.items (slice_index numbering.at.items i) no_range).from) × (state.matches_len ≡ range_len links.ranges.items (slice_index numbering.at.items i))
   pub fails : 1 < i → IsFailureOf numbering links (slice_index numbering.at.items i) state.fail
 
--- what is kept of the first so many states
+-- what is stored for the first n states
 pub record AreKeptBelow (trie : Trie) (numbering : Numbering) (links : Links) (transitions rows : List ℕ) (to : ℕ) (states : List State) : Type 0 where
   pub counted : length states ≡ to
   pub kept : (i : ℕ) → i < to → IsKeptOf trie numbering links i (slice_index transitions i) (slice_index rows i) (kept_of states i)
 
--- what is kept of all states, and behind them where the transitions end
+-- what is stored for all states, and after them where the transitions end
 pub record AreKept (trie : Trie) (numbering : Numbering) (links : Links) (transitions rows : List ℕ) (states : List State) : Type 0 where
   pub counted : length states ≡ length numbering.at.items + 1
   pub kept : (i : ℕ) → i < length numbering.at.items → IsKeptOf trie numbering links i (slice_index transitions i) (slice_index rows i) (kept_of states i)
   pub last : transitions_from states (length numbering.at.items) ≡ slice_index transitions (length numbering.at.items)
 
 -- Where the bytes that begin nothing lead from the unanchored start: to the dead state under a leftmost kind with an empty
--- pattern, which has matched, and else back to the start.
+-- pattern, which has matched; otherwise back to the start.
 abbrev pub IsBack : MatchKind → List Range → ℕ → ℕ → Type 0
 IsBack kind ranges start back = ((kind ≢ Standard) × (0 < range_len ranges 0) × (back ≡ 0)) ⊎ ((kind ≢ Standard → range_len ranges 0 ≡ 0) × (back ≡ start))
 

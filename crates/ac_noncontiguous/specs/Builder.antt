@@ -1,4 +1,4 @@
--- What a builder of automata is told, and what is built.
+-- The settings of a builder of automata, and what is built.
 use Rattle.std.specs.Prelude.{◌≡◌, ◌≢◌, ℕ, Bool, true, false, List, Option, None, Some}
 use Rattle.std.specs.Borrow.{Bor}
 use Rattle.ac_input.specs.Candidate.{Filter}
@@ -35,7 +35,7 @@ pub record AreFirst (s : Settings) : Type 0 where
 abbrev pub dictionary_by : Settings → List (Bor (List ℕ)) → Dictionary
 dictionary_by s patterns = dictionary_of (bytes_of patterns) s.pairing s.kind
 
--- The prefilter that is held: none where none is wanted; else one wherever one is demanded, and only one that may be built.
+-- The prefilter: none if none is wanted; otherwise one wherever one is demanded, and only one that may be built.
 pub record IsHeld (wanted : Bool) (m : Dictionary) (held : Option Filter) : Type 0 where
   pub off : wanted ≡ false → held ≡ None
   pub demanded : wanted ≡ true → IsDemanded m → held ≢ None
@@ -52,7 +52,7 @@ pub record IsBuiltBy (s : Settings) (m : Dictionary) (built : Built) : Type 0 wh
 abbrev pub IsBuiltOf : Settings → List (Bor (List ℕ)) → Built → Type 0
 IsBuiltOf s patterns built = IsBuiltBy s (dictionary_by s patterns) built
 
--- an automaton was built by the settings that a builder has at first
+-- an automaton was built by the default settings
 abbrev pub IsBuiltAtFirst : List (Bor (List ℕ)) → Built → Type 0
 IsBuiltAtFirst patterns built = (s : Settings) × AreFirst s × IsBuiltOf s patterns built
 

@@ -14,7 +14,7 @@ pub record AreChildren (states : List State) (of : ℕ) (found : List ℕ) : Typ
 abbrev pub AppendsChildren : List State → ℕ → List ℕ → List ℕ → Type 0
 AppendsChildren states of old new = (found : List ℕ) × AreChildren states of found × (new ≡ old ++ found)
 
--- Of the first so many states: where the children of each begin, and their bytes.
+-- Of the first n states: where the children of each begin, and their bytes.
 pub record AreAllChildren (states : List State) (most : ℕ) (firsts ids bytes : List ℕ) : Type 0 where
   pub counted : length firsts ≡ most + 1
   pub last : slice_index firsts most ≡ length ids

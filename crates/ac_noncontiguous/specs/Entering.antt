@@ -25,8 +25,8 @@ IsChildRefused states of low (PatternIDOverflow max requested) = ⊥
 IsChildRefused states of low (PatternTooLong pattern len) = ⊥
 IsChildRefused states of low Memory = Unit {0}
 
--- The first so many bytes of a pattern were entered, up to a state. Each state that was added stands for a beginning of them, and
--- has no pattern of its own; under leftmost-first no state on the way has one.
+-- The first bytes of a pattern were entered, up to a state. Each state that was added stands for a beginning of them, and has no
+-- pattern of its own; under leftmost-first no state on the way has one.
 pub record IsWalked (kind : MatchKind) (old states : List State) (bytes : List ℕ) (read at : ℕ) : Type 0 where
   pub extends : Extends old states
   pub reached : (at < length states) × (depth states at ≡ read) × (text states at ≡ take read bytes)

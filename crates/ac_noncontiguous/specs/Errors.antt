@@ -4,7 +4,7 @@ use Rattle.ac_input.specs.declared.primitives.number.TheConstants.{GREATEST}
 use Rattle.ac_noncontiguous.specs.declared.error.BuildErrorKind.{BuildErrorKind}
 use Rattle.ac_noncontiguous.specs.declared.error.BuildErrorKind.TheVariants.{StateIDOverflow, PatternIDOverflow, PatternTooLong, Memory}
 
--- the text of a build that is refused
+-- the text of a build error
 abbrev pub build_error_text : BuildErrorKind → List ℕ
 build_error_text (StateIDOverflow max requested_max) = codes "state number " ++ decimal requested_max ++ codes " is past " ++ decimal GREATEST
 build_error_text (PatternIDOverflow max requested_max) = codes "pattern number " ++ decimal requested_max ++ codes " is past " ++ decimal GREATEST

@@ -1,4 +1,4 @@
--- How the failure of a state is found from those of the states of lesser depth.
+-- How the failure of a state is computed from those of the states of lesser depth.
 use Rattle.std.specs.Prelude.{◌≡◌, ◌≢◌, ◌⊎◌, ℕ, ◌<◌, ◌≤◌, List, [], ◌∷◌, ◌++◌, ◌+◌, length, slice_get, Option, Some, None, option_map, Bool, true, false}
 use Rattle.ac_input.specs.declared.search.MatchKind.{MatchKind}
 use Rattle.ac_input.specs.declared.search.MatchKind.TheVariants.{Standard}
@@ -17,17 +17,17 @@ abbrev pub IsChildOf : List State → ℕ → ℕ → Option ℕ → Type 0
 IsChildOf states of low None = HasNoChild states of low
 IsChildOf states of low (Some c) = (0 < c) × (c < length states) × (parent states c ≡ of) × (byte states c ≡ low)
 
--- what a state itself tells of a byte: its child, and of the start where it has none that the byte leads back to it
+-- where a byte leads from a state itself: to its child, and from the start, if it has none for the byte, back to the start
 abbrev pub IsToldBy : List State → ℕ → ℕ → Option ℕ → Type 0
 IsToldBy states of low None = (of ≢ 0) × HasNoChild states of low
 IsToldBy states of low (Some id) = IsChildOf states of low (Some id) ⊎ ((of ≡ 0) × (id ≡ 0) × HasNoChild states of low)
 
--- each failure that is given is a state of lesser depth
+-- each failure that is set is a state of lesser depth
 pub record AreShallower (states : List State) (fails : List (Option ℕ)) : Type 0 where
   pub counted : length fails ≡ length states
   pub shallower : (i f : ℕ) → slice_get fails i ≡ Some (Some f) → (f < length states) × (depth states f < depth states i)
 
--- the failures are given of all states of lesser depth than this
+-- the failures are set for all states of lesser depth than this
 abbrev pub AreFailsAbove : Dictionary → List State → List (Option ℕ) → ℕ → Type 0
 AreFailsAbove m states fails deep = (i : ℕ) (r : Option ℕ) → i < length states → depth states i < deep → slice_get fails i ≡ Some r → FailsTo m (text states i) (option_map (text states) r)
 
@@ -48,11 +48,12 @@ IsFinalIn kind states i false = kind ≢ Standard → (is_match states i ≡ fal
 abbrev pub NextOf : Dictionary → List State → ℕ → ℕ → Option ℕ → Type 0
 NextOf m states of low r = LeadsTo m false (text states of ++ low ∷ []) (option_map (text states) r)
 
--- Where one more byte leads from a state, whatever dictionary the trie is that of: if the failures are given of the states that
--- are no deeper, and the byte stands for itself.
+-- Where one more byte leads from a state, whatever dictionary the trie stands for: provided that the failures are set for the
+-- states that are no deeper, and that the byte stands for itself.
 abbrev pub IsNextByFails : Trie → List (Option ℕ) → ℕ → ℕ → Option ℕ → Type 0
 IsNextByFails trie fails of low r = (m : Dictionary) → IsTrieOf m trie → GoesOnFromStart m → canonical m.pairing low ≡ low → AreFailsAbove m trie.states.items fails (depth trie.states.items of + 1) → NextOf m trie.states.items of low r
 
--- To which state one fails, whatever dictionary the trie is that of: if the failures are given of the states that are less deep.
+-- To which state one fails, whatever dictionary the trie stands for: provided that the failures are set for the states that are
+-- less deep.
 abbrev pub IsFailureByFails : Trie → List (Option ℕ) → ℕ → Option ℕ → Type 0
 IsFailureByFails trie fails i r = (m : Dictionary) → IsTrieOf m trie → AreFailsAbove m trie.states.items fails (depth trie.states.items i) → FailsTo m (text trie.states.items i) (option_map (text trie.states.items) r)

@@ -33,7 +33,7 @@ pub record IsTrieOf (m : Dictionary) (trie : Trie) : Type 0 where
   pub stands : HasEntered m trie.states.items trie.ends.items
   pub by_first : AreByFirst m trie.states.items
 
--- The new trie is that of any dictionary of the old one with one more pattern; or that pattern is refused for any of them.
+-- The new trie is that of any dictionary of the old one with one more pattern; or that pattern is an error for any of them.
 abbrev pub TakesPattern : Trie → List ℕ → Trie → Type 0
 TakesPattern old p new = (m : Dictionary) → IsTrieOf m old → IsTrieOf (with_pattern m p) new
 

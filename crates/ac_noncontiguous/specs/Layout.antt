@@ -43,14 +43,14 @@ pub record IsAppended (trie : Trie) (numbering : Numbering) (back i : ℕ) (old 
   pub keeps : Keeps old new
   pub laid : IsLaid trie numbering back i (length old) (length new) new
 
--- those of the first so many states
+-- those of the first n states
 pub record AreLaidOut (trie : Trie) (numbering : Numbering) (back states : ℕ) (offsets : List ℕ) (transitions : List Transition) : Type 0 where
   pub counted : length offsets ≡ states + 1
   pub last : slice_index offsets states ≡ length transitions
   pub within : (i : ℕ) → i ≤ states → slice_index offsets i ≤ length transitions
   pub laid : (i : ℕ) → i < states → IsLaid trie numbering back i (slice_index offsets i) (slice_index offsets (i + 1)) transitions
 
--- the byte of each of the first so many states of a trie, and its partner, have boundaries around them
+-- the byte of each of the first n states of a trie, and its partner, have boundaries around them
 abbrev pub AreParted : Trie → ℕ → List Bool → Type 0
 AreParted trie states boundaries = (c : ℕ) → 0 < c → c < states → (byte trie.states.items c < 256) × IsParted boundaries (byte trie.states.items c) × IsParted boundaries (other trie.pairing (byte trie.states.items c))
 
@@ -58,7 +58,7 @@ AreParted trie states boundaries = (c : ℕ) → 0 < c → c < states → (byte 
 abbrev pub AreAlone : Trie → List ℕ → Type 0
 AreAlone trie classes = (c : ℕ) → 0 < c → c < length trie.states.items → IsAlone classes (byte trie.states.items c) × IsAlone classes (other trie.pairing (byte trie.states.items c))
 
--- the byte is that of one of the first so many states of a trie, or the partner of one
+-- the byte is that of one of the first n states of a trie, or the partner of one
 abbrev pub IsStateByte : Trie → ℕ → ℕ → Type 0
 IsStateByte trie states x = (c : ℕ) × (0 < c) × (c < states) × IsTrue (same trie.pairing (byte trie.states.items c) x)
 
@@ -66,7 +66,7 @@ IsStateByte trie states x = (c : ℕ) × (0 < c) × (c < states) × IsTrue (same
 abbrev pub AreStateEdges : Trie → ℕ → List Bool → Type 0
 AreStateEdges trie states boundaries = (b : ℕ) → IsTrue (has boundaries b) ↔ ((x : ℕ) × IsStateByte trie states x × IsTrue (is_edge x x b))
 
--- the boundaries around the bytes of the first so many states of a trie and their partners, and no others
+-- the boundaries around the bytes of the first n states of a trie and their partners, and no others
 pub record AreBoundaries (trie : Trie) (states : ℕ) (boundaries : List Bool) : Type 0 where
   pub parted : AreParted trie states boundaries
   pub edges : AreStateEdges trie states boundaries
@@ -84,7 +84,7 @@ pub record KeepsRows (old new : List ℕ) : Type 0 where
   pub longer : length old ≤ length new
   pub same : (k : ℕ) → k < length old → slice_index new k ≡ slice_index old k
 
--- behind the others there is a row, with the next state for the class of each byte below one
+-- after the others there is a row, with the next state for the class of each byte below one
 pub record IsRowAppended (classes edges : List ℕ) (to : ℕ) (old new : List ℕ) : Type 0 where
   pub keeps : KeepsRows old new
   pub row : (b : ℕ) → b < to → (length old + class classes b < length new) × (slice_index new (length old + class classes b) ≡ slice_index edges b)
@@ -93,11 +93,11 @@ pub record IsRowAppended (classes edges : List ℕ) (to : ℕ) (old new : List �
 abbrev pub IsRowAt : Trie → Numbering → ℕ → List ℕ → ℕ → ℕ → List ℕ → Type 0
 IsRowAt trie numbering back classes i row rows = row ≢ no_row → (b : ℕ) → b < 256 → (row + class classes b < length rows) × IsEdgeTo trie numbering back i b (slice_index rows (row + class classes b))
 
--- a state's row may have been put behind the others
+-- a state's row may have been put after the others
 pub record IsRowOf (trie : Trie) (numbering : Numbering) (back : ℕ) (classes : List ℕ) (i row : ℕ) (old new : List ℕ) : Type 0 where
   pub keeps : KeepsRows old new
   pub at : IsRowAt trie numbering back classes i row new
 
--- the rows of the first so many states
+-- the rows of the first n states
 abbrev pub AreRowsOf : Trie → Numbering → ℕ → List ℕ → List ℕ → List ℕ → Type 0
 AreRowsOf trie numbering back classes offsets rows = (i : ℕ) → i < length offsets → IsRowAt trie numbering back classes i (slice_index offsets i) rows

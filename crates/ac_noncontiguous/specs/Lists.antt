@@ -21,7 +21,8 @@ pub record EndAbove (states : List State) (ends : List (Option ℕ)) (deep : ℕ
   pub distinct : IsDistinct list
   pub ended : (n : ℕ) → Contains list n → (e : ℕ) × EndsIn ends e n × (depth states e < deep)
 
--- Each range is one of the list, with patterns that end in the state or less deep; those of states that weren't asked yet are empty.
+-- Each range is one of the list, with patterns that end in the state or less deep; those of states that weren't reached yet are
+-- empty.
 pub record AreRoom (states : List State) (ends : List (Option ℕ)) (ranges : List Range) (matches : List ℕ) : Type 0 where
   pub counted : length ranges ≡ length states
   pub inside : (i : ℕ) → i < length states → IsRangeOf matches (range_at ranges i)

@@ -1,4 +1,4 @@
--- What the look-ups in the tables of an automaton answer.
+-- The results of the look-ups in the tables of an automaton.
 use Rattle.std.specs.Prelude.{◌≡◌, ◌≢◌, ◌⊎◌, ℕ, ◌+◌, ◌<◌, ◌≤◌, ◌==◌, ◌&&◌, nat_lt, not, Bool, true, false, List}
 use Rattle.ac_input.specs.declared.steps.Steps.{Steps}
 use Rattle.ac_input.specs.Dictionary.{Dictionary}
@@ -33,8 +33,8 @@ abbrev pub other_start : ℕ → Bool → ℕ
 other_start start true = start
 other_start start false = start + 1
 
--- The states stand for these texts, and their numbers for the states. No search comes to the fail state, or to the start of the
--- other anchoring.
+-- The states stand for these texts, and their numbers for the states. No search reaches the fail state, or the start of the other
+-- anchoring.
 abbrev pub naming_of : (ℕ → List ℕ) → ℕ → ℕ → Naming
 naming_of text len start = record {
   text = state_of text;
@@ -45,7 +45,7 @@ naming_of text len start = record {
 abbrev pub IsNamingOf : Dictionary → Tables → Naming → Type 0
 IsNamingOf m tables names = (text : ℕ → List ℕ) × (t : AreTables m text tables) × (names ≡ naming_of text t.len tables.start)
 
--- a state to which a search of this anchoring may come
+-- a state that a search of this anchoring may reach
 abbrev pub IsVisited : Tables → Bool → ℕ → Type 0
 IsVisited tables anchored i = IsKept tables i × (i ≢ 1) × (i ≢ other_start tables.start anchored)
 

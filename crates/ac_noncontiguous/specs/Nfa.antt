@@ -1,4 +1,4 @@
--- What the states of the automaton stand for, and what its tables keep of them.
+-- What the states of the automaton stand for, and what its tables store for them.
 use Rattle.std.specs.Prelude.{◌≡◌, ◌≢◌, ◌↔◌, ◌⊎◌, ℕ, zero, suc, ◌+◌, ◌-◌, ◌<◌, ◌≤◌, map, false, List, [], ◌∷◌, ◌++◌, length, take, drop, slice_index, slice_index_or, Option, Some, None, IfSome}
 use Rattle.ac_input.specs.Alphabet.{class}
 use Rattle.ac_input.specs.Candidate.{Filter}
@@ -16,7 +16,7 @@ use Rattle.ac_noncontiguous.specs.declared.nfa.tables.State.{State}
 use Rattle.ac_noncontiguous.specs.declared.nfa.tables.Transition.{Transition}
 use Rattle.ac_noncontiguous.specs.declared.nfa.tables.Tables.{Tables}
 
--- ---- what is kept of a state, by its number
+-- ---- what is stored for a state, by its number
 
 -- what a place past the last state is read as
 abbrev pub nothing_kept : State
@@ -77,7 +77,7 @@ state_of text zero = None
 state_of text (suc zero) = None
 state_of text (suc (suc i)) = Some (text (suc (suc i)))
 
--- both states stand in front of the starts, or both behind them
+-- both states stand before the starts, or both after them
 abbrev pub InOneRun : ℕ → ℕ → ℕ → Type 0
 InOneRun start i j = ((1 < i) × (j < start)) ⊎ (start + 1 < i)
 
@@ -135,8 +135,8 @@ pub record AreFailures (m : Dictionary) (len start : ℕ) (text : ℕ → List �
 abbrev pub list_of : List State → List ℕ → ℕ → List ℕ
 list_of states matches i = take (matches_len states i) (drop (matches_from states i) matches)
 
--- Which patterns match at each state. The states at which some match come first, and the starts behind them: they are among them
--- where the empty pattern is there.
+-- Which patterns match at each state. The states at which some match come first, and the starts after them; the starts are among
+-- them if there is an empty pattern.
 pub record AreLists (m : Dictionary) (len start max_match : ℕ) (text : ℕ → List ℕ) (states : List State) (matches : List ℕ) : Type 0 where
   pub ranges : (i : ℕ) → i < len → matches_from states i + matches_len states i ≤ length matches
   pub lists : (i : ℕ) → 1 < i → i < len → IsList m (text i) (list_of states matches i)
@@ -145,7 +145,7 @@ pub record AreLists (m : Dictionary) (len start max_match : ℕ) (text : ℕ →
   pub greatest : (max_match + 1 ≡ start) ⊎ (max_match ≡ start + 1)
   pub known : (k : ℕ) → k < length matches → slice_index matches k < length m.patterns
 
--- The tables are those of the automaton of a dictionary, whose states stand for these texts. One more entry stands behind the last
+-- The tables are those of the automaton of a dictionary, whose states stand for these texts. One more entry stands after the last
 -- state, for the end of its transitions.
 pub record AreTables (m : Dictionary) (text : ℕ → List ℕ) (tables : Tables) : Type 0 where
   pub len : ℕ
@@ -158,13 +158,13 @@ pub record AreTables (m : Dictionary) (text : ℕ → List ℕ) (tables : Tables
   pub failures : AreFailures m len tables.start text tables.states.items
   pub lists : AreLists m len tables.start tables.max_match text tables.states.items tables.matches.items
 
--- ---- what the automaton keeps beside them
+-- ---- what the automaton stores beside them
 
 -- The tables are those of the automaton of the dictionary.
 abbrev pub AreTablesOf : Dictionary → Tables → Type 0
 AreTablesOf m tables = (text : ℕ → List ℕ) × AreTables m text tables
 
--- The prefilter, if one is held, is made for the automaton's dictionary.
+-- The prefilter, if there is one, is made for the automaton's dictionary.
 abbrev pub IsHeldFor : Dictionary → Option Filter → Type 0
 IsHeldFor m held = (f : Filter) → held ≡ Some f → f.dictionary ≡ m
 
@@ -172,7 +172,7 @@ IsHeldFor m held = (f : Filter) → held ≡ Some f → f.dictionary ≡ m
 abbrev pub AreOpenedBy : Dictionary → Option Openings → Type 0
 AreOpenedBy m openings = IfSome openings (AreOpenings m)
 
--- the tables of an automaton, the classes of its bytes, its prefilter, if it holds one, its limits and its pairing
+-- the tables of an automaton, the classes of its bytes, its prefilter, if it has one, its limits and its pairing
 pub record AreParts (m : Dictionary) (tables : Tables) (prefilter : Option Filter) : Type 0 where
   pub within : ∥ IsWithinLimits m ∥₁
   pub stands : ∥ AreTablesOf m tables ∥₁

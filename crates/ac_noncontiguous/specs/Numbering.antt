@@ -10,7 +10,7 @@ use Rattle.ac_noncontiguous.specs.Links.{no_range}
 use Rattle.ac_noncontiguous.specs.Nfa.{InOneRun}
 use Rattle.ac_noncontiguous.specs.Order.{ComesBefore}
 
--- There is a failure and a range for each of so many trie states, and no failure is another.
+-- There is a failure and a range for each of this many trie states, and no failure is another.
 pub record FitsTrie (states : ℕ) (links : Links) : Type 0 where
   pub fails : length links.fails.items ≡ states
   pub within : (i f : ℕ) → slice_get links.fails.items i ≡ Some (Some f) → f < states
@@ -46,7 +46,7 @@ pub record ArePlaces (states : ℕ) (at : List ℕ) (start : ℕ) : Type 0 where
   pub within : (j : ℕ) → j < length at → slice_index at j < states
   pub all : (i : ℕ) → i < states → (j : ℕ) × (1 < j) × (j < length at) × (slice_index at j ≡ i)
 
--- In front of the starts and behind them the states stand for trie states in breadth-first order; no two of them but the starts stand
+-- Before the starts and after them the states stand for trie states in breadth-first order; no two of them but the starts stand
 -- for one.
 pub record AreInRuns (states : List State) (at : List ℕ) (start : ℕ) : Type 0 where
   pub rising : (j k : ℕ) → j < k → k < length at → InOneRun start j k → ComesBefore states (slice_index at j) (slice_index at k)
@@ -57,7 +57,7 @@ pub record AreFirstNumbers (at : List ℕ) (from : ℕ) (of : List ℕ) : Type 0
   pub back : (j : ℕ) → from ≤ j → j < length at → slice_index at (slice_index of (slice_index at j)) ≡ slice_index at j
   pub least : (j : ℕ) → from ≤ j → j < length at → (from ≤ slice_index of (slice_index at j)) × (slice_index of (slice_index at j) ≤ j)
 
--- The numbers of so many trie states. The start has that of the unanchored one.
+-- The numbers of this many trie states. The start has that of the unanchored one.
 pub record AreTrieNumbers (states : ℕ) (at of : List ℕ) (start : ℕ) : Type 0 where
   pub counted : length of ≡ states
   pub numbers : (i : ℕ) → i < states → (1 < slice_index of i) × (slice_index of i < length at) × (slice_index of i ≢ start + 1) × (slice_index at (slice_index of i) ≡ i)
@@ -67,7 +67,7 @@ pub record IsLastMatch (ranges : List Range) (at : List ℕ) (start max_match : 
   pub some : (j : ℕ) → 1 < j → j < length at → (0 < range_len ranges (slice_index at j)) ↔ (j ≤ max_match)
   pub greatest : (max_match + 1 ≡ start) ⊎ (max_match ≡ start + 1)
 
--- The states in the order of their numbers, and the numbers of so many trie states.
+-- The states in the order of their numbers, and the numbers of this many trie states.
 pub record IsNumbering (states : ℕ) (numbering : Numbering) : Type 0 where
   pub places : ArePlaces states numbering.at.items numbering.start
   pub numbers : AreTrieNumbers states numbering.at.items numbering.of.items numbering.start

@@ -11,7 +11,7 @@ lens_of patterns = map (λ p. length p) patterns
 abbrev pub AreShort : List (List ℕ) → Type 0
 AreShort patterns = (n : ℕ) (p : List ℕ) → slice_get patterns n ≡ Some p → length p ≤ GREATEST
 
--- what is kept of patterns: how long each is, the shortest and the longest
+-- what is stored for patterns: how long each is, the shortest and the longest
 pub record AreLens (patterns : List (List ℕ)) (each : List ℕ) (least most : ℕ) : Type 0 where
   pub lens : each ≡ lens_of patterns
   pub no_shorter : least ≡ shortest patterns

@@ -1,4 +1,4 @@
--- What the read calls of the automaton answer, and what that says of the texts for which its states stand.
+-- What the read calls of the automaton return, and what that says about the texts for which its states stand.
 use Rattle.std.specs.Prelude.{◌≡◌, ◌≢◌, ◌↔◌, ◌⊎◌, ℕ, ◌+◌, ◌-◌, ◌<◌, ◌≤◌, map, List, [], ◌∷◌, ◌++◌, length, slice_get, Option, Some, None}
 use Rattle.ac_input.specs.declared.primitives.number.TheConstants.{GREATEST}
 use Rattle.ac_input.specs.declared.search.Anchored.{Anchored}
@@ -18,7 +18,7 @@ use Rattle.ac_noncontiguous.specs.Lookups.{other_start, AreSame}
 use Rattle.ac_noncontiguous.specs.Nfa.{state_of, fail_of, depth_of, edge_of, transitions_of, IsEdge, InOneRun, AreTables}
 use Rattle.ac_noncontiguous.specs.Reads.{dictionary, built_as, matches_at, IsRead}
 
--- ---- what is kept
+-- ---- what is stored
 
 -- how many states there are
 abbrev pub state_len : NFA → ℕ
@@ -39,13 +39,13 @@ edges_in nfa sid = map edge_of (transitions_of nfa.tables.states.items nfa.table
 abbrev pub classes_in : NFA → List ℕ
 classes_in nfa = nfa.tables.classes
 
--- the numbers that stand between the parts of the states
+-- the numbers between the parts of the states
 abbrev pub special_in : NFA → Special
 special_in nfa = record { max_special_id = nfa.max_special; max_match_id = nfa.tables.max_match; start_unanchored_id = nfa.tables.start; start_anchored_id = nfa.tables.start + 1 }
 
 -- ---- what it means
 
--- an automaton of the dictionary has so many states, and each has a number
+-- an automaton of the dictionary has this many states, and each has a number
 pub record CountsIn (nfa : NFA) (states : ℕ) : Type 0 where
   pub counted : ∥ HasStates (dictionary nfa) states ∥₁
   pub few : states ≤ GREATEST + 1
@@ -80,7 +80,7 @@ pub record FailsIn (nfa : NFA) (sid fail : ℕ) : Type 0 where
   pub dead : sid < 2 → fail ≡ 0
   pub fails : OfTexts nfa (λ text. 1 < sid → FailsTo (dictionary nfa) (text sid) (state_of text fail))
 
--- the text of a state has so many bytes; to the dead state and to the fail state none lead
+-- the text of a state has this many bytes; none lead to the dead state and to the fail state
 abbrev pub IsDeepIn : NFA → ℕ → ℕ → Type 0
 IsDeepIn nfa sid depth = OfTexts nfa (λ text. (sid < 2 → depth ≡ 0) × (1 < sid → depth ≡ length (text sid)))
 
@@ -106,8 +106,8 @@ pub record AreLeading (nfa : NFA) (text : ℕ → List ℕ) (sid : ℕ) (edges :
   pub missing : (byte : ℕ) → byte < 256 → ((k next : ℕ) → slice_get edges k ≢ Some (byte, next)) → IsEdgeIn nfa text sid byte 1
   pub longer : (k byte next : ℕ) → 1 < sid → ¬ IsFull nfa sid → slice_get edges k ≡ Some (byte, next) → BeginsEntered (dictionary nfa) (text sid ++ byte ∷ [])
 
--- The transitions of a state come in rising order of byte, and each leads to a state. The dead state and both starts have one for each byte, the fail state has none, and each other
--- state has those alone that lead to a state which is one byte longer.
+-- The transitions of a state come in rising order of byte, and each leads to a state. The dead state and both starts have one for
+-- each byte, the fail state has none, and each other state has only those that lead to a state which is one byte longer.
 pub record AreEdges (nfa : NFA) (sid : ℕ) (edges : List (ℕ × ℕ)) : Type 0 where
   pub within : (k byte next : ℕ) → slice_get edges k ≡ Some (byte, next) → (byte < 256) × (next < state_len nfa)
   pub rising : (j k b c n o : ℕ) → j < k → slice_get edges j ≡ Some (b, n) → slice_get edges k ≡ Some (c, o) → b < c
@@ -120,7 +120,7 @@ pub record AreEdges (nfa : NFA) (sid : ℕ) (edges : List (ℕ × ℕ)) : Type 0
 abbrev pub EdgesLeadIn : NFA → ℕ → Type 0
 EdgesLeadIn nfa sid = AreEdges nfa sid (edges_in nfa sid)
 
--- a state to which a search of this anchoring may come: not the fail state, and not the other start
+-- a state that a search of this anchoring may reach: not the fail state, and not the other start
 pub record MayBeMet (nfa : NFA) (anchored : Anchored) (sid : ℕ) : Type 0 where
   pub within : sid < state_len nfa
   pub stands : sid ≢ 1
@@ -134,10 +134,10 @@ pub record LeadsIn (nfa : NFA) (anchored : Anchored) (sid byte next : ℕ) : Typ
 
 -- ---- which states are read
 
--- A text is read up to a state exactly where it leads to what the state stands for. So each state past 1 is read from the unanchored start, but for the anchored
--- one, and from the anchored start, but for the unanchored one: by its own text. The dead state is read wherever a text is dead:
--- always from the anchored start, and from the unanchored one where a state but the starts fails to it. Under the standard kind no
--- text is dead from there, so that it can't be read. The fail state is never read.
+-- A text is read up to a state exactly if it leads to what the state stands for. So each state past 1 is read from the unanchored
+-- start, except the anchored one, and from the anchored start, except the unanchored one: by its own text. The dead state is read
+-- wherever a text is dead: always from the anchored start, and from the unanchored one if a state other than the starts fails to
+-- it. Under the standard kind no text is dead from there, so it can't be read. The fail state is never read.
 pub record AreRead (nfa : NFA) : Type 0 where
   pub stands : OfTexts nfa (λ names. (anchored : Anchored) (text : List ℕ) (sid : ℕ) → MayBeMet nfa anchored sid → LeadsTo (dictionary nfa) (is_anchored anchored) text (state_of names sid) → IsRead nfa anchored text sid)
   pub named : OfTexts nfa (λ names. (anchored : Anchored) (text : List ℕ) (sid : ℕ) → IsRead nfa anchored text sid → MayBeMet nfa anchored sid × LeadsTo (dictionary nfa) (is_anchored anchored) text (state_of names sid))
@@ -147,8 +147,8 @@ pub record AreRead (nfa : NFA) : Type 0 where
 
 -- ---- the order of the states
 
--- Two states stand for two texts, but for the starts, and each prefix of an entered pattern has one. In front of the starts and
--- behind them the states come in order of their depth, and those of one depth by the first pattern that begins with their texts.
+-- Two states stand for two texts, except the starts, and each prefix of an entered pattern has one. Before the starts and after
+-- them the states come in order of their depth, and those of one depth by the first pattern that begins with their texts.
 pub record AreOrdered (nfa : NFA) (text : ℕ → List ℕ) : Type 0 where
   pub apart : (i j : ℕ) → 1 < i → i < j → j < state_len nfa → text i ≡ text j → (i ≡ (special_in nfa).start_unanchored_id) × (j ≡ (special_in nfa).start_anchored_id)
   pub all : (t : List ℕ) → IsPrefix (dictionary nfa) t → (i : ℕ) × (1 < i) × (i < state_len nfa) × (text i ≡ t)
@@ -160,10 +160,9 @@ OrderedIn nfa = OfTexts nfa (AreOrdered nfa)
 
 -- ---- the numbers between the parts of the states
 
--- The numbers that stand between the parts of the states. Those at which some pattern matches come first, then the unanchored
--- start, the anchored one, and the others; where the starts match they are among the first. Both starts stand for the empty text,
--- and no other state does. The last special state is the anchored start where a prefilter is held, and else the last one that
--- matches.
+-- The numbers between the parts of the states. Those at which some pattern matches come first, then the unanchored start, the
+-- anchored one, and the others; if the starts match they are among the first. Both starts stand for the empty text, and no other
+-- state does. The last special state is the anchored start if there is a prefilter, otherwise the last one that matches.
 pub record AreBounds (nfa : NFA) (text : ℕ → List ℕ) (special : Special) : Type 0 where
   pub past : 1 < special.start_unanchored_id
   pub next : special.start_anchored_id ≡ special.start_unanchored_id + 1
@@ -187,7 +186,7 @@ AlikeIn nfa = ClassesLeadAlike (dictionary nfa) (classes_in nfa)
 
 -- ---- how it is made
 
--- it is made for this dictionary, of these tables, and holds this prefilter
+-- it is made for this dictionary, of these tables, and has this prefilter
 pub record IsMadeOf (m : Dictionary) (from : Tables) (held : Option Filter) (nfa : NFA) : Type 0 where
   pub dictionary : dictionary nfa ≡ m
   pub tables : nfa.tables ≡ from
@@ -195,7 +194,7 @@ pub record IsMadeOf (m : Dictionary) (from : Tables) (held : Option Filter) (nfa
 
 -- ---- copies
 
--- the same automaton once more
+-- a copy of the automaton
 pub record IsCopy (old new : NFA) : Type 0 where
   pub dictionary : dictionary new ≡ dictionary old
   pub prefilter : new.prefilter ≡ old.prefilter

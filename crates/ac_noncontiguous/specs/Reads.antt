@@ -1,4 +1,4 @@
--- What the automaton is built as, and what is known of a state that a search has come to.
+-- What the automaton is built as, and what is known about a state that a search has reached.
 use Rattle.std.specs.Prelude.{ℕ, ◌+◌, ◌==◌, ◌||◌, nat_le, Bool, false, List}
 use Rattle.ac_input.specs.declared.search.Anchored.{Anchored}
 use Rattle.ac_input.specs.Dictionary.{Dictionary, dictionary_of}
@@ -28,6 +28,6 @@ is_start_at nfa sid = (sid == nfa.tables.start) || (sid == nfa.tables.start + 1)
 abbrev pub is_special_at : NFA → ℕ → Bool
 is_special_at nfa sid = nat_le sid nfa.max_special
 
--- a number is read by a search
+-- a search reads up to a number
 abbrev pub IsRead : NFA → Anchored → List ℕ → ℕ → Type 0
 IsRead nfa anchored text sid = IsReadBy (built_as nfa) (IsNamingOf (dictionary nfa) nfa.tables) (matches_at nfa) (is_start_at nfa) (is_special_at nfa) anchored text sid

@@ -1,4 +1,4 @@
--- What a trie says of the dictionary that it stands for.
+-- What a trie says about the dictionary that it stands for.
 use Rattle.std.specs.Prelude.{◌≡◌, ◌↔◌, ℕ, ◌<◌, ◌≤◌, true, List, length, take, slice_get, Option, Some, None}
 use Rattle.ac_input.specs.declared.search.MatchKind.TheVariants.{LeftmostFirst}
 use Rattle.ac_input.specs.Dictionary.{Dictionary, IsPattern, IsShadowed, IsEntered}
@@ -19,14 +19,14 @@ pub record HasEntered (m : Dictionary) (states : List State) (ends : List (Optio
   pub begins : (i : ℕ) → 0 < i → i < length states → (n : ℕ) × (p : List ℕ) × IsEntered m n p × (depth states i ≤ length p) × (text states i ≡ take (depth states i) (canonical_text m p))
   pub matches : (i : ℕ) → i < length states → (is_match states i ≡ true) ↔ ((n : ℕ) × (slice_get ends n ≡ Some (Some i)))
 
--- why one more pattern is refused
+-- why one more pattern is an error
 abbrev pub IsPatternRefused : Dictionary → List ℕ → BuildErrorKind → Type 0
 IsPatternRefused m p (StateIDOverflow max requested) = (max ≡ GREATEST) × (max < requested) × Passes m p StateNumber
 IsPatternRefused m p (PatternIDOverflow max requested) = (max ≡ GREATEST) × (max < requested) × Passes m p PatternNumber
 IsPatternRefused m p (PatternTooLong number len) = (number ≡ length m.patterns) × (len ≡ length p) × Passes m p PatternLength
 IsPatternRefused m p Memory = Unit {0}
 
--- why the build of a dictionary is refused: its first pattern that passes a limit, or want of memory
+-- why the build of a dictionary fails: its first pattern that passes a limit, or out of memory
 abbrev pub IsBuildRefused : Dictionary → BuildErrorKind → Type 0
 IsBuildRefused m (StateIDOverflow max requested) = (max ≡ GREATEST) × (max < requested) × IsLimitOf m StateNumber
 IsBuildRefused m (PatternIDOverflow max requested) = (max ≡ GREATEST) × (max < requested) × IsLimitOf m PatternNumber

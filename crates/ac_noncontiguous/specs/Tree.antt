@@ -28,7 +28,7 @@ depth states i = (state_at states i).depth
 abbrev pub is_match : List State → ℕ → Bool
 is_match states i = (state_at states i).is_match
 
--- Of the first so many states, the child of a state whose byte comes first of those from a byte on; 0 where there is none.
+-- Of the first n states, the child of a state whose byte comes first of those from a byte on; 0 where there is none.
 pub record IsFirstChild (len : ℕ) (parent byte : ℕ → ℕ) (of low first : ℕ) : Type 0 where
   pub is_child : 0 < first → (first < len) × (parent first ≡ of) × (low ≤ byte first)
   pub before_all : (c : ℕ) → 0 < c → c < len → parent c ≡ of → low ≤ byte c → (0 < first) × (byte first ≤ byte c)
@@ -50,8 +50,8 @@ IsTree states = HasLinks (length states) (parent states) (byte states) (child st
 abbrev pub IsChildBelow : List State → ℕ → ℕ → ℕ → Type 0
 IsChildBelow states of low c = (0 < c) × (c < length states) × (parent states c ≡ of) × (byte states c < low)
 
--- The children of a state were followed from the first one on to this one, past those of lesser bytes alone: the one before it
--- is 0 where it is the first, and it is 0 itself past the last one.
+-- The children of a state were followed from the first one on to this one, past only those of lesser bytes: the one before it is 0
+-- where it is the first, and it is 0 itself past the last one.
 pub record IsSiblingWalk (states : List State) (of low before at : ℕ) : Type 0 where
   pub first : before ≡ 0 → at ≡ child states of
   pub next : 0 < before → (before < length states) × (parent states before ≡ of) × (byte states before < low) × (at ≡ sibling states before)
@@ -72,7 +72,7 @@ pub record IsAdded (old new : List State) (of low id : ℕ) : Type 0 where
   pub last : (id ≡ length old) × (length new ≡ length old + 1)
   pub added : (parent new id ≡ of) × (byte new id ≡ low) × (depth new id ≡ depth old of + 1) × (is_match new id ≡ false)
 
--- the bytes that lead to a state from so many states further up
+-- the bytes that lead to a state from the one n levels further up
 abbrev pub path : List State → ℕ → ℕ → List ℕ
 path states zero i = []
 path states (suc up) i = path states up (parent states i) ++ byte states i ∷ []

@@ -1,15 +1,15 @@
 //! How an automaton is built: the settings, and the build.
 //!
 //! The settings say which of several overlapping occurrences is the match, which bytes stand for one another, whether searches
-//! have a prefilter, and up to which depth states keep a row of next states. The last two change no answer.
+//! have a prefilter, and up to which depth states keep a row of next states. The last two change no result.
 //!
-//! A build enters the patterns into a trie, links each of its states to the one to which it fails, and makes the tables from
-//! both; trie and links are given back then.
+//! A build enters the patterns into a trie, links each of its states to its failure, and makes the tables from both; the trie and
+//! the links are then freed.
 //!
 //! It takes time and memory in proportion to the bytes of all patterns, to the rows, and to the lists of the states. A row has
-//! four bytes for each class of bytes. Under the standard kind a state in which a pattern ends repeats the list of the state to
-//! which it fails: the n patterns `a`, `aa`, `aaa` and so on have n (n + 1) / 2 entries, of four bytes each. Under a leftmost kind
-//! such a state has no failure, and each pattern is kept once.
+//! four bytes for each class of bytes. Under the standard kind a state in which a pattern ends repeats the list of its failure:
+//! the n patterns `a`, `aa`, `aaa` and so on have n (n + 1) / 2 entries, of four bytes each. Under a leftmost kind such a state
+//! has no failure, and each pattern is stored once.
 ghost use Rattle.std.specs.Prelude.{◌≡◌, IfOk, IfErr, OnOk};
 ghost use Rattle.ac_input.specs.Dictionary.{Dictionary};
 ghost use Rattle.ac_input.specs.Pairing.{IsFolded};
@@ -32,7 +32,7 @@ use ac_literal::prefilter::{Prefilter, PrefilterBuilder};
 use std::alloc::{AllocError, Global};
 use std::marker::Model;
 
-/// To which depth states keep a row where nothing else is set: the starts, and those of one byte and of two.
+/// To which depth states keep a row by default: the starts, and those of one byte and of two.
 const DENSE_DEPTH: usize = 3;
 
 /// The settings of an automaton. A builder may build several times.
@@ -104,8 +104,8 @@ impl Builder {
         self
     }
 
-    /// Sets whether ASCII letters count as the same in their two cases. It sets the whole pairing: of this call and
-    /// [`Builder::pairing`] the last one decides.
+    /// Sets whether ASCII letters count as the same in their two cases. It sets the whole pairing: the last call of this or of
+    /// [`Builder::pairing`] decides.
     /// A caller: `uses::callers::build::folded`.
     pub fn ascii_case_insensitive(&mut self, yes: bool) -> &mut Builder
         ensures same { result.ghost_name ≡ self.entry.ghost_name }
@@ -131,7 +131,7 @@ impl Builder {
     }
 
     /// Sets to which depth states keep a row: those to which fewer bytes lead. A row makes a look-up fast, and takes four bytes
-    /// for each class of bytes. It changes no answer.
+    /// for each class of bytes. It changes no result.
     /// A caller: `uses::callers::build::thrifty`.
     pub fn dense_depth(&mut self, depth: usize) -> &mut Builder
         ensures same { result.ghost_name ≡ self.entry.ghost_name }
@@ -141,7 +141,7 @@ impl Builder {
         self
     }
 
-    /// Sets whether searches have a prefilter, where one serves. It changes no answer.
+    /// Sets whether searches have a prefilter, if one serves. It changes no result.
     /// A caller: `uses::callers::build::thrifty`.
     pub fn prefilter(&mut self, yes: bool) -> &mut Builder
         ensures same { result.ghost_name ≡ self.entry.ghost_name }
@@ -180,10 +180,11 @@ impl Builder {
 
     /// The automaton of the patterns, which are numbered from 0 in this order.
     ///
-    /// It is refused where there are more patterns than [`PatternID::LIMIT`](ac_input::primitives::PatternID::LIMIT), where one has
-    /// more bytes than the greatest number, where more states than that limit would be wanted (four, and one for each different
-    /// beginning, of a byte or more, of the patterns that are entered; a byte and its partner count as one), and where memory ends;
-    /// and only then. Where several limits are passed, the first pattern that passes one decides.
+    /// Returns an error only in these cases: there are more patterns than
+    /// [`PatternID::LIMIT`](ac_input::primitives::PatternID::LIMIT); a pattern has more bytes than the greatest number; more
+    /// states than that limit are needed (four, and one for each different non-empty beginning of the patterns that are entered; a
+    /// byte and its partner count as one); or memory runs out. If several limits are passed, the first pattern that passes one
+    /// decides.
     /// A caller: `uses::callers::build::thrifty`.
     pub fn build(&self, alloc: Global, patterns: &[&[u8]]) -> Result<NFA, BuildError>
         ensures built { IfOk result (λ nfa. IsBuiltOf self.now patterns.now (built_as nfa)) }
@@ -208,7 +209,7 @@ impl Builder {
 }
 
 impl NFA {
-    /// The automaton of the patterns by the settings that a builder has at first: standard matches, no byte paired.
+    /// The automaton of the patterns with the default settings: standard matches, no byte paired.
     /// A caller: `uses::callers::build::occurs_in`.
     pub fn new(alloc: Global, patterns: &[&[u8]]) -> Result<NFA, BuildError>
         ensures built { IfOk result (λ nfa. IsBuiltAtFirst patterns.now (built_as nfa)) }
@@ -217,7 +218,7 @@ impl NFA {
         Builder::new().build(alloc, patterns)
     }
 
-    /// A builder with the settings that it has at first.
+    /// A builder with the default settings.
     /// A caller: `uses::callers::build::thrifty`.
     pub fn builder() -> Builder
         ensures { AreFirst result }
@@ -226,7 +227,7 @@ impl NFA {
     }
 }
 
-/// The tables of a trie. They have rows up to the depth, on which no answer depends.
+/// The tables of a trie. They have rows up to the depth, which changes no result.
 fn tables_of(alloc: Global, trie: &Trie, dense_depth: usize) -> Result<Tables, AllocError>
     requires { (m : Dictionary) × IsTrieOf m trie.now }
     ensures { IfOk result

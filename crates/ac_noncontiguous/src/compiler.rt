@@ -1,8 +1,8 @@
 //! How the tables of the automaton are made from the trie and its links.
 //!
-//! The states get their numbers first ([`numbering`]). Then they are laid out one after another in the order of these: where each
-//! byte leads from a state is looked up in the trie ([`edges`]), and written down as its transitions ([`transitions`]) and, near to
-//! the start, as its row ([`rows`]). It takes time in proportion to the states, and nothing but the tables is kept.
+//! The states get their numbers first ([`numbering`]). Then they are laid out one after another in the order of these numbers: the
+//! trie gives where each byte leads from a state ([`edges`]), and that becomes its transitions ([`transitions`]) and, near the
+//! start, its row ([`rows`]). It takes time in proportion to the states, and keeps nothing but the tables.
 ghost use Rattle.std.specs.Prelude.{◌<◌, length, IfOk};
 ghost use Rattle.ac_noncontiguous.specs.Order.{IsBreadthFirst};
 ghost use Rattle.ac_noncontiguous.specs.Numbering.{FitsTrie};
@@ -38,7 +38,7 @@ fn start_back(trie: &Trie, links: &Links, start: StateID) -> StateID
 }
 
 impl Tables {
-    /// The tables for the trie and its links. States less deep than `dense_depth` keep a row as well; no answer depends on it.
+    /// The tables for the trie and its links. States less deep than `dense_depth` keep a row as well; no result depends on it.
     pub(crate) fn from_trie(
         alloc: Global,
         trie: &Trie,

@@ -1,8 +1,8 @@
 //! Why an automaton is not built.
 //!
-//! An automaton keeps its states and patterns under 32-bit numbers, of which [`GREATEST`] is the greatest. A build that would
-//! need a number past that is refused, and a [`BuildError`] says which limit was met, and by what. A build can also run out of
-//! memory, at any time. Nothing else refuses one.
+//! An automaton stores its states and patterns under 32-bit numbers, of which [`GREATEST`] is the greatest. A build that would
+//! need a number past that fails, and a [`BuildError`] says which limit was met, and by what. A build can also run out of memory,
+//! at any time. It never fails for another reason.
 ghost use Rattle.std.specs.Prelude.{◌≡◌, Some};
 ghost use Rattle.ac_noncontiguous.specs.declared.error.BuildErrorKind.TheVariants.{Memory};
 ghost use Rattle.ac_noncontiguous.specs.Errors.{build_error_text};
@@ -43,7 +43,7 @@ pub enum BuildErrorKind {
 
 /// An automaton that was not built.
 ///
-/// It is a plain value, and making one allocates nothing. A contract sees its kind in its place.
+/// It is a plain value, and making one allocates nothing. A contract sees its kind instead.
 #[derive(Clone, Debug, Drop)]
 pub struct BuildError {
     kind: BuildErrorKind,
@@ -108,7 +108,7 @@ impl BuildError {
 impl From<BuildErrorKind> for BuildError {
     ghost from_gives = { λ kind error. error ≡ kind };
 
-    /// An automaton that is made from this one is refused for the same reasons.
+    /// The build of an automaton from this one fails for the same reasons.
     fn from(kind: BuildErrorKind) -> BuildError {
         BuildError { kind }
     }

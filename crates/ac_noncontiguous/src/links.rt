@@ -4,7 +4,7 @@
 //! without patterns of its own shares the range of its failure, and another one has a copy after its own. No pattern stands
 //! twice in a range.
 //!
-//! The links are given breadth first ([`order`]), since a state fails to one of lesser depth: first where each state fails
+//! The links are computed breadth first ([`order`]), since a state fails to one of lesser depth: first where each state fails
 //! ([`failures`], over [`children`] put side by side), then its patterns ([`own`], and those of its failure).
 ghost use Rattle.std.specs.Prelude.{◌≡◌, ℕ, ◌+◌, ◌<◌, length, slice_get, Some, IfOk};
 ghost use Rattle.ac_input.specs.Dictionary.{Dictionary};
@@ -26,7 +26,7 @@ use crate::trie::Trie;
 use ac_input::primitives::{PatternID, StateID};
 use std::alloc::{AllocError, Global};
 
-/// Some patterns of a list: from one place on, so many.
+/// Some patterns of a list: from one place on, this many.
 #[derive(Clone, Copy, Debug)]
 pub(crate) struct Range {
     pub from: usize,
@@ -58,7 +58,7 @@ fn rest(fails: &[Option<StateID>], ranges: &[Range], id: StateID) -> Range
     }
 }
 
-/// Lists the patterns of the state, its own and the rest, and answers where they stand.
+/// Lists the patterns of the state, its own and the rest, and returns where they stand.
 fn push_list(
     trie: &Trie,
     own: &OwnPatterns,

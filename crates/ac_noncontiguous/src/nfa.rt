@@ -1,11 +1,11 @@
 //! The noncontiguous automaton.
 //!
-//! It is the trie of the patterns, with a link from each state to the one that is asked where the state has no transition for a
-//! byte: the state of the longest proper suffix that may still grow into the answer. A search looks at one state for a byte, and
-//! at one more for each link that it follows; since each link gives up bytes that were read, there are no more than two looks for
-//! a byte on the whole.
+//! It is the trie of the patterns, with a failure link from each state, for bytes for which the state has no transition: the link
+//! leads to the state of the longest proper suffix that may still grow into a match. A search looks at one state for a byte, and
+//! at one more for each link that it follows. Each link gives up bytes that were read, so there are at most two looks a byte,
+//! amortised.
 //!
-//! It is the automaton that is made first, fast to build and thrifty; the others are made from it by its read calls.
+//! It is the automaton that is built first, fast to build and small; the others are made from it by its read calls.
 mod automaton;
 pub mod pattern_lens;
 pub mod read;
@@ -41,7 +41,7 @@ pub struct NFA {
     /// The last state at which a search has more to do than to read on.
     max_special: StateID,
     prefilter: Option<Prefilter>,
-    /// Where a pattern may begin, if the patterns are few.
+    /// Where a pattern may begin, if there are few patterns.
     openings: Option<Openings>,
     pairing: Pairing,
     kind: MatchKind,

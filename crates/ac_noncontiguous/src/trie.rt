@@ -5,8 +5,8 @@
 //! automaton that is made from it gets a transition for each.
 //!
 //! The children of a state are a list in rising order of byte: a state has its first child, and each child the next one of the
-//! same parent. So a state takes 20 bytes and a transition none besides, and a look-up passes at most 256 children; where a child
-//! isn't the first, a hint mostly tells it at once ([`hints`]). Numbers are handed out as states are added, and a parent's is less
+//! same parent. So a state takes 20 bytes and a transition none besides, and a look-up passes at most 256 children. If a child
+//! isn't the first, a hint mostly finds it at once ([`hints`]). Numbers are assigned as states are added, and a parent's is less
 //! than its child's.
 //!
 //! Under leftmost-first a pattern that begins with an earlier one can never match, and is not entered: the walk that enters it
@@ -151,7 +151,7 @@ impl Trie {
         ChildSlot { before, at }
     }
 
-    /// Gives the state a child for the byte, at the place for it.
+    /// Adds a child to the state for the byte, at the place for it.
     fn add_child(&mut self, of: StateID, byte: u8, place: ChildSlot) -> Result<StateID, BuildError>
         requires within { of < length self.old.states.items }
         requires place { IsChildPlace self.old.states.items of byte place.before place.at }
@@ -248,7 +248,7 @@ impl Trie {
         self.kind == MatchKind::LeftmostFirst && self.state(at).is_match
     }
 
-    /// Enters the pattern, and answers the state in which it ends. Under leftmost-first a pattern that begins with an earlier one
+    /// Enters the pattern, and returns the state in which it ends. Under leftmost-first a pattern that begins with an earlier one
     /// ends nowhere.
     fn enter(&mut self, pattern: &[u8]) -> Result<Option<StateID>, BuildError>
         ensures ended { IfOk result (λ end. IsEnd self.old.kind self.old.states.items
@@ -277,7 +277,7 @@ impl Trie {
         self.states[id.as_usize()].is_match = true;
     }
 
-    /// Notes where the next pattern by number ends.
+    /// Records where the next pattern by number ends.
     fn note_end(&mut self, end: Option<StateID>) -> Result<(), BuildError>
         requires room { length self.old.ends.items ≤ GREATEST }
         requires within { (id : ℕ) → end ≡ Some id → id < length self.old.states.items }
@@ -292,7 +292,7 @@ impl Trie {
 
     /// Adds the pattern, the next one by number.
     ///
-    /// After an error the trie may have states of a pattern that wasn't added whole: it is given up.
+    /// After an error the trie may have states of a pattern that was not added completely: it must be discarded.
     pub(crate) fn add(&mut self, pattern: &[u8]) -> Result<(), BuildError>
         ensures added { IfOk result (λ _. TakesPattern self.old pattern.now self.new) }
         ensures refused { IfErr result (RefusesPattern self.old pattern.now) }

@@ -401,7 +401,7 @@ impl<'a> Naive<'a> {
         self.first_by_end(found.end, &before)
     }
 
-    /// The picks of a walk over the whole span, each found when it is asked for.
+    /// The picks of a walk over the whole span, each computed on request.
     pub fn picks(self, kind: MatchKind, earliest: bool) -> Picks<'a>
         ensures { result ≡ walk_of (asked_kind kind earliest) self.entry }
     {

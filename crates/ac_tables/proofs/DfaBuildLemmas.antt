@@ -141,7 +141,7 @@ made-laid nfa table h = record {
   cells = λ anchored sid byte serves met small. ∣ h.rows.right anchored sid serves met (inl met.within) byte small ∣₁;
 }
 
--- so many rows there are
+-- there are this many rows
 pub made-states : (nfa : NFA) (table : Table) → IsDfaTableOf nfa table → length table.trans.items / stride_of table ≡ dfa_states table.kind (state_len nfa)
 made-states nfa table h = ap (λ (n : ℕ). n / stride_of table) h.rows.len ∙ number-row (dfa_states table.kind (state_len nfa)) (stride_of table) (stride-some nfa table h)
 
@@ -178,7 +178,7 @@ refused-from s m nfa (PatternIDOverflow max requested) other is h = absurd h
 refused-from s m nfa (PatternTooLong pattern len) other is h = absurd h
 refused-from s m nfa Memory other is h = h
 
--- nor where the automaton is refused
+-- nor if the automaton can't be built
 pub refused-parts : (s : Settings) (m : Dictionary) (error : BuildErrorKind) → IsBuildRefused m error → IsTooLargeOr s m (IsBuildRefused m) error
 refused-parts s m (StateIDOverflow max requested) h = inr h
 refused-parts s m (PatternIDOverflow max requested) h = h

@@ -44,7 +44,7 @@ run-leads dfa sid (b ∷ bs) small = λ text reads.
 
 -- ---- the start
 
--- where some start serves unanchored searches, it is told which
+-- if some start serves unanchored searches, it is known which
 serves-told : (kind : StartKind) → ∥ Serves kind No ∥₁ → Serves kind No
 serves-told Both h = tt
 serves-told Unanchored h = refl

@@ -1,4 +1,4 @@
--- What the numbers of a DFA tell, and where one look-up leads.
+-- What the numbers of a DFA say, and where one look-up leads.
 use Rattle.std.proofs.Common.{◌≡◌, ◌≢◌, ◌⊎◌, ◌↔◌, ℕ, zero, suc, ◌+◌, ◌-◌, ◌*◌, ◌<◌, ◌≤◌, Bool, true, false, IsTrue, List, [], ◌∷◌, length, slice_get, Option, None, Some, inl, inr, ⊎_elim, refl, sym, ap, subst, ◌∙◌, arith}
 use Rattle.std.specs.Prelude.{◌==◌, ◌&&◌, nat_le, not, slice_index}
 use Rattle.std.specs.Coded.{le_prop}

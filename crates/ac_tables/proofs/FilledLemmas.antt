@@ -33,7 +33,7 @@ number-small p anchored sid fit within =
     let s = starts-of p.nfa in
     number-fits (dfa_states p.kind (state_len p.nfa)) (dfa_row_of p.kind (special_in p.nfa).start_unanchored_id (is_anchored anchored) sid) p.stride GREATEST (row-below p.kind (special_in p.nfa).start_unanchored_id (state_len p.nfa) (is_anchored anchored) sid s.0 s.1 within) fit.few
 
--- a place in another row is in front of a row or after it
+-- a place in another row is before a row or after it
 place-outside : (row other stride x : ℕ) → row ≢ other → x < stride → (other * stride + x < row * stride) ⊎ (row * stride + stride ≤ other * stride + x)
 place-outside row other stride x apart within =
     ⊎_elim
@@ -44,7 +44,7 @@ place-outside row other stride x apart within =
     inr (omega (arith, h, e)))
     (cases_lt other row)
 
--- so the row of one state is as it was where that of another has changed
+-- so the row of one state is unchanged where that of another has changed
 pub changed-others : (p : RowPlan) (a b : Anchored) (i j x : ℕ) (old new : List ℕ) → Serves p.kind a → Serves p.kind b → MayBeMet p.nfa a i → 1 < i → MayBeMet p.nfa b j → (a ≡ b → i ≢ j) → x < p.stride → IsChangedIn p.stride (number_in p a i) old new → slice_index new (number_in p b j + x) ≡ slice_index old (number_in p b j + x)
 changed-others p a b i j x old new serves_a serves_b met_i past met_j ne within h =
     let start = (special_in p.nfa).start_unanchored_id in
@@ -74,7 +74,7 @@ copied-entry row other x n old new within copied =
 
 -- ---- the rows of a state
 
--- a right row that is as it was is right
+-- a right row that is unchanged is right
 pub right-kept : (p : RowPlan) (a : Anchored) (sid : ℕ) (old new : List ℕ) → IsFit p → ((x : ℕ) → x < p.stride → slice_index new (number_in p a sid + x) ≡ slice_index old (number_in p a sid + x)) → IsRowRight p a sid old → IsRowRight p a sid new
 right-kept p a sid old new fit kept right byte small =
     let r = right byte small in

@@ -57,7 +57,7 @@ at-long nfa dense_depth classes sid =
     ∙ sym (cond-false (sid == 1) 0 (length (words_of (alphabet_len classes) plain)) (not-equal sid 1 stands))))
     (cases_eq sid 1)
 
--- and so are those of the first so many states
+-- and so are those of the first n states
 before-long : (nfa : NFA) (dense_depth : ℕ) (classes : List ℕ) (n : ℕ) → length (words_before nfa dense_depth classes n) ≡ len_before nfa dense_depth classes n
 before-long nfa dense_depth classes zero = refl
 before-long nfa dense_depth classes (suc n) =

@@ -60,7 +60,7 @@ classes-bytes table sid s h i within =
     let few = h.few_classes in
     omega (arith, fits, same, few)
 
--- What is known of its words: how many classes there are, and that they are packed in front of the places to which they lead.
+-- What is known of its words: how many classes there are, and that they are packed before the places to which they lead.
 pub record AreSparse (words : List ℕ) (sid len : ℕ) (edges : List (ℕ × ℕ)) : Type 0 where
   pub few : len ≤ 127
   pub counted : length edges ≡ len

@@ -13,19 +13,19 @@ use Rattle.ac_tables.specs.declared.contiguous.table.Table.{Table}
 
 -- ---- how many words
 
--- so many words has each state of which this is known
+-- how many words each state has of which this is known
 abbrev pub IsLen : ℕ → Bool → ℕ → ℕ → ℕ → Type 0
 IsLen alphabet shallow transitions matches len = (s : StateParts) → s.shallow ≡ shallow → length s.edges ≡ transitions → length s.matches ≡ matches → len ≡ length (words_of alphabet s)
 
 -- ---- places
 
--- These are the places of the first so many states, and each is a number of a state.
+-- These are the places of the first n states, and each is a number of a state.
 pub record ArePlacesOf (nfa : NFA) (dense_depth : ℕ) (classes : List ℕ) (n : ℕ) (places : List ℕ) : Type 0 where
   pub counted : length places ≡ n
   pub at : (sid : ℕ) → sid < n → slice_index places sid ≡ place_in nfa dense_depth classes sid
   pub fits : (sid : ℕ) → sid < n → place_in nfa dense_depth classes sid ≤ GREATEST
 
--- the place of a state, where the words of the states before it are so many
+-- the place of a state, if the states before it have this many words
 abbrev pub IsPlaceAfter : ℕ → ℕ → ℕ → Type 0
 IsPlaceAfter sid before place = (place ≤ GREATEST) × (place ≡ (if sid == 1 then 1 else before))
 
@@ -52,7 +52,7 @@ pub record IsKnown (nfa : NFA) (sid : ℕ) : Type 0 where
   pub edges : EdgesLeadIn nfa sid
   pub lists : ListsIn nfa sid (matches_at nfa sid)
 
--- and of the first so many, but for the fail state
+-- and about the first n, except the fail state
 abbrev pub AreKnown : NFA → ℕ → Type 0
 AreKnown nfa n = (sid : ℕ) → sid < n → sid ≢ 1 → IsKnown nfa sid
 
@@ -68,7 +68,7 @@ pub record IsWordTableOf (nfa : NFA) (dense_depth : ℕ) (table : Table) : Type 
   pub start_anchored : table.start_anchored ≡ place_in nfa dense_depth table.classes (special_in nfa).start_anchored_id
   pub max_match : table.max_match ≡ place_in nfa dense_depth table.classes (special_in nfa).max_match_id
 
--- the words of a state were put after the others, and the read calls tell of it
+-- the words of a state were put after the others, and the read calls describe it
 pub record IsStateWritten (nfa : NFA) (dense_depth : ℕ) (classes : List ℕ) (sid : ℕ) (before after : List ℕ) : Type 0 where
   pub words : after ≡ before ++ words_at nfa dense_depth classes sid
   pub known : sid ≢ 1 → IsKnown nfa sid
@@ -77,13 +77,13 @@ pub record IsStateWritten (nfa : NFA) (dense_depth : ℕ) (classes : List ℕ) (
 abbrev pub AreReadBy : NFA → List ℕ → List ℕ → ℕ → List (ℕ × ℕ) → Type 0
 AreReadBy nfa classes places sid edges = edges ≡ map (placed_edge classes (slice_index places)) (edges_in nfa sid)
 
--- The first so many transitions of a state were read, and these are left.
+-- The first n transitions of a state were read, and these are left.
 pub record AreReadTo (classes : List ℕ) (place : ℕ → ℕ) (edges : List (ℕ × ℕ)) (n : ℕ) (done left : List (ℕ × ℕ)) : Type 0 where
   pub read : done ≡ map (placed_edge classes place) (take n edges)
   pub rest : left ≡ drop n edges
   pub within : n ≤ length edges
 
--- the same table once more
+-- a copy of the table
 pub record IsCopiedTable (old new : Table) : Type 0 where
   pub words : new.words.items ≡ old.words.items
   pub classes : new.classes ≡ old.classes

@@ -1,4 +1,4 @@
--- What a builder of contiguous automata is told, and what is built.
+-- The settings of a builder of contiguous automata, and what is built.
 use Rattle.std.specs.Prelude.{◌≡◌, ◌⊎◌, ℕ, ◌<◌, Bool, true, List}
 use Rattle.std.specs.Borrow.{Bor}
 use Rattle.ac_input.specs.declared.primitives.number.TheConstants.{GREATEST}
@@ -91,7 +91,7 @@ IsRefusedAtFirst patterns error = (s : Settings) × AreFirst s × IsRefusedOf s 
 
 -- ---- copies
 
--- the same automaton once more
+-- a copy of the automaton
 pub record IsCopy (old new : NFA) : Type 0 where
   pub built : built_as new ≡ built_as old
   pub words : words_in new ≡ words_in old

@@ -34,7 +34,7 @@ parts_of nfa dense_depth classes place sid = record {
 abbrev pub len_at : NFA → ℕ → List ℕ → ℕ → ℕ
 len_at nfa dense_depth classes sid = if sid == 1 then 0 else length (words_of (alphabet_len classes) (parts_of nfa dense_depth classes (λ i. i) sid))
 
--- how many words the first so many states have
+-- how many words the first n states have
 abbrev pub len_before : NFA → ℕ → List ℕ → ℕ → ℕ
 len_before nfa dense_depth classes zero = 0
 len_before nfa dense_depth classes (suc i) = len_before nfa dense_depth classes i + len_at nfa dense_depth classes i
@@ -47,7 +47,7 @@ place_in nfa dense_depth classes sid = if sid == 1 then 1 else len_before nfa de
 abbrev pub words_at : NFA → ℕ → List ℕ → ℕ → List ℕ
 words_at nfa dense_depth classes sid = if sid == 1 then [] else words_of (alphabet_len classes) (parts_of nfa dense_depth classes (place_in nfa dense_depth classes) sid)
 
--- the words of the first so many states, one state after another
+-- the words of the first n states, one state after another
 abbrev pub words_before : NFA → ℕ → List ℕ → ℕ → List ℕ
 words_before nfa dense_depth classes zero = []
 words_before nfa dense_depth classes (suc i) = words_before nfa dense_depth classes i ++ words_at nfa dense_depth classes i

@@ -1,4 +1,4 @@
--- What a builder of DFAs is told, and what is built.
+-- The settings of a builder of DFAs, and what is built.
 use Rattle.std.specs.Prelude.{◌≡◌, ◌⊎◌, ℕ, ◌/◌, ◌<◌, Bool, true, List, length}
 use Rattle.std.specs.Borrow.{Bor}
 use Rattle.ac_input.specs.declared.primitives.number.TheConstants.{GREATEST}
@@ -64,8 +64,8 @@ row_classes_in dfa = dfa.table.classes
 abbrev pub determined : Built → Built
 determined built = record built { deterministic = true }
 
--- A DFA is made of an automaton by the settings: it is built as that is, starts and classes are those that were asked for, its
--- table has the automaton's states, and it isn't too large.
+-- A DFA is made from an automaton by the settings: it is built as that is, starts and classes are as the settings say, its table
+-- has the automaton's states, and it isn't too large.
 pub record IsDfaOf (s : Settings) (nfa : NFA) (dfa : DFA) : Type 0 where
   pub built : built_as dfa ≡ determined (reads.built_as nfa)
   pub starts : start_kind_in dfa ≡ s.start_kind
@@ -108,7 +108,7 @@ IsRefusedAtFirst patterns error = (s : Settings) × AreFirst s × IsRefusedOf s 
 
 -- ---- copies
 
--- the same automaton once more
+-- a copy of the automaton
 pub record IsCopy (old new : DFA) : Type 0 where
   pub built : built_as new ≡ built_as old
   pub starts : start_kind_in new ≡ start_kind_in old

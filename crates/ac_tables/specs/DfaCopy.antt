@@ -3,12 +3,12 @@ use Rattle.std.specs.Prelude.{◌≡◌}
 use Rattle.ac_tables.specs.declared.dfa.lists.Lists.{Lists}
 use Rattle.ac_tables.specs.declared.dfa.table.Table.{Table}
 
--- the same lists once more
+-- a copy of the lists
 pub record AreSameLists (old new : Lists) : Type 0 where
   pub patterns : new.patterns.items ≡ old.patterns.items
   pub ends : new.ends.items ≡ old.ends.items
 
--- the same table once more
+-- a copy of the table
 pub record IsSameDfaTable (old new : Table) : Type 0 where
   pub trans : new.trans.items ≡ old.trans.items
   pub classes : new.classes ≡ old.classes

@@ -11,7 +11,7 @@ pub record IsListAdded (list : List ℕ) (old new : Lists) : Type 0 where
   pub patterns : new.patterns.items ≡ old.patterns.items ++ list
   pub ends : new.ends.items ≡ old.ends.items ++ length new.patterns.items ∷ []
 
--- the lists of so many states of an automaton, from state 2 on
+-- the lists of this many states of an automaton, from state 2 on
 pub record AreFirstLists (nfa : NFA) (n : ℕ) (lists : Lists) : Type 0 where
   pub counted : length lists.ends.items ≡ n
   pub total : list_start lists n ≡ length lists.patterns.items

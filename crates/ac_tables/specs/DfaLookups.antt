@@ -1,4 +1,4 @@
--- What a look-up in the table of a DFA asks of it.
+-- What a look-up in the table of a DFA requires of it.
 use Rattle.std.specs.Prelude.{◌≡◌, ℕ, ◌+◌, ◌*◌, ◌/◌, ◌<◌, ◌≤◌, List, length, slice_index}
 use Rattle.ac_input.specs.declared.search.Anchored.TheVariants.{No}
 use Rattle.ac_input.specs.Alphabet.{class}

@@ -1,4 +1,4 @@
--- The table of a DFA as it is made of a noncontiguous automaton.
+-- The table of a DFA, made from a noncontiguous automaton.
 use Rattle.std.specs.Prelude.{◌≡◌, ℕ, ◌+◌, ◌<◌, ◌≤◌, Bool, true, false}
 use Rattle.ac_input.specs.declared.search.StartKind.{StartKind}
 use Rattle.ac_input.specs.Alphabet.{alphabet_len, IsLeastExponent}

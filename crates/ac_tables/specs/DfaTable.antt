@@ -31,7 +31,7 @@ dfa_row_of starts.Both start true i = if nat_le i 1 then i else if nat_le start 
 abbrev pub dfa_number_of : StartKind → ℕ → ℕ → Bool → ℕ → ℕ
 dfa_number_of kind start stride anchored i = dfa_row_of kind start anchored i * stride
 
--- ---- the table as it is made of an automaton
+-- ---- the table, made from an automaton
 
 -- the next state that stands where a state's row has the byte's class
 abbrev pub IsCell : NFA → StartKind → ℕ → ℕ → Anchored → ℕ → ℕ → ℕ → Type 0

@@ -1,4 +1,4 @@
--- What a filler of rows fills, and what it asks of a table and leaves in it.
+-- What a filler of rows fills, what it requires of a table and what it leaves in it.
 use Rattle.std.specs.Prelude.{◌≡◌, ℕ, ◌+◌, ◌*◌, ◌<◌, ◌≤◌, List, length}
 use Rattle.ac_input.specs.declared.search.Anchored.{Anchored}
 use Rattle.ac_input.specs.declared.search.Anchored.TheVariants.{No, Yes}

@@ -15,7 +15,7 @@ use Rattle.ac_tables.specs.DfaTable.{dfa_number_of, IsCell}
 
 -- ---- the size
 
--- refused since the number of the last state is past the greatest
+-- an error since the number of the last state is past the greatest
 abbrev pub IsOverflow : ℕ → BuildErrorKind → Type 0
 IsOverflow last (StateIDOverflow max requested) = (max ≡ GREATEST) × (max < requested) × (GREATEST < last)
 IsOverflow last (PatternIDOverflow max requested) = ⊥
@@ -52,11 +52,11 @@ pub record IsFit (p : RowPlan) : Type 0 where
 abbrev pub IsRowRight : RowPlan → Anchored → ℕ → List ℕ → Type 0
 IsRowRight p anchored sid trans = (byte : ℕ) → byte < 256 → (next : ℕ) × IsCell p.nfa p.kind p.stride (slice_index trans (cell_in p anchored sid byte)) anchored sid byte next
 
--- nothing but the dead state stands in so many places from here on
+-- from this place on, this many places hold nothing but the dead state
 abbrev pub IsBlank : ℕ → ℕ → List ℕ → Type 0
 IsBlank stride at trans = (x : ℕ) → x < stride → slice_index trans (at + x) ≡ 0
 
--- only so many places from here on have changed
+-- only this many places from this place on have changed
 pub record IsChangedIn (stride at : ℕ) (old new : List ℕ) : Type 0 where
   pub len : length new ≡ length old
   pub before : (k : ℕ) → k < at → slice_index new k ≡ slice_index old k
@@ -82,15 +82,15 @@ pub record AreWritten (p : RowPlan) (anchored : Anchored) (at : ℕ) (edges : Li
 
 -- ---- all rows
 
--- The rows of one state for unanchored searches and of one for anchored ones are right, where such searches are served; those of
--- all other states are as they were.
+-- The rows of one state for unanchored searches and of one for anchored ones are right, if such searches are served; those of all
+-- other states are unchanged.
 pub record AreRowsFilled (p : RowPlan) (plain anchored : ℕ) (old new : List ℕ) : Type 0 where
   pub len : length new ≡ length old
   pub row : Serves p.kind No → IsRowRight p No plain new
   pub row_anchored : Serves p.kind Yes → IsRowRight p Yes anchored new
   pub others : (a : Anchored) (sid x : ℕ) → Serves p.kind a → MayBeMet p.nfa a sid → (a ≡ No → sid ≢ plain) → (a ≡ Yes → sid ≢ anchored) → x < p.stride → slice_index new (number_in p a sid + x) ≡ slice_index old (number_in p a sid + x)
 
--- The rows of the states in front of one place, and of those from the unanchored start up to another one, are filled.
+-- The rows of the states before one place, and of those from the unanchored start up to another one, are filled.
 abbrev pub IsDone : ℕ → ℕ → ℕ → ℕ → Type 0
 IsDone start low high sid = (sid < low) ⊎ ((start ≤ sid) × (sid < high))
 

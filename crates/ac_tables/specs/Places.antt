@@ -8,12 +8,12 @@ abbrev pub is_met : ℕ → Bool → ℕ → Bool
 is_met start true i = not (i == 1) && not (i == start)
 is_met start false i = not (i == 1) && not (i == start + 1)
 
--- the last of the first so many states that are met and stand at a place
+-- the last of the first n states that are met and stand at a place
 abbrev pub met_state_at : (ℕ → Bool) → (ℕ → ℕ) → ℕ → ℕ → Option ℕ
 met_state_at met place zero at = None
 met_state_at met place (suc i) at = if met i && (place i == at) then Some i else met_state_at met place i at
 
--- the first of two answers, where there is one
+-- the first of two results, where there is one
 abbrev pub either_of : Option ℕ → Option ℕ → Option ℕ
 either_of None other = other
 either_of (Some i) other = Some i

@@ -1,4 +1,4 @@
--- What look-ups in the words of a contiguous automaton answer.
+-- The results of look-ups in the words of a contiguous automaton.
 use Rattle.std.specs.Prelude.{◌≡◌, ◌≢◌, ℕ, ◌+◌, ◌-◌, ◌/◌, ◌%◌, ◌<◌, ◌≤◌, ◌==◌, ◌&&◌, nat_le, not, if◌then◌else◌, List, [], ◌∷◌, length, take, drop, slice_get, slice_index, Option, Some, None}
 use Rattle.std.specs.Int.{w32, to_le_bytes}
 use Rattle.std.specs.List.{flat_map}
@@ -32,7 +32,7 @@ pub record IsStateAt (table : Table) (sid : ℕ) (s : StateParts) : Type 0 where
 abbrev pub HoldsState : Table → ℕ → Type 0
 HoldsState table sid = ∥ ((s : StateParts) × IsStateAt table sid s) ∥₁
 
--- the state there keeps so many transitions, with their classes packed: its kind says how many
+-- the state there has this many transitions, with their classes packed: its kind says how many
 pub record IsSparseAt (table : Table) (sid len : ℕ) : Type 0 where
   pub kind : slice_index table.words.items sid % 256 ≡ len
   pub dense : len ≢ 255

@@ -6,14 +6,15 @@
 //!
 //! The words of a state are, in this order:
 //!
-//! - Its kind, in the low eight bits. It is 255 where the state keeps an entry for each class of bytes, and 254 where it has a single
-//!   transition and no pattern; the class of that one stands in the next eight bits. Else it says how many transitions there are.
+//! - Its kind, in the low eight bits. It is 255 if the state has an entry for each class of bytes, and 254 if it has a single
+//!   transition and no pattern; the class of that one stands in the next eight bits. Otherwise it says how many transitions
+//!   there are.
 //! - The state to which it fails.
 //! - Its transitions. With an entry for each class: the next states, 1 where a class leads nowhere. A single one: the next state. Else
 //!   their classes, four in a word from the lowest bits up, where the last class fills the last word; and then the next states.
 //! - Its patterns, if some match: of one its number with the highest bit set, of several how many there are and then their numbers.
 //!
-//! The states nearest to the start keep an entry for each class, since a search spends most of its time there.
+//! The states nearest to the start have an entry for each class, since a search spends most of its time there.
 //!
 //! The patterns `b`, `abc` and `abcd` have six classes: the bytes below `a`, then `a`, `b`, `c` and `d`, and those above. Their words:
 //!
@@ -29,8 +30,9 @@
 //! a                  46   255    30  1 1 17 1 1 1
 //! ```
 //!
-//! In the start class 1, that of `a`, leads to the state at 46, and class 2 from there to the one at 17. That state matches `b`. It
-//! has one transition: 50529027 is four times class 3, so `c` leads on to 22. Any other byte is asked of the state at 8.
+//! In the start class 1, that of `a`, leads to the state at 46, and class 2 from there to the one at 17. That state matches `b`.
+//! It has one transition: 50529027 is four times class 3, so `c` leads on to 22. Any other byte is looked up at its failure, the
+//! state at 8.
 mod automaton;
 pub mod builder;
 mod copies;

@@ -7,7 +7,7 @@
 //! The rows stand in one vector, one after another. Each is as long as the least power of two that is enough for the classes, the
 //! stride. The number of a state is where its row begins. The rows come in the order of the noncontiguous automaton: the dead
 //! state, the fail state, the states that match, the unanchored start, the anchored start, the others. So one comparison of
-//! numbers tells whether a search has more to do at a state than to read on.
+//! numbers decides whether a search has more to do at a state than to read on.
 //!
 //! Of the patterns `b`, `abc` and `abcd` there are 9 states and 6 classes: one for each of `a`, `b`, `c` and `d`, one for the bytes
 //! before them and one for those after them. The stride is 8, and the table has 72 entries. Of each row the last two are never
@@ -30,8 +30,8 @@
 //! entries. The second is for anchored searches; there a byte that leads to no longer state leads to the dead one. Where bytes
 //! aren't put into classes a row has 256 entries, and the 9 states have 2304.
 //!
-//! A build takes time and memory in proportion to the table. It is refused, before it takes any, where the last row would begin past
-//! the greatest number of a state.
+//! A build takes time and memory in proportion to the table. It fails, before it takes any, if the last row would begin past the
+//! greatest number of a state.
 mod automaton;
 pub mod builder;
 mod fill;

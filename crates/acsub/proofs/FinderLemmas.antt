@@ -30,7 +30,7 @@ use Rattle.acsub.specs.declared.settings.SettingError.TheVariants as error
 use Rattle.acsub.specs.declared.settings.Settings.{Settings}
 use Rattle.ac_automaton.proofs.ReplaceLemmas.{walk-lies}
 
--- the walk of a packed search that serves a plan is the one that the plan asks
+-- the walk of a packed search that serves a plan is the one of the plan
 pub packed-walk : {A : Type 0} (built : A → Built) (supports : A → Anchored → Type 0) (plan : Plan) (input : List ℕ) (searcher : Packed) → IsFinderOf built supports plan.settings plan.rules (finders.Packed searcher)
     → walk_of (search_kind searcher.kind) (part_search searcher.patterns input 0 (length input)) ≡ whole_walk plan input
 packed-walk built supports plan input searcher serves =
@@ -64,7 +64,7 @@ whole-lies settings rules input =
     let lies = walk-lies settings.kind (whole_search settings (patterns_of rules) input) 0 None _ (walk_of-walk settings.kind (whole_search settings (patterns_of rules) input) (omega arith)) in
     subst (λ (count : ℕ). LieInOrder count (length input) 0 (whole_walk (record { settings = settings; rules = rules }) input)) (length-map rules (λ (rule : Rule). rule.0)) lies
 
--- overlapping matches are asked under the standard kind alone
+-- overlapping matches are only found under the standard kind
 overlap-kind : (s : Settings) (rules : List Rule) (k : kinds.MatchKind) → IsAccepted s rules → s.mode ≡ mode.Overlap → s.kind ≡ k → k ≡ kind.Standard
 overlap-kind s rules kind.Standard accepted over is = refl
 overlap-kind s rules kind.LeftmostFirst accepted over is = absurd (accepted error.OverlapLeftmost (over, λ e. cc))
@@ -73,7 +73,7 @@ overlap-kind s rules kind.LeftmostLongest accepted over is = absurd (accepted er
 pub overlap-standard : (s : Settings) (rules : List Rule) → IsAccepted s rules → s.mode ≡ mode.Overlap → s.kind ≡ kind.Standard
 overlap-standard s rules accepted over = overlap-kind s rules s.kind accepted over refl
 
--- packed search is asked under no standard kind
+-- packed search is never used under the standard kind
 pub packed-kind : (s : Settings) (rules : List Rule) → IsAccepted s rules → s.engine ≡ engine.Packed → s.kind ≢ kind.Standard
 packed-kind s rules accepted packs standard = accepted error.PackedStandard (packs, standard)
 

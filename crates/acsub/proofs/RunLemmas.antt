@@ -94,7 +94,7 @@ module _ {R W : Type 0} (remaining : R → Option (List ℕ)) (contents : W → 
   write_answer stream.Memory told t stopped kind = absurd kind
   write_answer stream.Position told t stopped kind = absurd kind
 
--- the error of a write is never that a search is refused
+-- the error of a write is never a search error
 pub write-config : {W : Type 0} (old new : Watched W) (error : StreamError) (refusal : MatchErrorKind) → IsOfWrite old new error → error ≢ stream.Config refusal
 write-config old new error refusal kind e = subst (IsOfWrite old new) e kind
 

@@ -1,4 +1,4 @@
--- What the front builds, or refuses to build, for settings and rules.
+-- What the front builds for settings and rules, or why not.
 use Rattle.std.proofs.Common.{◌≡◌, ◌≢◌, ℕ, List, None, Some, inl, inr, refl, sym, ap, ◌∙◌, subst}
 use Rattle.std.specs.Prelude.{IsTrue, Option}
 use Rattle.std.specs.Borrow.{Bor}
@@ -72,7 +72,7 @@ module _ (settings : Settings) (rules : List Rule) (patterns : List (Bor (List �
     pub built-buildable : IsBuildable settings rules
     built-buildable = λ named. (subst IsWithinLimits handed built.served.1.within, kind_served (serving_engine ac), built-kind)
 
-  -- what was refused passes a limit, or memory ended
+  -- a build that failed passed a limit, or ran out of memory
   pub refused-fails : (error : BuildErrorKind) → settings.engine ≢ engines.Packed → IsRefusedOf (builder_settings settings) patterns error → FailsToBuild settings rules (not_built error)
   refused-fails (limits.StateIDOverflow max requested) named refused = (named, λ e. cc, subst (λ (m : Dictionary). IsDictionaryRefused (builder_settings settings) m (limits.StateIDOverflow max requested)) handed refused)
   refused-fails (limits.PatternIDOverflow max requested) named refused = (named, λ e. cc, subst (λ (m : Dictionary). IsDictionaryRefused (builder_settings settings) m (limits.PatternIDOverflow max requested)) handed refused)

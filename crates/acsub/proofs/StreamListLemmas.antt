@@ -486,13 +486,13 @@ nothing-listed remaining contents b reader writer = (
 
 -- ---- where it did not begin
 
--- a search of a stream that can be made is not refused for what it is
+-- a search of a stream that is supported returns no search error
 can-config : (b : Built) (supports : Anchored → Type 0) (refusal : MatchErrorKind) → CanStream b supports → IsConfigRefusal b supports refusal → ⊥
 can-config b supports refusal can (inl h) = h.0 can.0
 can-config b supports refusal can (inr (inl h)) = h.1 can.1
 can-config b supports refusal can (inr (inr h)) = let some = can.2 in let zero = h.2 in absurd (omega arith)
 
--- where it is refused, it is out of memory
+-- if it fails, it is out of memory
 pub refused-memory : (b : Built) (supports : Anchored → Type 0) (error : StreamError) → CanStream b supports → IsStreamRefusal b supports error → error ≡ reads.Memory
 refused-memory b supports (reads.Config refusal) can refused = absurd (can-config b supports refusal can refused)
 refused-memory b supports (reads.Read error) can refused = absurd refused
@@ -501,7 +501,7 @@ refused-memory b supports reads.WriteZero can refused = absurd refused
 refused-memory b supports reads.Memory can refused = refl
 refused-memory b supports reads.Position can refused = absurd refused
 
--- an error that comes after the first read is no refusal
+-- an error that comes after the first read is no search error
 pub begun-config : (error : StreamError) (refusal : MatchErrorKind) → IsBegun error → error ≢ reads.Config refusal
 begun-config error refusal begun e = subst IsBegun e begun
 

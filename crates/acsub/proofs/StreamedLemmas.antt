@@ -60,7 +60,7 @@ config-none b supports settings rules refusal is can streamed (inr (inr empty)) 
     let none = empty.2 in
     omega (arith, none, some, same)
 
--- the search of a stream is not refused
+-- the search of the stream is supported
 pub not-refused : {R W : Type 0} (b : Built) (supports : Anchored → Type 0) (settings : Settings) (rules : List Rule) (r r' : Watched R) (w w' : Watched W) (error : StreamError) (refusal : MatchErrorKind) → b.dictionary ≡ dictionary_for settings (patterns_of rules) → supports No → IsStreamed settings rules
     → AcceptsReplacing b supports r r' w w' (Err error) → error ≢ stream.Config refusal
 not-refused b supports settings rules r r' w w' error refusal is can streamed refused e =

@@ -22,7 +22,7 @@ pub record IsHeldCost (plan : Plan) (n : ℕ) (before after : Steps) : Type 0 wh
 
 -- ---- what was counted
 
--- All that was counted since a point are the sums of a walk over so many bytes, by an automaton that serves the plan.
+-- Everything that was counted since a point is the sums of a walk over this many bytes, by an automaton that serves the plan.
 pub record IsWalkCounted (plan : Plan) (n : ℕ) (begun now : Steps) (walk : Walk) : Type 0 where
   pub counted : Done walk.looked walk.scanned walk.moved begun now
   pub kind : kind_of walk ≡ plan.settings.kind
@@ -38,13 +38,13 @@ pub record IsListingCounted (plan : Plan) (n : ℕ) (begun now : Steps) (run : R
   pub paid : IsWithinOneWalk run
 
 module _ {A : Type 0} where
-  -- the matches that are left to come
+  -- the remaining matches
   abbrev pub left_in : Matches A → List Occurrence
   left_in (sources.Walk walk) = left_of walk
   left_in (sources.Overlapping run) = rest_of run
   left_in (sources.Packed picks) = picks
 
-  -- all that was counted since a point is what finding these matches of so many bytes took; packed search counts nothing
+  -- everything that was counted since a point is what finding these matches of this many bytes took; packed search counts nothing
   abbrev pub IsCounted : Plan → ℕ → Steps → Steps → Matches A → Type 0
   IsCounted plan n begun now (sources.Walk walk) = IsWalkCounted plan n begun now walk
   IsCounted plan n begun now (sources.Overlapping run) = IsListingCounted plan n begun now run

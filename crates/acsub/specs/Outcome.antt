@@ -36,7 +36,7 @@ ReadsFile held (Err fault) = (fault ≡ faults.RuleFile) ⊎ (fault ≡ faults.R
 
 -- ---- what was written, and the flush after it
 
--- A flush, before and after, of which so many failed: none or one. Where none did, all that was taken is flushed.
+-- A flush, before and after, of which this many failed: none or one. If none did, everything that was taken is flushed.
 pub record Flushes {W : Type 0} (contents : W → Option (List ℕ)) (before after : Watched W) (failed : ℕ) : Type 0 where
   pub flushed : failed ≡ 0 → flushed_of after ≡ taken_of after
   pub taken : taken_of after ≡ taken_of before
@@ -59,7 +59,7 @@ module _ {W : Type 0} (contents : W → Option (List ℕ)) where
   Finishes (Err e) before after (Err fault) = (fault ≡ faults.Run e) × (Flushes contents before after 0 ⊎ Flushes contents before after 1)
 
   module _ (before after : Watched W) where
-    -- Some text was written, with this result; then the writer was flushed, and so many flushes failed.
+    -- Some text was written, with this result; then the writer was flushed, and this many flushes failed.
     abbrev pub Shown : Result (Unit {0}) RunError → ℕ → Type 0
     Shown answer failed = (text : List ℕ) × (between : Watched W) × WritesText text before between answer × Flushes contents between after failed
 
@@ -83,7 +83,7 @@ pub record RanFile {F R W : Type 0} (held : F → Option (List ℕ)) (remaining 
 
 module _ {F R W : Type 0} (held : F → Option (List ℕ)) (remaining : R → Option (List ℕ)) (contents : W → Option (List ℕ)) where
   module _ (settings : Settings) (reader_before reader_after : Watched R) (writer_before writer_after : Watched W) where
-    -- `run` returned this for the rule file; then the writer was flushed, and so many flushes failed.
+    -- `run` returned this for the rule file; then the writer was flushed, and this many flushes failed.
     abbrev pub RanAndFlushed : Result (Unit {0}) RunError → ℕ → Type 0
     RanAndFlushed answer failed = (between : Watched W) × RanFile held remaining contents settings reader_before reader_after writer_before between answer × Flushes contents between writer_after failed
 

@@ -84,7 +84,7 @@ AnswersRun settings file m (Err errors.WriteZero) = RanToFailedWrite settings fi
 AnswersRun settings file m (Err errors.Memory) = RanOutOfMemory settings file m
 AnswersRun settings file m (Err errors.Position) = RanOutOfPlaces settings file m
 
--- the rules or the settings were refused, or a build of their automaton
+-- the rules or the settings are an error, or the build of their automaton
 abbrev pub IsRefusal : Result (Unit {0}) RunError → Type 0
 IsRefusal (Ok done) = ⊥
 IsRefusal (Err (errors.Rule e)) = Unit {0}
@@ -117,7 +117,7 @@ abbrev pub Ran : {R W : Type 0} → (R → Option (List ℕ)) → (W → Option 
 Ran remaining contents reader_before reader_after writer_before writer_after settings file result =
     (m : Moved) × HasMoved remaining contents reader_before reader_after writer_before writer_after m × AnswersRun settings file m result
 
--- the same, where the rules are known, whichever file spells them; and then nothing is refused
+-- the same, if the rules are known, whichever file spells them; then nothing is an error before the run
 abbrev pub RanRules : {R W : Type 0} → (R → Option (List ℕ)) → (W → Option (List ℕ)) → Watched R → Watched R → Watched W → Watched W → Plan → Result (Unit {0}) RunError → Type 0
 RanRules remaining contents reader_before reader_after writer_before writer_after plan result =
     (m : Moved) × HasMoved remaining contents reader_before reader_after writer_before writer_after m × ¬ IsRefusal result × ((file : List ℕ) → IsRuleFile file plan.rules → AnswersRun plan.settings file m result)
@@ -144,8 +144,8 @@ ReadsByBuffer plan before after = IsStreamed plan.settings plan.rules → ReadsW
 abbrev pub IsReadByBuffer : {R : Type 0} → Settings → List ℕ → Watched R → Watched R → Type 0
 IsReadByBuffer settings file before after = (rules : List Rule) → IsRuleFile file rules → IsStreamed settings rules → ReadsWithin (stream_room rules) before after
 
--- What it may cost to read so many bytes, and to write their text while they are read. The looks go by the automaton that serves
--- the plan; no place is scanned, and a seventh of the bytes at most is moved within the buffer.
+-- What it may cost to read this many bytes, and to write their text while they are read. The looks depend on the automaton that
+-- serves the plan; no place is scanned, and at most a seventh of the bytes is moved within the buffer.
 pub record IsRunCost (plan : Plan) (n : ℕ) (before after : Steps) : Type 0 where
   pub looked : AreLooksFor plan n before after
   pub scanned : scanned_of after ≡ scanned_of before

@@ -30,7 +30,7 @@ abbrev pub output_of : Settings → List Rule → List ℕ → List ℕ
 output_of settings rules input = text_in settings.mode settings.kind (replacements_of rules) (whole_search settings (patterns_of rules) input)
 
 -- The text is written while the input is still read: the matches are those of the standard kind, which no later byte can change,
--- no pattern is empty, and all that overlap were not asked for. All else is written when the whole input was read.
+-- no pattern is empty, and the overlapping matches are not requested. Every other text is written after the whole input was read.
 abbrev pub IsStreamed : Settings → List Rule → Type 0
 IsStreamed settings rules = (settings.kind ≡ Standard) × (settings.mode ≢ modes.Overlap) × ¬ HasEmptyPattern rules
 

@@ -1,8 +1,8 @@
 //! `acsub` rewrites or lists what it finds in a stream.
 //!
-//! It reads rules, each a pattern and its replacement, and an input. It writes the input with each match exchanged for its
-//! replacement, or a line for each match, or a line for each occurrence. Definitions alone settle which text that is: the mode,
-//! the kind of match and the pairing of bytes, and nothing else.
+//! It reads rules, each a pattern and its replacement, and an input. It writes the input with each match replaced, or a line for
+//! each match, or a line for each occurrence. Definitions alone fix that text: the mode, the kind of match and the pairing of
+//! bytes, and nothing else.
 #![tactic(auto)]
 
 mod error;

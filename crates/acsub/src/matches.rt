@@ -9,7 +9,7 @@ use ac_input::search::Match;
 use ac_input::steps::Steps;
 use ac_literal::packed;
 
-/// The matches of an input that are left to come, by what finds them.
+/// The remaining matches of an input, by what finds them.
 #[derive(Drop)]
 pub enum Matches<'a, A: Automaton> {
     /// The walk of an automaton.

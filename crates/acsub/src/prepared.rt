@@ -1,9 +1,9 @@
-//! What a run has settled before it reads.
+//! What a run prepares before it reads.
 //!
-//! A [`Prepared`] holds the settings, the rules, which go with them, and what finds the matches of the rules' patterns. It is made
-//! before the input is read, and takes all its memory then. Packed search serves where the engine's word names it; else an
-//! [`AhoCorasick`] does, by the automaton that the word names, or by the one that its builder takes. Only the build knows of it; all
-//! else is said and proved of any automaton.
+//! A [`Prepared`] holds the settings, the rules, which suit them, and what finds the matches of the rules' patterns. It is built
+//! before the input is read, and allocates all its memory then. Packed search serves if the engine's word names it; otherwise an
+//! [`AhoCorasick`] does, by the automaton that the word names, or by the one that its builder chooses. Only the build knows which;
+//! everything else is proved for any automaton.
 ghost use Rattle.std.specs.Prelude.{◌≡◌, ◌≢◌, ◌↔◌, IfOk, IfSome, IsSome, length};
 ghost use Rattle.ac_input.specs.declared.search.MatchKind.TheVariants.{Standard};
 ghost use Rattle.ac_literal.specs.Packed.{AreServed, bytes_of, search_kind};

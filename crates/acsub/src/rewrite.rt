@@ -17,7 +17,7 @@ use ac_automaton::watched::Watched;
 use ac_input::steps::Steps;
 use std::io::Write;
 
-/// Sends the input with each pick exchanged for its replacement.
+/// Sends the input with each pick replaced.
 pub fn send_replaced<A: Automaton, W: Write>(
     picks: &mut Matches<'_, A>,
     input: &[u8],

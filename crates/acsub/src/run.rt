@@ -1,11 +1,12 @@
 //! A run: rules and settings in, an input read to its end, its text written.
 //!
 //! Under the standard kind no later byte can change a match. So a run that replaces or lists such matches, none of them empty,
-//! writes while it reads. All that is decided is written before each read, and what is kept back is no longer than the longest
-//! pattern.
+//! writes while it reads. Everything that is decided is written before each read; at most as many bytes are held back as the
+//! longest pattern has.
 //!
-//! Every other run holds its input. It takes all the memory that it needs before the read that finds the end. Then it searches, by
-//! packed search where the settings name it and by an automaton otherwise, and writes the text as it is found.
+//! Every other run holds its input and writes only after it has read all of it. It takes all the memory that it needs before the
+//! read that finds the end. Then it searches, by packed search if the settings name it and otherwise by an automaton, and writes
+//! the text as it is found.
 //!
 //! Either way a run that is out of memory stops before anything is written. The engine and its settings change nothing of the
 //! text, which [`runs_write_alike`] states.

@@ -1,4 +1,4 @@
-//! What tests ask of a run, and readers and writers that follow a script.
+//! The settings of a test's run, and readers and writers that follow a script.
 //!
 //! A device stops once and would then go on. So a body that tries a call again, or reads after an empty read, ends with another
 //! text and with other counts.
@@ -52,7 +52,7 @@ impl Told {
     }
 }
 
-/// What a command line with no option asks for.
+/// The settings of a command line with no option.
 pub const PLAIN: Told = Told {
     mode: Mode::Replace,
     kind: MatchKind::Standard,
@@ -105,7 +105,7 @@ impl Read for Source<'_> {
     }
 }
 
-/// All of an input, at most so many bytes a read.
+/// All of an input, at most this many bytes a read.
 pub fn whole(bytes: &[u8], most: usize) -> Source<'_> {
     Source {
         bytes,
@@ -116,8 +116,8 @@ pub fn whole(bytes: &[u8], most: usize) -> Source<'_> {
     }
 }
 
-/// A writer that compares what it takes with a text, and takes no memory. After so many bytes it stops once, by a failed write or
-/// by one that takes nothing, and would then go on.
+/// A writer that compares what it takes with a text, and takes no memory. After this many bytes it stops once, by a failed write
+/// or by one that takes nothing, and would then go on.
 #[derive(Drop)]
 pub struct Sink<'a> {
     /// What is left of the text.

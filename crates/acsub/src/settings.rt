@@ -15,7 +15,7 @@ use std::fmt;
 /// What is written.
 #[derive(Clone, Copy, Debug, PartialEq, Eq)]
 pub enum Mode {
-    /// The input, with each match exchanged for its replacement.
+    /// The input, with each match replaced.
     Replace,
     /// A line for each match.
     List,
@@ -62,7 +62,7 @@ pub struct Settings {
 /// The most patterns that packed search takes.
 const MOST_PACKED: usize = 128;
 
-/// Why settings are refused: they exclude one another, or the rules don't suit them.
+/// Why settings are an error: they exclude one another, or the rules don't suit them.
 #[derive(Clone, Copy, Debug, PartialEq, Eq)]
 pub enum SettingError {
     /// Overlapping matches under a leftmost kind.

@@ -53,7 +53,7 @@ pub fn stream_text<A: Automaton, R: Read, W: Write>(
     }
 }
 
-/// Writes what is read with each match exchanged for its replacement.
+/// Writes the input with each match replaced.
 pub(crate) fn stream_replaced<A: Automaton, R: Read, W: Write>(
     alloc: Global,
     prepared: &Prepared<A>,

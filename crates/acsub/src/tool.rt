@@ -1,8 +1,7 @@
 //! The whole program: words in, a status out.
 //!
-//! [`program`] takes the words as the system gives them, and [`tool`] does the rest. It reads the words, then the rule file
-//! whole, then runs over a reader and a writer, and flushes the writer. Help that is asked for is written and flushed like the text
-//! of a run.
+//! [`program`] takes the words as the system gives them, and [`tool`] does the rest. It reads the words, then the whole rule file,
+//! then runs over a reader and a writer, and flushes the writer. Requested help is written and flushed like the text of a run.
 //!
 //! A fault is reported by one line on the error stream, and by the status. Faults are found in this order: words, rule file, run,
 //! flush. After a fault of the run the writer is still flushed, and the fault of the run is the one that is reported.

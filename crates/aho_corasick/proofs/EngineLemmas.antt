@@ -18,7 +18,7 @@ dfa-deterministic (Noncontiguous nfa) is = cc
 dfa-deterministic (Contiguous nfa) is = cc
 dfa-deterministic (Dfa dfa) is = refl
 
--- where the start kind asks for this search, the automaton doesn't refuse it
+-- if the start kind has this search, the automaton serves it
 pub start-served : (engine : Engine) (kind : StartKind) (anchored : Anchored) (r : Result ℕ MatchErrorKind)
     → HasStarts kind engine → Serves kind anchored
     → AnswersStart (supported_by engine) (IsRead engine) anchored r → AnswersStart (Serves kind) (IsRead engine) anchored r

@@ -45,19 +45,19 @@ follows-dfa s from dfa is =
       starts = λ anchored serves. ∣ subst (λ (k : StartKind). Serves k anchored) (sym is.starts) serves ∣₁;
     }
 
--- where the DFA is refused for its size, none is taken
+-- if the DFA is too large, none is taken
 pub refused-dfa : (s : Settings) (from : NFA) (max requested : ℕ) → dfas.IsDfaRefused (dfa_by s) from (StateIDOverflow max requested) → ¬ TakesDfa s (reads.dictionary from)
 refused-dfa s from max requested (inl large) takes = ∥∥₁_elim large.2 (λ (x y : ⊥). absurd x) takes.2
 refused-dfa s from max requested (inr other) takes = absurd other
 
--- where it is refused for another reason, that is memory
+-- if it fails for another reason, that is memory
 pub memory-contiguous : (s : Settings) (from : NFA) (error : BuildErrorKind) → contiguous.IsRefusedFrom (contiguous_by s) from error → ((max requested : ℕ) → error ≢ StateIDOverflow max requested) → error ≡ Memory
 memory-contiguous s from (StateIDOverflow max requested) refused other = absurd (other max requested refl)
 memory-contiguous s from (PatternIDOverflow max requested) refused other = absurd refused
 memory-contiguous s from (PatternTooLong pattern len) refused other = absurd refused
 memory-contiguous s from Memory refused other = refl
 
--- where the contiguous NFA is refused for its size, it is too large
+-- if the contiguous NFA fails for its size, it is too large
 pub refused-contiguous : (s : Settings) (from : NFA) (max requested : ℕ) → contiguous.IsRefusedFrom (contiguous_by s) from (StateIDOverflow max requested) → IsContiguousTooLargeFor s from
 refused-contiguous s from max requested refused = (refused.2, refused.3, refused.4)
 
@@ -88,7 +88,7 @@ tries-contiguous s from b made (Ok None) by built refused fits =
     refused-contiguous s from fits.0 fits.1 (subst (λ (t : contiguous.Settings). contiguous.IsRefusedFrom t from (StateIDOverflow fits.0 fits.1)) by (subst (λ (m : Result ContiguousNFA BuildErrorKind). IfErr m (contiguous.IsRefusedFrom b from)) fits.2 refused))
 tries-contiguous s from b made (Err error) by built refused fits = tt
 
--- nothing but memory refuses the contiguous NFA
+-- the contiguous NFA can fail only for memory
 pub tries-contiguous_memory : (s : Settings) (from : NFA) (b : contiguous.Settings) (made : Result ContiguousNFA BuildErrorKind) (r : Result (Option ContiguousNFA) BuildErrorKind) → b ≡ contiguous_by s
     → IfErr made (contiguous.IsRefusedFrom b from) → IsFitting made r → IfErr r (λ error. error ≡ Memory)
 tries-contiguous_memory s from b made (Ok tried) by refused fits = tt
@@ -118,7 +118,7 @@ pub starts-shared : (s : Settings) (from : NFA) (kind : StartKind) (engine share
 starts-shared s from kind engine shared is follows same =
     λ anchored serves. subst (λ (e : Engine). ∥ supported_by e anchored ∥₁) (sym same) (follows.starts anchored (subst (λ (k : StartKind). Serves k anchored) is serves))
 
--- memory refuses whichever was named
+-- out of memory is an error whichever was named
 pub named-memory : (kind : Option AhoCorasickKind) (s : Settings) (from : NFA) → IsNamedRefused kind s from Memory
 named-memory (Some kinds.DFA) s from = tt
 named-memory (Some kinds.ContiguousNFA) s from = tt

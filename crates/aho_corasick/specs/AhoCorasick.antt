@@ -1,4 +1,4 @@
--- What an automaton of the front was built as, and what its searches return where they can't be refused.
+-- What an automaton of the front was built as, and what its searches return when they can't fail.
 use Rattle.std.specs.Prelude.{◌≡◌, ℕ, Bool, List, length}
 use Rattle.ac_input.specs.declared.search.Anchored.{Anchored}
 use Rattle.ac_input.specs.Dfa.{Serves}
@@ -21,7 +21,7 @@ serving_engine ac = ac.engine.value
 abbrev pub built_as : AhoCorasick → Built
 built_as ac = engines.built_as (serving_engine ac)
 
--- for which searches it has a start: those of the start kind that was asked for, whichever automaton serves
+-- for which searches it has a start: those of the start kind that was set, whichever automaton serves
 abbrev pub supported_by : AhoCorasick → Anchored → Type 0
 supported_by ac anchored = Serves ac.start_kind anchored
 

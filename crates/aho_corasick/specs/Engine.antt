@@ -54,6 +54,6 @@ is_special_at (Noncontiguous nfa) sid = noncontiguous.is_special_at nfa sid
 is_special_at (Contiguous nfa) sid = contiguous.is_special_at nfa sid
 is_special_at (Dfa dfa) sid = dfas.is_special_at dfa sid
 
--- it has a start for each search that the start kind asks for
+-- it has a start for each search of the start kind
 abbrev pub HasStarts : StartKind → Engine → Type 0
 HasStarts kind engine = (anchored : Anchored) → Serves kind anchored → ∥ supported_by engine anchored ∥₁

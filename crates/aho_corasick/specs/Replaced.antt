@@ -1,4 +1,4 @@
--- What a replacement in memory gives where the search can't be refused.
+-- What a replacement in memory returns when the search can't fail.
 use Rattle.std.specs.Prelude.{◌≡◌, ℕ, List, map, Result, Ok, Err, String}
 use Rattle.std.specs.Global.{Global, Vec}
 use Rattle.std.specs.String.{string_bytes}
@@ -17,7 +17,7 @@ IsReplacedText ac haystack replacements text = string_bytes text ≡ with_replac
 abbrev pub AreReplacedBytes : AhoCorasick → List ℕ → List (Bor (List ℕ)) → Vec ℕ → Type 0
 AreReplacedBytes ac haystack replacements bytes = bytes.items ≡ with_replaced haystack (map (λ r. r.now) replacements) (matches_in (built_as ac) haystack)
 
--- The destination holds what the closure makes of these matches of the haystack, or what it has made of them where memory was refused.
+-- The destination holds what the closure makes of these matches of the haystack, or what it has made of them when memory ran out.
 abbrev pub Appends : {F D : Type 0} → (D → List ℕ) → MemoryReplacer F D → List ℕ → List Occurrence → F → D → D → Result (Unit {0}) AllocError → Type 0
 Appends held g haystack os f old new (Ok done) = IsReplacedWith held g haystack os f old new
 Appends held g haystack os f old new (Err error) = IsBrokenOff held g haystack os f old new

@@ -1,4 +1,4 @@
--- Which automaton serves by the settings of a builder, and what is built or refused.
+-- Which automaton serves by the settings of a builder, and what is built or why not.
 use Rattle.std.specs.Prelude.{◌≡◌, ◌≢◌, ◌⊎◌, ℕ, ◌≤◌, length, List, Option, None, Some, Result, Ok, Err}
 use Rattle.std.specs.Borrow.{Bor}
 use Rattle.ac_input.specs.declared.search.StartKind.TheVariants.{Both}
@@ -111,9 +111,9 @@ pub record IsBuiltOf (s : Settings) (patterns : List (Bor (List ℕ))) (ac : Aho
   pub start_kind : ac.start_kind ≡ s.start_kind
   pub served : (from : NFA) × noncontiguous.IsBuiltOf (noncontiguous_by s) patterns (reads.built_as from) × IsEngineOf s from (serving_engine ac)
 
--- ---- what is refused
+-- ---- errors
 
--- why the automaton that was named can't be made of a noncontiguous NFA; without a name nothing but memory refuses it
+-- why the automaton that was named can't be made from a noncontiguous NFA; without a name only memory can fail
 abbrev pub IsNamedRefused : Option AhoCorasickKind → Settings → NFA → BuildErrorKind → Type 0
 IsNamedRefused (Some DFA) s from error = dfas.IsDfaRefused (dfa_by s) from error
 IsNamedRefused (Some ContiguousNFA) s from error = contiguous.IsRefusedFrom (contiguous_by s) from error

@@ -30,12 +30,12 @@ pub enum AhoCorasickKind {
 
 /// An automaton that searches for many patterns at once.
 ///
-/// It is made once and searches as often as is wanted. Building it takes time and memory in proportion to the bytes of the patterns;
+/// It is built once and searches as often as needed. Building it takes time and memory in proportion to the bytes of the patterns;
 /// a search takes time in proportion to the bytes that it reads, however many patterns there are.
 ///
-/// A search is refused for its configuration alone, never for what the haystack holds: for an anchoring that the start kind doesn't
-/// serve, or for a stream or overlapping matches under a leftmost kind. A caller who knows the configuration uses the calls that ask
-/// for it, as [`AhoCorasick::find`]; the others, as [`AhoCorasick::try_find`], return a `MatchError`.
+/// A search returns an error only for its configuration, never for what the haystack holds: for an anchoring that the start kind
+/// doesn't serve, or for a stream or overlapping matches under a leftmost kind. A caller who knows the configuration uses the
+/// calls that require it, such as [`AhoCorasick::find`]; the others, such as [`AhoCorasick::try_find`], return a `MatchError`.
 ///
 /// ```text
 /// let ac = AhoCorasick::new(alloc, &[b"apple", b"maple", b"Snapple"])?;
@@ -48,19 +48,19 @@ pub enum AhoCorasickKind {
 #[derive(Drop)]
 pub struct AhoCorasick {
     engine: Rc<Engine>,
-    /// The searches that were asked for. An NFA has a start for all, and is asked for no others either, so that the same searches
-    /// are refused whichever automaton serves.
+    /// The start kind that was set. An NFA has a start for all searches, but runs only these, so that the same searches return an
+    /// error whichever automaton serves.
     start_kind: StartKind,
     ghost starts: { HasStarts start_kind engine.value },
 }
 
-/// The matches of an input that are left to come. From [`AhoCorasick::find_iter`].
+/// The remaining matches of an input. From [`AhoCorasick::find_iter`].
 pub type FindIter<'a, 'h> = iter::FindIter<'a, 'h, AhoCorasick>;
 
-/// The overlapping matches of an input that are left to come. From [`AhoCorasick::find_overlapping_iter`].
+/// The remaining overlapping matches of an input. From [`AhoCorasick::find_overlapping_iter`].
 pub type FindOverlappingIter<'a, 'h> = overlapping::FindOverlappingIter<'a, 'h, AhoCorasick>;
 
-/// The matches of a stream that are left to come. From [`AhoCorasick::stream_find_iter`].
+/// The remaining matches of a stream. From [`AhoCorasick::stream_find_iter`].
 pub type StreamFindIter<'a, R> = streams::StreamFindIter<'a, AhoCorasick, R>;
 
 impl AhoCorasick {

@@ -1,8 +1,8 @@
 //! Searching a text for many patterns at once, in time that doesn't depend on how many there are.
 //!
-//! [`AhoCorasick`] is what most callers need. It is made from patterns, with settings where they are wanted
-//! ([`AhoCorasickBuilder`]), and finds, iterates, replaces, and reads streams. Which of three automata serves is a matter of time
-//! and memory alone: the results are the same.
+//! [`AhoCorasick`] is what most callers need. It is built from patterns, with settings where you need them
+//! ([`AhoCorasickBuilder`]), and finds, iterates, replaces, and reads streams. Which of three automata serves changes only time
+//! and memory: the results are the same.
 //!
 //! - [`nfa::noncontiguous::NFA`] is built soonest, and the others are built from it.
 //! - [`nfa::contiguous::NFA`] takes the least memory.

@@ -1,4 +1,4 @@
--- What the answer of a search says of a whole text.
+-- What the result of a search says about a whole text.
 use Rattle.std.proofs.Common.{◌≡◌, ℕ, ◌-◌, ◌≤◌, ◌<◌, Bool, true, false, List, [], length, get_or, take, Option, Some, None, Result, Ok, IsTrue, refl, sym, ap, ◌∙◌, subst, arith}
 use Rattle.std.specs.Prelude.{◌↔◌, slice_range, is_some}
 use Rattle.std.proofs.lemmas.Grind.{common_steps}
@@ -22,17 +22,17 @@ use Rattle.ac_automaton.proofs.IterLemmas.{shortest-le}
 use Rattle.aho_corasick.specs.AhoCorasick.{HasOccurrence}
 use Rattle.uses.specs.Callers.{BeginsWithPattern, IsFirstEnd, first_in}
 
--- the answer to a search that was asked so
+-- the result of such a search
 pub found-for : (b : Built) (supports : Anchored → Type 0) (asked known : Asked) (result : Result (Option Occurrence) MatchErrorKind) (r : Option Occurrence) → AnswersFind b supports asked result → result ≡ Ok r → asked ≡ known → IsFound b known r
 found-for b supports asked known result r answers is same =
     let found = subst (λ (q : Result (Option Occurrence) MatchErrorKind). AnswersFind b supports asked q) is answers in
     subst (λ (a : Asked). IsFound b a r) same found.1
 
--- the answer of a whole text is its match
+-- the result for a whole text is its match
 pub found-first : (b : Built) (text : List ℕ) (r : Option Occurrence) → IsFound b (whole_of text) r → r ≡ first_in b.dictionary text
 found-first b text r found = best-computed b.dictionary.kind (whole b.dictionary text false) (omega arith) r found
 
--- the answer to an anchored search, and to an earliest one
+-- the result of an anchored search, and of an earliest one
 pub found-anchored : (b : Built) (supports : Anchored → Type 0) (text : List ℕ) (new asked : Asked) (result : Result (Option Occurrence) MatchErrorKind) (r : Option Occurrence) → AnswersFind b supports asked result → result ≡ Ok r → asked ≡ record new { anchored = Yes } → new ≡ whole_of text → IsBest b.dictionary.kind (whole b.dictionary text true) r
 found-anchored b supports text new asked result r found is made whole_text =
     found-for b supports asked (record (whole_of text) { anchored = Yes }) result r found is (made ∙ ap (λ (a : Asked). record a { anchored = Yes }) whole_text)

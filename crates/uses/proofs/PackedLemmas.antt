@@ -61,7 +61,7 @@ packed-alike s m text one another kind patterns unpaired best other =
 best-begins : (kind : MatchKind) (s : Search) (o : Occurrence) → kind ≢ Standard → IsBest kind s (Some o) → (other : Occurrence) → Occurs s other → o.start ≤ other.start
 best-begins kind s o leftmost best other occurs = leftmost-no_later kind o other leftmost (best.1 other occurs)
 
--- nor before the match that a prefilter tells
+-- nor before the match that a prefilter returns
 pub candidate-skips : (kind : MatchKind) (s : Search) (o : Occurrence) (place : ℕ) → IsCandidate kind s (candidates.Match o) → place ≡ o.start → IsSkip s (Some place)
 candidate-skips kind s o place is same =
     let skips = elim (kind_cases kind) as (λ _. IsSkip s (Some o.start)) [

@@ -41,7 +41,7 @@ matches-none b text none =
     let s : Search = whole b.dictionary text false in
     walk_after-none b.dictionary.kind s 0 None (omega arith) (Here (λ o occurs. none (o, occurs)) (λ repeats. repeats))
 
--- so it stays as it is
+-- so it is unchanged
 pub replaced-none : (b : Built) (text : List ℕ) (replacements : List (List ℕ)) → ¬ HasOccurrence (whole b.dictionary text false) → with_replaced text replacements (text_matches_in b text) ≡ text
 replaced-none b text replacements none = ap (λ (os : List Occurrence). with_replaced text replacements (filter (cuts_none text) os)) (matches-none b text none)
 
@@ -64,7 +64,7 @@ appends-once held g f after o bytes old new more appends call =
     let said = appends f after replies.found replies.text replies.dst replies.left more replies.called in
     (said.0, sym call.3 ∙ ap held (sym replies.leaves) ∙ said.1 ∙ ap (λ v. held v ++ replies.text.now) replies.shows.2 ∙ ap (λ (t : List ℕ). t ++ replies.text.now) call.2 ∙ ap (λ (t : List ℕ). old ++ t) replies.shows.1)
 
--- so the text comes out as it was
+-- so the result is the text unchanged
 chain-copies : {F D : Type 0} (held : D → List ℕ) (g : MemoryReplacer F D) (x : List ℕ) (patterns at : ℕ) (os : List Occurrence) (f : F) (old : List ℕ) (last : F) (new : List ℕ) → AppendsMatched held g
     → LieInOrder patterns (length x) at os → IsChain (calls_of held g) x at os f old last new → new ≡ old ++ drop at x
 chain-copies held g x patterns at [] f old last new appends lies chain = chain.1

@@ -88,7 +88,7 @@ start-reached supports Reaches anchored r sid answers is =
 
 -- ---- a walk from the start, which matches nothing
 
--- What is known of a walk over a text: what its states tell, where it began, that no state between matches, and where it stands.
+-- What is known of a walk over a text: what its states say, where it began, that no state between matches, and where it stands.
 pub record HasWalked (m : Dictionary) (text : List ℕ) (Reaches : List ℕ → StateID → Type 0) (matches : StateID → List ℕ) (start end : StateID) (taken : ℕ) : Type 0 where
   pub standard : m.kind ≡ Standard
   pub tells : (front : List ℕ) (sid : StateID) → Reaches front sid → TellsUnanchored m.kind m front (matches sid)

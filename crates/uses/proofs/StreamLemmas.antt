@@ -89,11 +89,11 @@ joined-slices x old at start end to first second third =
     ∙ ap (λ (t : List ℕ). old ++ (slice_range x at start ++ t)) (sym (slice_range-split x start end to second third))
     ∙ ap (λ (t : List ℕ). old ++ t) (sym (slice_range-split x at start to first (omega arith)))
 
--- what is said of a closure's calls: that where one is Ok, the writer holds what matched behind what it held
+-- what is said of a closure's calls: that if one is Ok, the writer holds what matched after what it held
 abbrev pub WritesMatched : {F W : Type 0} → (W → List ℕ) → StreamReplacer F W → Type 0
 WritesMatched {F} {W} items g = (f after : F) (found : Bor Occurrence) (text : Bor (List ℕ)) (dst left : MutBor (Watched W)) → Called g f (found, (text, (dst, tt))) (Ok tt, (left, tt)) after → items (inner_of left.now) ≡ items (inner_of dst.now) ++ text.now
 
--- so the text comes out as it was
+-- so the result is the text unchanged
 chain-writes : {F W : Type 0} (items : W → List ℕ) (g : StreamReplacer F W) (x : List ℕ) (patterns at : ℕ) (os : List Occurrence) (to : ℕ) (f : F) (old : Watched W) (last : F) (new : Watched W) → WritesMatched items g
     → LieInOrder patterns to at os → IsWriterChain (λ w. Some (items w)) g x at os to f old last new → items (inner_of new) ≡ items (inner_of old) ++ slice_range x at to
 chain-writes items g x patterns at [] to f old last new writes lies chain = chain.1.device

@@ -53,7 +53,7 @@ left-all b supports text asked result w answers is whole_text =
     let all = subst (λ (q : Result Walk MatchErrorKind). AnswersFindIter b supports asked q) is answers in
     all.2 ∙ ap (walk_in b) whole_text
 
--- A walk over the matches of a text stands somewhere, and so many states were looked at.
+-- A walk over the matches of a text stands somewhere, and this many states were looked at.
 pub record HasPassed (b : Built) (text : List ℕ) (begun now : Steps) (w : Walk) : Type 0 where
   pub built : w.built ≡ b
   pub asked : w.asked ≡ whole_of text

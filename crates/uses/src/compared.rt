@@ -84,7 +84,7 @@ fn answers(
     Ok(answers)
 }
 
-/// The rows of these texts and answers.
+/// The rows of these texts and results.
 fn rows<'a>(
     alloc: Global,
     asks: Asks,
@@ -216,7 +216,7 @@ pub fn put(text: &mut [u8], place: usize, pattern: &[u8]) {
     }
 }
 
-/// A text of so many letters, with the pattern at a place and at another one, further on.
+/// A text of this many letters, with the pattern at a place and at another one, further on.
 fn placed(alloc: Global, of: &[u8], place: usize, pattern: &[u8]) -> Result<Vec<u8>, AllocError> {
     let mut text = letters_of(alloc, 1, 450, of)?;
     put(&mut text, place, pattern);
@@ -299,7 +299,7 @@ fn packed_is_alike_in_spans<T: Abort>(
     Ok(())
 }
 
-/// Compares it for so many patterns of three letters.
+/// Compares it for this many patterns of three letters.
 fn packed_is_alike_for_many<T: Abort>(
     rt: &T,
     alloc: Global,

@@ -1,5 +1,5 @@
-//! One reader and one writer for all tests, which do as a row says; and what watched devices, whole writes and gathered output ask
-//! of them.
+//! One reader and one writer for all tests, which do as a row says; and how watched devices, whole writes and gathered output call
+//! them.
 //!
 //! No contract can say how often a device is called, since `Read` and `Write` don't. So these devices count their calls, in a
 //! [`Tally`] that a test can look at while they are lent: nothing is read after an empty read or a failed one, nothing is written
@@ -15,7 +15,7 @@ use std::io::{ErrorKind, Read, Write};
 use std::process::Abort;
 use std::test::Fail;
 
-/// What a reader and a writer were asked, and how much was written.
+/// How often a reader and a writer were called, and how much was written.
 #[derive(Drop)]
 pub struct Tally {
     pub reads: Cell<usize>,
@@ -27,7 +27,7 @@ pub struct Tally {
 }
 
 impl Tally {
-    /// Nothing was asked yet.
+    /// Nothing was called yet.
     pub fn new() -> Tally {
         Tally {
             reads: Cell::new(0),
@@ -44,11 +44,11 @@ impl Tally {
 pub enum Given<'a> {
     /// These bytes, and then nothing.
     Whole(&'a [u8]),
-    /// These bytes so many times, and then nothing.
+    /// These bytes this many times, and then nothing.
     Repeated(&'a [u8], usize),
-    /// These bytes, then an empty read; and where it is asked again, those.
+    /// These bytes, then an empty read; and if it is read again, those.
     Pauses(&'a [u8], &'a [u8]),
-    /// These bytes, then an error; and where it is asked again, those.
+    /// These bytes, then an error; and if it is read again, those.
     Fails(&'a [u8], &'a [u8]),
 }
 
@@ -65,7 +65,7 @@ pub struct Source<'a> {
 }
 
 impl<'a> Source<'a> {
-    /// A reader that gives at most so many bytes a read. It fails at a read before which less was written than is due.
+    /// A reader that returns at most this many bytes a read. It fails at a read before which less was written than is due.
     pub fn new(given: Given<'a>, most: usize, due: &'a [usize], tally: &'a Tally) -> Source<'a> {
         let (bytes, times, fails, after): (&[u8], usize, bool, &[u8]) = match given {
             Given::Whole(bytes) => (bytes, 1, false, b""),
@@ -119,7 +119,7 @@ impl Read for Source<'_> {
     }
 }
 
-/// What a writer takes: so many bytes in all, at most so many a write. Then it fails, or takes none.
+/// What a writer takes: this many bytes in all, at most this many a write. Then it fails, or takes none.
 #[derive(Clone, Copy)]
 pub struct Room {
     pub bytes: usize,
@@ -272,7 +272,7 @@ fn reads_once<T: Abort>(
     assert_eq!(rt; read, want, "{shows}");
 }
 
-/// Asserts what the reads give, and how often the device was asked.
+/// Asserts what the reads return, and how often the device was called.
 fn reads_hold<T: Abort>(rt: &T, row: &Reads) {
     let tally = Tally::new();
     let mut reader = Watched::new(Source::new(row.given, 2, &[], &tally));
@@ -314,7 +314,7 @@ enum Sending {
     Held,
 }
 
-/// What is sent to a writer, up to the first that fails: what that comes to, what the writer takes, and how often it is asked.
+/// What is sent to a writer, up to the first send that fails: its result, what the writer takes, and how often it is called.
 struct Sent {
     shows: &'static str,
     room: Room,
@@ -515,7 +515,7 @@ fn send_each(
     Ok((outcome, writer.into_inner().taken))
 }
 
-/// Asserts what the sends come to, and how often the device was asked.
+/// Asserts the results of the sends, and how often the device was called.
 fn sends_hold<T: Abort>(rt: &T, alloc: Global, row: &Sent) -> Result<(), Fail> {
     let tally = Tally::new();
     let (outcome, taken) = send_each(alloc, row.room, row.sends, &tally)?;

@@ -1,4 +1,4 @@
-//! Each automaton that there is, in each setting that changes no answer.
+//! Each automaton, in each setting that changes no result.
 //!
 //! A [`Case`] is a row of a table: it says what an automaton is built of, and checks an automaton that was built. [`ENGINES`] lists
 //! the automata and their settings, a line each, and [`all`] runs cases by each of them. A function that owns an automaton is slow
@@ -65,7 +65,7 @@ pub enum Engine {
     Front(Option<AhoCorasickKind>, StartKind, Prefiltering, Option<usize>, Alphabet),
 }
 
-/// The automata and their settings, none of which changes an answer.
+/// The automata and their settings, none of which changes a result.
 pub const ENGINES: &[Engine] = &[
     Noncontiguous(On, 3),
     Noncontiguous(Off, 3),
@@ -106,7 +106,7 @@ pub const FEW: &[Engine] = &[
     Front(Some(DFA), Both, Off, None, Classes),
 ];
 
-/// Those that run a row which takes very long: each automaton as it is built at first.
+/// Those that run a row which takes very long: each automaton with its default settings.
 pub const FIRST: &[Engine] = &[
     Noncontiguous(On, 3),
     Contiguous(On, 2, Classes),

@@ -1,7 +1,8 @@
 //! The front by its own calls, with each automaton named and with none.
 //!
-//! Every table is run by the front through the trait, as by each automaton (`engines`). Here some rows are run by the calls that the
-//! front has besides, which take an input by value, and ask a configuration or refuse it; and rows that tell which automaton serves.
+//! Every table is run by the front through the trait, as by each automaton (`engines`). Here some rows are run by the front's own
+//! calls, which take an input by value, and require a configuration or return an error; and rows that check which automaton
+//! serves.
 ghost use Rattle.ac_automaton.specs.Overlapping.{CanOverlap};
 ghost use Rattle.aho_corasick.specs.AhoCorasick.{built_as, supported_by};
 

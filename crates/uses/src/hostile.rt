@@ -28,7 +28,7 @@ fn of_whole<'a>(asks: Asks, text: &'a [u8], gives: &'a [Pick]) -> Row<'a> {
     }
 }
 
-/// What is asked of automata for these patterns, byte for byte.
+/// What automata are built of for these patterns, byte for byte.
 fn asked<'a>(patterns: &'a [&'a [u8]], kind: MatchKind) -> Asked<'a> {
     Asked {
         patterns,
@@ -123,7 +123,7 @@ fn all_bytes_and_all_pairs(rt: HostRuntime) -> Result<(), Fail> {
     all_pairs_hold(&rt, rt.alloc(), &bytes)
 }
 
-/// Adds the occurrences of the shortest so many patterns that end at one place, the longest first.
+/// Adds the occurrences of this many patterns, the shortest, that end at one place, the longest first.
 fn add_ending(all: &mut Vec<Pick>, count: usize, end: usize) -> Result<(), AllocError> {
     for len in (1..=count).rev() {
         all.push((len.saturating_sub(1), end.saturating_sub(len), end))?;

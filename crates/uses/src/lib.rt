@@ -1,7 +1,7 @@
 //! The libraries as their users call them: callers with contracts of their own, and all tests of the libraries.
 //!
 //! [`callers`] shows for each public call what a caller can conclude from its contract. The tests are tables of rows, by subject;
-//! what a row needs of automata stands in `engines`, which builds each automaton in each setting that changes no answer.
+//! what a row needs of automata stands in `engines`, which builds each automaton in each setting that changes no result.
 #![tactic(auto)]
 
 #[cfg(test)]

@@ -1,5 +1,5 @@
-//! What becomes of builds where memory ends. `rt try --test --fail-alloc N -- in_memory_that_may_end` refuses the Nth allocation: the call
-//! says so and makes nothing. Where none is refused, what is made is whole.
+//! Builds that run out of memory. `rt try --test --fail-alloc N -- in_memory_that_may_end` fails the Nth allocation: the call
+//! returns an error and makes nothing. If no allocation fails, the result is complete.
 use crate::answers::searcher;
 use crate::engines::{Asked, Case, FEW, Letters, each, pick};
 use crate::prefilters::made;
@@ -139,8 +139,8 @@ fn in_memory_that_may_end_builds(rt: HostRuntime) -> Result<(), Fail> {
     Ok(())
 }
 
-/// Asserts that a builder has all patterns; or that it was refused an extension, keeps the patterns before the refused one, and may be
-/// extended further on.
+/// Asserts that a builder has all patterns; or that an extension ran out of memory, and it keeps the patterns before the failed
+/// one, and may be extended further.
 fn extends<T: Abort>(rt: &T, builder: &mut Builder, refused: bool) {
     if refused {
         let kept = builder.len();
@@ -179,7 +179,7 @@ fn prefilter_finds_in_copies<T: Abort>(rt: &T, alloc: Global, prefilter: &Prefil
     }
 }
 
-/// Asserts that a builder has so many patterns, and all of them if a pattern is added once more.
+/// Asserts that a builder has this many patterns, and all of them if a pattern is added once more.
 fn adds<T: Abort>(rt: &T, builder: &mut Builder, pattern: &[u8], kept: usize) {
     if builder.add(pattern).is_err() {
         assert_eq!(rt; builder.len(), kept);
@@ -188,7 +188,7 @@ fn adds<T: Abort>(rt: &T, builder: &mut Builder, pattern: &[u8], kept: usize) {
     assert_eq!(rt; builder.len(), kept.saturating_add(1));
 }
 
-/// Asserts that a builder, and a copy of it, have all patterns after one call for each. Of each call only one is refused.
+/// Asserts that a builder, and a copy of it, have all patterns after one call for each. Of each call only one fails.
 fn adds_each<T: Abort>(rt: &T, builder: &mut Builder) {
     for (kept, pattern) in PATTERNS.iter().enumerate() {
         adds(rt, builder, *pattern, kept);
@@ -199,7 +199,7 @@ fn adds_each<T: Abort>(rt: &T, builder: &mut Builder) {
     assert_eq!(rt; (builder.len(), builder.minimum_len()), (3, 1));
 }
 
-/// Adds the patterns, each once more where it was refused.
+/// Adds the patterns, each once more if it failed.
 fn adds_again<T: Abort>(rt: &T, builder: &mut PrefilterBuilder) {
     for pattern in PATTERNS {
         if builder.add(*pattern).is_err() {
@@ -208,7 +208,7 @@ fn adds_again<T: Abort>(rt: &T, builder: &mut PrefilterBuilder) {
     }
 }
 
-/// Asserts that a prefilter's builder which was refused a pattern, and then takes it, builds what it builds elsewhere.
+/// Asserts that a prefilter's builder that failed to add a pattern, and then adds it, builds what it builds elsewhere.
 fn prefilter_is_added<T: Abort>(rt: &T, alloc: Global) {
     let mut builder = PrefilterBuilder::new(alloc, MatchKind::Standard);
     adds_again(rt, &mut builder);

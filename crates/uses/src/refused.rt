@@ -1,4 +1,4 @@
-//! Searches that are refused, in which order the reasons count, and that nothing else is refused.
+//! Searches that return an error, in which order the reasons count, and that nothing else is an error.
 use crate::answers::same;
 use crate::engines::{Asked, Case, Letters, all};
 use crate::front::{OwnCase, each_own};
@@ -9,7 +9,7 @@ use std::alloc::Global;
 use std::process::Abort;
 use std::test::Fail;
 
-/// Why the calls of a search are refused, if they are: those that find and walk, the overlapping one, and its iterator.
+/// Why the calls of a search return an error, if they do: those that find and walk, the overlapping one, and its iterator.
 #[derive(Clone, Copy, Debug, PartialEq, Eq)]
 struct Refusals {
     find: Option<MatchErrorKind>,
@@ -18,7 +18,7 @@ struct Refusals {
     list: Option<MatchErrorKind>,
 }
 
-/// A search of a text by an automaton with these starts, and why it is refused.
+/// A search of a text by an automaton with these starts, and its error.
 struct Row {
     shows: &'static str,
     kind: MatchKind,
@@ -27,12 +27,12 @@ struct Row {
     refused: Refusals,
 }
 
-/// Why it is refused.
+/// The error.
 fn reason(error: MatchError) -> MatchErrorKind {
     *error.kind()
 }
 
-/// Why a search is refused by each call.
+/// The error of a search by each call.
 fn refusals_of<A: Automaton>(automaton: &A, input: &Input<'_>) -> Result<Refusals, Fail> {
     let mut state = OverlappingState::start();
     let overlap = automaton.try_find_overlapping(input, &mut state).err();
@@ -47,7 +47,7 @@ fn refusals_of<A: Automaton>(automaton: &A, input: &Input<'_>) -> Result<Refusal
     })
 }
 
-/// Why a search is refused by the front's own calls.
+/// The error of a search by the front's own calls.
 fn own_refusals_of(ac: &AhoCorasick, input: &Input<'_>) -> Result<Refusals, Fail> {
     let mut state = OverlappingState::start();
     let overlap = ac.try_find_overlapping(input.clone()?, &mut state).err();
@@ -62,7 +62,7 @@ fn own_refusals_of(ac: &AhoCorasick, input: &Input<'_>) -> Result<Refusals, Fail
     })
 }
 
-/// Why the error refuses a replacement, if it isn't for memory.
+/// The search error of a replacement, if the error isn't for memory.
 fn not_memory(error: ReplaceError) -> Option<MatchErrorKind> {
     match error {
         ReplaceError::Match(error) => Some(reason(error)),
@@ -70,7 +70,7 @@ fn not_memory(error: ReplaceError) -> Option<MatchErrorKind> {
     }
 }
 
-/// Why each replacement by the front's own calls is refused, other than for memory.
+/// The error of each replacement by the front's own calls, other than for memory.
 fn own_replacing(ac: &AhoCorasick, alloc: Global) -> Result<[Option<MatchErrorKind>; 4], Fail> {
     if ac.patterns_len() != 1 {
         return Err("a replacement for each pattern".into());
@@ -91,7 +91,7 @@ fn own_replacing(ac: &AhoCorasick, alloc: Global) -> Result<[Option<MatchErrorKi
     ])
 }
 
-/// Why a replacement, which is never anchored, is refused by an automaton with these starts.
+/// The error of a replacement, which is never anchored, by an automaton with these starts.
 fn unstarted(starts: StartKind) -> Option<MatchErrorKind> {
     match starts {
         StartKind::Anchored => Some(MatchErrorKind::InvalidInputUnanchored),
@@ -99,7 +99,7 @@ fn unstarted(starts: StartKind) -> Option<MatchErrorKind> {
     }
 }
 
-/// Why a replacement is refused, other than for memory.
+/// The error of a replacement, other than for memory.
 fn replacing<A: Automaton>(automaton: &A, alloc: Global) -> Option<MatchErrorKind> {
     let mut dst = Vec::new(alloc);
     match automaton.try_replace_all_with_bytes(alloc, b"a", &mut dst, |_, _, _| Ok(true)) {
@@ -108,8 +108,8 @@ fn replacing<A: Automaton>(automaton: &A, alloc: Global) -> Option<MatchErrorKin
     }
 }
 
-/// Asserts why a search is refused, also one that would be over at once. A replacement, which is never anchored, is refused
-/// exactly where there is no start for it.
+/// Asserts the error of a search, also of one that would be over at once. A replacement, which is never anchored, fails exactly if
+/// there is no start for it.
 fn is_refused<T: Abort, A: Automaton>(
     rt: &T,
     alloc: Global,

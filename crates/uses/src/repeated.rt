@@ -185,7 +185,7 @@ fn long_patterns(rt: HostRuntime) -> Result<(), Fail> {
 /// A thousand letters.
 static LETTERS: [u8; 1000] = [b'a'; 1000];
 
-/// One letter more than so many.
+/// This many letters and one more.
 fn more_than(len: usize) -> &'static [u8] {
     if len < LETTERS.len() {
         &LETTERS[..len + 1]
@@ -194,7 +194,7 @@ fn more_than(len: usize) -> &'static [u8] {
     }
 }
 
-/// Asserts what patterns of one to so many letters give in a thousand of them.
+/// Asserts what patterns of one to this many letters find in a thousand of them.
 fn growing_hold<T: Abort>(
     rt: &T,
     alloc: Global,
@@ -282,7 +282,7 @@ fn many_patterns(rt: HostRuntime) -> Result<(), Fail> {
     growing_hold(&rt, alloc, 128, standard, List, &all)
 }
 
-/// A pattern and a text, both of so many letters that no search by comparing comes to its end.
+/// A pattern and a text, both with so many letters that no search by comparing comes to its end.
 #[derive(Drop)]
 struct Endless<'a> {
     patterns: &'a [&'a [u8]],

@@ -1,7 +1,7 @@
 //! Streams and replacement in memory that may end.
 //!
-//! `rt try --test --fail-alloc N` refuses the Nth allocation. Where a call is refused memory, nothing was read or written by then; what
-//! was appended to a text stays.
+//! `rt try --test --fail-alloc N` fails the Nth allocation. If a call runs out of memory, nothing was read or written by then;
+//! what was appended to a text stays.
 use crate::devices::{AMPLE, Given, Outcome, Sink, Source, Tally};
 use crate::engines::{Asked, Case, FIRST, Letters, each};
 use crate::replacement::{append, append_bytes};
@@ -67,7 +67,7 @@ fn closure_outcome<A: Automaton>(
     Ok(Outcome::of(&answer))
 }
 
-/// Asserts what replacement over a stream comes to, in whole or for want of memory, and what was read and written by then.
+/// Asserts the result of replacement over a stream, complete or out of memory, and what was read and written by then.
 fn came<T: Abort>(rt: &T, outcome: Result<Outcome, AllocError>, tally: &Tally) {
     if let Ok(outcome) = outcome {
         let came = (outcome, tally.reads.get(), tally.written.get());

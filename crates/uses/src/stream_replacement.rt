@@ -19,7 +19,7 @@ use std::io::{ErrorKind, Read, Write};
 use std::process::Abort;
 use std::test::Fail;
 
-/// How many bytes a read gives at most, and how many reads there are then: at most so many where a write or a closure fails.
+/// How many bytes a read returns at most, and how many reads there are then: at most this many if a write or a closure fails.
 #[derive(Clone, Copy)]
 struct By {
     most: usize,
@@ -99,7 +99,7 @@ pub fn write_by_closure<A: Automaton, R: Read, W: Write>(
 }
 
 impl Row {
-    /// Replaces what is read, at most so many bytes a read, for a writer that has this room: what that comes to, and what was written.
+    /// Replaces the input, at most this many bytes a read, for a writer that has this room: the result, and what was written.
     fn replaces<A: Automaton>(
         &self,
         alloc: Global,
@@ -130,7 +130,7 @@ impl Row {
         Ok((Outcome::of(&answer), writer.into_inner().taken))
     }
 
-    /// Asserts what the row says, by so many bytes a read, where the writer has this room, and one of these was written.
+    /// Asserts what the row says, by this many bytes a read, where the writer has this room, and one of these was written.
     fn writes<T: Abort, A: Automaton>(
         &self,
         rt: &T,
@@ -569,7 +569,7 @@ impl Case for Stops {
     }
 }
 
-/// Asserts what was written where the read after so many bytes fails, by one, two and seven bytes a read.
+/// Asserts what was written when the read after this many bytes fails, by one, two and seven bytes a read.
 fn stops_there<T: Abort, A: Automaton>(
     rt: &T,
     alloc: Global,

@@ -1,4 +1,4 @@
-//! What a search of a stream gives, and after how many reads; and what is refused before the first read.
+//! What a search of a stream returns, and after how many reads; and what is an error before the first read.
 //!
 //! The matches are those of the whole text, whatever the pieces are. Each piece is searched before the next one is read: so a match
 //! is given after the read that gave its last byte, and a test counts the reads at each match.
@@ -38,7 +38,7 @@ pub fn next_pick<A: Automaton, R: Read>(
     }
 }
 
-/// A text, by so many bytes a read, and its matches.
+/// A text, by this many bytes a read, and its matches.
 #[derive(Clone, Copy)]
 struct Row {
     shows: &'static str,
@@ -46,7 +46,7 @@ struct Row {
     letters: Letters,
     /// The parts of the text, which follow one another.
     text: &'static [&'static [u8]],
-    /// What comes after an empty read at the end of the text, if the reader is asked again.
+    /// What comes after an empty read at the end of the text, if the reader is called again.
     after: &'static [u8],
     /// Whether there is a failed read in its place.
     fails: bool,
@@ -120,7 +120,7 @@ impl Case for Row {
     }
 }
 
-/// The matches that end in so many bytes.
+/// The matches that end in this many bytes.
 fn ended_by(finds: &'static [Pick], len: usize) -> &'static [Pick] {
     let mut count: usize = 0;
     for found in finds {
@@ -135,7 +135,7 @@ fn ended_by(finds: &'static [Pick], len: usize) -> &'static [Pick] {
 struct Stops(Row);
 
 impl Stops {
-    /// Asserts what is given where the read after so many bytes fails.
+    /// Asserts what is returned when the read after this many bytes fails.
     fn gives_by<T: Abort, A: Automaton>(
         &self,
         rt: &T,
@@ -516,7 +516,7 @@ fn try_stream<'a, A: Automaton, R: Read>(
     Ok(())
 }
 
-/// What a search of a stream comes to that asks for no match.
+/// The result of a search of a stream that takes no match.
 pub fn search_outcome<A: Automaton>(alloc: Global, automaton: &A, tally: &Tally) -> Outcome {
     let mut reader = Watched::new(Source::new(Given::Whole(b"ab"), 1, &[], tally));
     Outcome::of(&try_stream(alloc, automaton, &mut reader))
@@ -537,7 +537,7 @@ fn replacement_outcome<A: Automaton>(
     Ok(Outcome::of(&answer))
 }
 
-/// Asserts that a stream is refused for this reason, and that nothing was read or written.
+/// Asserts that a search of a stream returns this error, and that nothing was read or written.
 fn is_refused<T: Abort, A: Automaton>(
     rt: &T,
     alloc: Global,

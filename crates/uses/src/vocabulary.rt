@@ -1,4 +1,4 @@
-//! The words that searches are asked in, and answer in: kinds, spans, matches, inputs, numbers, bytes, pairings, errors.
+//! The types of searches and their results: kinds, spans, matches, inputs, numbers, bytes, pairings, errors.
 //!
 //! Single facts stand in a list, and are asserted at once: where one is false, the failure shows the list.
 use ac_input::primitives::PatternID;

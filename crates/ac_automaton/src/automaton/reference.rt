@@ -1,4 +1,4 @@
-//! A reference to an automaton is an automaton, so that what takes one takes a borrowed one too.
+//! A reference to an automaton is an automaton, so a generic that takes one takes a borrowed one too.
 use super::{Advance, Automaton};
 use crate::error::MatchError;
 use ac_input::primitives::{PatternID, StateID};

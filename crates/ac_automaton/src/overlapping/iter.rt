@@ -1,7 +1,7 @@
 //! The overlapping matches of an input, one after another.
 //!
-//! [`FindOverlappingIter`] holds an automaton, an input, and where the search began and stands. It takes no memory, and looks at the
-//! states of one walk over the span, however many matches it shows.
+//! [`FindOverlappingIter`] holds an automaton, an input, and where the search began and stands. It takes no memory, and looks at
+//! the states of one walk over the span, however many matches it returns.
 ghost use Rattle.std.specs.Iterator.{YieldsFirst, item_count};
 ghost use Rattle.ac_automaton.specs.OverlappingIter.{AnswersOverlappingIter, GivesFirst, RunCounts, IsWithinOneWalk, rest_of};
 
@@ -16,9 +16,9 @@ use ac_input::steps::Steps;
 use std::iter::FusedIterator;
 use std::marker::Model;
 
-/// The overlapping matches of an input that are left to come. From [`Automaton::try_find_overlapping_iter`].
+/// The remaining overlapping matches of an input. From [`Automaton::try_find_overlapping_iter`].
 ///
-/// Once it has answered `None` it answers nothing else, and does nothing.
+/// After its first `None` it always returns `None`, and does nothing.
 /// A caller: `uses::callers::overlap::all_occurrences`.
 #[derive(Drop)]
 pub struct FindOverlappingIter<'a, 'h, A: Automaton> {
@@ -51,7 +51,7 @@ impl<'a, 'h, A: Automaton> Model for FindOverlappingIter<'a, 'h, A> {
 
 /// All occurrences in the input, one after another.
 ///
-/// It is refused as an overlapping search is, and also where the input is anchored.
+/// Returns an error where an overlapping search does, and also if the input is anchored.
 pub fn find_overlapping_iter<'a, 'h, A: Automaton>(
     automaton: &'a A,
     input: Input<'h>,
@@ -74,7 +74,7 @@ pub fn find_overlapping_iter<'a, 'h, A: Automaton>(
 }
 
 impl<'a, 'h, A: Automaton> FindOverlappingIter<'a, 'h, A> {
-    /// The next match, as `next` gives it; and counts what it does.
+    /// The next match, as `next` returns it; counts what it does.
     /// A caller: `uses::callers::overlap::pass_occurrences`.
     pub fn next_counted(&mut self, steps: &mut Steps) -> Option<Match>
         ensures gives { GivesFirst self.old result self.new }

@@ -1,7 +1,7 @@
 //! The search for the next occurrence, from where an overlapping search stands.
 //!
-//! A call goes through the rest of the list of the state where the last call stood, and then reads on: to the next state whose list
-//! has something to show, or, where a prefilter is asked, from one candidate to the next.
+//! A call goes through the rest of the list of the state where the last call stood, and then reads on: to the next state whose
+//! list has something to show, or, with a prefilter, from one candidate to the next.
 ghost use Rattle.std.specs.Prelude.{◌≡◌, ℕ, ◌<◌, ◌≤◌, List, None, [], length, get_or};
 ghost use Rattle.ac_input.specs.declared.search.MatchKind.TheVariants.{Standard};
 ghost use Rattle.ac_input.specs.Input.{is_anchored};
@@ -23,7 +23,7 @@ use ac_input::search::{Anchored, Input, Match, MatchKind, Span};
 use ac_input::steps::Steps;
 use ac_literal::prefilter::Prefilter;
 
-/// Whether an entry counts for a search that has read so many bytes: one that is anchored takes no shorter pattern.
+/// Whether an entry counts for a search that has read this many bytes: an anchored one takes no shorter pattern.
 fn is_counted<A: Automaton>(
     automaton: &A,
     anchored: Anchored,
@@ -87,7 +87,7 @@ fn over() -> Shown
     }
 }
 
-/// What the state has to show from an index of its list on, if it has anything.
+/// What the state has to show from an index of its list on, if anything.
 fn show<A: Automaton>(
     automaton: &A,
     input: &Input<'_>,
@@ -111,7 +111,7 @@ fn show<A: Automaton>(
     })
 }
 
-/// What is shown where a walk stands: the first that the state tells; or nothing more, where it is dead.
+/// What a walk shows at its place: the first entry of the state; or that it is over, if the state is dead.
 fn show_at<A: Automaton>(automaton: &A, input: &Input<'_>, cursor: &Cursor) -> Option<Shown>
     requires { MayShow A.Automaton automaton.now input.now cursor.now }
     ensures { ShowsHere A.Automaton automaton.now input.now cursor.now result }
@@ -122,7 +122,8 @@ fn show_at<A: Automaton>(automaton: &A, input: &Input<'_>, cursor: &Cursor) -> O
     show(automaton, input, *cursor, 0)
 }
 
-/// How a search ends where a walk stands, if it does: it shows something, or the state is dead, or the walk is back at the start.
+/// How a search ends at a place of the walk, if it does: it shows something, or the state is dead, or the walk is back at the
+/// start.
 fn end_at<A: Automaton>(automaton: &A, input: &Input<'_>, cursor: &Cursor) -> Option<End<Shown>>
     requires { MayShow A.Automaton automaton.now input.now cursor.now }
     ensures { EndsHere A.Automaton automaton.now input.now cursor.now result }
@@ -161,7 +162,7 @@ fn read_to_end<A: Automaton>(
     }
 }
 
-/// The same, but it stops also where the walk is back at the start.
+/// The same, but it also stops where the walk is back at the start.
 fn read_to_start<A: Automaton>(
     automaton: &A,
     input: &Input<'_>,
@@ -185,7 +186,7 @@ fn read_to_start<A: Automaton>(
     }
 }
 
-/// Asks the prefilter where in what is left of the span an occurrence may begin, and reads on from there.
+/// Runs the prefilter on the rest of the span, to find where an occurrence may begin, and reads on from there.
 fn search_from_candidate<A: Automaton>(
     automaton: &A,
     prefilter: &Prefilter,
@@ -216,7 +217,7 @@ fn search_from_candidate<A: Automaton>(
     }
 }
 
-/// Reads on from a place before which nothing that is left begins, by one candidate after another.
+/// Reads on from a place before which no remaining occurrence begins, from one candidate to the next.
 fn search_by_candidates<A: Automaton>(
     automaton: &A,
     prefilter: &Prefilter,

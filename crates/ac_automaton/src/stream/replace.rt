@@ -1,12 +1,12 @@
 //! Replacement over a stream.
 //!
-//! What was read is written with each match exchanged for the replacement of its pattern. A match that was found is never taken
-//! back, and what is still to be found begins at the cut or after it; so everything before the cut is written before the next
-//! read. Where nothing of what was read is live that is all of it; else a reader that waits keeps back no more bytes than the
-//! longest pattern has, or one. What is written is gathered into one buffer, which is sent before each read: a stream over a file
-//! makes about one write a read.
+//! The input is written with each match replaced by the replacement of its pattern. A match that was found is never taken back,
+//! and a match still to be found begins at the cut or after it; so everything before the cut is written before the next read. If
+//! none of the bytes read is live, that is all of them; otherwise a waiting reader keeps back no more bytes than the longest
+//! pattern has, or one. The output is gathered into one buffer, which is sent before each read: a stream over a file makes about
+//! one write a read.
 //!
-//! Nothing is tried again, and nothing is flushed. Both buffers are taken before the first read, and no memory after that.
+//! Nothing is tried again, and nothing is flushed. Both buffers are allocated before the first read, and no memory after that.
 ghost use Rattle.std.specs.Prelude.{◌≡◌, ◌+◌, ◌-◌, ◌≤◌, [], drop, false, length, map, slice_range, IfErr, IfOk, OnErr, OnOk};
 ghost use Rattle.ac_automaton.specs.Stream.{GoesOn, IsOnCourse, fresh_progress};
 ghost use Rattle.ac_automaton.specs.StreamReplace.{AcceptsReplacing, AnswersDecided, AnswersMatch, CostsStream, HasSearched, IsBegun, IsPlaced, ReplacesStream};
@@ -31,8 +31,8 @@ pub(super) fn part(held: &[u8], from: usize, start: usize, end: usize) -> &[u8]
     &held[start - from..end - from]
 }
 
-/// Finds the next match of what was read, and sends the text from a place to its end. It answers where that is, or none where there
-/// is no further match.
+/// Finds the next match of what was read, and sends the text from a place to its end. Returns where that is, or none if there is
+/// no further match.
 fn send_match<A: Automaton, W: Write>(
     stream: &mut StreamSearch<'_, A>,
     replacements: &[&[u8]],
@@ -57,7 +57,7 @@ fn send_match<A: Automaton, W: Write>(
     Ok(Some(found.end()))
 }
 
-/// Sends the text from a place up to the cut, and holds nothing back. It answers where the cut is.
+/// Sends the text from a place up to the cut, and holds nothing back. Returns where the cut is.
 fn send_decided<A: Automaton, W: Write>(
     stream: &mut StreamSearch<'_, A>,
     replacements: &[&[u8]],
@@ -91,7 +91,7 @@ pub(super) fn rest(held: &[u8], from: usize, start: usize) -> &[u8]
     &held[start - from..]
 }
 
-/// Reads on to the end of the input. Before each read all that is decided is written, and at the end what is left.
+/// Reads on to the end of the input. Before each read everything that is decided is written, and at the end the rest.
 fn replace_read<A: Automaton, R: Read, W: Write>(
     stream: &mut StreamSearch<'_, A>,
     output: &mut Output,
@@ -119,7 +119,7 @@ fn replace_read<A: Automaton, R: Read, W: Write>(
     output.send_all(writer, rest(stream.held(), from, at))
 }
 
-/// Writes what is read with each match exchanged for the replacement of its pattern, and counts what it does.
+/// Writes the input with each match replaced by the replacement of its pattern, and counts what it does.
 pub fn replace_all_counted<A: Automaton, R: Read, W: Write>(
     automaton: &A,
     alloc: Global,

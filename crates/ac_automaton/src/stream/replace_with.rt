@@ -1,11 +1,11 @@
 //! Replacement over a stream, where a closure writes what stands in place of each match.
 //!
-//! The closure is called with the match, its bytes and the writer, and may write to it what it likes. So that it finds there all that
-//! comes before the match, nothing is gathered: what stands before a match is written at once, then the closure is called. What the
-//! closure refuses ends the replacement, and is answered as it is.
+//! The closure is called with the match, its bytes and the writer, and may write to it what it likes. It finds there everything
+//! that comes before the match, because nothing is gathered: the text before a match is written at once, then the closure is
+//! called. The closure's first error ends the replacement and is returned unchanged.
 //!
-//! As in [`replace`](super::replace), everything before the cut is written before the next read, nothing is tried again, and nothing
-//! is flushed. The one buffer is taken before the first read, and no memory after that.
+//! As in [`replace`](super::replace), everything before the cut is written before the next read, nothing is tried again, and
+//! nothing is flushed. The one buffer is allocated before the first read, and no memory after that.
 ghost use Rattle.std.specs.Prelude.{◌≡◌, ◌+◌, false, length, IfErr, IfOk};
 ghost use Rattle.ac_automaton.specs.Replace.{IsForMatches, RepliesAt, TakesMatches};
 ghost use Rattle.ac_automaton.specs.Stream.{IsOnCourse, fresh_progress};
@@ -39,8 +39,8 @@ where
     f(found, matched, writer)
 }
 
-/// Finds the next match of what was read, writes the text from a place to its start, and calls the closure. It answers where the
-/// match ends, or none where there is no further match.
+/// Finds the next match of what was read, writes the text from a place to its start, and calls the closure. Returns where the
+/// match ends, or none if there is no further match.
 fn replace_match<A: Automaton, W: Write, F>(
     stream: &mut StreamSearch<'_, A>,
     at: usize,
@@ -71,7 +71,7 @@ where
     Ok(Some(found.end()))
 }
 
-/// Replaces one match after another, and writes the text up to the cut. It answers where the cut is.
+/// Replaces one match after another, and writes the text up to the cut. Returns where the cut is.
 fn replace_decided<A: Automaton, W: Write, F>(
     stream: &mut StreamSearch<'_, A>,
     at: usize,
@@ -101,7 +101,7 @@ where
     Ok(cut)
 }
 
-/// Reads on to the end of the input. Before each read all that is decided is written, and at the end what is left.
+/// Reads on to the end of the input. Before each read everything that is decided is written, and at the end the rest.
 fn replace_read<A: Automaton, R: Read, W: Write, F>(
     stream: &mut StreamSearch<'_, A>,
     reader: &mut Watched<R>,
@@ -127,7 +127,7 @@ where
     write_whole(writer, rest(stream.held(), from, at))
 }
 
-/// Writes what is read, and in place of each match what the closure writes.
+/// Writes the input, and in place of each match what the closure writes.
 pub fn replace_all_with<A: Automaton, R: Read, W: Write, F>(
     automaton: &A,
     alloc: Global,

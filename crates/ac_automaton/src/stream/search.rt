@@ -1,18 +1,18 @@
-//! What every search of a stream stands on: one buffer, and the automaton that reads on over it.
+//! The base of every search of a stream: one buffer, and the automaton that reads on over it.
 //!
-//! A stream is read piece by piece, and each piece is searched before the next one is read. Nothing depends on where one piece
-//! ends and the next begins: the automaton goes on in the state that it was in, and a state stands for all that a match may still
-//! need of what was read. Under the standard kind a match that was found is never taken back, whatever is read after it; so it
-//! is given at once.
+//! A stream is read in pieces, and each piece is searched before the next one is read. Nothing depends on where one piece ends and
+//! the next begins: the automaton goes on in the state that it was in, and a state stands for everything that a match may still
+//! need of what was read. Under the standard kind a match that was found is never taken back, whatever is read after it; so it is
+//! returned at once.
 //!
-//! A [`StreamSearch`] gives the next match of what was read, without a read ([`StreamSearch::next_held`]), makes one read
-//! ([`StreamSearch::read_more`]), and lends what is held ([`StreamSearch::held`]). Up to its [`StreamSearch::cut`] all is decided: what is still to be
-//! found begins there or later. So the bytes before the cut are all that a caller may write, and the bytes after it all that has to
-//! be held: as many as the longest pattern has, at most. Where all that was read leaves the automaton in its start nothing is live:
-//! the search begins anew there, and nothing has to be held.
+//! A [`StreamSearch`] returns the next match of what was read, without a read ([`StreamSearch::next_held`]), makes one read
+//! ([`StreamSearch::read_more`]), and lends the held bytes ([`StreamSearch::held`]). Up to its [`StreamSearch::cut`] everything is
+//! decided: a match still to be found begins there or later. So a caller may write only the bytes before the cut, and only the
+//! bytes after it have to be held: at most as many as the longest pattern has. If all the bytes read leave the automaton in its
+//! start, nothing is live: the search begins anew there, and nothing has to be held.
 //!
 //! The hot path is [`Automaton::advance_to_match`] over the bytes of a read. Between two matches nothing else is done for a byte,
-//! also where the automaton holds a prefilter, which a stream doesn't ask.
+//! even if the automaton has a prefilter, which a stream doesn't use.
 ghost use Rattle.std.specs.Prelude.{◌≡◌, ◌≢◌, ◌↔◌, ◌+◌, ◌-◌, ◌≤◌, ◌<◌, ℕ, List, [], false, true, length, IfErr, IfOk, OnOk, IsTrue};
 ghost use Rattle.ac_input.specs.declared.search.Anchored.TheVariants.{No};
 ghost use Rattle.ac_automaton.specs.StreamSearch.{some_of};
@@ -43,7 +43,7 @@ struct Progress {
     last: usize,
 }
 
-/// Where a search over what is held stands then, and the match that it found.
+/// The new place of a search over the held bytes, and the match that it found.
 #[derive(Clone, Copy)]
 struct Searched {
     progress: Progress,
@@ -98,8 +98,8 @@ fn configured<A: Automaton>(automaton: &A) -> Result<StateID, MatchError>
     Ok(start)
 }
 
-/// Searches the bytes that are held from where a search stands, up to the next match or to the last byte. After a match the search
-/// begins anew, and also where it comes to the last byte in a start: nothing of what was read is live there.
+/// Searches the held bytes from where a search stands, up to the next match or to the last byte. After a match the search begins
+/// anew, and also if it reaches the last byte in a start: nothing of what was read is live there.
 fn search<A: Automaton>(
     automaton: &A,
     start: StateID,
@@ -143,7 +143,7 @@ fn search<A: Automaton>(
     }
 }
 
-/// How many matches were given after this one, or none.
+/// How many matches were returned after this one, or none.
 fn given_then(given: &Count, found: &Option<Match>) -> Count
     ensures { result.value ≡ given.now.value + length (some_of found.now) }
 {
@@ -154,7 +154,7 @@ fn given_then(given: &Count, found: &Option<Match>) -> Count
 }
 
 impl<'a, A: Automaton> StreamSearch<'a, A> {
-    /// A search of a stream, which has read nothing yet. It is refused where the automaton can't make one, and else where there
+    /// A search of a stream, which has read nothing yet. Returns an error if the automaton can't make one, and otherwise if there
     /// is no memory for the buffer; it takes no memory after that.
     pub fn new(automaton: &'a A, alloc: Global) -> Result<StreamSearch<'a, A>, StreamError>
         ensures { AnswersNew (A.built automaton.now) (A.supports automaton.now) result }
@@ -181,7 +181,7 @@ impl<'a, A: Automaton> StreamSearch<'a, A> {
         })
     }
 
-    /// The bytes that are held: the last ones of those that were read.
+    /// The held bytes: the last ones of those that were read.
     pub fn held(&self) -> &[u8]
         ensures held { result.now ≡ held_by self.now }
         ensures kept { IsOnCourse self.now }
@@ -197,7 +197,7 @@ impl<'a, A: Automaton> StreamSearch<'a, A> {
         self.progress.from
     }
 
-    /// The place up to which all is decided: every match that is still to come begins there or later.
+    /// The place up to which everything is decided: every remaining match begins there or later.
     pub fn cut(&self) -> usize
         ensures cut { result ≡ cut_of self.now }
         ensures kept { IsOnCourse self.now }
@@ -207,7 +207,7 @@ impl<'a, A: Automaton> StreamSearch<'a, A> {
             .max(self.progress.at.saturating_sub(self.buffer.keep()))
     }
 
-    /// Whether there are more bytes than places, so that nothing is left to come.
+    /// Whether there are more bytes than places: then no match is left.
     pub fn is_over(&self) -> bool
         ensures over { result ≡ true → ¬ CanBeCounted (read_by self.now) }
         ensures open { result ≡ false → CanBeCounted (read_by self.now) }
@@ -215,9 +215,9 @@ impl<'a, A: Automaton> StreamSearch<'a, A> {
         self.over
     }
 
-    /// The next match among the bytes that were read, without a read. None says that all of them were given.
+    /// The next match among the bytes that were read, without a read. None means that all of them were returned.
     ///
-    /// After a read with which there are more bytes than places it is always none.
+    /// After a read that leaves more bytes than places it is always none.
     pub fn next_held(&mut self, steps: &mut Steps) -> Option<Match>
         ensures finds { FindsHeld self.old result self.new }
         ensures counts { StreamCounts self.old self.new steps.old steps.new }
@@ -241,7 +241,7 @@ impl<'a, A: Automaton> StreamSearch<'a, A> {
         searched.found
     }
 
-    /// Moves what is after the cut to the front of the buffer, if no room is left.
+    /// Moves the bytes after the cut to the front of the buffer, if no room is left.
     fn make_room(&mut self, steps: &mut Steps)
         requires { IsSearched self.old }
         ensures room { HasRoom self.new }
@@ -256,11 +256,11 @@ impl<'a, A: Automaton> StreamSearch<'a, A> {
         }
     }
 
-    /// One read, into all the room that is left; where none is left, what is after the cut is moved to the front first. All that
+    /// One read, into all the free room; if there is none, the bytes after the cut are moved to the front first. Everything that
     /// was read before must have been searched.
     ///
-    /// It answers how many bytes it read: none at the end of the input. An error is `Read`, or `Position` where there are now
-    /// more bytes than places; nothing may be read after either.
+    /// Returns how many bytes it read: none at the end of the input. An error is `Read`, or `Position` if there are now more bytes
+    /// than places; nothing may be read after either.
     pub fn read_more<R: Read>(
         &mut self,
         reader: &mut Watched<R>,
@@ -276,7 +276,7 @@ impl<'a, A: Automaton> StreamSearch<'a, A> {
         self.fill(reader)
     }
 
-    /// One read, where there is room.
+    /// One read; there is room.
     fn fill<R: Read>(&mut self, reader: &mut Watched<R>) -> Result<usize, StreamError>
         requires open { has_ended reader.old ≡ false }
         requires searched { IsSearched self.old }

@@ -1,7 +1,8 @@
 //! Where the bytes lead from a state.
 //!
-//! The trie has a child for the lesser of a byte and its partner; here each of the 256 bytes gets its next state, so that one state
-//! after another is laid out without a look back into the trie. The array of a state takes 1 kilobyte, and is given up for the next.
+//! The trie has a child for the lesser of a byte and its partner; here each of the 256 bytes gets its next state, so that one
+//! state after another is laid out without a look back into the trie. The array of a state takes 1 kilobyte, and is reused for the
+//! next.
 ghost use Rattle.std.specs.Prelude.{◌≡◌, ℕ, ◌<◌, length, slice_index};
 ghost use Rattle.ac_input.specs.LiveLaws.{canonical};
 ghost use Rattle.ac_noncontiguous.specs.Numbering.{IsNumbering};

@@ -1,8 +1,8 @@
 //! The numbers of the states of the automaton.
 //!
-//! A search asks of each state that it comes to whether some pattern matches there, so those states have the lowest numbers but
-//! the first two: then one comparison tells. They come in breadth-first order, as the states after the starts do, so that the
-//! states that are met most often lie near to one another.
+//! A search checks at each state whether some pattern matches there, so the states that match have the lowest numbers after the
+//! first two: then one comparison decides. They come in breadth-first order, as the states after the starts do, so that the states
+//! that are met most often lie close together.
 ghost use Rattle.std.specs.Prelude.{◌≡◌, ◌+◌, ◌<◌, ◌≤◌, ◌++◌, length, true, false, slice_index, EachIndex, IfOk};
 ghost use Rattle.std.specs.List.{filter};
 ghost use Rattle.ac_input.specs.declared.primitives.number.TheConstants.{GREATEST};
@@ -99,7 +99,7 @@ fn inverse(alloc: Global, at: &[StateID], states: usize) -> Result<Vec<StateID>,
     Ok(of)
 }
 
-/// The last state at which some pattern matches: the anchored start, or the state in front of the unanchored one.
+/// The last state at which some pattern matches: the anchored start, or the state before the unanchored one.
 fn last_match(links: &Links, start: StateID) -> StateID
     requires some { 0 < length links.now.ranges.items }
     requires within { (1 < start) × (start < GREATEST) }

@@ -1,7 +1,7 @@
 //! The rows of the states that few bytes lead to.
 //!
-//! A row has the next state for each class of bytes. Most of a search's steps are near to the start, where states have most
-//! children, so a row for each state of little depth makes a step there three loads; elsewhere rows would be mostly empty.
+//! A row has the next state for each class of bytes. Most of a search's steps are near the start, where states have most children.
+//! A row for each state of little depth makes a step there three loads; elsewhere rows would be mostly empty.
 ghost use Rattle.std.specs.Prelude.{◌≡◌, ℕ, ◌+◌, ◌<◌, ◌||◌, length, true, IfOk};
 ghost use Rattle.ac_input.specs.Alphabet.{has, is_edge, alphabet_len};
 ghost use Rattle.ac_noncontiguous.specs.Numbering.{IsNumbering};
@@ -16,7 +16,7 @@ use ac_input::alphabet::{ByteClassSet, ByteClasses};
 use ac_input::primitives::StateID;
 use std::alloc::{AllocError, Global};
 
-/// Parts the byte from all others.
+/// Separates the byte from all others.
 fn part(set: &mut ByteClassSet, byte: u8)
     ensures parted { IsParted set.new byte }
     ensures kept { (b : ℕ) → has set.old b ≡ true → has set.new b ≡ true }
@@ -25,7 +25,7 @@ fn part(set: &mut ByteClassSet, byte: u8)
     set.set_range(byte, byte);
 }
 
-/// The classes of bytes that no state of the trie tells apart.
+/// The classes of bytes that no state of the trie distinguishes.
 pub(super) fn classes(trie: &Trie) -> ByteClasses
     ensures alone { AreAlone trie.now result }
     ensures made { AreClassesOfTrie trie.now result }
@@ -76,7 +76,7 @@ pub(super) struct Rows {
     pub rows: Vec<StateID>,
 }
 
-/// Puts a row of the state after the others, if it is less deep than this depth, and answers where it begins.
+/// Puts a row of the state after the others, if it is less deep than this depth, and returns where it begins.
 fn push_state(
     trie: &Trie,
     numbering: &Numbering,

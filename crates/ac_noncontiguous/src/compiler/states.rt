@@ -1,4 +1,4 @@
-//! What is kept of each state.
+//! What is stored for each state.
 ghost use Rattle.std.specs.Prelude.{◌≡◌, ◌+◌, ◌<◌, length, IfOk};
 ghost use Rattle.ac_noncontiguous.specs.Numbering.{FitsTrie, IsNumbering};
 ghost use Rattle.ac_noncontiguous.specs.Assembly.{IsFailureOf, IsKeptOf, AreKept};
@@ -22,7 +22,7 @@ fn failure(numbering: &Numbering, links: &Links, id: StateID) -> StateID
     }
 }
 
-/// What is kept of the state, whose transitions and row begin at these places.
+/// What is stored for the state, whose transitions and row begin at these places.
 fn kept(
     trie: &Trie,
     numbering: &Numbering,
@@ -58,7 +58,7 @@ fn kept(
     }
 }
 
-/// What is kept of all states, and one entry more, for the end of their transitions.
+/// What is stored for all states, and one entry more, for the end of their transitions.
 pub(super) fn states(
     alloc: Global,
     trie: &Trie,

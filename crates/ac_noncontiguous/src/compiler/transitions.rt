@@ -1,7 +1,7 @@
 //! The transitions of the states, one state after another.
 //!
-//! A state keeps the transitions that lead somewhere, and none for the other bytes, at which its failure is asked. The dead state
-//! and both starts keep all 256: they are asked last or most often, and have no failure to ask.
+//! A state stores the transitions that lead somewhere, and none for the other bytes, which are looked up at its failure. The dead
+//! state and both starts store all 256: they are reached last or most often, and have no failure.
 //!
 //! Most states have one child or none, and then need no look at each of the 256 bytes.
 ghost use Rattle.std.specs.Prelude.{◌≡◌, ◌+◌, ◌<◌, ◌++◌, length, true, false, IsTrue, IfOk};
@@ -51,7 +51,7 @@ fn has_all(numbering: &Numbering, state: usize) -> bool
     state == 0 || state == numbering.start.as_usize() || state == numbering.start.one_more()
 }
 
-/// Whether the trie state has no child, or one alone, for a byte that stands for itself and its partner.
+/// Whether the trie state has no child, or only one, for a byte that stands for itself and its partner.
 fn has_one_at_most(trie: &Trie, of: StateID) -> bool
     requires { of < length trie.now.states.items }
     ensures { IsTrue result → HasOneAtMost trie.now of }

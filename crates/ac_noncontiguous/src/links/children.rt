@@ -1,7 +1,7 @@
 //! The children of all states of a trie, one state after another.
 //!
 //! The states of a large trie lie far apart in memory, and so do the children of one state. Where children are looked up often, as
-//! for the failures, they are put side by side: 13 bytes a state, which are given back.
+//! for the failures, they are put side by side: 13 bytes a state, which are freed afterwards.
 ghost use Rattle.std.specs.Prelude.{◌≡◌, ◌+◌, ◌<◌, map, length, IfOk};
 ghost use Rattle.ac_noncontiguous.specs.Tree.{byte as byte_of};
 ghost use Rattle.ac_noncontiguous.specs.Children.{AppendsChildren, AreChildrenOfAll};
@@ -11,7 +11,7 @@ use crate::trie::Trie;
 use ac_input::primitives::StateID;
 use std::alloc::{AllocError, Global};
 
-/// Up to how many children are looked through without asking a hint first.
+/// Up to how many children are searched without trying a hint first.
 const FEW: usize = 16;
 
 /// Where the children of each state begin, in rising order of state; the children; and the byte of each.
@@ -63,7 +63,7 @@ impl Trie {
         Ok(Children { firsts, ids, bytes })
     }
 
-    /// The child of the state for the byte. Where there are many, a hint is asked first.
+    /// The child of the state for the byte. If there are many, a hint is tried first.
     pub(super) fn child_of(&self, children: &Children, of: StateID, byte: u8) -> Option<StateID>
         requires within { of < length self.now.states.items }
         requires children { AreChildrenOfAll self.now.states.items children.now }

@@ -1,10 +1,10 @@
 //! To which state each state of a trie fails.
 //!
-//! A state fails to the one for the longest part of its text that may still grow into the answer. That is where its last byte
-//! leads from the failure of its parent; and where a byte leads from a state is told by the state's child for it, or else by the
-//! failure of the state. So failures are found from shallow states to deep ones.
+//! A state fails to the one for the longest part of its text that may still grow into a match. That is where its last byte leads
+//! from the failure of its parent. Where a byte leads from a state is given by the state's child for it, or else by the failure of
+//! the state. So failures are computed from shallow states to deep ones.
 //!
-//! Each step from a failure to the next one is paid by a byte of the pattern by which the states were added: the time is in
+//! Each step from a failure to the next one is paid for by a byte of the pattern by which the states were added: the time is in
 //! proportion to the bytes of the patterns.
 ghost use Rattle.std.specs.Prelude.{◌≡◌, ℕ, ◌+◌, ◌<◌, length, Some, IfOk};
 ghost use Rattle.ac_input.specs.Dictionary.{Dictionary};
@@ -23,7 +23,7 @@ use ac_input::search::MatchKind;
 use std::alloc::{AllocError, Global};
 
 impl Trie {
-    /// Where the byte leads from the state, if its failure needn't be asked.
+    /// Where the byte leads from the state, if its failure isn't needed.
     fn told_by(&self, children: &Children, of: StateID, byte: u8) -> Option<StateID>
         requires within { of < length self.now.states.items }
         requires children { AreChildrenOfAll self.now.states.items children.now }
@@ -36,7 +36,7 @@ impl Trie {
         child
     }
 
-    /// Where the byte leads from the state: as the first state tells it along the failures, if any does.
+    /// Where the byte leads from the state: where the first state along the failures that has an edge for it leads, if any has.
     fn next(
         &self,
         children: &Children,

@@ -1,9 +1,9 @@
 //! The states of a trie in order of their depth.
 //!
-//! A failure link leads to a state of lesser depth, so the links are given breadth first. States are numbered as they were added,
-//! one pattern after another; here they are put in order of their depth. A pass from the last state back makes a list of the
-//! states of each depth, and the lists are read one after another: the time is in proportion to the states, and what it takes
-//! besides the order, eight bytes a state, is given back.
+//! A failure link leads to a state of lesser depth, so the links are computed breadth first. States are numbered as they were
+//! added, one pattern after another; here they are put in order of their depth. A pass from the last state back makes a list of
+//! the states of each depth, and the lists are read one after another. The time is in proportion to the states; the memory besides
+//! the order, eight bytes a state, is freed.
 ghost use Rattle.std.specs.Prelude.{◌+◌, ◌<◌, length, IfOk};
 ghost use Rattle.ac_noncontiguous.specs.Order.{AreLevels, AreInOrder, IsBreadthFirst};
 

@@ -1,7 +1,7 @@
 //! The patterns that end in each state.
 //!
-//! A trie knows of each pattern in which state it ends. A pass from the last pattern back makes a list for each state, in rising
-//! order of number; it takes four bytes a state and four a pattern, and time in proportion to both.
+//! A trie stores for each pattern the state in which it ends. A pass from the last pattern back makes a list for each state, in
+//! rising order of number; it takes four bytes a state and four a pattern, and time in proportion to both.
 ghost use Rattle.std.specs.Prelude.{◌<◌, length, IfOk};
 ghost use Rattle.ac_noncontiguous.specs.Assembly.{AreOwnOf};
 ghost use Rattle.ac_noncontiguous.specs.Own.{AppendsOwn};

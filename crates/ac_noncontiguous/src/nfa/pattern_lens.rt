@@ -1,7 +1,7 @@
-//! The patterns as an automaton remembers them.
+//! The patterns as an automaton stores them.
 //!
-//! A search asks how long a pattern is, and never again which bytes it has. So an automaton keeps the lengths alone; what the
-//! patterns are is seen by contracts, and takes no memory.
+//! A search needs how long a pattern is, and never again which bytes it has. So an automaton stores only the lengths; the patterns
+//! themselves are seen by contracts, and take no memory.
 ghost use Rattle.std.specs.Prelude.{◌≡◌, ◌++◌, [], ◌∷◌, ◌<◌, ◌≤◌, length, get_or, IfOk, OnOk};
 ghost use Rattle.ac_input.specs.declared.primitives.number.TheConstants.{GREATEST};
 ghost use Rattle.ac_input.specs.Work.{longest, shortest};
@@ -70,7 +70,7 @@ impl PatternLens {
         Ok(lens)
     }
 
-    /// The same once more, in memory from `alloc`.
+    /// A copy, in memory from `alloc`.
     /// A caller: `uses::callers::nfa::copy_lens`.
     pub fn clone(&self, alloc: Global) -> Result<PatternLens, AllocError>
         ensures { IfOk result (λ copy. copy ≡ self.now) }
@@ -116,7 +116,7 @@ impl PatternLens {
         self.most
     }
 
-    /// How many bytes of memory they take, beside themselves.
+    /// How many bytes of memory they take, besides themselves.
     pub fn memory_usage(&self) -> usize {
         self.each.len().saturating_mul(4)
     }

@@ -1,6 +1,6 @@
 //! Reading the automaton, state by state.
 //!
-//! Other automata are made from this one by these calls: they tell of each state where its bytes lead, to which state it fails,
+//! Other automata are made from this one by these calls: they return for each state where its bytes lead, to which state it fails,
 //! and which patterns match there. A state is a number below [`NFA::state_len`].
 //!
 //! The states are numbered so: 0 is the dead one, which is never left; 1 is the fail state, which stands for no state where a byte
@@ -21,7 +21,7 @@ use ac_literal::openings::Openings;
 use std::alloc::{AllocError, Global};
 use std::marker::Model;
 
-/// The numbers that stand between the parts of the states.
+/// The numbers between the parts of the states.
 #[derive(Clone, Copy, Debug, PartialEq, Eq)]
 pub struct Special {
     /// The last state at which a search has more to do than to read on.
@@ -34,7 +34,7 @@ pub struct Special {
     pub start_anchored_id: StateID,
 }
 
-/// The patterns of a state that are left to come. From [`NFA::iter_matches`].
+/// The remaining patterns of a state. From [`NFA::iter_matches`].
 #[derive(Drop)]
 pub struct MatchIter<'a> {
     rest: &'a [PatternID],
@@ -64,7 +64,7 @@ impl<'a> Iterator for MatchIter<'a> {
     }
 }
 
-/// The transitions of a state that are left to come, in rising order of byte. From [`NFA::iter_trans`].
+/// The remaining transitions of a state, in rising order of byte. From [`NFA::iter_trans`].
 #[derive(Drop)]
 pub struct TransIter<'a> {
     rest: &'a [Transition],
@@ -111,7 +111,7 @@ impl NFA {
         self.tables.states.len() - 1
     }
 
-    /// The state that is asked where a byte leads to none.
+    /// The failure of the state, where a byte is looked up that leads nowhere from the state itself.
     /// A caller: `uses::callers::nfa::fails_upward`.
     pub fn fail(&self, sid: StateID) -> StateID
         requires { sid < state_len self.now }
@@ -184,7 +184,7 @@ impl NFA {
         &self.tables.classes
     }
 
-    /// The numbers that stand between the parts of the states.
+    /// The numbers between the parts of the states.
     /// A caller: `uses::callers::nfa::start_of`.
     pub fn special(&self) -> Special
         ensures value { result ≡ special_in self.now }
@@ -200,7 +200,7 @@ impl NFA {
 
     /// The state to which a byte leads from a state, where the search began with this anchoring: all failures are followed.
     ///
-    /// It answers as a search goes, from any state to which a search may come, the dead one included. It counts nothing.
+    /// It gives the step of a search from any state that a search may reach, the dead one included. It counts nothing.
     /// A caller: `uses::callers::nfa::lead_over`.
     pub fn lead(&self, anchored: Anchored, sid: StateID, byte: u8) -> StateID
         requires { MayBeMet self.now anchored sid }
@@ -254,7 +254,7 @@ impl NFA {
         self.openings
     }
 
-    /// The same automaton once more, in memory from `alloc`.
+    /// A copy of the automaton, in memory from `alloc`.
     /// A caller: `uses::callers::build::copy`.
     pub fn clone(&self, alloc: Global) -> Result<NFA, AllocError>
         ensures { IfOk result (IsCopy self.now) }
@@ -272,7 +272,7 @@ impl NFA {
         ))
     }
 
-    /// How many bytes of memory it takes, beside itself.
+    /// How many bytes of memory it takes, besides itself.
     pub(crate) fn memory_of_parts(&self) -> usize {
         self.tables
             .memory_usage()

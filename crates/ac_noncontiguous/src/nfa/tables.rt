@@ -1,9 +1,9 @@
 //! The tables of the automaton, and how a search looks things up in them.
 //!
 //! The transitions of a state are one range of one vector, in rising order of byte, and so are its patterns; a state without
-//! patterns of its own shares the range of the state to which it fails. States that few bytes lead to keep a row as well, with the
-//! next state for each class of bytes: there a look-up is three loads (where the row begins, the class of the byte, and
-//! the next state), elsewhere it halves the range.
+//! patterns of its own shares the range of its failure. States that few bytes lead to keep a row as well, with the next state for
+//! each class of bytes: there a look-up is three loads (where the row begins, the class of the byte, and the next state),
+//! elsewhere a binary search in the range.
 ghost use Rattle.std.specs.Prelude.{◌≡◌, ◌≤◌, ◌+◌, false, length, take, drop, IfOk};
 ghost use Rattle.ac_automaton.specs.Starters.{SkipsIdle};
 ghost use Rattle.ac_input.specs.Input.{is_anchored};
@@ -17,10 +17,10 @@ use ac_input::search::Anchored;
 use ac_input::steps::Steps;
 use std::alloc::{AllocError, Global};
 
-/// What a state has that keeps no row.
+/// The row entry of a state without a row.
 pub(crate) const NO_ROW: u32 = u32::MAX;
 
-/// What is kept of a state: 32 bytes.
+/// What is stored for a state: 32 bytes.
 #[derive(Clone, Copy, Debug)]
 pub(crate) struct State {
     /// Where its transitions begin. They end where those of the next state begin.
@@ -29,7 +29,7 @@ pub(crate) struct State {
     pub matches: usize,
     /// How many patterns match here.
     pub matches_len: u32,
-    /// The state that is asked where no transition has the byte.
+    /// The failure, where a byte is looked up that no transition has.
     pub fail: StateID,
     /// How many bytes lead here from the start.
     pub depth: u32,
@@ -65,7 +65,7 @@ pub(crate) struct Tables {
 /// What stands for no state: the number of the fail state.
 pub(crate) const FAIL: usize = 1;
 
-/// So many items of a list, from a place on.
+/// This many items of a list, from a place on.
 pub(crate) fn part<T>(items: &[T], from: usize, len: usize) -> &[T]
     requires { from + len ≤ length items.now }
     ensures { result.now ≡ take len (drop from items.now) }
@@ -75,7 +75,7 @@ pub(crate) fn part<T>(items: &[T], from: usize, len: usize) -> &[T]
 }
 
 impl Tables {
-    /// The state that is asked where no transition has the byte.
+    /// The failure of a state, where a byte is looked up that no transition has.
     #[inline]
     pub(crate) fn fail(&self, sid: StateID) -> StateID
         requires { IsKept self.now sid }
@@ -84,7 +84,7 @@ impl Tables {
         self.states[sid.as_usize()].fail
     }
 
-    /// The next state of that one of some transitions that has the byte, found by halves; the fail state where none has it.
+    /// The next state of the transition that has the byte, by binary search; the fail state if none has it.
     #[inline]
     fn find(&self, from: usize, end: usize, byte: u8) -> StateID
         requires ordered { from ≤ end }
@@ -156,7 +156,7 @@ impl Tables {
         }
     }
 
-    /// The state after one more byte, where the search began with this anchoring; and counts the states that it looks at.
+    /// The state after one more byte, where the search began with this anchoring. Counts the states that it looks at.
     #[inline]
     pub(crate) fn next(
         &self,
@@ -197,7 +197,7 @@ impl Tables {
         starters
     }
 
-    /// How many bytes of memory they take, beside themselves.
+    /// How many bytes of memory they take, besides themselves.
     pub(crate) fn memory_usage(&self) -> usize {
         (self.states.len().saturating_mul(32))
             .saturating_add(self.transitions.len().saturating_mul(8))
@@ -205,7 +205,7 @@ impl Tables {
             .saturating_add(self.matches.len().saturating_mul(4))
     }
 
-    /// The same once more, in memory from `alloc`.
+    /// A copy, in memory from `alloc`.
     pub(crate) fn clone(&self, alloc: Global) -> Result<Tables, AllocError>
         ensures { IfOk result (AreSame self.now) }
     {

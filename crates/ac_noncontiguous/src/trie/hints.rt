@@ -1,11 +1,11 @@
 //! Where children were found, so that a long list of siblings isn't walked again for each pattern.
 //!
-//! A hint says of a state and a byte which child that may be. It is looked at before it is followed: the child names its parent
-//! and its byte, so a hint that was overwritten, or was forgotten as the table grew, costs a walk and changes no answer. The
-//! hints of one state stand in the order of their bytes, and so a hint in front of a missing one tells from where to walk on.
+//! A hint says for a state and a byte which child that may be. It is checked before it is followed: the child names its parent and
+//! its byte, so a hint that was overwritten, or was lost as the table grew, costs a walk and changes no result. The hints of one
+//! state stand in the order of their bytes, so a hint before a missing one gives the place to walk on from.
 //!
-//! Only children that aren't the first of their parent are noted. The table has room for twice as many as were noted since it
-//! grew, and at most 16 megabytes; where there is no memory to grow, it starts anew.
+//! Only children that aren't the first of their parent are recorded. The table has room for twice as many as were recorded since
+//! it grew, and at most 16 megabytes; if there is no memory to grow, it starts anew.
 ghost use Rattle.std.specs.Prelude.{◌≡◌, ℕ, ◌<◌, length, Some, IsTrue};
 ghost use Rattle.ac_noncontiguous.specs.Tree.{IsSiblingWalk, IsChildBelow};
 ghost use Rattle.ac_noncontiguous.specs.Edges.{IsChildFor};
@@ -27,7 +27,7 @@ const REACH: u8 = 16;
 /// An odd number that spreads the numbers of the states over the table.
 const SPREAD: u32 = 2654435769;
 
-/// At a place for a state and a byte, the child that was noted there last; the start where none was.
+/// At a place for a state and a byte, the child that was recorded there last; the start where none was.
 #[derive(Drop)]
 pub(super) struct Hints {
     slots: Vec<StateID>,
@@ -49,7 +49,7 @@ impl Hints {
         (from + byte as usize) & self.slots.len().wrapping_sub(1)
     }
 
-    /// What was noted last at the place for the state and the byte: perhaps the child of another state.
+    /// What was recorded last at the place for the state and the byte: perhaps the child of another state.
     pub(super) fn get(&self, of: StateID, byte: u8) -> StateID {
         match self.slots.get(self.slot(of, byte)) {
             Some(id) => *id,
@@ -57,7 +57,7 @@ impl Hints {
         }
     }
 
-    /// Notes the child of the state for the byte.
+    /// Records the child of the state for the byte.
     pub(super) fn put(&mut self, of: StateID, byte: u8, child: StateID) {
         let len = self.slots.len();
         self.noted = self.noted.wrapping_add(1);
@@ -70,7 +70,7 @@ impl Hints {
         }
     }
 
-    /// Makes room for so many, and forgets those that were noted.
+    /// Makes room for this many, and drops those that were recorded.
     fn grow(&mut self, len: usize) {
         self.noted = 0;
         self.slots.clear();
@@ -92,7 +92,7 @@ impl Trie {
         state.parent == of && state.byte == byte
     }
 
-    /// The child of the state for the byte, if it is the first one or a hint tells it.
+    /// The child of the state for the byte, if it is the first one or a hint gives it.
     pub(crate) fn known(&self, of: StateID, byte: u8) -> Option<StateID>
         requires { of < length self.now.states.items }
         ensures { (id : ℕ) → result ≡ Some id → IsChildFor self.now.states.items of byte id }
@@ -111,7 +111,7 @@ impl Trie {
         None
     }
 
-    /// A child of the state for a lesser byte, near to this one, if a hint tells one.
+    /// A child of the state for a lesser byte, near this one, if a hint gives one.
     fn known_before(&self, of: StateID, byte: u8) -> Option<StateID>
         ensures { (id : ℕ) → result ≡ Some id → IsChildBelow self.now.states.items of byte id }
     {
@@ -149,7 +149,7 @@ impl Trie {
         }
     }
 
-    /// Notes a child of the state where it isn't the first.
+    /// Records a child of the state if it isn't the first.
     pub(super) fn note_child(&mut self, of: StateID, byte: u8, child: StateID)
         requires { of < length self.old.states.items }
         ensures states { self.new.states ≡ self.old.states }

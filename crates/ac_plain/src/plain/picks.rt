@@ -5,9 +5,9 @@ use super::{Found, Naive};
 use ac_input::search::MatchKind;
 use std::marker::Model;
 
-/// The picks of a walk that are left to come. From [`Naive::picks`].
+/// The remaining picks of a walk. From [`Naive::picks`].
 ///
-/// Each is found when it is asked for, and none is kept. After the last one there is none for good.
+/// Each is computed on request, and none is stored. After the last one there are no more.
 #[derive(Drop)]
 pub struct Picks<'a> {
     pub(super) search: Naive<'a>,

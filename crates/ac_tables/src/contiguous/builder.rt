@@ -160,7 +160,7 @@ impl Builder {
         self
     }
 
-    /// Sets whether searches have a prefilter, where one serves. It changes no answer.
+    /// Sets whether searches have a prefilter, if one serves. It changes no result.
     /// A caller: `uses::callers::tables::contiguous_plain`.
     pub fn prefilter(&mut self, yes: bool) -> &mut Builder
         ensures same { result.ghost_name ≡ self.entry.ghost_name }
@@ -171,7 +171,7 @@ impl Builder {
     }
 
     /// Sets to which depth states are dense: those to which fewer bytes lead. A dense state has an entry for each class of bytes,
-    /// so that a look-up there takes two loads. It changes no answer.
+    /// so that a look-up there takes two loads. It changes no result.
     /// A caller: `uses::callers::tables::contiguous_form`.
     pub fn dense_depth(&mut self, depth: usize) -> &mut Builder
         ensures same { result.ghost_name ≡ self.entry.ghost_name }
@@ -181,8 +181,8 @@ impl Builder {
         self
     }
 
-    /// Sets whether bytes are put into classes that no state tells apart. Without them a dense state has 256 entries. It changes no
-    /// answer.
+    /// Sets whether bytes are put into classes that no state distinguishes. Without them a dense state has 256 entries. It changes
+    /// no result.
     /// A caller: `uses::callers::tables::contiguous_form`.
     pub fn byte_classes(&mut self, yes: bool) -> &mut Builder
         ensures same { result.ghost_name ≡ self.entry.ghost_name }
@@ -192,10 +192,10 @@ impl Builder {
         self
     }
 
-    /// The contiguous automaton that finds what this one finds, and holds its prefilter.
+    /// The contiguous automaton that finds what this one finds, and has its prefilter.
     ///
-    /// Of the settings only [`Builder::dense_depth`] and [`Builder::byte_classes`] count here. It is refused where the first word
-    /// of a state would stand past the greatest number, before memory for the words is taken, and where memory ends.
+    /// Of the settings only [`Builder::dense_depth`] and [`Builder::byte_classes`] count here. Returns an error if the first word
+    /// of a state would be past the greatest number, before memory for the words is taken, or if memory runs out.
     /// A caller: `uses::callers::tables::contiguous_form`.
     pub fn build_from_noncontiguous(&self, alloc: Global, nfa: &nfa::NFA) -> Result<NFA, BuildError>
         ensures made { IfOk result (IsMadeFrom self.now nfa.now) }
@@ -224,8 +224,8 @@ impl Builder {
 
     /// The automaton of the patterns, which are numbered from 0 in this order.
     ///
-    /// It is refused where a noncontiguous automaton of the patterns is, and where the first word of a state would stand past the
-    /// greatest number.
+    /// Returns an error if a noncontiguous automaton of the patterns can't be built, or if the first word of a state would be past
+    /// the greatest number.
     /// A caller: `uses::callers::tables::contiguous_plain`.
     pub fn build(&self, alloc: Global, patterns: &[&[u8]]) -> Result<NFA, BuildError>
         ensures built { IfOk result (IsBuiltOf self.now patterns.now) }

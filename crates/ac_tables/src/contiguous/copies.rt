@@ -8,7 +8,7 @@ use crate::contiguous::table::Table;
 use ac_automaton::held::clone_held;
 use std::alloc::{AllocError, Global};
 
-/// The table once more.
+/// A copy of the table.
 fn clone_table(alloc: Global, table: &Table) -> Result<Table, AllocError>
     ensures { IfOk result (IsCopiedTable table.now) }
 {
@@ -23,7 +23,7 @@ fn clone_table(alloc: Global, table: &Table) -> Result<Table, AllocError>
 }
 
 impl NFA {
-    /// The same automaton once more, in memory from `alloc`.
+    /// A copy of the automaton, in memory from `alloc`.
     /// A caller: `uses::callers::tables::contiguous_copy`.
     pub fn clone(&self, alloc: Global) -> Result<NFA, AllocError>
         ensures { IfOk result (IsCopy self.now) }

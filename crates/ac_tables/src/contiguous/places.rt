@@ -1,7 +1,7 @@
 //! Where the states stand.
 //!
 //! All places are known before the first word is written, so each state is written with its final numbers, and a build that would
-//! need too great a number is refused before memory for the words is taken.
+//! need too great a number fails before memory for the words is taken.
 ghost use Rattle.std.specs.Prelude.{◌≡◌, ◌≢◌, ℕ, ◌+◌, ◌<◌, ◌≤◌, ◌==◌, ◌++◌, ◌∷◌, [], if◌then◌else◌, length, IfOk, IfErr};
 ghost use Rattle.ac_input.specs.declared.primitives.number.TheConstants.{GREATEST};
 ghost use Rattle.ac_noncontiguous.specs.ReadCalls.{state_len, edges_in};
@@ -18,7 +18,7 @@ use std::alloc::{AllocError, Global};
 /// The fail state, which has no words.
 pub(super) const FAIL: usize = 1;
 
-/// How many words a state takes that has so many transitions and patterns.
+/// How many words a state with this many transitions and patterns takes.
 fn words_len(shallow: bool, transitions: usize, matches: usize, alphabet_len: usize) -> usize
     requires alphabet { alphabet_len ≤ 256 }
     requires matches { matches ≤ GREATEST + 1 }
@@ -60,7 +60,7 @@ fn len_of(nfa: &NFA, sid: StateID, dense_depth: usize, classes: &ByteClasses) ->
     )
 }
 
-/// The place of a state, where the words of the states before it take so many. It fails where that is past the greatest number.
+/// The place of a state, if the states before it take this many words. It fails if that is past the greatest number.
 fn place_of(state: usize, before: usize) -> Result<StateID, BuildError>
     ensures placed { IfOk result (IsPlaceAfter state before) }
     ensures refused { IfErr result (IsPlaceTooGreat state before) }

@@ -15,7 +15,7 @@ use std::marker::Model;
 /// What is written of a state.
 #[derive(Drop)]
 pub(super) struct Parts<'a> {
-    /// Whether it keeps an entry for each class, however few transitions it has.
+    /// Whether it has an entry for each class, however few transitions it has.
     pub shallow: bool,
     /// The place of the state to which it fails.
     pub fail: StateID,

@@ -1,8 +1,8 @@
 //! How a DFA is built: the settings, and the build.
 //!
-//! A DFA is made of a noncontiguous automaton, state by state. Besides what that is told, a builder is told for which searches
-//! there is a start, and whether bytes that lead alike share an entry of a row. It takes time and memory in proportion to the
-//! table: the number of states times the stride, twice that where there are both starts.
+//! A DFA is made from a noncontiguous automaton, state by state. Besides the settings of that one, a builder sets for which
+//! searches there is a start, and whether bytes that lead alike share an entry of a row. It takes time and memory in proportion to
+//! the table: the number of states times the stride, twice that with both starts.
 ghost use Rattle.std.specs.Prelude.{◌≡◌, IfOk, IfErr};
 ghost use Rattle.ac_input.specs.Pairing.{IsFolded};
 ghost use Rattle.ac_tables.specs.DfaBuild.{AreFirst, IsDfaOf, IsDfaRefused, IsBuiltOf, IsRefusedOf, IsBuiltAtFirst, IsRefusedAtFirst, parts_by};
@@ -159,7 +159,7 @@ impl Builder {
         self
     }
 
-    /// Sets whether searches have a prefilter, where one serves. It changes no answer.
+    /// Sets whether searches have a prefilter, if one serves. It changes no result.
     /// A caller: `uses::callers::tables::dfa_plain`.
     pub fn prefilter(&mut self, yes: bool) -> &mut Builder
         ensures same { result.ghost_name ≡ self.entry.ghost_name }
@@ -180,7 +180,7 @@ impl Builder {
     }
 
     /// Sets whether bytes that lead alike share an entry of each row. Without, a row has 256 entries, and a look-up doesn't load
-    /// the byte's class. It changes no answer.
+    /// the byte's class. It changes no result.
     /// A caller: `uses::callers::tables::dfa_form`.
     pub fn byte_classes(&mut self, yes: bool) -> &mut Builder
         ensures same { result.ghost_name ≡ self.entry.ghost_name }
@@ -193,8 +193,8 @@ impl Builder {
     /// The DFA of a noncontiguous automaton. Of the settings only [`Builder::start_kind`] and [`Builder::byte_classes`] count; kind,
     /// pairing and prefilter are those of the automaton.
     ///
-    /// It is refused where the last row would begin past [`GREATEST`](ac_input::primitives::GREATEST), before it takes any memory,
-    /// and where memory ends; and only then.
+    /// Returns an error if the last row would begin past [`GREATEST`](ac_input::primitives::GREATEST), before it takes any memory,
+    /// or if memory runs out; for no other reason.
     /// A caller: `uses::callers::tables::dfa_form`.
     pub fn build_from_noncontiguous(&self, alloc: Global, nfa: &NFA) -> Result<DFA, BuildError>
         ensures built { IfOk result (IsDfaOf self.now nfa.now) }
@@ -214,7 +214,7 @@ impl Builder {
         ))
     }
 
-    /// The builder of the automaton of which the DFA is made.
+    /// The builder of the automaton from which the DFA is made.
     fn noncontiguous(&self) -> builder::Builder
         ensures { result ≡ parts_by self.now }
     {
@@ -229,7 +229,7 @@ impl Builder {
 
     /// The DFA of the patterns, which are numbered from 0 in this order.
     ///
-    /// It is refused where the noncontiguous automaton is, and where the table would be too large.
+    /// Returns an error if the noncontiguous automaton can't be built, or if the table would be too large.
     /// A caller: `uses::callers::tables::dfa_plain`.
     pub fn build(&self, alloc: Global, patterns: &[&[u8]]) -> Result<DFA, BuildError>
         ensures built { IfOk result (IsBuiltOf self.now patterns.now) }

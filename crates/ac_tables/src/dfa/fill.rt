@@ -159,7 +159,7 @@ impl<'a> Filler<'a> {
         }
     }
 
-    /// A table of so many rows, filled.
+    /// A table of this many rows, filled.
     pub(super) fn filled(&self, alloc: Global, rows: usize) -> Result<Vec<StateID>, AllocError>
         requires { rows ≡ dfa_states self.now.numbers.kind (state_len self.now.nfa.now) }
         ensures { IfOk result (λ trans. AreAllRows self.now trans.items) }

@@ -15,7 +15,7 @@ use ac_input::primitives::{GREATEST, StateID};
 use ac_input::search::{Anchored, StartKind};
 use ac_noncontiguous::error::{BuildError, BuildErrorKind};
 
-/// How many rows there are for so many states of the noncontiguous automaton.
+/// How many rows there are for this many states of the noncontiguous automaton.
 pub(super) fn rows(kind: StartKind, states: usize) -> usize
     requires some { 2 ≤ states }
     requires few { states ≤ GREATEST + 1 }
@@ -27,7 +27,7 @@ pub(super) fn rows(kind: StartKind, states: usize) -> usize
     }
 }
 
-/// Refuses so many rows of this length where the number of the last one would be past the greatest.
+/// Fails if the number of the last of this many rows of this length would be past the greatest.
 pub(super) fn check_size(rows: usize, stride: usize) -> Result<(), BuildError>
     requires { 1 ≤ rows }
     ensures fits { OnOk result ((rows - 1) * stride ≤ GREATEST) }

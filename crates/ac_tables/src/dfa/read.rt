@@ -12,7 +12,7 @@ use ac_input::search::StartKind;
 use std::alloc::{AllocError, Global};
 
 impl Lists {
-    /// The same once more, in memory from `alloc`.
+    /// A copy, in memory from `alloc`.
     fn clone(&self, alloc: Global) -> Result<Lists, AllocError>
         ensures { IfOk result (AreSameLists self.now) }
     {
@@ -24,7 +24,7 @@ impl Lists {
 }
 
 impl Table {
-    /// The same once more, in memory from `alloc`.
+    /// A copy, in memory from `alloc`.
     fn clone(&self, alloc: Global) -> Result<Table, AllocError>
         ensures { IfOk result (IsSameDfaTable self.now) }
     {
@@ -74,7 +74,7 @@ impl DFA {
         self.table.kind
     }
 
-    /// The same automaton once more, in memory from `alloc`.
+    /// A copy of the automaton, in memory from `alloc`.
     /// A caller: `uses::callers::tables::dfa_copy`.
     pub fn clone(&self, alloc: Global) -> Result<DFA, AllocError>
         ensures { IfOk result (IsCopy self.now) }

@@ -121,7 +121,7 @@ impl Table {
         &self.lists.patterns[start..self.lists.ends[at]]
     }
 
-    /// How many bytes of memory it takes, beside itself.
+    /// How many bytes of memory it takes, besides itself.
     pub(crate) fn memory_usage(&self) -> usize {
         (self.trans.len().saturating_mul(4))
             .saturating_add(self.lists.patterns.len().saturating_mul(4))

@@ -91,12 +91,12 @@ fn shows(rt: &impl Abort, rules: &str, did: &Did, want: &Did) {
     );
 }
 
-/// How often an input is read, with so many bytes a read and an empty one.
+/// How often an input is read, with this many bytes a read and an empty one.
 fn reads_of(input: &[u8], most: usize) -> usize {
     input.len().div_ceil(most.max(1)).saturating_add(1)
 }
 
-/// A text, so many times over.
+/// A text, repeated this many times.
 #[derive(Clone, Copy)]
 struct Times(usize, &'static str);
 
@@ -116,7 +116,7 @@ enum Rules {
     Find(&'static [&'static [u8]]),
     /// Patterns and their replacements.
     Swap(&'static [(&'static [u8], &'static [u8])]),
-    /// Rules that take away the letter `a` once, twice, and so on up to so many times.
+    /// Rules that take away the letter `a` once, twice, and so on up to this many times.
     Rising(usize),
     /// A rule file, put together of parts.
     File(&'static [Times]),
@@ -169,7 +169,7 @@ struct Case<'a> {
 /// An input that is no longer is never read by less than a read gives, since a run has that much room at first.
 const LEAST_ROOM: usize = 65_536;
 
-/// Runs over so many bytes a read, and asserts that the text is written, that the first empty read is the last, and that nothing
+/// Runs over this many bytes a read, and asserts that the text is written, that the first empty read is the last, and that nothing
 /// is flushed.
 fn writes_in(rt: &impl Abort, alloc: Global, settings: &Settings, case: &Case<'_>, most: usize) {
     let takes = if case.calls.is_none() {

@@ -83,7 +83,7 @@ struct Row {
     flushes: Option<usize>,
 }
 
-/// Words that are refused, whose rule file is not even looked for.
+/// Words that are an error, whose rule file is not even opened.
 const BAD: Row = Row {
     words: &[],
     rules: LETTERS,
@@ -101,7 +101,7 @@ const BAD: Row = Row {
     flushes: Some(0),
 };
 
-/// A run that is refused. The writer is flushed all the same.
+/// A run that fails. The writer is flushed all the same.
 const REFUSED: Row = Row {
     flushes: Some(1),
     ..BAD
@@ -191,7 +191,7 @@ const ROWS: &[Row] = &[
         told: "acsub: setting: byte 48 is named twice\n",
         ..BAD
     },
-    // Each reason for which settings are refused.
+    // Each reason for which settings are an error.
     Row {
         words: &["overlap", PATH, "--kind", "leftmost-first"],
         told: "acsub: setting: overlap needs the standard kind\n",

@@ -123,8 +123,8 @@ impl AhoCorasickBuilder {
         self
     }
 
-    /// Sets which searches are served; others are refused, whichever automaton serves. A DFA for both kinds takes about twice the
-    /// memory and time to build. Replacement and streams are unanchored.
+    /// Sets which searches are served; others return an error, whichever automaton serves. A DFA for both kinds takes about twice
+    /// the memory and time to build. Replacement and streams are unanchored.
     ///
     /// A caller: `uses::callers::front::thrifty`.
     pub fn start_kind(&mut self, kind: StartKind) -> &mut AhoCorasickBuilder
@@ -326,8 +326,8 @@ impl AhoCorasickBuilder {
 
     /// The automaton of the patterns, which are numbered from 0 in this order.
     ///
-    /// It is refused exactly where the patterns pass a limit of the noncontiguous NFA, where the automaton that was named would be
-    /// too large, or where memory ends.
+    /// Returns an error exactly if the patterns pass a limit of the noncontiguous NFA, if the automaton that was named would be
+    /// too large, or if memory runs out.
     ///
     /// A caller: `uses::callers::front::folded`.
     pub fn build(&self, alloc: Global, patterns: &[&[u8]]) -> Result<AhoCorasick, BuildError>

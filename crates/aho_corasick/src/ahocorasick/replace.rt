@@ -1,7 +1,7 @@
 //! Replacement in memory.
 //!
-//! It takes the matches of a whole haystack, by an unanchored search. The calls with `try_` are refused where the automaton has no
-//! start for one; the others ask that it has. All are refused where memory is.
+//! It takes the matches of a whole haystack, by an unanchored search. The calls with `try_` return an error if the automaton has
+//! no start for one; the others require that it has. All return an error if memory runs out.
 ghost use Rattle.std.specs.Prelude.{◌≡◌, length, IfOk};
 ghost use Rattle.ac_automaton.specs.declared.error.ReplaceError.TheVariants.{Memory};
 ghost use Rattle.ac_automaton.specs.Replace.{IsForMatches, ReplacesText, ReplacesBytes, ReplacesTextWith, ReplacesBytesWith};
@@ -14,7 +14,7 @@ use ac_automaton::error::ReplaceError;
 use ac_input::search::{Anchored, Match};
 use std::alloc::{AllocError, Global};
 
-/// The error of a replacement of which the search can't be refused.
+/// The error of a replacement whose search can't fail.
 fn out_of_memory(error: ReplaceError) -> AllocError
     requires { error ≡ Memory }
 {
@@ -25,7 +25,7 @@ fn out_of_memory(error: ReplaceError) -> AllocError
 }
 
 impl AhoCorasick {
-    /// The text with each match exchanged for the replacement of its pattern: see [`AhoCorasick::try_replace_all`].
+    /// The text with each match replaced by the replacement of its pattern: see [`AhoCorasick::try_replace_all`].
     ///
     /// ```text
     /// let ac = AhoCorasick::new(alloc, &[b"fox", b"brown", b"quick"])?;
@@ -118,8 +118,8 @@ impl AhoCorasick {
         }
     }
 
-    /// The text with each match exchanged for the replacement of its pattern. There is one replacement for each pattern. A match
-    /// that begins or ends within a character is passed over: its bytes stay.
+    /// The text with each match replaced by the replacement of its pattern. There is one replacement for each pattern. A match
+    /// that begins or ends within a character is skipped: its bytes stay.
     ///
     /// A caller: `uses::callers::front_replace::try_replaced_text`.
     pub fn try_replace_all(
@@ -152,10 +152,10 @@ impl AhoCorasick {
     }
 
     /// Appends the text to the destination, and in place of each match what the closure appends: it is given the match, its text
-    /// and the destination. A match that begins or ends within a character is passed over. A closure that returns `false` is not
+    /// and the destination. A match that begins or ends within a character is skipped. A closure that returns `false` is not
     /// called again, and the rest is copied.
     ///
-    /// Where memory is refused, what was appended stays. The destination grows by the allocator that it was made with.
+    /// If memory runs out, what was appended stays. The destination grows with the allocator that it was made with.
     ///
     /// A caller: `uses::callers::front_replace::try_append_first_replaced`.
     pub fn try_replace_all_with<F>(

@@ -1,7 +1,7 @@
 //! Searches for one match, and for one after another.
 //!
-//! The calls with `try_` are refused where the automaton has no start for the input's anchoring, and those for overlapping matches
-//! where its kind isn't the standard one. The others ask that neither is so.
+//! The calls with `try_` return an error if the automaton has no start for the input's anchoring, and those for overlapping
+//! matches also if its kind isn't the standard one. The others require that neither is so.
 ghost use Rattle.std.specs.Prelude.{◌↔◌, IsTrue};
 ghost use Rattle.ac_automaton.specs.Automaton.{AnswersFind, CostsFind, IsFound, searched};
 ghost use Rattle.ac_automaton.specs.Iter.{AnswersFindIter};
@@ -101,9 +101,9 @@ impl AhoCorasick {
         Automaton::try_find_counted(self, &input, steps)
     }
 
-    /// Shows the next occurrence of the input, in the order of end, start and number, and each once; after the last one it shows
-    /// none. The state is fresh before the first call, and belongs to this automaton and this input from then on. Where the call is
-    /// refused, it is as it was.
+    /// Finds the next occurrence of the input, in the order of end, start and number, and stores it in the state; each comes once,
+    /// and after the last one the state holds none. The state is fresh before the first call, and belongs to this automaton and
+    /// this input from then on. If the call returns an error, it is unchanged.
     ///
     /// ```text
     /// let mut state = OverlappingState::start();
@@ -136,7 +136,7 @@ impl AhoCorasick {
         Automaton::try_find_iter(self, input)
     }
 
-    /// All occurrences in the input, one after another: see [`FindOverlappingIter`]. It is refused for an anchored input too.
+    /// All occurrences in the input, one after another: see [`FindOverlappingIter`]. An anchored input is an error, too.
     ///
     /// A caller: `uses::callers::front_find::has_listing`.
     pub fn try_find_overlapping_iter<'a, 'h>(

@@ -1,7 +1,8 @@
 //! Streams: their matches, and replacement from a reader to a writer.
 //!
-//! A stream is searched under the standard kind, by an unanchored search, where no pattern is empty. The calls with `try_` are refused
-//! where that isn't so; [`AhoCorasick::stream_find_iter`] asks it. One buffer is taken before the first read, and no memory after it.
+//! A stream is searched under the standard kind, by an unanchored search, without an empty pattern. The calls with `try_` return
+//! an error if that isn't so; [`AhoCorasick::stream_find_iter`] requires it. One buffer is allocated before the first read, and no
+//! memory after it.
 ghost use Rattle.std.specs.Prelude.{◌≡◌, false, length, map, IfOk};
 ghost use Rattle.ac_automaton.specs.declared.error.StreamError.TheVariants.{Memory};
 ghost use Rattle.ac_automaton.specs.Replace.{IsForMatches};
@@ -22,7 +23,7 @@ use ac_input::steps::Steps;
 use std::alloc::{AllocError, Global};
 use std::io::{Read, Write};
 
-/// The error of a search of a stream that nothing but memory can refuse.
+/// The error of a search of a stream that can fail only for memory.
 fn out_of_memory(error: StreamError) -> AllocError
     requires { error ≡ Memory }
 {
@@ -52,10 +53,10 @@ impl AhoCorasick {
     }
 
     /// All matches of a stream, one after another: see [`StreamFindIter`]. Their places are counted from the first byte that is
-    /// read. It takes one buffer of `max(65536, 8 * max(1, longest))` bytes.
+    /// read. It allocates one buffer of `max(65536, 8 * max(1, longest))` bytes.
     ///
-    /// It is refused where the automaton has no start for an unanchored search, or isn't of the standard kind, or has an empty
-    /// pattern, in that order, and then where there is no memory for the buffer. Nothing was read then.
+    /// Returns an error if the automaton has no start for an unanchored search, isn't of the standard kind, or has an empty
+    /// pattern, checked in that order, and then if there is no memory for the buffer. Nothing was read then.
     ///
     /// A caller: `uses::callers::front_stream::all_matches`.
     pub fn try_stream_find_iter<'a, R>(
@@ -70,12 +71,12 @@ impl AhoCorasick {
         Automaton::try_stream_find_iter(self, alloc, reader)
     }
 
-    /// Writes what is read with each match exchanged for the replacement of its pattern, of which there is one for each pattern.
-    /// The input ends at its first empty read. Before each read all is written that no later byte can change; at most as many bytes
-    /// are kept back as the longest pattern has. The writer isn't flushed.
+    /// Writes the input with each match replaced by the replacement of its pattern; there is one for each pattern. The input ends
+    /// at its first empty read. Before each read everything is written that no later byte can change; it holds back at most as
+    /// many bytes as the longest pattern has. The writer isn't flushed.
     ///
-    /// It is refused as [`AhoCorasick::try_stream_find_iter`] is; the reader and the writer are then as they were. Where a read or a
-    /// write fails, nothing is tried again.
+    /// Returns an error where [`AhoCorasick::try_stream_find_iter`] does; the reader and the writer are then unchanged. Where a
+    /// read or a write fails, nothing is tried again.
     ///
     /// A caller: `uses::callers::front_stream::replaced`.
     pub fn try_stream_replace_all<R: Read, W: Write>(
@@ -118,11 +119,11 @@ impl AhoCorasick {
         Automaton::try_stream_replace_all_counted(self, alloc, reader, writer, replacements, steps)
     }
 
-    /// Writes what is read, and in place of each match what the closure writes: it is given the match, its bytes and the writer,
-    /// which has taken all that stands before the match. The closure must take every pattern's number below
+    /// Writes the input, and in place of each match what the closure writes. The closure takes the match, its bytes and the
+    /// writer, which has taken everything before the match. The closure must accept every pattern number below
     /// [`patterns_len`](AhoCorasick::patterns_len), also after each call.
     ///
-    /// It reads, writes and is refused as [`AhoCorasick::try_stream_replace_all`]. The closure's first error ends the call and is
+    /// It reads, writes and fails as [`AhoCorasick::try_stream_replace_all`] does. The closure's first error ends the call and is
     /// returned unchanged.
     ///
     /// A caller: `uses::callers::front_stream::copied`.

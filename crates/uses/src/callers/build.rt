@@ -53,14 +53,14 @@ pub fn thrifty(
     builder.build(alloc, patterns)
 }
 
-/// An automaton of no patterns. Its build is refused only where memory is.
+/// An automaton of no patterns. Its build fails only if memory runs out.
 pub fn of_nothing(alloc: Global) -> Result<NFA, BuildError>
     ensures { IfErr result (λ error. error ≡ Memory) }
 {
     NFA::new(alloc, &[])
 }
 
-/// Whether one of the patterns occurs in the text, from the patterns to the answer.
+/// Whether one of the patterns occurs in the text, from the patterns to the result.
 pub fn occurs_in(alloc: Global, patterns: &[&[u8]], text: &[u8]) -> Result<bool, BuildError>
     ensures { IfOk result (λ found. (m : Dictionary) × FindsBytes (bytes_of patterns.now) m
         × (IsTrue found ↔ HasOccurrence (whole m text.now false))) }
@@ -69,7 +69,7 @@ pub fn occurs_in(alloc: Global, patterns: &[&[u8]], text: &[u8]) -> Result<bool,
     Ok(nfa.try_find(&Input::new(text)).unwrap().is_some())
 }
 
-/// Whether a build was refused because memory ended, so that it may succeed where there is more.
+/// Whether a build ran out of memory, so that it may succeed where there is more.
 pub fn may_succeed_later(error: &BuildError) -> bool
     ensures { IsTrue result ↔ (error.now ≡ Memory) }
 {

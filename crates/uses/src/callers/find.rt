@@ -84,7 +84,7 @@ pub fn may_match<A: Automaton>(automaton: &A, text: &[u8]) -> bool
     text.len() >= automaton.min_pattern_len()
 }
 
-/// How many bytes an occurrence has at most. Who cuts a text keeps so many bytes back, and loses none.
+/// How many bytes an occurrence has at most. If you cut a text, hold back this many bytes, and you lose none.
 pub fn most_bytes<A: Automaton>(automaton: &A) -> usize
     ensures { (text : List ℕ) (o : Occurrence)
         → Occurs (whole (A.built automaton.now).dictionary text false) o

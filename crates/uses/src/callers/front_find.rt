@@ -98,7 +98,7 @@ pub fn all_occurrences(
     ac.find_overlapping_iter(Input::new(text)).collect(alloc)
 }
 
-/// Whether the occurrences in the text can be listed: that asks the standard kind, and a start for unanchored searches.
+/// Whether the occurrences in the text can be listed: that needs the standard kind, and a start for unanchored searches.
 pub fn has_listing(ac: &AhoCorasick, text: &[u8]) -> bool
     ensures { IsTrue result
         ↔ supported_by ac.now Anchored.No × ((built_as ac.now).dictionary.kind ≡ Standard) }

@@ -11,7 +11,7 @@ use ac_input::search::Anchored;
 use aho_corasick::{AhoCorasick, ReplaceError};
 use std::alloc::{AllocError, Global};
 
-/// The text with each match replaced. A text in which no pattern occurs stays as it is.
+/// The text with each match replaced. A text in which no pattern occurs is unchanged.
 pub fn replaced_text(
     ac: &AhoCorasick,
     alloc: Global,

@@ -13,7 +13,7 @@ use ac_input::steps::Steps;
 use aho_corasick::{AhoCorasick, StreamError, StreamFindIter, Watched, write_whole};
 use std::alloc::{AllocError, Global};
 
-/// A search of a stream that can't be refused but for memory. It has read nothing yet.
+/// A search of a stream that can fail only for memory. It has read nothing yet.
 pub fn search_of<'a, R>(
     ac: &'a AhoCorasick,
     alloc: Global,

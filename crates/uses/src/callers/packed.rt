@@ -79,7 +79,7 @@ pub fn longest_config() -> Config
     config
 }
 
-/// The builder with one pattern more. The one that is lent stays as it is.
+/// The builder with one pattern more. The borrowed one is unchanged.
 pub fn and(builder: &Builder, pattern: &[u8]) -> Result<Builder, AllocError>
     ensures { IfOk result (λ more. more ≡ added builder.now pattern.now) }
 {

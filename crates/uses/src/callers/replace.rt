@@ -25,7 +25,7 @@ pub fn replaced_by_itself<A: Automaton>(
     automaton.try_replace_all_bytes(alloc, bytes, patterns)
 }
 
-/// The text with each match replaced. A text in which no pattern occurs stays as it is.
+/// The text with each match replaced. A text in which no pattern occurs is unchanged.
 pub fn replaced_text<A: Automaton>(
     automaton: &A,
     alloc: Global,

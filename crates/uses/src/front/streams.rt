@@ -1,4 +1,4 @@
-//! Streams by the front's own calls: what is found, what is written, and what is refused before the first read.
+//! Streams by the front's own calls: what is found, what is written, and what is an error before the first read.
 ghost use Rattle.std.specs.Prelude.{◌≡◌, false};
 ghost use Rattle.ac_automaton.specs.Stream.{CanStream};
 ghost use Rattle.ac_automaton.specs.Watched.{has_ended};
@@ -70,7 +70,7 @@ fn write_numbers<R: Read, W: Write>(
     )
 }
 
-/// Replaces by this call what a reader gives, at most so many bytes a read: what that comes to, and what was written.
+/// Replaces by this call what a reader returns, at most this many bytes a read: the result, and what was written.
 fn replaces(
     alloc: Global,
     ac: &AhoCorasick,
@@ -96,7 +96,7 @@ fn replaces(
     Ok((Outcome::of(&answer), writer.into_inner().taken))
 }
 
-/// Asserts what is found, by so many bytes a read.
+/// Asserts what is found, by this many bytes a read.
 fn is_found<T: Abort>(
     rt: &T,
     alloc: Global,
@@ -119,7 +119,7 @@ fn is_found<T: Abort>(
     Ok(())
 }
 
-/// Asserts what each call writes, by so many bytes a read.
+/// Asserts what each call writes, by this many bytes a read.
 fn is_written<T: Abort>(
     rt: &T,
     alloc: Global,
@@ -202,13 +202,13 @@ fn try_stream<'a, R: Read>(
     Ok(())
 }
 
-/// What a search of a stream comes to that asks for no match.
+/// The result of a search of a stream that takes no match.
 fn search_outcome(alloc: Global, ac: &AhoCorasick, tally: &Tally) -> Outcome {
     let mut reader = Watched::new(Source::new(Given::Whole(b"ab"), 1, &[], tally));
     Outcome::of(&try_stream(alloc, ac, &mut reader))
 }
 
-/// The text over which each replacement is refused.
+/// The text over which each replacement returns an error.
 const UNREAD: Row = Row {
     patterns: &[],
     letters: Cased,
@@ -264,7 +264,7 @@ const REFUSED: &[Refused] = &[
     },
 ];
 
-/// Asserts what is found and written in each stream, and which streams are refused.
+/// Asserts what is found and written in each stream, and for which streams the calls return an error.
 pub fn hold<T: Abort>(rt: &T, alloc: Global) -> Result<(), Fail> {
     for row in ROWS {
         each_own(rt, alloc, row, &[StartKind::Unanchored, StartKind::Both])?;

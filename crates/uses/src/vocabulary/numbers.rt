@@ -38,7 +38,7 @@ fn conversions() -> [bool; 9] {
     ]
 }
 
-/// The number that was refused.
+/// The number that doesn't fit.
 const PAST: Option<u64> = Some(2147483647);
 
 #[test]

@@ -16,7 +16,7 @@ fn says<T: Abort, E: Display>(rt: &T, alloc: Global, error: &E, want: &str) {
     assert_eq!(rt; said.as_str(), want);
 }
 
-/// Asserts what a refused search says, by itself, and as the refusal of a replacement and of a stream.
+/// Asserts the text of a search error, by itself, and as the error of a replacement and of a stream.
 fn refusal_says<T: Abort>(rt: &T, alloc: Global, kind: MatchErrorKind, want: &str) {
     let error = MatchError::new(kind);
     assert!(rt; *error.kind() == kind);
@@ -25,7 +25,7 @@ fn refusal_says<T: Abort>(rt: &T, alloc: Global, kind: MatchErrorKind, want: &st
     says(rt, alloc, &StreamError::Config(error), want);
 }
 
-/// Why a search is refused, and what the refusal says.
+/// A search error, and its text.
 const REFUSALS: [(MatchErrorKind, &str); 5] = [
     (
         MatchErrorKind::InvalidInputAnchored,
@@ -53,7 +53,7 @@ const REFUSALS: [(MatchErrorKind, &str); 5] = [
     ),
 ];
 
-/// Asserts what the number past the greatest one is refused with.
+/// Asserts the error of the number past the greatest one.
 fn past_says<T: Abort, E: Display + Drop>(rt: &T, alloc: Global, refused: Option<E>) {
     let error = refused.expect(rt, "it is past the greatest number");
     says(rt, alloc, &error, "number 2147483647 is past 2147483646");

@@ -1,4 +1,4 @@
--- What the prefilter answers for the rest of the span.
+-- What the prefilter returns for the rest of the span.
 use Rattle.std.proofs.Common.{◌≡◌, ◌≢◌, ◌∙◌, Bool, Some, subst, sym, ap, rules}
 use Rattle.ac_input.specs.Best.{asked_kind, IsBest}
 use Rattle.ac_input.specs.Candidate.{IsCandidate}

@@ -1,4 +1,4 @@
--- A walk from where the prefilter points is one from the place that was asked.
+-- A walk from the prefilter's candidate is one from the place that the prefilter searched from.
 use Rattle.std.proofs.Common.{ap}
 use Rattle.ac_input.specs.Input.{is_anchored}
 use Rattle.ac_automaton.specs.Automaton.{kind_asked}

@@ -1,4 +1,4 @@
--- The text is that of the automaton's replacement, which is not refused.
+-- The text is that of the automaton's replacement, which is supported.
 use Rattle.std.proofs.Common.{ap, ◌∙◌}
 use Rattle.std.proofs.lemmas.Result.{err_from_is_err_and}
 use Rattle.ac_literal.specs.Packed.{bytes_of}

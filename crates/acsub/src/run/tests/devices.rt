@@ -265,7 +265,7 @@ fn writes_what_is_decided(rt: HostRuntime) -> Result<(), Fail> {
     Ok(())
 }
 
-/// A run that holds its input before it writes: what it is told, its rules and what serves it.
+/// A run that holds its input before it writes: its settings, its rules and what serves it.
 struct Held {
     told: Told,
     rules: &'static str,
@@ -359,8 +359,8 @@ struct Full {
     most: usize,
 }
 
-/// Runs over one byte a read, and asserts that just so many bytes of the text are written, and none after that; the whole text is no
-/// fault.
+/// Runs over one byte a read, and asserts that exactly this many bytes of the text are written, and none after that; the whole
+/// text is no error.
 fn stops_at(
     rt: &impl Abort,
     alloc: Global,
@@ -451,8 +451,8 @@ fn reads_no_further_than_the_line_that_fails(rt: HostRuntime) -> Result<(), Fail
     Ok(())
 }
 
-/// Asserts that a text is written; or that there was no memory, and then nothing was written, and no more was read than so many
-/// pieces, each of them of some bytes.
+/// Asserts that a text is written; or that there was no memory, and then nothing was written, and no more was read than this many
+/// pieces, none of them empty.
 fn writes_where_there_is_memory(
     rt: &impl Abort,
     alloc: Global,

@@ -1,4 +1,4 @@
-//! Rule files and settings that are refused before anything is read or written, and those that are taken.
+//! Rule files and settings that are an error before anything is read or written, and those that are accepted.
 use super::*;
 use crate::rules::{self, read_rules};
 use crate::scripted::PLAIN;
@@ -10,7 +10,7 @@ use crate::settings::check;
 use ac_input::search::MatchKind::{LeftmostFirst, LeftmostLongest, Standard};
 use std::test::Fail;
 
-/// What the rule file and the settings are refused for, if they are.
+/// Why the rule file and the settings are an error, if they are.
 fn refusal(alloc: Global, settings: &Settings, file: &str) -> Answer {
     match read_rules(alloc, file.as_bytes()) {
         Ok(rules) => match check(settings, &rules) {
@@ -22,8 +22,8 @@ fn refusal(alloc: Global, settings: &Settings, file: &str) -> Answer {
     }
 }
 
-/// Asserts that rule file and settings are refused, and that a run then touches neither the reader nor the writer; or that they are
-/// taken.
+/// Asserts that rule file and settings are an error, and that a run then touches neither the reader nor the writer; or that they
+/// are accepted.
 fn refuses(rt: &impl Abort, alloc: Global, settings: &Settings, file: &str, answer: Answer) {
     assert_eq!(rt; refusal(alloc, settings, file), answer, "by {file:?}");
     if answer == Answer::Done {

@@ -36,7 +36,7 @@ const REPLACED: &[Table] = &[
             ),
             // Hex digits may be of either case.
             Row(File(&[Times(1, "6F\t4f\n")]), b"foo", b"fOO"),
-            // An empty rule file leaves the input as it is.
+            // An empty rule file leaves the input unchanged.
             Row(File(&[]), b"ab", b"ab"),
             // An empty pattern matches at every place, the end too.
             Row(Swap(&[(b"", b"-")]), b"ab", b"-a-b-"),
@@ -241,7 +241,7 @@ const PAIRED: &[Table] = &[
         rows: &[
             // Both spellings are exchanged.
             Row(Swap(&[(b"FOO", b"x")]), b"foo Foo", b"x x"),
-            // The brace is kept as it is.
+            // The brace is kept unchanged.
             Row(Swap(&[(b"[", b"-")]), b"{[", b"{-"),
         ],
     },

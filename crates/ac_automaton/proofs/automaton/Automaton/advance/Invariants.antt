@@ -1,4 +1,4 @@
--- What is known of the state after so many bytes.
+-- What is known about the state after the bytes read so far.
 use Rattle.ac_automaton.proofs.CursorLemmas.{HasAdvanced}
 use Rattle.ac_automaton.proofs.automaton.Automaton.advance.Given as goal
 

@@ -1,4 +1,4 @@
--- What a read gave lies behind what was held.
+-- What a read gave lies after what was held.
 use Rattle.std.proofs.Common.{◌≡◌, ◌+◌, ◌-◌, ◌≤◌, length, take, List, ℕ, length-take, length-drop, sym, ap, ◌∙◌, arith}
 use Rattle.std.proofs.lemmas.List.{length-take-le}
 use Rattle.ac_automaton.specs.Buffer.{Held}

@@ -1,4 +1,4 @@
--- What was held back is written as it is.
+-- What was held back is written unchanged.
 use Rattle.ac_automaton.proofs.OutputLemmas.{Sends-held}
 use Rattle.ac_automaton.proofs.output.Output.send_held.Goals as goal
 

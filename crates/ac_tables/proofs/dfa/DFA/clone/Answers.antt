@@ -1,4 +1,4 @@
--- The table once more, with what the automaton is built as.
+-- A copy of the table, with what the automaton is built as.
 use Rattle.std.proofs.Common.{◌≡◌, ◌^◌, ℕ, true, List, Option, sym, ap, ap₂, subst, ◌∙◌}
 use Rattle.ac_input.specs.Candidate.{Filter}
 use Rattle.ac_input.specs.Dictionary.{Dictionary, dictionary_of}

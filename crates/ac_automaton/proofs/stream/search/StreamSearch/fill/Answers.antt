@@ -1,4 +1,4 @@
--- What a read gave is kept behind what was held.
+-- What a read gave is kept after what was held.
 use Rattle.std.proofs.Common.{subst, arith}
 use Rattle.std.proofs.lemmas.List.{take_rest}
 use Rattle.ac_input.specs.declared.search.Anchored.TheVariants.{No}

@@ -1,4 +1,4 @@
--- What is behind the cut is moved to the front.
+-- What is after the cut is moved to the front.
 use Rattle.ac_automaton.proofs.StreamSearchLemmas.{counts-none}
 use Rattle.ac_automaton.proofs.stream.search.StreamSearch.make_room.Goals as goal
 

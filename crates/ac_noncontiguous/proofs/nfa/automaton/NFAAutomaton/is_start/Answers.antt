@@ -1,4 +1,4 @@
--- What a start tells, and where nothing is live.
+-- What a start says, and where nothing is live.
 use Rattle.std.proofs.Common.{◌≢◌, ◌+◌, ℕ, Bool, sym, ap, ap₂, ◌∙◌, inl}
 use Rattle.std.specs.Prelude.{◌==◌, ◌||◌}
 use Rattle.std.proofs.lemmas.Bool.{ne_eqb, eq-eqb}

@@ -1,4 +1,4 @@
--- It is built from the noncontiguous automaton of the patterns, or refused as that is.
+-- It is built from the noncontiguous automaton of the patterns, or fails as that does.
 use Rattle.std.proofs.Common.{ap, sym, subst, ◌∙◌, inr}
 use Rattle.std.proofs.lemmas.Result.{IfOk-weaker, IfErr-weaker}
 use Rattle.ac_noncontiguous.specs.Builder as noncontiguous

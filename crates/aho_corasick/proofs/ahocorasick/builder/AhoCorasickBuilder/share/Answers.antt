@@ -1,4 +1,4 @@
--- The automaton that serves has the starts that were asked for, and nothing but memory keeps it from being shared.
+-- The automaton that serves has the starts of the start kind, and only memory can keep it from being shared.
 use Rattle.std.proofs.Common.{ap, sym, subst}
 use Rattle.ac_noncontiguous.specs.declared.error.BuildErrorKind.{BuildErrorKind}
 use Rattle.aho_corasick.specs.Builder.{Settings}

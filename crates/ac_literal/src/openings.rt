@@ -17,6 +17,8 @@ ghost use Rattle.ac_literal.specs.Marks.{AreNear, HaveOpened};
 
 use crate::openings::buckets::{Buckets, EACH, add};
 use crate::packed::teddy::{Teddy, lowest};
+use crate::prefilter::needles::FewBytes;
+use crate::prefilter::rank::stops_within;
 use ac_input::pairing::Pairing;
 
 /// For how many patterns there are openings, at most.
@@ -44,6 +46,23 @@ pub struct Openings {
     len: usize,
     ghost some: { 0 < len },
     ghost near: { AreNear len marks },
+}
+
+/// How often a byte that begins a pattern may come in a thousand bytes, so that a scan for these bytes is faster.
+const RARE: u32 = 5;
+
+/// Whether a scan for the bytes that begin a pattern is faster than openings.
+fn have_rare_starts(patterns: &[&[u8]], pairing: &Pairing) -> bool {
+    let mut starts = FewBytes::None;
+    for pattern in patterns {
+        if let Some(byte) = pattern.first() {
+            starts = starts.with(*byte).with(pairing.other(*byte));
+        }
+    }
+    match starts {
+        FewBytes::Some(needles) => stops_within(needles, RARE),
+        _ => false,
+    }
 }
 
 /// How many bytes all patterns have, up to the most that an opening has.
@@ -92,7 +111,8 @@ fn pass_few(teddy: &Teddy, bytes: &[u8], to: usize, len: usize) -> usize
 impl Openings {
     ghost use Rattle.ac_literal.specs.Openings.{OpenAll, PassesOpenings};
 
-    /// The openings of some patterns; none where they are too many, or too short.
+    /// The openings of some patterns; none where they are too many, or too short, or where so rare bytes begin them that a scan for
+    /// these is faster.
     pub fn new(patterns: &[&[u8]], pairing: &Pairing) -> Option<Openings>
         ensures { IfSome result (OpenAll (bytes_of patterns.now) pairing.now) }
     {
@@ -100,7 +120,7 @@ impl Openings {
             return None;
         }
         let len = len_of(patterns);
-        if len < LEAST {
+        if len < LEAST || have_rare_starts(patterns, pairing) {
             return None;
         }
         let marks = if patterns.len() <= FEW {
@@ -117,6 +137,11 @@ impl Openings {
         ensures { result ≡ self.now.len }
     {
         self.len
+    }
+
+    /// Whether the patterns are few enough for eight buckets. The marks of 24 cost about as much as a DFA takes for the bytes.
+    pub fn are_few(&self) -> bool {
+        matches!(self.marks, Marks::Few(_))
     }
 
     /// How many bytes at the front may be passed: up to the next place at which a pattern may begin, or up to the last ones.

@@ -31,8 +31,8 @@
 //! scanned before. A search for patterns costs what packed search costs. A prefilter takes the memory of a table of 256 bytes and
 //! of the patterns that it searches for; no search takes any.
 mod builder;
-mod needles;
-mod rank;
+pub(crate) mod needles;
+pub(crate) mod rank;
 mod rare_bytes;
 mod strategy;
 

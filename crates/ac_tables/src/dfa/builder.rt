@@ -3,7 +3,7 @@
 //! A DFA is made from a noncontiguous automaton, state by state. Besides the settings of that one, a builder sets for which
 //! searches there is a start, and whether bytes that lead alike share an entry of a row. It takes time and memory in proportion to
 //! the table: the number of states times the stride, twice that with both starts.
-ghost use Rattle.std.specs.Prelude.{◌≡◌, IfOk, IfErr};
+ghost use Rattle.std.specs.Prelude.{◌≡◌, Some, IfOk, IfErr, IfSome};
 ghost use Rattle.ac_input.specs.Pairing.{IsFolded};
 ghost use Rattle.ac_tables.specs.DfaBuild.{AreFirst, IsDfaOf, IsDfaRefused, IsBuiltOf, IsRefusedOf, IsBuiltAtFirst, IsRefusedAtFirst, parts_by};
 ghost use Rattle.ac_tables.specs.DfaMade.{IsTableFor, IsTableRefused};
@@ -18,6 +18,7 @@ use ac_automaton::automaton::Automaton;
 use ac_automaton::held::clone_held;
 use ac_input::pairing::Pairing;
 use ac_input::search::{Anchored, MatchKind, StartKind};
+use ac_literal::openings::Openings;
 use ac_noncontiguous::builder;
 use ac_noncontiguous::error::BuildError;
 use ac_noncontiguous::nfa::NFA;
@@ -105,6 +106,16 @@ impl Table {
             kind,
             classes,
         })
+    }
+}
+
+/// The openings that are faster than a DFA: those of few patterns.
+fn quick(openings: Option<Openings>) -> Option<Openings>
+    ensures { IfSome result (λ kept. openings ≡ Some kept) }
+{
+    match openings {
+        Some(openings) if openings.are_few() => Some(openings),
+        _ => None,
     }
 }
 
@@ -203,7 +214,7 @@ impl Builder {
         let table = Table::of(alloc, nfa, self.start_kind, self.byte_classes)?;
         let lens = nfa.pattern_lens().clone(alloc)?;
         let prefilter = clone_held(alloc, nfa.prefilter())?;
-        let openings = nfa.openings();
+        let openings = quick(nfa.openings());
         Ok(DFA::from_parts(
             table,
             lens,

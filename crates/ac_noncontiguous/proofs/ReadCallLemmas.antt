@@ -32,7 +32,7 @@ use Rattle.ac_noncontiguous.specs.declared.nfa.tables.Tables.{Tables}
 use Rattle.ac_noncontiguous.specs.Nfa.{state_of, transitions_from, matches_from, matches_len, no_transition, byte_at, next_at, edge_of, IsEdge, AreTexts, AreTransitions, AreRows, AreFailures, AreLists, AreTablesOf}
 use Rattle.ac_noncontiguous.specs.Lookups.{IsKept, IsVisited, other_start, naming_of, IsNamingOf, LeadsNext, AreSame}
 use Rattle.ac_noncontiguous.specs.Reads.{dictionary, built_as, matches_at, is_start_at, is_special_at, IsRead}
-use Rattle.ac_noncontiguous.specs.ReadCalls.{state_len, fail_in, depth_in, edges_in, special_in, CountsIn, StandFor, TextsBegin, FailsIn, ListsIn, IsFull, AreLeading, EdgesLeadIn, MayBeMet, LeadsIn, AreRead, OrderedIn, AlikeIn, SpecialIn}
+use Rattle.ac_noncontiguous.specs.ReadCalls.{state_len, fail_in, depth_in, edges_in, special_in, CountsIn, StandFor, TextsBegin, FailsIn, ListsIn, IsFull, AreLeading, EdgesLeadIn, MayBeMet, LeadsIn, AreRead, OrderedIn, AlikeIn, SpecialIn, IsDeepIn, IsReadable}
 use Rattle.ac_noncontiguous.proofs.LookupLemmas.{range-within}
 use Rattle.ac_noncontiguous.proofs.NextLemmas.{by-number, state-some, state-none, is-dead, is-met, met-is, of-names}
 use Rattle.ac_noncontiguous.proofs.NamesLemmas.{names-one}
@@ -444,3 +444,29 @@ same-tables m old new e h =
             (subst (λ (matches : List ℕ). AreLists m t.len old.start old.max_match text old.states.items matches) (sym e.matches) t.lists)));
       },
     ))
+
+-- ---- the whole
+
+-- so many bytes lead to a state
+deep-in : (nfa : NFA) (sid : ℕ) → sid < state_len nfa → IsDeepIn nfa sid (depth_in nfa sid)
+deep-in nfa sid below text t = (
+  λ small. below-two (λ i. depth_in nfa i ≡ 0) sid t.failures.flat.0 t.failures.flat.1 small,
+  λ past. t.failures.depths sid past (omega (arith, t.counted, below)),
+)
+
+-- all that the read calls say
+pub readable-in : (nfa : NFA) → IsReadable nfa
+readable-in nfa = record {
+  stand = nfa.stands;
+  begin = texts-begin nfa;
+  bounds = special-in nfa;
+  counted = counts-in nfa (state_len nfa) refl;
+  within = nfa.within;
+  ordered = ordered-in nfa;
+  classes = nfa.classed;
+  paired = nfa.paired;
+  fails = fails-in nfa;
+  deep = deep-in nfa;
+  edges = edges-lead nfa;
+  lists = lists-in nfa;
+}

@@ -10,6 +10,7 @@ use Rattle.ac_input.specs.Dictionary.{Dictionary, BeginsEntered}
 use Rattle.ac_input.specs.Failure.{IsList, AreOnce}
 use Rattle.ac_input.specs.Input.{is_anchored}
 use Rattle.ac_input.specs.Limits.{canonical_text, IsPrefix, HasStates, IsWithinLimits}
+use Rattle.ac_input.specs.Pairing.{IsPairing}
 use Rattle.ac_input.specs.States.{LeadsTo, FailsTo, BeginsBefore}
 use Rattle.ac_noncontiguous.specs.declared.nfa.NFA.{NFA}
 use Rattle.ac_noncontiguous.specs.declared.nfa.read.Special.{Special}
@@ -183,6 +184,23 @@ ClassesAreThose nfa = ∥ AreByteClasses (dictionary nfa) (classes_in nfa) ∥�
 -- bytes of one class lead alike from every state
 abbrev pub AlikeIn : NFA → Type 0
 AlikeIn nfa = ClassesLeadAlike (dictionary nfa) (classes_in nfa)
+
+-- ---- the whole
+
+-- What the read calls say of an automaton as a whole, and of each of its states. Another automaton is made from it by this alone.
+pub record IsReadable (nfa : NFA) : Type 0 where
+  pub stand : StandForSome nfa
+  pub begin : TextsBegin nfa
+  pub bounds : SpecialIn nfa (special_in nfa)
+  pub counted : CountsIn nfa (state_len nfa)
+  pub within : IsWithin nfa
+  pub ordered : OrderedIn nfa
+  pub classes : ClassesAreThose nfa
+  pub paired : IsPairing (dictionary nfa).pairing
+  pub fails : (sid : ℕ) → sid < state_len nfa → FailsIn nfa sid (fail_in nfa sid)
+  pub deep : (sid : ℕ) → sid < state_len nfa → IsDeepIn nfa sid (depth_in nfa sid)
+  pub edges : (sid : ℕ) → sid < state_len nfa → EdgesLeadIn nfa sid
+  pub lists : (sid : ℕ) → sid < state_len nfa → ListsIn nfa sid (matches_at nfa sid)
 
 -- ---- how it is made
 

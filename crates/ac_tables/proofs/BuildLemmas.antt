@@ -13,7 +13,7 @@ use Rattle.ac_noncontiguous.specs.Reads.{matches_at}
 use Rattle.ac_noncontiguous.specs.ReadCalls.{fail_in, depth_in, edges_in, EdgesLeadIn}
 use Rattle.ac_tables.specs.Words.{StateParts, words_of}
 use Rattle.ac_tables.specs.ContiguousTable.{placed_edge, parts_of, place_in, words_at, words_before}
-use Rattle.ac_tables.specs.ContiguousBuild.{ArePlacesIn, AreReadTo, IsKnown, AreKnown, IsStateWritten}
+use Rattle.ac_tables.specs.ContiguousBuild.{ArePlacesIn, AreReadTo, IsKnown, AreKnown, IsWritten}
 use Rattle.ac_tables.proofs.LenLemmas.{not-equal}
 
 -- ---- the transitions, one after another
@@ -72,7 +72,7 @@ abbrev parts_by : Bool → ℕ → List (ℕ × ℕ) → List ℕ → StateParts
 parts_by shallow fail edges matches = record { shallow = shallow; fail = fail; edges = edges; matches = matches }
 
 -- what was read of a state are its words
-pub state-written : (nfa : NFA) (dense_depth sid alphabet fail : ℕ) (classes places before after matches : List ℕ) (edges : List (ℕ × ℕ)) (shallow : Bool) → ArePlacesIn nfa dense_depth classes places → sid ≢ 1 → IsKnown nfa sid → alphabet ≡ alphabet_len classes → shallow ≡ nat_lt (depth_in nfa sid) dense_depth → fail ≡ slice_index places (fail_in nfa sid) → edges ≡ map (placed_edge classes (slice_index places)) (edges_in nfa sid) → matches ≡ matches_at nfa sid → after ≡ before ++ words_of alphabet (parts_by shallow fail edges matches) → IsStateWritten nfa dense_depth classes sid before after
+pub state-written : (nfa : NFA) (dense_depth sid alphabet fail : ℕ) (classes places before after matches : List ℕ) (edges : List (ℕ × ℕ)) (shallow : Bool) → ArePlacesIn nfa dense_depth classes places → sid ≢ 1 → IsKnown nfa sid → alphabet ≡ alphabet_len classes → shallow ≡ nat_lt (depth_in nfa sid) dense_depth → fail ≡ slice_index places (fail_in nfa sid) → edges ≡ map (placed_edge classes (slice_index places)) (edges_in nfa sid) → matches ≡ matches_at nfa sid → after ≡ before ++ words_of alphabet (parts_by shallow fail edges matches) → IsWritten nfa dense_depth classes sid before after
 state-written nfa dense_depth sid alphabet fail classes places before after matches edges shallow h stands known is_alphabet is_shallow is_fail is_edges is_matches is =
     let place = place_in nfa dense_depth classes in
     let own_fail : fail ≡ place (fail_in nfa sid) = is_fail ∙ h.at (fail_in nfa sid) known.fails.within in
@@ -90,7 +90,7 @@ state-written nfa dense_depth sid alphabet fail classes places before after matc
     record { words = is ∙ ap (λ (ws : List ℕ). before ++ ws) words; known = λ _. known }
 
 -- the fail state has none
-pub fail-written : (nfa : NFA) (dense_depth sid : ℕ) (classes words : List ℕ) → sid ≡ 1 → IsStateWritten nfa dense_depth classes sid words words
+pub fail-written : (nfa : NFA) (dense_depth sid : ℕ) (classes words : List ℕ) → sid ≡ 1 → IsWritten nfa dense_depth classes sid words words
 fail-written nfa dense_depth sid classes words is =
     let own = words_of (alphabet_len classes) (parts_of nfa dense_depth classes (place_in nfa dense_depth classes) sid) in
     let none : words_at nfa dense_depth classes sid ≡ [] = cond-true (sid == 1) [] own (eq-eqb sid 1 is) in
@@ -109,13 +109,13 @@ read-fits nfa sid alphabet classes place are edges is =
 -- ---- all states
 
 -- one more is written and known
-pub words-more : (nfa : NFA) (dense_depth n : ℕ) (classes before after : List ℕ) → before ≡ words_before nfa dense_depth classes n → IsStateWritten nfa dense_depth classes n before after → after ≡ words_before nfa dense_depth classes (n + 1)
+pub words-more : (nfa : NFA) (dense_depth n : ℕ) (classes before after : List ℕ) → before ≡ words_before nfa dense_depth classes n → IsWritten nfa dense_depth classes n before after → after ≡ words_before nfa dense_depth classes (n + 1)
 words-more nfa dense_depth n classes before after is h =
     let next : suc n ≡ n + 1 = omega arith in
     h.words ∙ (ap (λ (ws : List ℕ). ws ++ words_at nfa dense_depth classes n) is ∙ ap (words_before nfa dense_depth classes) next)
 
 -- and known
-pub known-more : (nfa : NFA) (dense_depth n : ℕ) (classes before after : List ℕ) → AreKnown nfa n → IsStateWritten nfa dense_depth classes n before after → AreKnown nfa (n + 1)
+pub known-more : (nfa : NFA) (dense_depth n : ℕ) (classes before after : List ℕ) → AreKnown nfa n → IsWritten nfa dense_depth classes n before after → AreKnown nfa (n + 1)
 known-more nfa dense_depth n classes before after all h sid lt stands =
     ⊎_elim
     (λ (old : sid < n). all sid old stands)

@@ -15,13 +15,13 @@ use Rattle.ac_input.specs.Dictionary.{Dictionary}
 use Rattle.ac_input.specs.Input.{is_anchored}
 use Rattle.ac_input.proofs.ClassLemmas.{class-later}
 use Rattle.ac_input.proofs.DfaLemmas.{dfa-one}
+use Rattle.ac_automaton.specs.Automaton.{OwnsPrefilter}
 use Rattle.ac_noncontiguous.specs.declared.error.BuildErrorKind.{BuildErrorKind}
 use Rattle.ac_noncontiguous.specs.declared.error.BuildErrorKind.TheVariants.{StateIDOverflow, PatternIDOverflow, PatternTooLong, Memory}
 use Rattle.ac_noncontiguous.specs.declared.nfa.NFA.{NFA}
-use Rattle.ac_noncontiguous.specs.Reads.{dictionary}
+use Rattle.ac_noncontiguous.specs.Reads.{dictionary, built_as}
 use Rattle.ac_noncontiguous.specs.Standing.{IsBuildRefused}
-use Rattle.ac_noncontiguous.specs.ReadCalls.{state_len, special_in, classes_in}
-use Rattle.ac_noncontiguous.proofs.ReadCallLemmas.{counts-in}
+use Rattle.ac_noncontiguous.specs.ReadCalls.{state_len, special_in, classes_in, IsReadable}
 use Rattle.ac_tables.specs.declared.dfa.table.Table.{Table}
 use Rattle.ac_tables.specs.declared.dfa.DFA.{DFA}
 use Rattle.ac_tables.specs.DfaBuild.{Settings, IsDfaOf, IsDfaRefused, IsTooLargeOr}
@@ -31,7 +31,7 @@ use Rattle.ac_tables.specs.DfaMade.{nfa_start_of, IsDfaTableOf, IsTableFor, IsTa
 use Rattle.ac_tables.specs.DfaTable.{dfa_number_of, stride_of, AreTransitionsOf, AreSomeRows, AreDfaParts}
 use Rattle.ac_tables.specs.TableClasses.{AreClassesFor}
 use Rattle.ac_tables.specs.Filling.{RowPlan, IsFit, IsOverflow, AreRowsUpTo}
-use Rattle.ac_tables.proofs.CellLemmas.{starts-of}
+use Rattle.ac_tables.proofs.CellLemmas.{source-of}
 use Rattle.ac_tables.proofs.FilledLemmas.{number-small}
 use Rattle.ac_tables.proofs.RowLemmas.{number-row}
 use Rattle.ac_tables.proofs.TableLemmas.{table-rows, stride-some}
@@ -39,32 +39,32 @@ use Rattle.ac_tables.proofs.TableLemmas.{table-rows, stride-some}
 -- ---- the size
 
 -- there are some rows
-pub rows-some : (nfa : NFA) (kind : StartKind) → 1 ≤ dfa_states kind (state_len nfa)
-rows-some nfa starts.Unanchored = let s = starts-of nfa in omega (arith, s.0, s.1)
-rows-some nfa starts.Anchored = let s = starts-of nfa in omega (arith, s.0, s.1)
-rows-some nfa starts.Both = let s = starts-of nfa in omega (arith, s.0, s.1)
+pub rows-some : (nfa : NFA) (kind : StartKind) → IsReadable nfa → 1 ≤ dfa_states kind (state_len nfa)
+rows-some nfa starts.Unanchored r = let s = (source-of nfa r).starts in omega (arith, s.0, s.1)
+rows-some nfa starts.Anchored r = let s = (source-of nfa r).starts in omega (arith, s.0, s.1)
+rows-some nfa starts.Both r = let s = (source-of nfa r).starts in omega (arith, s.0, s.1)
 
 -- the table's size is that of the dictionary's
-pub size-some : (nfa : NFA) (kind : StartKind) (classed : Bool) (classes : List ℕ) (stride : ℕ) → AreClassesFor nfa classed classes → IsLeastPowerOfTwo (alphabet_len classes) stride → ∥ IsDfaSize (dictionary nfa) kind classed ((dfa_states kind (state_len nfa) - 1) * stride) ∥₁
-size-some nfa kind true classes stride chosen least =
-    ∥∥₁_elim (counts-in nfa (state_len nfa) refl).counted ∥∥₁_prop (λ states.
+pub size-some : (nfa : NFA) (kind : StartKind) (classed : Bool) (classes : List ℕ) (stride : ℕ) → IsReadable nfa → AreClassesFor nfa classed classes → IsLeastPowerOfTwo (alphabet_len classes) stride → ∥ IsDfaSize (dictionary nfa) kind classed ((dfa_states kind (state_len nfa) - 1) * stride) ∥₁
+size-some nfa kind true classes stride r chosen least =
+    ∥∥₁_elim r.counted.counted ∥∥₁_prop (λ states.
     ∥∥₁_map chosen.1 (λ (are : AreByteClasses (dictionary nfa) (classes_in nfa)).
     (state_len nfa, alphabet_len classes, stride, states, (classes_in nfa, are, ap alphabet_len chosen.0), least, refl)))
-size-some nfa kind false classes stride chosen least =
-    ∥∥₁_map (counts-in nfa (state_len nfa) refl).counted (λ states.
+size-some nfa kind false classes stride r chosen least =
+    ∥∥₁_map r.counted.counted (λ states.
     (state_len nfa, alphabet_len classes, stride, states, (let last = chosen 255 (omega arith) in omega (arith, last)), least, refl))
 
 -- where the last row has no number it is too large
-pub size-refused : (nfa : NFA) (kind : StartKind) (classed : Bool) (classes : List ℕ) (stride : ℕ) (error : BuildErrorKind) → AreClassesFor nfa classed classes → IsLeastPowerOfTwo (alphabet_len classes) stride → IsOverflow ((dfa_states kind (state_len nfa) - 1) * stride) error → IsTableRefused nfa kind classed error
-size-refused nfa kind classed classes stride (StateIDOverflow max requested) chosen least over = (over.0, over.1, ∥∥₁_map (size-some nfa kind classed classes stride chosen least) (λ size. ((dfa_states kind (state_len nfa) - 1) * stride, size, over.2)))
-size-refused nfa kind classed classes stride (PatternIDOverflow max requested) chosen least over = over
-size-refused nfa kind classed classes stride (PatternTooLong pattern len) chosen least over = over
-size-refused nfa kind classed classes stride Memory chosen least over = absurd over
+pub size-refused : (nfa : NFA) (kind : StartKind) (classed : Bool) (classes : List ℕ) (stride : ℕ) (error : BuildErrorKind) → IsReadable nfa → AreClassesFor nfa classed classes → IsLeastPowerOfTwo (alphabet_len classes) stride → IsOverflow ((dfa_states kind (state_len nfa) - 1) * stride) error → IsTableRefused nfa kind classed error
+size-refused nfa kind classed classes stride (StateIDOverflow max requested) r chosen least over = (over.0, over.1, ∥∥₁_map (size-some nfa kind classed classes stride r chosen least) (λ size. ((dfa_states kind (state_len nfa) - 1) * stride, size, over.2)))
+size-refused nfa kind classed classes stride (PatternIDOverflow max requested) r chosen least over = over
+size-refused nfa kind classed classes stride (PatternTooLong pattern len) r chosen least over = over
+size-refused nfa kind classed classes stride Memory r chosen least over = absurd over
 
 -- and where it has one it isn't
-pub size-within : (nfa : NFA) (kind : StartKind) (classed : Bool) (classes : List ℕ) (stride : ℕ) → AreClassesFor nfa classed classes → IsLeastPowerOfTwo (alphabet_len classes) stride → (dfa_states kind (state_len nfa) - 1) * stride ≤ GREATEST → ¬ IsDfaTooLarge (dictionary nfa) kind classed
-size-within nfa kind classed classes stride chosen least fits large =
-    ∥∥₁_elim (size-some nfa kind classed classes stride chosen least) (λ x y. absurd x) (λ mine.
+pub size-within : (nfa : NFA) (kind : StartKind) (classed : Bool) (classes : List ℕ) (stride : ℕ) → IsReadable nfa → AreClassesFor nfa classed classes → IsLeastPowerOfTwo (alphabet_len classes) stride → (dfa_states kind (state_len nfa) - 1) * stride ≤ GREATEST → ¬ IsDfaTooLarge (dictionary nfa) kind classed
+size-within nfa kind classed classes stride r chosen least fits large =
+    ∥∥₁_elim (size-some nfa kind classed classes stride r chosen least) (λ x y. absurd x) (λ mine.
     let same : large.0 ≡ (dfa_states kind (state_len nfa) - 1) * stride = dfa-one (dictionary nfa) kind classed large.0 ((dfa_states kind (state_len nfa) - 1) * stride) large.1 mine in
     let over = large.2 in
     omega (arith, over, same, fits))
@@ -99,11 +99,12 @@ chosen-within false nfa classes chosen byte small =
     omega (arith, b, l, small)
 
 -- so rows may be filled by them
-pub chosen-fit : (classed : Bool) (nfa : NFA) (kind : StartKind) (classes : List ℕ) (stride : ℕ) → AreClassesFor nfa classed classes → IsLeastPowerOfTwo (alphabet_len classes) stride → stride ≤ 256 → (dfa_states kind (state_len nfa) - 1) * stride ≤ GREATEST → IsFit (record { nfa = nfa; kind = kind; classes = classes; stride = stride })
-chosen-fit classed nfa kind classes stride chosen least wide fits =
+pub chosen-fit : (classed : Bool) (nfa : NFA) (kind : StartKind) (classes : List ℕ) (stride : ℕ) → IsReadable nfa → AreClassesFor nfa classed classes → IsLeastPowerOfTwo (alphabet_len classes) stride → stride ≤ 256 → (dfa_states kind (state_len nfa) - 1) * stride ≤ GREATEST → IsFit (record { nfa = nfa; kind = kind; classes = classes; stride = stride })
+chosen-fit classed nfa kind classes stride r chosen least wide fits =
     let enough = least.1.enough in
     let is = least.2 in
     record {
+      source = source-of nfa r;
       wide = wide;
       letters = λ byte small. let low = chosen-within classed nfa classes chosen byte small in omega (arith, low, enough, is);
       finer = chosen-finer classed nfa classes chosen;
@@ -113,9 +114,10 @@ chosen-fit classed nfa kind classes stride chosen least wide fits =
 -- ---- the table
 
 -- what is made of an automaton
-pub table-for : (nfa : NFA) (table : Table) (classed : Bool) (stride : ℕ) → AreClassesFor nfa classed table.classes → stride ≡ stride_of table → table.stride2 ≤ 8 → IsLeastExponent (alphabet_len table.classes) table.stride2 → IsFit (record { nfa = nfa; kind = table.kind; classes = table.classes; stride = stride }) → AreRowsUpTo (record { nfa = nfa; kind = table.kind; classes = table.classes; stride = stride }) (state_len nfa) (state_len nfa) table.trans.items → AreListsOf nfa table.lists → table.start ≡ dfa_number_of table.kind (nfa_start_of nfa) stride false (nfa_start_of nfa) → table.start_anchored ≡ dfa_number_of table.kind (nfa_start_of nfa) stride true (nfa_start_of nfa + 1) → table.max_match ≡ dfa_number_of table.kind (nfa_start_of nfa) stride true (special_in nfa).max_match_id → IsTableFor nfa table.kind classed table
-table-for nfa table classed stride chosen is wide least fit rows lists first second last = record {
+pub table-for : (nfa : NFA) (table : Table) (classed : Bool) (stride : ℕ) → IsReadable nfa → AreClassesFor nfa classed table.classes → stride ≡ stride_of table → table.stride2 ≤ 8 → IsLeastExponent (alphabet_len table.classes) table.stride2 → IsFit (record { nfa = nfa; kind = table.kind; classes = table.classes; stride = stride }) → AreRowsUpTo (record { nfa = nfa; kind = table.kind; classes = table.classes; stride = stride }) (state_len nfa) (state_len nfa) table.trans.items → AreListsOf nfa table.lists → table.start ≡ dfa_number_of table.kind (nfa_start_of nfa) stride false (nfa_start_of nfa) → table.start_anchored ≡ dfa_number_of table.kind (nfa_start_of nfa) stride true (nfa_start_of nfa + 1) → table.max_match ≡ dfa_number_of table.kind (nfa_start_of nfa) stride true (special_in nfa).max_match_id → IsTableFor nfa table.kind classed table
+table-for nfa table classed stride r chosen is wide least fit rows lists first second last = record {
   made = record {
+    readable = r;
     fit = subst (λ (s : ℕ). IsFit (record { nfa = nfa; kind = table.kind; classes = table.classes; stride = s })) is fit;
     wide = wide;
     least = least;
@@ -131,7 +133,7 @@ table-for nfa table classed stride chosen is wide least fit rows lists first sec
 
 -- the dictionary of the automaton has it
 pub made-some : (nfa : NFA) (table : Table) → IsDfaTableOf nfa table → AreSomeRows (dictionary nfa) table
-made-some nfa table h = ∥∥₁_map nfa.stands (λ w. (_, table-rows nfa table w.0 h w.1))
+made-some nfa table h = ∥∥₁_map h.readable.stand (λ w. (_, table-rows nfa table w.0 h w.1))
 
 -- its transitions are laid out as is said
 pub made-laid : (nfa : NFA) (table : Table) → IsDfaTableOf nfa table → AreTransitionsOf nfa table.kind table.classes (stride_of table) table.trans.items
@@ -152,7 +154,7 @@ number-kept p anchored start sid fit is within = subst (λ (n : ℕ). dfa_number
 -- ---- the automaton
 
 -- what is made of such a table is made by the settings
-pub dfa-of : (s : Settings) (nfa : NFA) (table : Table) (dfa : DFA) → IsTableFor nfa s.start_kind s.byte_classes table → IsMadeOf (dictionary nfa) table nfa.prefilter dfa → IsDfaOf s nfa dfa
+pub dfa-of : (s : Settings) (nfa : NFA) (table : Table) (dfa : DFA) → IsTableFor nfa s.start_kind s.byte_classes table → IsMadeOf (dictionary nfa) table (built_as nfa).prefilter dfa → IsDfaOf s nfa dfa
 dfa-of s nfa table dfa h made =
     let back = sym made.table in
     record {
@@ -161,7 +163,7 @@ dfa-of s nfa table dfa h made =
       classes = subst (λ (t : Table). AreClassesFor nfa s.byte_classes t.classes) back h.classes;
       states = subst (λ (t : Table). length t.trans.items / stride_of t ≡ dfa_states s.start_kind (state_len nfa)) back (subst (λ (k : StartKind). length table.trans.items / stride_of table ≡ dfa_states k (state_len nfa)) h.kind (made-states nfa table h.made));
       laid = subst (λ (t : Table). AreTransitionsOf nfa s.start_kind t.classes (stride_of t) t.trans.items) back (subst (λ (k : StartKind). AreTransitionsOf nfa k table.classes (stride_of table) table.trans.items) h.kind (made-laid nfa table h.made));
-      within = size-within nfa s.start_kind s.byte_classes table.classes (stride_of table) h.classes (table.stride2, h.made.least, refl) (subst (λ (k : StartKind). (dfa_states k (state_len nfa) - 1) * stride_of table ≤ GREATEST) h.kind h.made.fit.few);
+      within = size-within nfa s.start_kind s.byte_classes table.classes (stride_of table) h.made.readable h.classes (table.stride2, h.made.least, refl) (subst (λ (k : StartKind). (dfa_states k (state_len nfa) - 1) * stride_of table ≤ GREATEST) h.kind h.made.fit.few);
     }
 
 -- and why there is none
@@ -186,11 +188,11 @@ refused-parts s m (PatternTooLong pattern len) h = h
 refused-parts s m Memory h = h
 
 -- the table, the prefilter and the pairing go together
-pub parts-of : (nfa : NFA) (table : Table) (prefilter : Option Filter) (m : Dictionary) → m ≡ dictionary nfa → IsDfaTableOf nfa table → prefilter ≡ nfa.prefilter → AreDfaParts m table prefilter
-parts-of nfa table prefilter m is h same =
+pub parts-of : (nfa : NFA) (table : Table) (prefilter : Option Filter) (m : Dictionary) → m ≡ dictionary nfa → IsDfaTableOf nfa table → OwnsPrefilter (built_as nfa) → prefilter ≡ (built_as nfa).prefilter → AreDfaParts m table prefilter
+parts-of nfa table prefilter m is h owns same =
     subst (λ (d : Dictionary). AreDfaParts d table prefilter) (sym is)
     (record {
       stands = made-some nfa table h;
-      held = λ f held. nfa.held f (sym same ∙ held);
-      paired = nfa.paired;
+      held = λ f held. owns f (sym same ∙ held);
+      paired = h.readable.paired;
     })

@@ -12,25 +12,24 @@ use Rattle.ac_input.specs.declared.search.Anchored.TheVariants.{No, Yes}
 use Rattle.ac_input.specs.Dfa.{Serves, dfa_states}
 use Rattle.ac_input.specs.Input.{is_anchored}
 use Rattle.ac_noncontiguous.specs.declared.nfa.NFA.{NFA}
-use Rattle.ac_noncontiguous.specs.ReadCalls.{state_len, fail_in, depth_in, special_in, MayBeMet}
-use Rattle.ac_noncontiguous.proofs.ReadCallLemmas.{fails-in, ordered-in}
+use Rattle.ac_noncontiguous.specs.ReadCalls.{state_len, fail_in, depth_in, special_in, MayBeMet, IsReadable}
 use Rattle.ac_tables.specs.DfaTable.{dfa_row_of}
 use Rattle.ac_tables.specs.Filling.{RowPlan, number_in, IsFit, IsRowRight, IsBlank, IsChangedIn, AreRowsFilled, IsDone, AreRowsUpTo}
 use Rattle.ac_tables.proofs.RowLemmas.{row-below, row-room, number-fits, row-apart}
-use Rattle.ac_tables.proofs.CellLemmas.{starts-of, texts-of, met-dead, dead-right}
+use Rattle.ac_tables.proofs.CellLemmas.{texts-of, source-of, met-dead, dead-right}
 
 -- ---- places
 
 -- the whole row of a state is within the table
-pub row-space : (p : RowPlan) (anchored : Anchored) (sid len : ℕ) → sid < state_len p.nfa → len ≡ dfa_states p.kind (state_len p.nfa) * p.stride → number_in p anchored sid + p.stride ≤ len
-row-space p anchored sid len within is =
-    let s = starts-of p.nfa in
+pub row-space : (p : RowPlan) (anchored : Anchored) (sid len : ℕ) → IsFit p → sid < state_len p.nfa → len ≡ dfa_states p.kind (state_len p.nfa) * p.stride → number_in p anchored sid + p.stride ≤ len
+row-space p anchored sid len fit within is =
+    let s = fit.source.starts in
     row-room (dfa_states p.kind (state_len p.nfa)) (dfa_row_of p.kind (special_in p.nfa).start_unanchored_id (is_anchored anchored) sid) p.stride len (row-below p.kind (special_in p.nfa).start_unanchored_id (state_len p.nfa) (is_anchored anchored) sid s.0 s.1 within) is
 
 -- and its number fits
 pub number-small : (p : RowPlan) (anchored : Anchored) (sid : ℕ) → IsFit p → sid < state_len p.nfa → number_in p anchored sid ≤ GREATEST
 number-small p anchored sid fit within =
-    let s = starts-of p.nfa in
+    let s = fit.source.starts in
     number-fits (dfa_states p.kind (state_len p.nfa)) (dfa_row_of p.kind (special_in p.nfa).start_unanchored_id (is_anchored anchored) sid) p.stride GREATEST (row-below p.kind (special_in p.nfa).start_unanchored_id (state_len p.nfa) (is_anchored anchored) sid s.0 s.1 within) fit.few
 
 -- a place in another row is before a row or after it
@@ -45,10 +44,10 @@ place-outside row other stride x apart within =
     (cases_lt other row)
 
 -- so the row of one state is unchanged where that of another has changed
-pub changed-others : (p : RowPlan) (a b : Anchored) (i j x : ℕ) (old new : List ℕ) → Serves p.kind a → Serves p.kind b → MayBeMet p.nfa a i → 1 < i → MayBeMet p.nfa b j → (a ≡ b → i ≢ j) → x < p.stride → IsChangedIn p.stride (number_in p a i) old new → slice_index new (number_in p b j + x) ≡ slice_index old (number_in p b j + x)
-changed-others p a b i j x old new serves_a serves_b met_i past met_j ne within h =
+pub changed-others : (p : RowPlan) (a b : Anchored) (i j x : ℕ) (old new : List ℕ) → IsFit p → Serves p.kind a → Serves p.kind b → MayBeMet p.nfa a i → 1 < i → MayBeMet p.nfa b j → (a ≡ b → i ≢ j) → x < p.stride → IsChangedIn p.stride (number_in p a i) old new → slice_index new (number_in p b j + x) ≡ slice_index old (number_in p b j + x)
+changed-others p a b i j x old new fit serves_a serves_b met_i past met_j ne within h =
     let start = (special_in p.nfa).start_unanchored_id in
-    let apart = row-apart p.kind start a b i j serves_a serves_b (starts-of p.nfa).0 past met_i.own met_j.own ne in
+    let apart = row-apart p.kind start a b i j serves_a serves_b fit.source.starts.0 past met_i.own met_j.own ne in
     let here = dfa_row_of p.kind start (is_anchored a) i in
     let there = dfa_row_of p.kind start (is_anchored b) j in
     ⊎_elim
@@ -81,8 +80,8 @@ right-kept p a sid old new fit kept right byte small =
     (r.0, (r.1.0, kept _ (fit.letters byte small) ∙ r.1.1))
 
 -- only unanchored searches are served,
-pub filled-plain : (p : RowPlan) (u v : ℕ) (old new : List ℕ) → Serves p.kind No → ¬ Serves p.kind Yes → MayBeMet p.nfa No u → 1 < u → IsChangedIn p.stride (number_in p No u) old new → IsRowRight p No u new → AreRowsFilled p u v old new
-filled-plain p u v old new served unserved met past changed right = record {
+pub filled-plain : (p : RowPlan) (u v : ℕ) (old new : List ℕ) → IsFit p → Serves p.kind No → ¬ Serves p.kind Yes → MayBeMet p.nfa No u → 1 < u → IsChangedIn p.stride (number_in p No u) old new → IsRowRight p No u new → AreRowsFilled p u v old new
+filled-plain p u v old new fit served unserved met past changed right = record {
   len = changed.len;
   row = λ _. right;
   row_anchored = λ s. absurd (unserved s);
@@ -90,12 +89,12 @@ filled-plain p u v old new served unserved met past changed right = record {
 }
   where
     by : (a : Anchored) (sid x : ℕ) → Serves p.kind a → MayBeMet p.nfa a sid → (a ≡ No → sid ≢ u) → (a ≡ Yes → sid ≢ v) → x < p.stride → slice_index new (number_in p a sid + x) ≡ slice_index old (number_in p a sid + x)
-    by No sid x serves met_a ne ne_v within = changed-others p No No u sid x old new served serves met past met_a (λ _ e. ne refl (sym e)) within changed
+    by No sid x serves met_a ne ne_v within = changed-others p No No u sid x old new fit served serves met past met_a (λ _ e. ne refl (sym e)) within changed
     by Yes sid x serves met_a ne ne_v within = absurd (unserved serves)
 
 -- or only anchored ones,
-pub filled-anchored : (p : RowPlan) (u v : ℕ) (old new : List ℕ) → ¬ Serves p.kind No → Serves p.kind Yes → MayBeMet p.nfa Yes v → 1 < v → IsChangedIn p.stride (number_in p Yes v) old new → IsRowRight p Yes v new → AreRowsFilled p u v old new
-filled-anchored p u v old new unserved served met past changed right = record {
+pub filled-anchored : (p : RowPlan) (u v : ℕ) (old new : List ℕ) → IsFit p → ¬ Serves p.kind No → Serves p.kind Yes → MayBeMet p.nfa Yes v → 1 < v → IsChangedIn p.stride (number_in p Yes v) old new → IsRowRight p Yes v new → AreRowsFilled p u v old new
+filled-anchored p u v old new fit unserved served met past changed right = record {
   len = changed.len;
   row = λ s. absurd (unserved s);
   row_anchored = λ _. right;
@@ -104,28 +103,28 @@ filled-anchored p u v old new unserved served met past changed right = record {
   where
     by : (a : Anchored) (sid x : ℕ) → Serves p.kind a → MayBeMet p.nfa a sid → (a ≡ No → sid ≢ u) → (a ≡ Yes → sid ≢ v) → x < p.stride → slice_index new (number_in p a sid + x) ≡ slice_index old (number_in p a sid + x)
     by No sid x serves met_a ne ne_v within = absurd (unserved serves)
-    by Yes sid x serves met_a ne ne_v within = changed-others p Yes Yes v sid x old new served serves met past met_a (λ _ e. ne_v refl (sym e)) within changed
+    by Yes sid x serves met_a ne ne_v within = changed-others p Yes Yes v sid x old new fit served serves met past met_a (λ _ e. ne_v refl (sym e)) within changed
 
 -- neither anchoring is the other
 anchorings-apart : No ≢ Yes
 anchorings-apart e = let f : No ≡ Yes = e in cc
 
 -- after the row for unanchored searches that for anchored ones is as blank as before
-pub blank-still : (p : RowPlan) (u v : ℕ) (old mid : List ℕ) → Serves p.kind No → Serves p.kind Yes → MayBeMet p.nfa No u → 1 < u → MayBeMet p.nfa Yes v → IsChangedIn p.stride (number_in p No u) old mid → IsBlank p.stride (number_in p Yes v) old → IsBlank p.stride (number_in p Yes v) mid
-blank-still p u v old mid served also met past met_v changed blank x within = changed-others p No Yes u v x old mid served also met past met_v (λ e. absurd (anchorings-apart e)) within changed ∙ blank x within
+pub blank-still : (p : RowPlan) (u v : ℕ) (old mid : List ℕ) → IsFit p → Serves p.kind No → Serves p.kind Yes → MayBeMet p.nfa No u → 1 < u → MayBeMet p.nfa Yes v → IsChangedIn p.stride (number_in p No u) old mid → IsBlank p.stride (number_in p Yes v) old → IsBlank p.stride (number_in p Yes v) mid
+blank-still p u v old mid fit served also met past met_v changed blank x within = changed-others p No Yes u v x old mid fit served also met past met_v (λ e. absurd (anchorings-apart e)) within changed ∙ blank x within
 
 -- or both
 pub filled-both : (p : RowPlan) (u v : ℕ) (old mid new : List ℕ) → IsFit p → Serves p.kind No → Serves p.kind Yes → MayBeMet p.nfa No u → 1 < u → MayBeMet p.nfa Yes v → 1 < v → IsChangedIn p.stride (number_in p No u) old mid → IsRowRight p No u mid → IsChangedIn p.stride (number_in p Yes v) mid new → IsRowRight p Yes v new → AreRowsFilled p u v old new
 filled-both p u v old mid new fit served also met past met_v past_v first right second right_v = record {
   len = second.len ∙ first.len;
-  row = λ _. right-kept p No u mid new fit (λ x within. changed-others p Yes No v u x mid new also served met_v past_v met (λ e. absurd (anchorings-apart (sym e))) within second) right;
+  row = λ _. right-kept p No u mid new fit (λ x within. changed-others p Yes No v u x mid new fit also served met_v past_v met (λ e. absurd (anchorings-apart (sym e))) within second) right;
   row_anchored = λ _. right_v;
   others = by;
 }
   where
     by : (a : Anchored) (sid x : ℕ) → Serves p.kind a → MayBeMet p.nfa a sid → (a ≡ No → sid ≢ u) → (a ≡ Yes → sid ≢ v) → x < p.stride → slice_index new (number_in p a sid + x) ≡ slice_index old (number_in p a sid + x)
-    by No sid x serves met_a ne ne_v within = changed-others p Yes No v sid x mid new also serves met_v past_v met_a (λ e. absurd (anchorings-apart (sym e))) within second ∙ changed-others p No No u sid x old mid served serves met past met_a (λ _ e. ne refl (sym e)) within first
-    by Yes sid x serves met_a ne ne_v within = changed-others p Yes Yes v sid x mid new also serves met_v past_v met_a (λ _ e. ne_v refl (sym e)) within second ∙ changed-others p No Yes u sid x old mid served serves met past met_a (λ e. absurd (anchorings-apart e)) within first
+    by No sid x serves met_a ne ne_v within = changed-others p Yes No v sid x mid new fit also serves met_v past_v met_a (λ e. absurd (anchorings-apart (sym e))) within second ∙ changed-others p No No u sid x old mid fit served serves met past met_a (λ _ e. ne refl (sym e)) within first
+    by Yes sid x serves met_a ne ne_v within = changed-others p Yes Yes v sid x mid new fit also serves met_v past_v met_a (λ _ e. ne_v refl (sym e)) within second ∙ changed-others p No Yes u sid x old mid fit served serves met past met_a (λ e. absurd (anchorings-apart e)) within first
 
 -- ---- all rows
 
@@ -136,13 +135,13 @@ rows-none p trans fit len blank = record {
   right = λ a sid serves met done.
       let stands = met.stands in
       let is : sid ≡ 0 = ⊎_elim (λ (low : sid < 2). omega (arith, low, stands)) (λ (h : ((special_in p.nfa).start_unanchored_id ≤ sid) × (sid < (special_in p.nfa).start_unanchored_id)). omega (arith, h.0, h.1)) done in
-      subst (λ (i : ℕ). IsRowRight p a i trans) (sym is) (dead-right p a trans fit (all a 0 (met-dead p.nfa a).within));
+      subst (λ (i : ℕ). IsRowRight p a i trans) (sym is) (dead-right p a trans fit (all a 0 (met-dead p.nfa a fit.source).within));
   blank = λ a sid serves met _. all a sid met.within;
 }
   where
     all : (a : Anchored) (sid : ℕ) → sid < state_len p.nfa → IsBlank p.stride (number_in p a sid) trans
     all a sid within x in_row =
-        let room = row-space p a sid (length trans) within len in
+        let room = row-space p a sid (length trans) fit within len in
         let e : 0 + (number_in p a sid + x) ≡ number_in p a sid + x = omega arith in
         subst (λ (k : ℕ). slice_index trans k ≡ 0) e (blank (number_in p a sid + x) (omega (arith, room, in_row)))
 
@@ -178,7 +177,7 @@ fresh-high start low high within past done = ⊎_elim (λ (l : high < low). omeg
 pub rows-starts : (p : RowPlan) (old new : List ℕ) → IsFit p → AreRowsUpTo p 2 (special_in p.nfa).start_unanchored_id old → AreRowsFilled p (special_in p.nfa).start_unanchored_id ((special_in p.nfa).start_unanchored_id + 1) old new → AreRowsUpTo p 2 ((special_in p.nfa).start_unanchored_id + 2) new
 rows-starts p old new fit h f =
     let start = (special_in p.nfa).start_unanchored_id in
-    let past = (starts-of p.nfa).0 in
+    let past = fit.source.starts.0 in
     rows-more p start 2 start 2 (start + 2) start (start + 1) old new refl fit
     (λ done. ⊎_elim (λ (l : start < 2). omega (arith, l, past)) (λ (r : (start ≤ start) × (start < start)). omega (arith, r.1)) done)
     (λ done. ⊎_elim (λ (l : start + 1 < 2). omega (arith, l, past)) (λ (r : (start ≤ start + 1) × (start + 1 < start)). omega (arith, r.1)) done)
@@ -223,19 +222,18 @@ rows-all p low high trans first second h = record {
 -- ---- failures
 
 -- unanchored searches may come to what a state fails to
-pub met-failure : (nfa : NFA) (sid : ℕ) → sid < state_len nfa → MayBeMet nfa No (fail_in nfa sid)
-met-failure nfa sid within = let f = fails-in nfa sid within in record { within = f.within; stands = f.stands; own = f.unanchored }
+pub met-failure : (nfa : NFA) (sid : ℕ) → IsReadable nfa → sid < state_len nfa → MayBeMet nfa No (fail_in nfa sid)
+met-failure nfa sid r within = let f = r.fails sid within in record { within = f.within; stands = f.stands; own = f.unanchored }
 
 -- the start fails to the dead state
-failure-start : (nfa : NFA) → fail_in nfa (special_in nfa).start_unanchored_id ≤ 1
-failure-start nfa =
+failure-start : (nfa : NFA) → IsReadable nfa → fail_in nfa (special_in nfa).start_unanchored_id ≤ 1
+failure-start nfa r =
     let start = (special_in nfa).start_unanchored_id in
-    let s = starts-of nfa in
+    let s = (source-of nfa r).starts in
     let within : start < state_len nfa = omega (arith, s.1) in
-    let f = fails-in nfa start within in
-    ∥∥₁_elim nfa.stands le_prop (λ w.
-    let counted = w.1.counted in
-    let deep = w.1.failures.depths start s.0 (omega (arith, within, counted)) in
+    let f = r.fails start within in
+    ∥∥₁_elim r.stand le_prop (λ w.
+    let deep = (r.deep start within w.0 w.1).1 s.0 in
     let none = ap length (texts-of nfa w.0 w.1).starts.2 in
     ⊎_elim
     (λ (past : 1 < fail_in nfa start). let less = f.shallower past in absurd (omega (arith, less, deep, none)))
@@ -243,19 +241,19 @@ failure-start nfa =
     (cases_lt 1 (fail_in nfa start)))
 
 -- depth never falls from one state of a run to a later one
-deep-later : (nfa : NFA) (i j : ℕ) → i ≤ j → j < state_len nfa → ((1 < i) × (j < (special_in nfa).start_unanchored_id)) ⊎ ((special_in nfa).start_unanchored_id + 1 < i) → depth_in nfa i ≤ depth_in nfa j
-deep-later nfa i j le within run =
+deep-later : (nfa : NFA) (i j : ℕ) → IsReadable nfa → i ≤ j → j < state_len nfa → ((1 < i) × (j < (special_in nfa).start_unanchored_id)) ⊎ ((special_in nfa).start_unanchored_id + 1 < i) → depth_in nfa i ≤ depth_in nfa j
+deep-later nfa i j r le within run =
     ⊎_elim
     (λ (same : i ≡ j). let e = ap (depth_in nfa) same in omega (arith, e))
-    (λ (ne : i ≢ j). ∥∥₁_elim nfa.stands le_prop (λ w. (ordered-in nfa w.0 w.1).deeper i j (omega (arith, le, ne)) within run))
+    (λ (ne : i ≢ j). ∥∥₁_elim r.stand le_prop (λ w. (r.ordered w.0 w.1).deeper i j (omega (arith, le, ne)) within run))
     (cases_eq i j)
 
 -- What a state fails to is filled, where the state is no deeper than the next one of either run.
-failure-done : (nfa : NFA) (low high sid : ℕ) → 2 ≤ low → (special_in nfa).start_unanchored_id + 2 ≤ high → sid < state_len nfa → (low < (special_in nfa).start_unanchored_id → depth_in nfa sid ≤ depth_in nfa low) → (high < state_len nfa → depth_in nfa sid ≤ depth_in nfa high) → IsDone (special_in nfa).start_unanchored_id low high (fail_in nfa sid)
-failure-done nfa low high sid past_low past_high within first second =
+failure-done : (nfa : NFA) (low high sid : ℕ) → IsReadable nfa → 2 ≤ low → (special_in nfa).start_unanchored_id + 2 ≤ high → sid < state_len nfa → (low < (special_in nfa).start_unanchored_id → depth_in nfa sid ≤ depth_in nfa low) → (high < state_len nfa → depth_in nfa sid ≤ depth_in nfa high) → IsDone (special_in nfa).start_unanchored_id low high (fail_in nfa sid)
+failure-done nfa low high sid r past_low past_high within first second =
     let start = (special_in nfa).start_unanchored_id in
     let fail = fail_in nfa sid in
-    let f = fails-in nfa sid within in
+    let f = r.fails sid within in
     let fail_in_len = f.within in
     ⊎_elim
     (λ (small : fail ≤ 1). inl (omega (arith, small, past_low)))
@@ -266,7 +264,7 @@ failure-done nfa low high sid past_low past_high within first second =
     ⊎_elim
     (λ (done : fail < low). inl done)
     (λ (free : low ≤ fail).
-    let deep = deep-later nfa low fail free fail_in_len (inl (omega (arith, past_low), before)) in
+    let deep = deep-later nfa low fail r free fail_in_len (inl (omega (arith, past_low), before)) in
     let top = first (omega (arith, free, before)) in
     absurd (omega (arith, less, deep, top)))
     (cases_lt fail low))
@@ -274,7 +272,7 @@ failure-done nfa low high sid past_low past_high within first second =
     ⊎_elim
     (λ (done : fail < high). inr (after, done))
     (λ (free : high ≤ fail).
-    let deep = deep-later nfa high fail free fail_in_len (inr (omega (arith, past_high))) in
+    let deep = deep-later nfa high fail r free fail_in_len (inr (omega (arith, past_high))) in
     let top = second (omega (arith, free, fail_in_len)) in
     absurd (omega (arith, less, deep, top)))
     (cases_lt fail high))
@@ -282,23 +280,23 @@ failure-done nfa low high sid past_low past_high within first second =
     (let h = cases_lt 1 fail in ⊎_elim (λ (l : 1 < fail). inr (omega (arith, l))) (λ (r : fail ≤ 1). inl r) h)
 
 -- so the row of its failure is right: for the starts,
-pub failure-right_start : (p : RowPlan) (trans : List ℕ) → AreRowsUpTo p 2 (special_in p.nfa).start_unanchored_id trans → Serves p.kind No → IsRowRight p No (fail_in p.nfa (special_in p.nfa).start_unanchored_id) trans
-failure-right_start p trans h serves =
-    let s = starts-of p.nfa in
-    let small = failure-start p.nfa in
-    h.right No (fail_in p.nfa (special_in p.nfa).start_unanchored_id) serves (met-failure p.nfa (special_in p.nfa).start_unanchored_id (omega (arith, s.1))) (inl (omega (arith, small)))
+pub failure-right_start : (p : RowPlan) (trans : List ℕ) → IsReadable p.nfa → AreRowsUpTo p 2 (special_in p.nfa).start_unanchored_id trans → Serves p.kind No → IsRowRight p No (fail_in p.nfa (special_in p.nfa).start_unanchored_id) trans
+failure-right_start p trans r h serves =
+    let s = (source-of p.nfa r).starts in
+    let small = failure-start p.nfa r in
+    h.right No (fail_in p.nfa (special_in p.nfa).start_unanchored_id) serves (met-failure p.nfa (special_in p.nfa).start_unanchored_id r (omega (arith, s.1))) (inl (omega (arith, small)))
 
 -- for the next state of the first run, where it is filled first,
-pub failure-right_low : (p : RowPlan) (low high : ℕ) (trans : List ℕ) → 2 ≤ low → (special_in p.nfa).start_unanchored_id + 2 ≤ high → low < (special_in p.nfa).start_unanchored_id → (high < state_len p.nfa → depth_in p.nfa low ≤ depth_in p.nfa high) → AreRowsUpTo p low high trans → Serves p.kind No → IsRowRight p No (fail_in p.nfa low) trans
-failure-right_low p low high trans past_low past_high before first h serves =
-    let s = starts-of p.nfa in
+pub failure-right_low : (p : RowPlan) (low high : ℕ) (trans : List ℕ) → IsReadable p.nfa → 2 ≤ low → (special_in p.nfa).start_unanchored_id + 2 ≤ high → low < (special_in p.nfa).start_unanchored_id → (high < state_len p.nfa → depth_in p.nfa low ≤ depth_in p.nfa high) → AreRowsUpTo p low high trans → Serves p.kind No → IsRowRight p No (fail_in p.nfa low) trans
+failure-right_low p low high trans r past_low past_high before first h serves =
+    let s = (source-of p.nfa r).starts in
     let within : low < state_len p.nfa = omega (arith, s.1, before) in
-    h.right No (fail_in p.nfa low) serves (met-failure p.nfa low within) (failure-done p.nfa low high low past_low past_high within (λ _. omega arith) first)
+    h.right No (fail_in p.nfa low) serves (met-failure p.nfa low r within) (failure-done p.nfa low high low r past_low past_high within (λ _. omega arith) first)
 
 -- and for that of the second
-pub failure-right_high : (p : RowPlan) (low high : ℕ) (trans : List ℕ) → 2 ≤ low → (special_in p.nfa).start_unanchored_id + 2 ≤ high → high < state_len p.nfa → (low < (special_in p.nfa).start_unanchored_id → depth_in p.nfa high < depth_in p.nfa low) → AreRowsUpTo p low high trans → Serves p.kind No → IsRowRight p No (fail_in p.nfa high) trans
-failure-right_high p low high trans past_low past_high within first h serves =
-    h.right No (fail_in p.nfa high) serves (met-failure p.nfa high within) (failure-done p.nfa low high high past_low past_high within (λ before. let lt = first before in omega (arith, lt)) (λ _. omega arith))
+pub failure-right_high : (p : RowPlan) (low high : ℕ) (trans : List ℕ) → IsReadable p.nfa → 2 ≤ low → (special_in p.nfa).start_unanchored_id + 2 ≤ high → high < state_len p.nfa → (low < (special_in p.nfa).start_unanchored_id → depth_in p.nfa high < depth_in p.nfa low) → AreRowsUpTo p low high trans → Serves p.kind No → IsRowRight p No (fail_in p.nfa high) trans
+failure-right_high p low high trans r past_low past_high within first h serves =
+    h.right No (fail_in p.nfa high) serves (met-failure p.nfa high r within) (failure-done p.nfa low high high r past_low past_high within (λ before. let lt = first before in omega (arith, lt)) (λ _. omega arith))
 
 -- a state past the starts, or between the first two and them, may be met from either start
 pub met-both : (nfa : NFA) (a : Anchored) (sid : ℕ) → sid < state_len nfa → 1 < sid → (sid < (special_in nfa).start_unanchored_id) ⊎ ((special_in nfa).start_unanchored_id + 1 < sid) → MayBeMet nfa a sid
@@ -306,8 +304,8 @@ met-both nfa No sid within past side = record { within = within; stands = λ e. 
 met-both nfa Yes sid within past side = record { within = within; stands = λ e. omega (arith, e, past); own = λ e. ⊎_elim (λ (l : sid < (special_in nfa).start_unanchored_id). omega (arith, l, e)) (λ (r : (special_in nfa).start_unanchored_id + 1 < sid). omega (arith, r, e)) side }
 
 -- each start from itself
-pub met-start_plain : (nfa : NFA) → MayBeMet nfa No (special_in nfa).start_unanchored_id
-met-start_plain nfa = let s = starts-of nfa in record { within = omega (arith, s.1); stands = λ e. omega (arith, s.0, e); own = λ e. omega (arith, e) }
+pub met-start_plain : (nfa : NFA) → IsReadable nfa → MayBeMet nfa No (special_in nfa).start_unanchored_id
+met-start_plain nfa r = let s = (source-of nfa r).starts in record { within = omega (arith, s.1); stands = λ e. omega (arith, s.0, e); own = λ e. omega (arith, e) }
 
-pub met-start_own : (nfa : NFA) → MayBeMet nfa Yes ((special_in nfa).start_unanchored_id + 1)
-met-start_own nfa = let s = starts-of nfa in record { within = s.1; stands = λ e. omega (arith, s.0, e); own = λ e. omega (arith, e) }
+pub met-start_own : (nfa : NFA) → IsReadable nfa → MayBeMet nfa Yes ((special_in nfa).start_unanchored_id + 1)
+met-start_own nfa r = let s = (source-of nfa r).starts in record { within = s.1; stands = λ e. omega (arith, s.0, e); own = λ e. omega (arith, e) }

@@ -17,16 +17,15 @@ use Rattle.ac_noncontiguous.specs.declared.nfa.NFA.{NFA}
 use Rattle.ac_noncontiguous.specs.Lookups.{other_start}
 use Rattle.ac_noncontiguous.specs.Nfa.{state_of}
 use Rattle.ac_noncontiguous.specs.Reads.{dictionary, matches_at}
-use Rattle.ac_noncontiguous.specs.ReadCalls.{state_len, special_in, StandFor, MayBeMet}
+use Rattle.ac_noncontiguous.specs.ReadCalls.{state_len, special_in, StandFor, MayBeMet, IsReadable}
 use Rattle.ac_noncontiguous.proofs.NextLemmas.{state-some, state-none}
-use Rattle.ac_noncontiguous.proofs.ReadCallLemmas.{lists-in, special-in}
 use Rattle.ac_tables.specs.declared.dfa.table.Table.{Table}
 use Rattle.ac_tables.specs.DfaMade.{nfa_start_of, number_by, IsDfaTableOf}
 use Rattle.ac_tables.specs.DfaTable.{dfa_row_of, stride_of, list_index, dfa_list_of, dfa_matches_by, start_by, AreDfaRows}
 use Rattle.ac_tables.specs.Places.{is_met, named_by, AreApartInTable}
 use Rattle.ac_tables.proofs.PlacesLemmas.{named-met, named-state, named-text, met-stands, met-unanchored, met-anchored, met-start, met-start_anchored}
 use Rattle.ac_tables.proofs.RowLemmas.{row-first, row-below, row-past, row-room, row-one, row-le, row-starts, row-before_starts, scale-one, scale-le, number-row, index-is}
-use Rattle.ac_tables.proofs.CellLemmas.{texts-of, starts-of, last-match_is}
+use Rattle.ac_tables.proofs.CellLemmas.{texts-of, last-match_is}
 
 -- ---- which states are met
 
@@ -57,7 +56,7 @@ stride-some nfa table h = let l = h.fit.letters 0 (omega arith) in omega (arith,
 pub numbers-apart : (nfa : NFA) (table : Table) → IsDfaTableOf nfa table → AreApartInTable (state_len nfa) (nfa_start_of nfa) (number_by nfa table)
 numbers-apart nfa table h a b i j i_in j_in met_i met_j same =
     let start = nfa_start_of nfa in
-    (row-one table.kind start a b i j (starts-of nfa).0 (met-own start a i met_i) (met-own start b j met_j)
+    (row-one table.kind start a b i j h.fit.source.starts.0 (met-own start a i met_i) (met-own start b j met_j)
     (scale-one (dfa_row_of table.kind start a i) (dfa_row_of table.kind start b j) (stride_of table) (stride-some nfa table h) same)).0
 
 -- the dead state has number 0,
@@ -65,9 +64,9 @@ number-dead : (nfa : NFA) (table : Table) (a : Bool) → number_by nfa table a 0
 number-dead nfa table a = let none : 0 * stride_of table ≡ 0 = omega arith in ap (λ (row : ℕ). row * stride_of table) (row-first table.kind (nfa_start_of nfa) a 0 (omega arith)) ∙ none
 
 -- and each other one that is met a number past the first two rows
-number-past : (nfa : NFA) (table : Table) (a : Bool) (i : ℕ) → 1 < i → IsTrue (is_met (nfa_start_of nfa) a i) → 2 * stride_of table ≤ number_by nfa table a i
-number-past nfa table a i past met =
-    let row = row-past table.kind (nfa_start_of nfa) a i (starts-of nfa).0 past (met-own (nfa_start_of nfa) a i met) in
+number-past : (nfa : NFA) (table : Table) (a : Bool) (i : ℕ) → IsDfaTableOf nfa table → 1 < i → IsTrue (is_met (nfa_start_of nfa) a i) → 2 * stride_of table ≤ number_by nfa table a i
+number-past nfa table a i h past met =
+    let row = row-past table.kind (nfa_start_of nfa) a i h.fit.source.starts.0 past (met-own (nfa_start_of nfa) a i met) in
     mul-le 2 (stride_of table) (dfa_row_of table.kind (nfa_start_of nfa) a i) (stride_of table) (omega (arith, row)) (omega arith)
 
 -- a state that is met is the dead one or past the first two
@@ -135,7 +134,7 @@ table-steps nfa table text h t anchored sid byte serves met small =
 table-first : (nfa : NFA) (table : Table) (text : ℕ → List ℕ) → IsDfaTableOf nfa table → StandFor nfa text → IsFirst (names_of nfa table text) false table.start × IsFirst (names_of nfa table text) true table.start_anchored
 table-first nfa table text h t =
     let start = nfa_start_of nfa in
-    let s = starts-of nfa in
+    let s = h.fit.source.starts in
     let texts = texts-of nfa text t in
     let names = names_of nfa table text in
     let apart = numbers-apart nfa table h in
@@ -180,7 +179,7 @@ number-matches nfa table a i h met =
     let start = nfa_start_of nfa in
     let last = (special_in nfa).max_match_id in
     let scale = scale-le (dfa_row_of table.kind start a i) (dfa_row_of table.kind start true last) (stride_of table) (stride-some nfa table h) in
-    let rows = row-le table.kind start last a i (starts-of nfa).0 (last-match_is nfa) (met-stands start a i met) (met-own start a i met) in
+    let rows = row-le table.kind start last a i h.fit.source.starts.0 (last-match_is nfa h.readable) (met-stands start a i met) (met-own start a i met) in
     let is = h.max_match in (
       λ le. rows.0 (scale.0 (omega (arith, le, is))),
       λ le. let up = scale.1 (rows.1 le) in omega (arith, up, is),
@@ -197,9 +196,9 @@ record IsListed (nfa : NFA) (table : Table) (text : ℕ → List ℕ) (a : Bool)
 listed-of : (nfa : NFA) (table : Table) (text : ℕ → List ℕ) (a : Bool) (i : ℕ) → IsDfaTableOf nfa table → StandFor nfa text → 1 < i → IsTrue (is_met (nfa_start_of nfa) a i) → i ≤ (special_in nfa).max_match_id → (j : ℕ) × IsListed nfa table text a i j
 listed-of nfa table text a i h t past met low =
     let start = nfa_start_of nfa in
-    let s = starts-of nfa in
+    let s = h.fit.source.starts in
     let texts = texts-of nfa text t in
-    let up : i ≤ start + 1 = ⊎_elim (λ (l : (special_in nfa).max_match_id + 1 ≡ start). omega (arith, l, low)) (λ (r : (special_in nfa).max_match_id ≡ start + 1). omega (arith, r, low)) (last-match_is nfa) in
+    let up : i ≤ start + 1 = ⊎_elim (λ (l : (special_in nfa).max_match_id + 1 ≡ start). omega (arith, l, low)) (λ (r : (special_in nfa).max_match_id ≡ start + 1). omega (arith, r, low)) (last-match_is nfa h.readable) in
     let row = number-row (dfa_row_of table.kind start a i) (stride_of table) (stride-some nfa table h) in
     let at : list_index table.kind (number_by nfa table a i / stride_of table) ≡ list_index table.kind (dfa_row_of table.kind start a i) = ap (list_index table.kind) row in
     ⊎_elim
@@ -211,19 +210,23 @@ listed-of nfa table text a i h t past met low =
     (index-is table.kind start a i s.0 past up (met-own start a i met))
 
 -- a state that matches has some patterns, and no other has
-some-at : (nfa : NFA) (text : ℕ → List ℕ) (i : ℕ) → StandFor nfa text → 1 < i → i < state_len nfa → (0 < length (matches_at nfa i)) ↔ (i ≤ (special_in nfa).max_match_id)
-some-at nfa text i t past within = (special-in nfa text t).matching i past within
+some-at : (nfa : NFA) (text : ℕ → List ℕ) (i : ℕ) → IsReadable nfa → StandFor nfa text → 1 < i → i < state_len nfa → (0 < length (matches_at nfa i)) ↔ (i ≤ (special_in nfa).max_match_id)
+some-at nfa text i r t past within = (r.bounds text t).matching i past within
+
+-- a number past 0 and up to the last one that matches has a list
+listed-test : (sid last : ℕ) → sid ≢ 0 → sid ≤ last → (not (sid == 0) && nat_le sid last) ≡ true
+listed-test sid last some le = grind (arith, nat_tests)
 
 -- the list of a number up to the last one that matches
 matches-low : (nfa : NFA) (table : Table) (text : ℕ → List ℕ) (a : Bool) (sid i : ℕ) → IsDfaTableOf nfa table → StandFor nfa text → 1 < i → IsNumber nfa table text a sid i → i ≤ (special_in nfa).max_match_id → (j : ℕ) × IsListed nfa table text a i j × (dfa_matches_by table sid ≡ matches_at nfa j)
 matches-low nfa table text a sid i h t past n low =
     let l = listed-of nfa table text a i h t past n.met low in
-    let some = number-past nfa table a i past n.met in
+    let some = number-past nfa table a i h past n.met in
     let stride = stride-some nfa table h in
     let is = n.number in
     let le : sid ≤ table.max_match = let up = (number-matches nfa table a i h n.met).1 low in omega (arith, up, is) in
     let not_zero : sid ≢ 0 = λ e. omega (arith, e, some, is, stride) in
-    let test : (not (sid == 0) && nat_le sid table.max_match) ≡ true = grind (arith, nat_tests) in
+    let test = listed-test sid table.max_match not_zero le in
     let index = l.1.index in
     let top = l.1.low in
     let j_past = l.1.past in
@@ -261,18 +264,18 @@ table-lists nfa table text h t a sid of met some =
     subst (λ (u : List ℕ). IsList (dictionary nfa) u (dfa_matches_by table sid)) (sym s.1)
     (⊎_elim
     (λ (high : (special_in nfa).max_match_id < i).
-    let list = (lists-in nfa i n.1.within).list text t s.0 in
+    let list = (h.readable.lists i n.1.within).list text t s.0 in
     let empty : length (matches_at nfa i) ≡ 0 =
     ⊎_elim
-    (λ (more : 0 < length (matches_at nfa i)). let low = (some-at nfa text i t s.0 n.1.within).0 more in absurd (omega (arith, low, high)))
+    (λ (more : 0 < length (matches_at nfa i)). let low = (some-at nfa text i h.readable t s.0 n.1.within).0 more in absurd (omega (arith, low, high)))
     (λ (le : length (matches_at nfa i) ≤ 0). omega (arith, le))
     (cases_lt 0 (length (matches_at nfa i))) in
     subst (IsList (dictionary nfa) (text i)) (nil_from_length (matches_at nfa i) empty ∙ sym (matches-high nfa table text a sid i h n.1 high)) list)
     (λ (low : i ≤ (special_in nfa).max_match_id).
     let m = matches-low nfa table text a sid i h t s.0 n.1 low in
     let top = m.1.low in
-    let j_in : m.0 < state_len nfa = let st = starts-of nfa in ⊎_elim (λ (l : (special_in nfa).max_match_id + 1 ≡ nfa_start_of nfa). omega (arith, l, top, st.1)) (λ (r : (special_in nfa).max_match_id ≡ nfa_start_of nfa + 1). omega (arith, r, top, st.1)) (last-match_is nfa) in
-    subst (IsList (dictionary nfa) (text i)) (sym m.2) (subst (λ (u : List ℕ). IsList (dictionary nfa) u (matches_at nfa m.0)) m.1.same ((lists-in nfa m.0 j_in).list text t m.1.past)))
+    let j_in : m.0 < state_len nfa = let st = h.fit.source.starts in ⊎_elim (λ (l : (special_in nfa).max_match_id + 1 ≡ nfa_start_of nfa). omega (arith, l, top, st.1)) (λ (r : (special_in nfa).max_match_id ≡ nfa_start_of nfa + 1). omega (arith, r, top, st.1)) (last-match_is nfa h.readable) in
+    subst (IsList (dictionary nfa) (text i)) (sym m.2) (subst (λ (u : List ℕ). IsList (dictionary nfa) u (matches_at nfa m.0)) m.1.same ((h.readable.lists m.0 j_in).list text t m.1.past)))
     (cases_lt (special_in nfa).max_match_id i))
 
 -- a number has patterns exactly up to the last one that matches
@@ -295,8 +298,8 @@ table-matching nfa table text h t a sid met not_zero =
         λ le.
             let m = matches-low nfa table text a sid i h t past n.1 (below le) in
             let top = m.1.low in
-            let j_in : m.0 < state_len nfa = let st = starts-of nfa in ⊎_elim (λ (l : (special_in nfa).max_match_id + 1 ≡ nfa_start_of nfa). omega (arith, l, top, st.1)) (λ (r : (special_in nfa).max_match_id ≡ nfa_start_of nfa + 1). omega (arith, r, top, st.1)) (last-match_is nfa) in
-            λ e. list-some (matches_at nfa m.0) ((some-at nfa text m.0 t m.1.past j_in).1 top) (sym m.2 ∙ e),
+            let j_in : m.0 < state_len nfa = let st = h.fit.source.starts in ⊎_elim (λ (l : (special_in nfa).max_match_id + 1 ≡ nfa_start_of nfa). omega (arith, l, top, st.1)) (λ (r : (special_in nfa).max_match_id ≡ nfa_start_of nfa + 1). omega (arith, r, top, st.1)) (last-match_is nfa h.readable) in
+            λ e. list-some (matches_at nfa m.0) ((some-at nfa text m.0 h.readable t m.1.past j_in).1 top) (sym m.2 ∙ e),
       ),
       λ le.
           let l = listed-of nfa table text a i h t past n.1.met (below le) in
@@ -312,7 +315,7 @@ table-matching nfa table text h t a sid met not_zero =
 pub table-rows : (nfa : NFA) (table : Table) (text : ℕ → List ℕ) → IsDfaTableOf nfa table → StandFor nfa text → AreDfaRows (dictionary nfa) table (names_of nfa table text)
 table-rows nfa table text h t =
     let start = nfa_start_of nfa in
-    let s = starts-of nfa in
+    let s = h.fit.source.starts in
     let stride = stride-some nfa table h in
     record {
       classes = h.fit.letters;
@@ -321,14 +324,14 @@ table-rows nfa table text h t =
           let is = n.1.number in
           let room = row-room (dfa_states table.kind (state_len nfa)) (dfa_row_of table.kind start a n.0) (stride_of table) (length table.trans.items) (row-below table.kind start (state_len nfa) a n.0 s.0 s.1 n.1.within) h.rows.len in (
             omega (arith, room, is),
-            ⊎_elim (λ (zero_is : n.0 ≡ 0). inl (is ∙ (ap (number_by nfa table a) zero_is ∙ number-dead nfa table a))) (λ (past : 1 < n.0). let p = number-past nfa table a n.0 past n.1.met in inr (omega (arith, p, is))) (dead-or nfa a n.0 n.1.met),
+            ⊎_elim (λ (zero_is : n.0 ≡ 0). inl (is ∙ (ap (number_by nfa table a) zero_is ∙ number-dead nfa table a))) (λ (past : 1 < n.0). let p = number-past nfa table a n.0 h past n.1.met in inr (omega (arith, p, is))) (dead-or nfa a n.0 n.1.met),
           );
       rows = λ a sid met. let n = number-of nfa table text a sid h met in (dfa_row_of table.kind start a n.0, n.1.number);
       dead = λ a sid met.
           let n = number-of nfa table text a sid h met in
           let is = n.1.number in (
             λ none. ⊎_elim (λ (zero_is : n.0 ≡ 0). is ∙ (ap (number_by nfa table a) zero_is ∙ number-dead nfa table a)) (λ (past : 1 < n.0). absurd (let e : None ≡ Some (text n.0) = sym none ∙ (n.1.named ∙ state-some text n.0 past) in cc)) (dead-or nfa a n.0 n.1.met),
-            λ zero_is. ⊎_elim (λ (here : n.0 ≡ 0). n.1.named ∙ state-none text n.0 here) (λ (past : 1 < n.0). let p = number-past nfa table a n.0 past n.1.met in absurd (omega (arith, p, is, zero_is, stride))) (dead-or nfa a n.0 n.1.met),
+            λ zero_is. ⊎_elim (λ (here : n.0 ≡ 0). n.1.named ∙ state-none text n.0 here) (λ (past : 1 < n.0). let p = number-past nfa table a n.0 h past n.1.met in absurd (omega (arith, p, is, zero_is, stride))) (dead-or nfa a n.0 n.1.met),
           );
       steps = table-steps nfa table text h t;
       first = by-first;
@@ -348,7 +351,7 @@ table-rows nfa table text h t =
           let at = h.start in
           inl (omega (arith, e, f, is, at)))
           (λ (own : (special_in nfa).max_match_id ≡ start + 1). inr (h.max_match ∙ (ap (number_by nfa table true) own ∙ sym h.start_anchored)))
-          (last-match_is nfa);
+          (last-match_is nfa h.readable);
       wide = h.wide;
       starts =
           let past = row-past table.kind start false start s.0 s.0 (λ e. omega (arith, e)) in
@@ -365,7 +368,7 @@ table-rows nfa table text h t =
         ⊎_elim
         (λ (up : (names_of nfa table text).met true table.start ≡ true).
         let n = named-state (state_of text) (state_len nfa) (nfa_start_of nfa) (number_by nfa table) true table.start up in
-        let s = starts-of nfa in
+        let s = h.fit.source.starts in
         absurd (met-anchored (nfa_start_of nfa) n.0 n.2 (numbers-apart nfa table h true false n.0 (nfa_start_of nfa) n.1 (omega (arith, s.1)) n.2 (met-start (nfa_start_of nfa) s.0) (n.3 ∙ h.start))))
         (λ (down : (names_of nfa table text).met true table.start ≡ false). down)
         (cases_Bool ((names_of nfa table text).met true table.start))

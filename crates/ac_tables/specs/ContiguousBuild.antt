@@ -69,7 +69,7 @@ pub record IsWordTableOf (nfa : NFA) (dense_depth : ℕ) (table : Table) : Type 
   pub max_match : table.max_match ≡ place_in nfa dense_depth table.classes (special_in nfa).max_match_id
 
 -- the words of a state were put after the others, and the read calls describe it
-pub record IsStateWritten (nfa : NFA) (dense_depth : ℕ) (classes : List ℕ) (sid : ℕ) (before after : List ℕ) : Type 0 where
+pub record IsWritten (nfa : NFA) (dense_depth : ℕ) (classes : List ℕ) (sid : ℕ) (before after : List ℕ) : Type 0 where
   pub words : after ≡ before ++ words_at nfa dense_depth classes sid
   pub known : sid ≢ 1 → IsKnown nfa sid
 

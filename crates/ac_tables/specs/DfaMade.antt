@@ -8,7 +8,7 @@ use Rattle.ac_noncontiguous.specs.declared.error.BuildErrorKind.{BuildErrorKind}
 use Rattle.ac_noncontiguous.specs.declared.error.BuildErrorKind.TheVariants.{StateIDOverflow, PatternIDOverflow, PatternTooLong, Memory}
 use Rattle.ac_noncontiguous.specs.declared.nfa.NFA.{NFA}
 use Rattle.ac_noncontiguous.specs.Reads.{dictionary}
-use Rattle.ac_noncontiguous.specs.ReadCalls.{state_len, special_in}
+use Rattle.ac_noncontiguous.specs.ReadCalls.{state_len, special_in, IsReadable}
 use Rattle.ac_tables.specs.declared.dfa.table.Table.{Table}
 use Rattle.ac_tables.specs.DfaLists.{AreListsOf}
 use Rattle.ac_tables.specs.DfaTable.{dfa_number_of, stride_of}
@@ -29,6 +29,7 @@ number_by nfa table anchored i = dfa_number_of table.kind (nfa_start_of nfa) (st
 
 -- The table is made of an automaton: rows, lists and numbers are those of its states.
 pub record IsDfaTableOf (nfa : NFA) (table : Table) : Type 0 where
+  pub readable : IsReadable nfa
   pub fit : IsFit (plan_by nfa table)
   pub wide : table.stride2 ≤ 8
   pub least : IsLeastExponent (alphabet_len table.classes) table.stride2

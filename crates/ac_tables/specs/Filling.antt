@@ -7,10 +7,12 @@ use Rattle.ac_input.specs.declared.search.StartKind.{StartKind}
 use Rattle.ac_input.specs.Alphabet.{class}
 use Rattle.ac_input.specs.Dfa.{Serves, dfa_states}
 use Rattle.ac_input.specs.Input.{is_anchored}
+use Rattle.ac_input.specs.Pairing.{IsPairing}
 use Rattle.ac_noncontiguous.specs.declared.error.BuildErrorKind.{BuildErrorKind}
 use Rattle.ac_noncontiguous.specs.declared.error.BuildErrorKind.TheVariants.{StateIDOverflow, PatternIDOverflow, PatternTooLong, Memory}
 use Rattle.ac_noncontiguous.specs.declared.nfa.NFA.{NFA}
-use Rattle.ac_noncontiguous.specs.ReadCalls.{state_len, depth_in, special_in, classes_in, MayBeMet}
+use Rattle.ac_noncontiguous.specs.Reads.{dictionary}
+use Rattle.ac_noncontiguous.specs.ReadCalls.{state_len, depth_in, special_in, classes_in, MayBeMet, StandForSome, ClassesAreThose}
 use Rattle.ac_tables.specs.DfaTable.{dfa_number_of, IsCell}
 
 -- ---- the size
@@ -39,8 +41,17 @@ number_in p anchored sid = dfa_number_of p.kind (special_in p.nfa).start_unancho
 abbrev pub cell_in : RowPlan → Anchored → ℕ → ℕ → ℕ
 cell_in p anchored sid byte = number_in p anchored sid + class p.classes byte
 
+-- What all rows need of an automaton: its states stand for texts, both starts are states past the first two, each byte is the
+-- partner of its partner, and its classes are those of its dictionary.
+pub record IsSource (nfa : NFA) : Type 0 where
+  pub stand : StandForSome nfa
+  pub starts : (1 < (special_in nfa).start_unanchored_id) × ((special_in nfa).start_unanchored_id + 1 < state_len nfa)
+  pub paired : IsPairing (dictionary nfa).pairing
+  pub classes : ClassesAreThose nfa
+
 -- Each class has its place in a row, bytes of one class are so in the automaton's own classes too, and the last row has a number.
 pub record IsFit (p : RowPlan) : Type 0 where
+  pub source : IsSource p.nfa
   pub wide : p.stride ≤ 256
   pub letters : (byte : ℕ) → byte < 256 → class p.classes byte < p.stride
   pub finer : (b c : ℕ) → b < 256 → c < 256 → class p.classes b ≡ class p.classes c → class (classes_in p.nfa) b ≡ class (classes_in p.nfa) c

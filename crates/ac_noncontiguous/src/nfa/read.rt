@@ -100,7 +100,7 @@ impl NFA {
     ghost use Rattle.ac_input.specs.Pairing.{IsPairing};
     ghost use Rattle.ac_noncontiguous.specs.Reads.{built_as, matches_at};
     ghost use Rattle.ac_noncontiguous.specs.Nfa.{AreOpenedBy};
-    ghost use Rattle.ac_noncontiguous.specs.ReadCalls.{AlikeIn, state_len, fail_in, depth_in, edges_in, classes_in, special_in, ClassesAreThose, CountsIn, IsWithin, FailsIn, IsDeepIn, ListsIn, EdgesLeadIn, MayBeMet, LeadsIn, SpecialIn, StandForSome, TextsBegin, AreRead, OrderedIn, IsCopy};
+    ghost use Rattle.ac_noncontiguous.specs.ReadCalls.{AlikeIn, state_len, fail_in, depth_in, edges_in, classes_in, special_in, ClassesAreThose, CountsIn, IsWithin, FailsIn, IsDeepIn, ListsIn, EdgesLeadIn, MayBeMet, LeadsIn, SpecialIn, StandForSome, TextsBegin, AreRead, OrderedIn, IsReadable, IsCopy};
 
     /// How many states there are.
     /// A caller: `uses::callers::nfa::numbered`.
@@ -185,10 +185,13 @@ impl NFA {
     }
 
     /// The numbers between the parts of the states.
+    ///
+    /// Another automaton is made from this one by them first. So this call also promises what the others do, of every state at once.
     /// A caller: `uses::callers::nfa::start_of`.
     pub fn special(&self) -> Special
         ensures value { result ≡ special_in self.now }
         ensures order { SpecialIn self.now result }
+        ensures whole { IsReadable self.now }
     {
         Special {
             max_special_id: self.max_special,

@@ -4,7 +4,7 @@
 //! final numbers. It takes time and memory in proportion to the transitions and lists of that automaton, and `alphabet_len` words
 //! more for each dense state.
 ghost use Rattle.std.specs.Prelude.{◌≡◌, IfOk, IfErr};
-ghost use Rattle.ac_input.specs.Pairing.{IsPairing, IsFolded};
+ghost use Rattle.ac_input.specs.Pairing.{IsFolded};
 ghost use Rattle.ac_noncontiguous.specs.Reads.{dictionary};
 ghost use Rattle.ac_tables.specs.ContiguousBuild.{IsRefusedFor};
 ghost use Rattle.ac_tables.specs.ContiguousBuilder.{AreFirst, IsTableFrom, IsMadeFrom, IsRefusedFrom, IsBuiltOf, IsRefusedOf, IsBuiltAtFirst, IsRefusedAtFirst, noncontiguous_of, words_in};
@@ -35,12 +35,10 @@ fn table_of(
     dense_depth: usize,
     classes: ByteClasses,
 ) -> Result<Table, BuildError>
-    requires paired { IsPairing (dictionary nfa.now).pairing }
     requires serve { AreServing (dictionary nfa.now) classes }
     ensures made { IfOk result (IsTableFrom nfa.now dense_depth classes) }
     ensures refused { IfErr result (IsRefusedFor nfa.now dense_depth classes) }
 {
-    nfa.states_stand();
     let special = nfa.special();
     let layout = lay_out(alloc, nfa, dense_depth, &classes)?;
     let words = words(

@@ -1,7 +1,7 @@
 //! The words of all states, one state after another.
 ghost use Rattle.std.specs.Prelude.{◌≡◌, ◌<◌, length, IfOk};
 ghost use Rattle.ac_noncontiguous.specs.ReadCalls.{state_len, EdgesLeadIn};
-ghost use Rattle.ac_tables.specs.ContiguousBuild.{ArePlacesIn, AreReadBy, IsStateWritten, AreAllWritten};
+ghost use Rattle.ac_tables.specs.ContiguousBuild.{ArePlacesIn, AreReadBy, IsWritten, AreAllWritten};
 
 use crate::contiguous::places::FAIL;
 use crate::contiguous::words::{Parts, push_state};
@@ -31,32 +31,32 @@ fn read_edges(
     Ok(())
 }
 
-/// Puts the words of the state after those of the states before it. Its transitions are read into `edges`.
+/// Puts the words of the state after those of the states before it, which are in `out`. Its transitions are read into `edges`.
 fn push_words(
     nfa: &NFA,
     sid: StateID,
-    dense_depth: usize,
+    depth: usize,
     classes: &ByteClasses,
     places: &[StateID],
     edges: &mut Vec<(u8, StateID)>,
-    words: &mut Vec<u32>,
+    out: &mut Vec<u32>,
 ) -> Result<(), AllocError>
     requires within { sid < state_len nfa.now }
-    requires places { ArePlacesIn nfa.now dense_depth classes.now places.now }
-    ensures { IfOk result (λ _. IsStateWritten nfa.now dense_depth classes.now sid
-        words.old.items words.new.items) }
+    requires places { ArePlacesIn nfa.now depth classes.now places.now }
+    ensures { IfOk result (λ _. IsWritten nfa.now depth classes.now sid
+        out.old.items out.new.items) }
 {
     if sid.as_usize() == FAIL {
         return Ok(());
     }
     read_edges(nfa, sid, classes, places, edges)?;
     let parts = Parts {
-        shallow: nfa.depth(sid) < dense_depth,
+        shallow: nfa.depth(sid) < depth,
         fail: places[nfa.fail(sid).as_usize()],
         edges,
         matches: nfa.match_list(sid),
     };
-    push_state(&parts, classes.alphabet_len(), words)
+    push_state(&parts, classes.alphabet_len(), out)
 }
 
 /// The words of the states, one state after another: `words_len` of them.

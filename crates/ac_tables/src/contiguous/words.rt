@@ -150,17 +150,17 @@ fn push_head(kind: u32, fail: StateID, words: &mut Vec<u32>) -> Result<(), Alloc
 /// Puts the kind of a state, its failure and its transitions after the words.
 fn push_transitions(
     parts: &Parts<'_>,
-    alphabet_len: usize,
+    alphabet: usize,
     words: &mut Vec<u32>,
 ) -> Result<(), AllocError>
-    requires { CanBeWritten alphabet_len parts.now }
+    requires { CanBeWritten alphabet parts.now }
     ensures { IfOk result
-        (λ _. words.new.items ≡ words.old.items ++ leading_words alphabet_len parts.now) }
+        (λ _. words.new.items ≡ words.old.items ++ leading_words alphabet parts.now) }
 {
     let edges = parts.edges;
     if parts.shallow || edges.len() > MOST_SPARSE {
         push_head(DENSE, parts.fail, words)?;
-        return push_row(edges, alphabet_len, words);
+        return push_row(edges, alphabet, words);
     }
     if edges.len() == 1 && parts.matches.len() == 0 {
         push_head(ONE + 256 * (edges[0].0 as u32), parts.fail, words)?;

@@ -79,11 +79,11 @@ impl Table {
         ensures made { IfOk result (IsTableFor nfa.now kind classed) }
         ensures refused { IfErr result (IsTableRefused nfa.now kind classed) }
     {
+        let special = nfa.special();
         let classes = classes_of(nfa, classed)?;
         let stride = classes.stride();
         let rows = rows(kind, nfa.state_len());
         check_size(rows, stride)?;
-        let special = nfa.special();
         let numbers = Numbers {
             kind,
             start: special.start_unanchored_id,

@@ -34,7 +34,7 @@ impl<'a> Filler<'a> {
     ghost use Rattle.std.specs.Prelude.{IfOk, ◌⊎◌, ◌<◌, ◌≤◌, length};
     ghost use Rattle.ac_input.specs.declared.search.Anchored.TheVariants.{No, Yes};
     ghost use Rattle.ac_input.specs.Dfa.{Serves, dfa_states};
-    ghost use Rattle.ac_noncontiguous.specs.ReadCalls.{state_len, MayBeMet};
+    ghost use Rattle.ac_noncontiguous.specs.ReadCalls.{state_len, MayBeMet, EdgesLeadIn};
     ghost use Rattle.ac_tables.specs.Filling.{number_in, entry_in, IsRowRight, IsBlank, AreRowsFilled, IsMerged};
     ghost use Rattle.ac_tables.specs.Filler.{plan_of, HasRows, HasRowRoom, IsWrittenOver, IsOnlyRow, IsFailureFilled, IsRowFree, ArePairMet, AreAllRows};
 
@@ -63,7 +63,8 @@ impl<'a> Filler<'a> {
     fn write(&self, anchored: Anchored, sid: StateID, trans: &mut [StateID])
         requires kept { sid < state_len self.now.nfa.now }
         requires room { HasRowRoom self.now anchored sid trans.old }
-        ensures { IsWrittenOver self.now anchored sid trans.old trans.new }
+        ensures lead { EdgesLeadIn self.now.nfa.now sid }
+        ensures written { IsWrittenOver self.now anchored sid trans.old trans.new }
     {
         let row = self.place(anchored, sid);
         for (byte, next) in self.nfa.iter_trans(sid) {

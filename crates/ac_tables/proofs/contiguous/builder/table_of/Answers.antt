@@ -16,8 +16,9 @@ returns-clause-made c =
     let h = c.in_ok-layout.ensures.made in
     let places = c.in_ok-layout.layout.places.items in
     let value = c.special-special.ensures.value in
+    let whole = c.special-special.ensures.whole in
     let bounds : SpecialIn nfa (special_in nfa) = subst (SpecialIn nfa) value c.special-special.ensures.order in
-    let within = specials-within nfa c.states_stand.ensures.some bounds in
+    let within = specials-within nfa whole.stand bounds in
     let next = within.0 in
     let max = within.1 in
     let counted = h.counted in
@@ -44,6 +45,6 @@ returns-clause-made c =
     record {
       words = c.in_ok-words.ensures.0;
       small = places-small nfa depth classes places h;
-      stands = some-states nfa depth table places c.states_stand.ensures.some c.states_stand.ensures.begin c.in_ok-words.ensures.1 bounds c.requires.paired c.requires.serve h made;
-      within = c.states_stand.ensures.within;
+      stands = some-states nfa depth table places whole.stand whole.begin c.in_ok-words.ensures.1 bounds whole.paired c.requires.serve h made;
+      within = whole.within;
     }

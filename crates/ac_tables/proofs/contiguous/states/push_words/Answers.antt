@@ -39,5 +39,5 @@ returns c =
     let fail : c.index-places-as_usize.result ≡ slice_index places (fail_in nfa sid) =
     c.index-places-as_usize.is ∙ (get_or_default places c.as_usize-2.result c.index-places-as_usize.result 0 (omega (arith, at, fail_in_len, c.requires.places.counted)) ∙ ap (slice_index places) at) in
     IfOk-weaker c.push_state.result _ _
-    (λ _ h. state-written nfa c.args.dense_depth sid c.alphabet_len.result c.index-places-as_usize.result classes places c.args.words.now.items c.push_state.new.words.items c.match_list.result.now c.deref.result.now (nat_lt c.depth.result c.args.dense_depth) c.requires.places stands known c.alphabet_len.ensures.value (ap (λ (k : ℕ). nat_lt k c.args.dense_depth) c.depth.ensures.value) fail edges c.match_list.ensures.value h)
+    (λ _ h. state-written nfa c.args.depth sid c.alphabet_len.result c.index-places-as_usize.result classes places c.args.out.now.items c.push_state.new.words.items c.match_list.result.now c.deref.result.now (nat_lt c.depth.result c.args.depth) c.requires.places stands known c.alphabet_len.ensures.value (ap (λ (k : ℕ). nat_lt k c.args.depth) c.depth.ensures.value) fail edges c.match_list.ensures.value h)
     c.push_state.ensures

@@ -1,6 +1,6 @@
 -- The words of one state more.
 use Rattle.std.proofs.Common.{ℕ, subst}
-use Rattle.ac_tables.specs.ContiguousBuild.{IsStateWritten}
+use Rattle.ac_tables.specs.ContiguousBuild.{IsWritten}
 use Rattle.ac_tables.proofs.BuildLemmas.{words-more, known-more}
 use Rattle.ac_tables.proofs.contiguous.states.words.Goals as goal
 
@@ -9,8 +9,8 @@ loop-state-preserved c =
     let nfa = c.args.nfa.now in
     let classes = c.args.classes.now in
     let before = c.loop-state.words.items in
-    let after = c.push_words.new.words.items in
-    let written = subst (λ (k : ℕ). IsStateWritten nfa c.args.dense_depth classes k before after) c.must-sid.ensures c.in_ok-push_words.ensures in
+    let after = c.push_words.new.out.items in
+    let written = subst (λ (k : ℕ). IsWritten nfa c.args.dense_depth classes k before after) c.must-sid.ensures c.in_ok-push_words.ensures in
     record {
       words = words-more nfa c.args.dense_depth c.loop-state.state classes before after c.loop-state.invariant.words written;
       known = known-more nfa c.args.dense_depth c.loop-state.state classes before after c.loop-state.invariant.known written;

@@ -4,7 +4,7 @@ use Rattle.std.proofs.lemmas.Result.{err_from_is_err_and}
 use Rattle.ac_input.specs.declared.search.MatchKind.{MatchKind}
 use Rattle.ac_input.specs.Dictionary.{Dictionary, dictionary_of}
 use Rattle.ac_noncontiguous.specs.Nfa.{AreOpenedBy}
-use Rattle.ac_noncontiguous.specs.Reads.{dictionary}
+use Rattle.ac_noncontiguous.specs.Reads.{dictionary, built_as}
 use Rattle.ac_tables.specs.DfaBuild.{Settings}
 use Rattle.ac_tables.specs.DfaMade.{IsTableFor, IsTableRefused}
 use Rattle.ac_tables.specs.DfaReads.{IsMadeOf}
@@ -23,15 +23,15 @@ from_parts-requires-clause-parts c =
     let nfa = c.args.nfa.now in
     let same : dictionary_of c.in_ok-lens.lens c.pairing.result.now c.match_kind.result ≡ dictionary nfa =
     ap (λ (q : List (List ℕ)). dictionary_of q c.pairing.result.now c.match_kind.result) (c.in_ok-lens.ensures ∙ c.pattern_lens.ensures)
-    ∙ (ap (λ (q : List ℕ). dictionary_of nfa.lens q c.match_kind.result) c.pairing.ensures.value ∙ ap (λ (k : MatchKind). dictionary_of nfa.lens nfa.pairing k) c.match_kind.ensures) in
-    parts-of nfa c.in_ok-table.table c.in_ok-prefilter.prefilter _ same c.in_ok-table.ensures.made.made (c.in_ok-prefilter.ensures ∙ c.prefilter.ensures.value)
+    ∙ (ap (λ (q : List ℕ). dictionary_of (dictionary nfa).patterns q c.match_kind.result) c.pairing.ensures.value ∙ ap (λ (k : MatchKind). dictionary_of (dictionary nfa).patterns (dictionary nfa).pairing k) c.match_kind.ensures) in
+    parts-of nfa c.in_ok-table.table c.in_ok-prefilter.prefilter _ same c.in_ok-table.ensures.made.made c.prefilter.ensures.made (c.in_ok-prefilter.ensures ∙ c.prefilter.ensures.value)
 
 pub from_parts-requires-clause-opened : goal.from_parts-requires-clause-opened
 from_parts-requires-clause-opened c =
     let nfa = c.args.nfa.now in
     let same : dictionary_of c.in_ok-lens.lens c.pairing.result.now c.match_kind.result ≡ dictionary nfa =
     ap (λ (q : List (List ℕ)). dictionary_of q c.pairing.result.now c.match_kind.result) (c.in_ok-lens.ensures ∙ c.pattern_lens.ensures)
-    ∙ (ap (λ (q : List ℕ). dictionary_of nfa.lens q c.match_kind.result) c.pairing.ensures.value ∙ ap (λ (k : MatchKind). dictionary_of nfa.lens nfa.pairing k) c.match_kind.ensures) in
+    ∙ (ap (λ (q : List ℕ). dictionary_of (dictionary nfa).patterns q c.match_kind.result) c.pairing.ensures.value ∙ ap (λ (k : MatchKind). dictionary_of (dictionary nfa).patterns (dictionary nfa).pairing k) c.match_kind.ensures) in
     subst (λ (m : Dictionary). ∥ AreOpenedBy m c.quick-openings.result ∥₁) (sym same) (kept-opened (dictionary nfa) c.openings.result c.quick-openings.result c.quick-openings.ensures c.openings.ensures)
 
 pub returns-clause-built : goal.returns-clause-built
@@ -39,9 +39,9 @@ returns-clause-built c =
     let nfa = c.args.nfa.now in
     let same : dictionary_of c.in_ok-lens.lens c.pairing.result.now c.match_kind.result ≡ dictionary nfa =
     ap (λ (q : List (List ℕ)). dictionary_of q c.pairing.result.now c.match_kind.result) (c.in_ok-lens.ensures ∙ c.pattern_lens.ensures)
-    ∙ (ap (λ (q : List ℕ). dictionary_of nfa.lens q c.match_kind.result) c.pairing.ensures.value ∙ ap (λ (k : MatchKind). dictionary_of nfa.lens nfa.pairing k) c.match_kind.ensures) in
+    ∙ (ap (λ (q : List ℕ). dictionary_of (dictionary nfa).patterns q c.match_kind.result) c.pairing.ensures.value ∙ ap (λ (k : MatchKind). dictionary_of (dictionary nfa).patterns (dictionary nfa).pairing k) c.match_kind.ensures) in
     let h = subst (λ (s : Settings). IsTableFor nfa s.start_kind s.byte_classes c.in_ok-table.table) c.self.view_is c.in_ok-table.ensures.made in
-    let made : IsMadeOf (dictionary nfa) c.in_ok-table.table nfa.prefilter c.from_parts.result = record {
+    let made : IsMadeOf (dictionary nfa) c.in_ok-table.table (built_as nfa).prefilter c.from_parts.result = record {
       dictionary = c.from_parts.ensures.dictionary ∙ same;
       table = c.from_parts.ensures.table;
       prefilter = c.from_parts.ensures.prefilter ∙ (c.in_ok-prefilter.ensures ∙ c.prefilter.ensures.value);

@@ -5,7 +5,6 @@ use Rattle.ac_noncontiguous.specs.declared.nfa.read.Special.{Special}
 use Rattle.ac_noncontiguous.specs.ReadCalls.{special_in, fail_in}
 use Rattle.ac_tables.specs.Filling.{number_in, IsRowRight, IsBlank, AreRowsFilled, AreRowsUpTo, IsDone}
 use Rattle.ac_tables.specs.Filler.{plan_of}
-use Rattle.ac_tables.proofs.CellLemmas.{starts-of}
 use Rattle.ac_tables.proofs.FilledLemmas.{rows-none, rows-starts, rows-low, rows-high, rows-all, fresh-low, fresh-high, failure-right_start, failure-right_low, failure-right_high, met-both, met-start_own}
 use Rattle.ac_tables.proofs.dfa.fill.Filler.fill_all.Goals as goal
 
@@ -13,21 +12,21 @@ pub fill-requires-clause-failure : goal.fill-requires-clause-failure
 fill-requires-clause-failure c serves =
     let p = plan_of c.args.self.now in
     let start = ap (λ (s : Special). s.start_unanchored_id) c.special-special.ensures.value in
-    subst (λ (i : ℕ). IsRowRight p No (fail_in p.nfa i) c.args.trans.now) (sym start) (failure-right_start p c.args.trans.now (rows-none p c.args.trans.now c.args.self.now.fit c.requires.len c.requires.blank) serves)
+    subst (λ (i : ℕ). IsRowRight p No (fail_in p.nfa i) c.args.trans.now) (sym start) (failure-right_start p c.args.trans.now c.special-special.ensures.whole (rows-none p c.args.trans.now c.args.self.now.fit c.requires.len c.requires.blank) serves)
 
 pub fill-requires-clause-blank : goal.fill-requires-clause-blank
 fill-requires-clause-blank c serves =
     let p = plan_of c.args.self.now in
-    let s = starts-of p.nfa in
+    let s = c.args.self.now.fit.source.starts in
     let start = ap (λ (s : Special). s.start_anchored_id) c.special-special.ensures.value in
     let none = rows-none p c.args.trans.now c.args.self.now.fit c.requires.len c.requires.blank in
     let fresh : ¬ IsDone (special_in p.nfa).start_unanchored_id 2 (special_in p.nfa).start_unanchored_id ((special_in p.nfa).start_unanchored_id + 1) = λ done. ⊎_elim (λ (l : (special_in p.nfa).start_unanchored_id + 1 < 2). omega (arith, l, s.0)) (λ (r : ((special_in p.nfa).start_unanchored_id ≤ (special_in p.nfa).start_unanchored_id + 1) × ((special_in p.nfa).start_unanchored_id + 1 < (special_in p.nfa).start_unanchored_id)). omega (arith, r.1)) done in
-    subst (λ (i : ℕ). IsBlank p.stride (number_in p Yes i) c.args.trans.now) (sym start) (none.blank Yes ((special_in p.nfa).start_unanchored_id + 1) serves (met-start_own p.nfa) fresh)
+    subst (λ (i : ℕ). IsBlank p.stride (number_in p Yes i) c.args.trans.now) (sym start) (none.blank Yes ((special_in p.nfa).start_unanchored_id + 1) serves (met-start_own p.nfa c.special-special.ensures.whole) fresh)
 
 pub loop-low-init : goal.loop-low-init
 loop-low-init c =
     let p = plan_of c.args.self.now in
-    let s = starts-of p.nfa in
+    let s = c.args.self.now.fit.source.starts in
     let start : c.special-special.result.start_unanchored_id ≡ (special_in p.nfa).start_unanchored_id = ap (λ (s : Special). s.start_unanchored_id) c.special-special.ensures.value in
     let anchored : c.special-special.result.start_anchored_id ≡ (special_in p.nfa).start_unanchored_id + 1 = ap (λ (s : Special). s.start_anchored_id) c.special-special.ensures.value in
     let at : c.as_usize-start.result ≡ (special_in p.nfa).start_unanchored_id = c.as_usize-start.ensures.value ∙ start in
@@ -50,12 +49,12 @@ fill-requires-then-is_first_next-clause-failure c serves =
     let first = c.is_first_next.ensures.yes c.if-is_first_next.true in
     let before : c.loop-low.low < (special_in p.nfa).start_unanchored_id = omega (arith, first.0, c.args.self.now.starts) in
     let i = c.loop-low.invariant in
-    subst (λ (sid : ℕ). IsRowRight p No (fail_in p.nfa sid) c.loop-low.trans) (sym c.must-next.ensures) (failure-right_low p c.loop-low.low c.loop-low.high c.loop-low.trans i.low_past (omega (arith, at, i.high_past)) before first.1 i.rows serves)
+    subst (λ (sid : ℕ). IsRowRight p No (fail_in p.nfa sid) c.loop-low.trans) (sym c.must-next.ensures) (failure-right_low p c.loop-low.low c.loop-low.high c.loop-low.trans c.special-special.ensures.whole i.low_past (omega (arith, at, i.high_past)) before first.1 i.rows serves)
 
 pub fill-requires-then-is_first_next-clause-blank : goal.fill-requires-then-is_first_next-clause-blank
 fill-requires-then-is_first_next-clause-blank c serves =
     let p = plan_of c.args.self.now in
-    let s = starts-of p.nfa in
+    let s = c.args.self.now.fit.source.starts in
     let first = c.is_first_next.ensures.yes c.if-is_first_next.true in
     let before : c.loop-low.low < (special_in p.nfa).start_unanchored_id = omega (arith, first.0, c.args.self.now.starts) in
     let i = c.loop-low.invariant in
@@ -86,7 +85,7 @@ fill-requires-else-is_first_next-clause-failure c serves =
     let later = c.is_first_next.ensures.no c.if-is_first_next.false in
     let i = c.loop-low.invariant in
     let starts = c.args.self.now.starts in
-    subst (λ (sid : ℕ). IsRowRight p No (fail_in p.nfa sid) c.loop-low.trans) (sym c.must-next-else-is_first_next.ensures) (failure-right_high p c.loop-low.low c.loop-low.high c.loop-low.trans i.low_past (omega (arith, at, i.high_past)) later.0 (λ before. later.1 (omega (arith, before, starts))) i.rows serves)
+    subst (λ (sid : ℕ). IsRowRight p No (fail_in p.nfa sid) c.loop-low.trans) (sym c.must-next-else-is_first_next.ensures) (failure-right_high p c.loop-low.low c.loop-low.high c.loop-low.trans c.special-special.ensures.whole i.low_past (omega (arith, at, i.high_past)) later.0 (λ before. later.1 (omega (arith, before, starts))) i.rows serves)
 
 pub fill-requires-else-is_first_next-clause-blank : goal.fill-requires-else-is_first_next-clause-blank
 fill-requires-else-is_first_next-clause-blank c serves =

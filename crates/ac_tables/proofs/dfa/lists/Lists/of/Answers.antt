@@ -20,7 +20,7 @@ loop-sid-preserved c =
 pub returns : goal.returns
 returns c =
     let nfa = c.args.nfa.now in
-    let last = last-match_past nfa in
+    let last = last-match_past nfa c.special.ensures.whole in
     let at : c.one_more-sid-end.result ≡ (special_in nfa).max_match_id + 1 = c.one_more-sid-end.ensures.value ∙ ap (λ (s : Special). s.max_match_id + 1) c.special.ensures.value in
     let past : 2 ≤ c.loop-sid.sid = c.loop-sid.auto.sid in
     let end = c.loop-sid.auto.sid-end in

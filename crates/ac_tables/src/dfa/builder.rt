@@ -113,10 +113,8 @@ impl Table {
 fn quick(openings: Option<Openings>) -> Option<Openings>
     ensures { IfSome result (λ kept. openings ≡ Some kept) }
 {
-    match openings {
-        Some(openings) if openings.are_few() => Some(openings),
-        _ => None,
-    }
+    let kept = openings?;
+    if kept.are_few() { Some(kept) } else { None }
 }
 
 impl Builder {

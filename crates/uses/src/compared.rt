@@ -182,6 +182,7 @@ fn seed_is_alike<T: Abort>(rt: &T, alloc: Global, seed: u8) -> Result<(), Fail> 
     each_is_alike(rt, alloc, &patterns, from_there(&letters, 30, 14))
 }
 
+/// 30 lists of patterns, each for three kinds and with three pairings: 2,160 searches, each by every automaton in every setting.
 #[test]
 fn small_searches(rt: HostRuntime) -> Result<(), Fail> {
     for seed in 0..30 {

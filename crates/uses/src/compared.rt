@@ -52,9 +52,9 @@ fn patterns_of(alloc: Global, letters: &[u8], seed: usize) -> Result<Vec<&[u8]>,
 
 /// Some patterns, and a text that they are searched in.
 #[derive(Clone, Copy)]
-struct Drawn<'a> {
-    asked: Asked<'a>,
-    text: &'a [u8],
+pub struct Drawn<'a> {
+    pub asked: Asked<'a>,
+    pub text: &'a [u8],
 }
 
 /// What is searched of a text.

@@ -6,24 +6,40 @@
 use crate::answers::Asks::{List, Walk};
 use crate::answers::Text::Whole;
 use crate::answers::{by_plain, input};
+use crate::compared::Drawn;
 use crate::engines::Letters::{self, Cased, Folded, Paired};
-use crate::engines::{Asked, ENGINES, FEW, Pick, each};
-use crate::rows::{Row, table_of};
+use crate::engines::{Asked, ENGINES, FEW, each};
+use crate::hostile::of_whole;
+use crate::rows::table_of;
 use crate::streams;
 use ac_input::search::MatchKind;
 use std::alloc::{AllocError, Global};
 use std::process::Abort;
 use std::test::Fail;
 
-/// Asserts the matches of streams of the text, by so many bytes a read.
-fn stream_is_alike<'a, T: Abort>(
+/// Compares the matches of the text, and all occurrences, with the plain program.
+fn searches_are_alike<T: Abort>(rt: &T, alloc: Global, drawn: Drawn<'_>) -> Result<(), Fail> {
+    let Drawn { asked, text } = drawn;
+    let found = [
+        by_plain(alloc, asked, Walk, &input(&Whole(text))?)?,
+        by_plain(alloc, asked, List, &input(&Whole(text))?)?,
+    ];
+    let rows = [
+        of_whole(Walk, text, &found[0]),
+        of_whole(List, text, &found[1]),
+    ];
+    each(rt, alloc, &table_of(asked, &rows), ENGINES)
+}
+
+/// Compares the matches of streams of the text, by so many bytes a read.
+fn streams_are_alike<T: Abort>(
     rt: &T,
     alloc: Global,
-    asked: Asked<'a>,
-    text: &'a [u8],
-    finds: &'a [Pick],
+    drawn: Drawn<'_>,
     most: &'static [usize],
 ) -> Result<(), Fail> {
+    let Drawn { asked, text } = drawn;
+    let walk = by_plain(alloc, asked, Walk, &input(&Whole(text))?)?;
     let stream = streams::Row {
         shows: "a stream as the plain program",
         patterns: asked.patterns,
@@ -32,46 +48,28 @@ fn stream_is_alike<'a, T: Abort>(
         after: b"",
         fails: false,
         most,
-        finds,
+        finds: &walk,
     };
     each(rt, alloc, &stream, FEW)
 }
 
-/// Compares the matches of the text and all occurrences with the plain program, and the matches of streams by so many bytes a read.
+/// Compares both for these patterns.
 fn alike<'a, T: Abort>(
     rt: &T,
     alloc: Global,
-    asked: Asked<'a>,
+    patterns: &'a [&'a [u8]],
+    letters: Letters,
     text: &'a [u8],
     most: &'static [usize],
 ) -> Result<(), Fail> {
-    let walk = by_plain(alloc, asked, Walk, &input(&Whole(text))?)?;
-    let list = by_plain(alloc, asked, List, &input(&Whole(text))?)?;
-    let rows = [
-        Row {
-            shows: "matches as the plain program",
-            asks: Walk,
-            text: Whole(text),
-            gives: &walk,
-        },
-        Row {
-            shows: "occurrences as the plain program",
-            asks: List,
-            text: Whole(text),
-            gives: &list,
-        },
-    ];
-    each(rt, alloc, &table_of(asked, &rows), ENGINES)?;
-    stream_is_alike(rt, alloc, asked, text, &walk, most)
-}
-
-/// What automata of the standard kind are built of.
-fn standard<'a>(patterns: &'a [&'a [u8]], letters: Letters) -> Asked<'a> {
-    Asked {
+    let asked = Asked {
         patterns,
         kind: MatchKind::Standard,
         letters,
-    }
+    };
+    let drawn = Drawn { asked, text };
+    searches_are_alike(rt, alloc, drawn)?;
+    streams_are_alike(rt, alloc, drawn, most)
 }
 
 /// Some patterns and a text, both short.
@@ -126,8 +124,14 @@ const SHORT: &[Short] = &[
 #[test]
 fn short_texts(rt: HostRuntime) -> Result<(), Fail> {
     for short in SHORT {
-        let asked = standard(short.patterns, short.letters);
-        alike(&rt, rt.alloc(), asked, short.text, &[1, 2, 3, 7, 100])?;
+        alike(
+            &rt,
+            rt.alloc(),
+            short.patterns,
+            short.letters,
+            short.text,
+            &[1, 2, 3, 7, 100],
+        )?;
     }
     Ok(())
 }
@@ -163,8 +167,7 @@ fn spread(alloc: Global) -> Result<Vec<u8>, AllocError> {
 fn stretches(rt: HostRuntime) -> Result<(), Fail> {
     let text = spread(rt.alloc())?;
     for patterns in PATTERNS {
-        let asked = standard(patterns, Cased);
-        alike(&rt, rt.alloc(), asked, &text, &[1, 32, 100])?;
+        alike(&rt, rt.alloc(), patterns, Cased, &text, &[1, 32, 100])?;
     }
     Ok(())
 }
@@ -188,8 +191,7 @@ fn placed(alloc: Global) -> Result<Vec<u8>, AllocError> {
 fn ends_of_reads(rt: HostRuntime) -> Result<(), Fail> {
     let text = placed(rt.alloc())?;
     for patterns in PATTERNS {
-        let asked = standard(patterns, Cased);
-        alike(&rt, rt.alloc(), asked, &text, &[32, 64, BLOCK])?;
+        alike(&rt, rt.alloc(), patterns, Cased, &text, &[32, 64, BLOCK])?;
     }
     Ok(())
 }

@@ -52,9 +52,9 @@ fn patterns_of(alloc: Global, letters: &[u8], seed: usize) -> Result<Vec<&[u8]>,
 
 /// Some patterns, and a text that they are searched in.
 #[derive(Clone, Copy)]
-struct Drawn<'a> {
-    asked: Asked<'a>,
-    text: &'a [u8],
+pub struct Drawn<'a> {
+    pub asked: Asked<'a>,
+    pub text: &'a [u8],
 }
 
 /// What is searched of a text.
@@ -182,6 +182,7 @@ fn seed_is_alike<T: Abort>(rt: &T, alloc: Global, seed: u8) -> Result<(), Fail> 
     each_is_alike(rt, alloc, &patterns, from_there(&letters, 30, 14))
 }
 
+/// 30 lists of patterns, each for three kinds and with three pairings: 2,160 searches, each by every automaton in every setting.
 #[test]
 fn small_searches(rt: HostRuntime) -> Result<(), Fail> {
     for seed in 0..30 {

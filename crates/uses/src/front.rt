@@ -6,6 +6,7 @@
 ghost use Rattle.ac_automaton.specs.Overlapping.{CanOverlap};
 ghost use Rattle.aho_corasick.specs.AhoCorasick.{built_as, supported_by};
 
+mod memory;
 mod streams;
 
 use crate::answers::{Asks, collected, input, same};

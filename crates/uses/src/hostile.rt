@@ -19,7 +19,7 @@ use std::process::Abort;
 use std::test::Fail;
 
 /// A search of a whole text.
-fn of_whole<'a>(asks: Asks, text: &'a [u8], gives: &'a [Pick]) -> Row<'a> {
+pub fn of_whole<'a>(asks: Asks, text: &'a [u8], gives: &'a [Pick]) -> Row<'a> {
     Row {
         shows: "a hard text",
         asks,

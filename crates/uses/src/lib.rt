@@ -24,6 +24,8 @@ mod hostile;
 #[cfg(test)]
 mod memory;
 #[cfg(test)]
+mod openings;
+#[cfg(test)]
 mod packed;
 #[cfg(test)]
 mod prefilters;

@@ -1,7 +1,7 @@
 //! Builds that run out of memory. `rt try --test --fail-alloc N -- in_memory_that_may_end` fails the Nth allocation: the call
 //! returns an error and makes nothing. If no allocation fails, the result is complete.
 use crate::answers::searcher;
-use crate::engines::{Asked, Case, FEW, Letters, each, pick};
+use crate::engines::{Asked, Case, FEW, Letters, Pick, each, pick};
 use crate::prefilters::made;
 use crate::repeated::KINDS;
 use ac_input::pairing::Pairing;
@@ -139,17 +139,33 @@ fn in_memory_that_may_end_builds(rt: HostRuntime) -> Result<(), Fail> {
     Ok(())
 }
 
+/// What is found of the first so many patterns, of which the one that was given first is preferred.
+const OF_FIRST: [Option<Pick>; 4] = [None, Some((0, 2, 3)), Some((1, 1, 4)), Some((1, 1, 4))];
+
+/// Asserts what the searcher of a builder's patterns finds, or that there is no memory for it.
+fn builder_finds<T: Abort>(rt: &T, builder: &Builder) {
+    if let Ok(built) = &builder.build() {
+        let found = match built {
+            Some(searcher) => pick(searcher.find(b"xabcd")),
+            None => None,
+        };
+        assert_eq!(rt; OF_FIRST.get(builder.len()).copied(), Some(found));
+    }
+}
+
 /// Asserts that a builder has all patterns; or that an extension ran out of memory, and it keeps the patterns before the failed
-/// one, and may be extended further.
+/// one, whose searcher finds them, and may be extended further.
 fn extends<T: Abort>(rt: &T, builder: &mut Builder, refused: bool) {
     if refused {
         let kept = builder.len();
         assert!(rt; kept < 3);
+        builder_finds(rt, builder);
         for pattern in PATTERNS.iter().skip(kept) {
             assert!(rt; builder.try_add(*pattern).is_ok());
         }
     }
     assert_eq!(rt; builder.len(), 3);
+    builder_finds(rt, builder);
 }
 
 /// Asserts what the packed searcher of the patterns finds.

@@ -18,6 +18,7 @@ pub mod empty;
 pub mod inside;
 mod layouts;
 pub mod several;
+mod vectors;
 pub mod words;
 
 /// Some patterns, and what searches for them give.

@@ -20,10 +20,10 @@ use std::test::Fail;
 struct InMemory;
 
 /// What replaces the word.
-const SLOTH: &[&str] = &["sloth"];
+pub const SLOTH: &[&str] = &["sloth"];
 
 /// What may have been appended: each copy and each call of the closure appends all of its text, or nothing.
-const FRONTS: [&str; 6] = [
+pub const FRONTS: [&str; 6] = [
     "",
     "A ",
     "A sloth",

@@ -40,21 +40,21 @@ pub fn next_pick<A: Automaton, R: Read>(
 
 /// A text, by this many bytes a read, and its matches.
 #[derive(Clone, Copy)]
-struct Row {
-    shows: &'static str,
-    patterns: &'static [&'static [u8]],
-    letters: Letters,
+pub struct Row<'a> {
+    pub shows: &'static str,
+    pub patterns: &'a [&'a [u8]],
+    pub letters: Letters,
     /// The parts of the text, which follow one another.
-    text: &'static [&'static [u8]],
+    pub text: &'a [&'a [u8]],
     /// What comes after an empty read at the end of the text, if the reader is called again.
-    after: &'static [u8],
+    pub after: &'static [u8],
     /// Whether there is a failed read in its place.
-    fails: bool,
-    most: &'static [usize],
-    finds: &'static [Pick],
+    pub fails: bool,
+    pub most: &'static [usize],
+    pub finds: &'a [Pick],
 }
 
-impl Row {
+impl Row<'_> {
     /// Asserts what the automaton gives of it: the matches, each after the read that gave its last byte, then the error of a failed
     /// read, and nothing for good. There is one read more than the text needs.
     fn gives<T: Abort, A: Automaton>(
@@ -92,7 +92,7 @@ impl Row {
     }
 }
 
-impl Case for Row {
+impl Case for Row<'_> {
     fn asked(&self) -> Asked<'_> {
         Asked {
             patterns: self.patterns,
@@ -132,7 +132,7 @@ fn ended_by(finds: &'static [Pick], len: usize) -> &'static [Pick] {
 }
 
 /// A stream whose read fails after a front of the text: of no bytes, of one, and so on. The matches that end in that front are given.
-struct Stops(Row);
+struct Stops(Row<'static>);
 
 impl Stops {
     /// Asserts what is returned when the read after this many bytes fails.
@@ -188,7 +188,7 @@ const SMALL: &[usize] = &[1, 2, 7, 100];
 const POINTS: &[u8] = &[b'.'; 198];
 
 /// A reader that gives a text and ends, in pieces of a few bytes, and one that has all of it.
-const PLAIN: Row = Row {
+const PLAIN: Row<'static> = Row {
     shows: "",
     patterns: &[],
     letters: Cased,
@@ -199,7 +199,7 @@ const PLAIN: Row = Row {
     finds: &[],
 };
 
-const ROWS: &[Row] = &[
+const ROWS: &[Row<'static>] = &[
     Row {
         shows: "three words",
         patterns: &[b"fox", b"brown", b"quick"],
@@ -304,7 +304,7 @@ const ROWS: &[Row] = &[
 
 /// Streams in which a search stands in the start most of the time. It passes over bytes that leave it there: one to three bytes lead
 /// on, or too many to be looked for.
-const STARTS: &[Row] = &[
+const STARTS: &[Row<'static>] = &[
     Row {
         shows: "one first byte",
         patterns: &[b"qx"],
@@ -394,7 +394,7 @@ const STARTS: &[Row] = &[
 ];
 
 /// A buffer that is filled twice. Four bytes are kept each time, so that each read gives four.
-const LONG: Row = Row {
+const LONG: Row<'static> = Row {
     shows: "a match across the end of the buffer, and one where it is full again",
     patterns: &[b"lynx"],
     letters: Cased,
@@ -406,7 +406,7 @@ const LONG: Row = Row {
 };
 
 /// Readers that end or fail, and one whose reads give more than one match.
-const SCRIPTED: &[Row] = &[
+const SCRIPTED: &[Row<'static>] = &[
     Row {
         shows: "a read that fails after a match",
         patterns: &[b"fox"],

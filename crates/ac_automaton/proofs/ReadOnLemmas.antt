@@ -87,9 +87,9 @@ some-to-start b Reaches anchored first last start sid bytes stop s t before some
       within = taken.0;
       reads = goes.reads;
       plain = λ at lt le. let mid = goes.plain at lt le in (
-          mid.0,
-          mid.1,
-          λ e. mid.2 (let w = (between first last mid.0).0 e in (between first start mid.0).1 (w.0, omega (arith, w.1, before))),
+        mid.0,
+        mid.1,
+        λ e. mid.2 (let w = (between first last mid.0).0 e in (between first start mid.0).1 (w.0, omega (arith, w.1, before))),
       );
       cost = to.cost;
     }
@@ -200,8 +200,8 @@ advanced-idle b Reaches anchored stops starters start sid current bytes rest n (
     let quiet : ¬ IsTrue (stops current) = subst (λ (i : StateID). ¬ IsTrue (stops i)) (sym at) apart in (
       fits,
       advanced-run b Reaches anchored stops sid bytes n (suc k) current s t u fits quiet lives
-      (λ j le. subst (λ (i : StateID). Leads R i (take j (drop n bytes)) i) (sym at)
-      (subst (λ (l : List ℕ). Leads R start (take j l) start) is
-      (stays-run R starters start rest j stays fit (omega (arith, le, inside)) (λ i lt. passes.idle i (omega (arith, lt, le))))))
-      passes.counted has,
+          (λ j le. subst (λ (i : StateID). Leads R i (take j (drop n bytes)) i) (sym at)
+          (subst (λ (l : List ℕ). Leads R start (take j l) start) is
+          (stays-run R starters start rest j stays fit (omega (arith, le, inside)) (λ i lt. passes.idle i (omega (arith, lt, le))))))
+          passes.counted has,
     )

@@ -116,8 +116,8 @@ opening-left patterns pairing kind len b text at near long all h =
     elim has.1 [
       | inl one ↦ left-first (marked_at b.first text at) (marked_at b.second text at) (marked_at b.third text at) (had-marked pairing len b.first p text at has.0 near.first enough one here)
       | inr more ↦ elim more [
-          | inl two ↦ left-second (marked_at b.first text at) (marked_at b.second text at) (marked_at b.third text at) (had-marked pairing len b.second p text at has.0 near.second enough two here)
-          | inr three ↦ left-third (marked_at b.first text at) (marked_at b.second text at) (marked_at b.third text at) (had-marked pairing len b.third p text at has.0 near.third enough three here)
+        | inl two ↦ left-second (marked_at b.first text at) (marked_at b.second text at) (marked_at b.third text at) (had-marked pairing len b.second p text at has.0 near.second enough two here)
+        | inr three ↦ left-third (marked_at b.first text at) (marked_at b.second text at) (marked_at b.third text at) (had-marked pairing len b.third p text at has.0 near.third enough three here)
       ]
     ]
 
@@ -157,8 +157,8 @@ keeps-opened pairing len old new pattern keeps has = (
   elim has.1 [
     | inl one ↦ inl (keeps-partners pairing len old.first new.first pattern has.0 keeps.first one)
     | inr more ↦ elim more [
-        | inl two ↦ inr (inl (keeps-partners pairing len old.second new.second pattern has.0 keeps.second two))
-        | inr three ↦ inr (inr (keeps-partners pairing len old.third new.third pattern has.0 keeps.third three))
+      | inl two ↦ inr (inl (keeps-partners pairing len old.second new.second pattern has.0 keeps.second two))
+      | inr three ↦ inr (inr (keeps-partners pairing len old.third new.third pattern has.0 keeps.third three))
     ]
   ],
 )

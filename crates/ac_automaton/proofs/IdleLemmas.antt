@@ -1,26 +1,23 @@
 -- What a search passes over that stands in the start: bytes that leave it there.
-use Rattle.std.proofs.Common.{◌≡◌, ◌≢◌, ◌↔◌, ⊎_elim, ℕ, zero, suc, ◌+◌, ◌-◌, ◌<◌, ◌≤◌, Bool, false, IsTrue, List, [], ◌∷◌, ◌++◌, length, take, drop, Option, sym, ap, ap₂, subst, ◌∙◌, arith, length-drop, take-append-drop}
-use Rattle.std.specs.Prelude.{slice_index}
+use Rattle.std.proofs.Common.{◌≡◌, ◌≢◌, ◌↔◌, ⊎_elim, ℕ, ◌+◌, ◌-◌, ◌<◌, ◌≤◌, Bool, IsTrue, List, [], ◌∷◌, ◌++◌, length, take, drop, Option, sym, ap, ap₂, subst, ◌∙◌, arith, length-drop, take-append-drop}
 use Rattle.std.proofs.Math.Logic.{∥∥₁_elim, ∥∥₁_map, ∥∥₁_prop}
 use Rattle.std.proofs.lemmas.Bool.{cases_lt, cases_eq, false≢true}
-use Rattle.std.proofs.lemmas.List.{append-nil, append_assoc, drop-take, get_or-drop, length-take-le, take-take}
-use Rattle.std.proofs.lemmas.Option.{slice_get-get_or}
+use Rattle.std.proofs.lemmas.List.{append_assoc, drop-take, length-take-le, take-take}
 use Rattle.ac_input.specs.Number.{StateID}
 use Rattle.ac_input.specs.declared.search.Anchored.{Anchored}
 use Rattle.ac_input.specs.declared.steps.Steps.{Steps}
-use Rattle.ac_input.specs.Dictionary.{Dictionary, IsLive, live_len}
+use Rattle.ac_input.specs.Dictionary.{IsLive, live_len}
 use Rattle.ac_input.specs.Input.{is_anchored}
-use Rattle.ac_input.specs.LiveLaws.{IsOwnInverse}
 use Rattle.ac_input.specs.Steps.{Done}
 use Rattle.ac_input.specs.Work.{IsLookups}
 use Rattle.ac_automaton.specs.declared.starters.Starters.{Starters}
 use Rattle.ac_automaton.specs.declared.starters.Starters.TheVariants.{Many}
 use Rattle.ac_automaton.specs.declared.automaton.Advance.{Advance}
 use Rattle.ac_automaton.specs.Automaton.{Built, IsReached, Leads, Advances}
-use Rattle.ac_automaton.specs.Named.{Naming, AllNames, IsReachedBy, IsReadBy, IsIdleBy}
+use Rattle.ac_automaton.specs.Named.{Naming, AllNames, IsReadBy, IsIdleBy}
 use Rattle.ac_automaton.specs.ReadOn.{StaysBut}
-use Rattle.ac_automaton.specs.Starters.{is_starter, AddsStarter, SkipsBelow, SkipsIdle}
-use Rattle.ac_automaton.proofs.CursorLemmas.{HasAdvanced, lookups-join, take-more, reached-on}
+use Rattle.ac_automaton.specs.Starters.{AddsStarter, SkipsBelow, SkipsIdle}
+use Rattle.ac_automaton.proofs.CursorLemmas.{HasAdvanced, lookups-join, reached-on}
 use Rattle.ac_automaton.proofs.NamedLemmas.{named-next, read-from, cost-looks}
 
 -- ---- the bytes that are gathered, one after another

@@ -7,7 +7,7 @@ use Rattle.ac_input.specs.Number.{StateID}
 use Rattle.ac_input.specs.declared.search.Anchored.{Anchored}
 use Rattle.ac_input.specs.declared.search.Anchored.TheVariants.{No}
 use Rattle.ac_input.specs.declared.steps.Steps.{Steps}
-use Rattle.ac_input.specs.Dictionary.{Dictionary, IsLive, live_len}
+use Rattle.ac_input.specs.Dictionary.{IsLive, live_len}
 use Rattle.ac_input.specs.LiveLaws.{IsOwnInverse, shifted_place}
 use Rattle.ac_input.specs.Opening.{NoneIsShorter, HasNoOpening, OpensNotBefore}
 use Rattle.ac_input.specs.Steps.{Done}

@@ -1,5 +1,5 @@
 -- What a cursor passes that reads on to the first state that matches, under the standard kind.
-use Rattle.std.proofs.Common.{◌≡◌, ◌↔◌, ⊎_elim, inl, inr, ℕ, ◌+◌, ◌-◌, ◌<◌, ◌≤◌, Bool, false, IsTrue, List, length, take, Option, None, slice_range, arith}
+use Rattle.std.proofs.Common.{◌≡◌, ◌↔◌, ⊎_elim, inl, inr, ℕ, ◌+◌, ◌-◌, ◌<◌, ◌≤◌, false, IsTrue, List, length, take, Option, None, slice_range, arith}
 use Rattle.std.proofs.lemmas.Bool.{false≢true}
 use Rattle.ac_input.specs.Number.{StateID}
 use Rattle.ac_input.specs.declared.search.Anchored.{Anchored}

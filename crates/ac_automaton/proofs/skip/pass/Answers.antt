@@ -1,7 +1,5 @@
 -- Nothing was passed, or all but the last bytes, which were read.
-use Rattle.std.proofs.Common.{◌≡◌, ◌∙◌, ℕ, ◌+◌, ◌-◌, ◌≤◌, List, take, drop, inl, inr, refl, ap, subst, sym, arith}
-use Rattle.ac_input.specs.declared.search.Anchored.TheVariants.{No}
-use Rattle.ac_automaton.specs.Automaton.{Leads, IsReadCost}
+use Rattle.std.proofs.Common.{◌-◌, inl, inr, refl, arith}
 use Rattle.ac_automaton.proofs.skip.pass.Goals as goal
 
 pub returns-then-passed-end : goal.returns-then-passed-end

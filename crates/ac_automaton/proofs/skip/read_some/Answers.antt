@@ -1,8 +1,6 @@
 -- The automaton's own loop stops at each state at which the search does.
-use Rattle.std.proofs.Common.{◌≡◌, ◌<◌, ◌≤◌, ℕ, length, take, refl, arith}
-use Rattle.ac_input.specs.Number.{StateID}
+use Rattle.std.proofs.Common.{refl, arith}
 use Rattle.ac_input.specs.declared.search.Anchored.TheVariants.{No}
-use Rattle.ac_automaton.specs.ReadOn.{ReadsTo}
 use Rattle.ac_automaton.proofs.ReadOnLemmas.{some-to-start, some-of-part}
 use Rattle.ac_automaton.proofs.skip.read_some.Goals as goal
 

@@ -1,5 +1,5 @@
 -- Reading on goes by the automaton's own loop, and over a run of bytes that leave it in the start.
-use Rattle.std.proofs.Common.{◌≡◌, ℕ, ◌+◌, ◌≤◌, List, length, IsTrue, sym, ap, refl, ◌∙◌, arith, length-drop}
+use Rattle.std.proofs.Common.{ℕ, ◌+◌, List, length, IsTrue, sym, ap, refl, ◌∙◌, arith, length-drop}
 use Rattle.std.proofs.lemmas.Bool.{false≢true}
 use Rattle.std.proofs.lemmas.List.{take_rest}
 use Rattle.ac_automaton.specs.ReadOn.{is_between}

@@ -1,7 +1,7 @@
 use Rattle.std.proofs.Common.{ℕ, Bool, List, Option, refl, sym, ap, subst, ◌∙◌}
 use Rattle.std.specs.Prelude.{MatchOption}
 use Rattle.ac_input.specs.Dictionary.{Dictionary}
-use Rattle.ac_literal.specs.Prefilter.{IsStrategyOf, needles_of, IsDemanded, IsAdmissible, IsStrategyFor, IsPrefilterOf}
+use Rattle.ac_literal.specs.Prefilter.{IsStrategyOf, needles_of, IsDemanded, IsAdmissible, IsStrategyFor}
 use Rattle.ac_literal.specs.Builder.{IsBuilder, IsCollected}
 use Rattle.ac_literal.specs.declared.prefilter.strategy.Strategy.{Strategy}
 use Rattle.ac_literal.proofs.BuilderLemmas.{strategy-admissible, strategy-way}

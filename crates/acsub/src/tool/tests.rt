@@ -7,6 +7,7 @@ use ac_input::primitives::PatternID;
 use ac_noncontiguous::error::BuildErrorKind;
 use std::alloc::{AllocError, Global};
 use std::fs;
+use std::io::ErrorKind;
 use std::process::Abort;
 use std::rt::Files;
 use std::test::Fail;
@@ -430,6 +431,83 @@ fn does_what_the_words_say(rt: HostRuntime) -> Result<(), Fail> {
         does(&rt, rt.alloc(), row)?;
     }
     fs::remove_file(&rt, PATH)?;
+    Ok(())
+}
+
+/// Where the rule file lies in memory that may end.
+const LITTLE: &str = "out/little.rules";
+
+/// The line of a program that is out of memory.
+const NO_MEMORY: &str = "acsub: out of memory\n";
+
+/// A run that writes while it reads, one that holds its input, by an automaton and by packed search, and help.
+const IN_LITTLE: &[Row] = &[
+    Row {
+        words: &["replace", LITTLE, "--pairs", "5878"],
+        status: 0,
+        told: "",
+        ..REPLACED
+    },
+    Row {
+        words: &["list", LITTLE, "--kind", "leftmost-longest"],
+        status: 0,
+        told: "",
+        text: "0 4 7\n",
+        fewest: 6,
+        most: 6,
+        ..REPLACED
+    },
+    Row {
+        words: &[
+            "list",
+            LITTLE,
+            "--kind",
+            "leftmost-first",
+            "--engine",
+            "packed",
+        ],
+        status: 0,
+        told: "",
+        text: "0 4 7\n",
+        fewest: 6,
+        most: 6,
+        ..REPLACED
+    },
+    SHOWN,
+];
+
+/// Whether the rule file was written; if not, there was no memory for its path.
+fn is_written(rt: &impl Files, rules: &str) -> Result<bool, Fail> {
+    match fs::create_dir_all(rt, "out").and_then(|()| fs::write(rt, LITTLE, rules)) {
+        Ok(()) => Ok(true),
+        Err(error) if error.kind() == ErrorKind::OutOfMemory => Ok(false),
+        Err(error) => Err(error.into()),
+    }
+}
+
+/// Asserts that the program does what the words say; or that it says that there is no memory, ends with that status, and has written
+/// nothing.
+fn does_in_little<F: Abort + Files>(rt: &F, alloc: Global, row: &Row) {
+    let (source, sink) = (whole(row.input, 7), expecting(row.text.as_bytes()));
+    let Ok(did) = try_tool(rt, alloc, row.words, source, sink, NO_MEMORY) else {
+        return;
+    };
+    if did.status == 7 {
+        assert_eq!(rt; (did.told, did.written), (Some(NO_MEMORY.len()), Some(0)));
+    } else {
+        shows(rt, row, &did);
+    }
+}
+
+/// `rt try --test --fail-alloc N -- in_memory_that_may_end` refuses the Nth allocation: of the words, of the rule file, of a run or of
+/// the help.
+#[test]
+fn in_memory_that_may_end(rt: HostRuntime) -> Result<(), Fail> {
+    for row in IN_LITTLE {
+        if is_written(&rt, row.rules)? {
+            does_in_little(&rt, rt.alloc(), row);
+        }
+    }
     Ok(())
 }
 

@@ -475,29 +475,44 @@ fn writes_where_there_is_memory(
     shows(rt, SLOTH, &did, &want);
 }
 
+/// The same by each of these engines.
+fn each_writes_where_there_is_memory(
+    rt: &impl Abort,
+    alloc: Global,
+    told: Told,
+    engines: &[Engine],
+    text: &[u8],
+    pieces: usize,
+) -> Result<(), Fail> {
+    for engine in engines {
+        let told = Told {
+            engine: *engine,
+            ..told
+        };
+        writes_where_there_is_memory(rt, alloc, &told.settings()?, text, pieces);
+    }
+    Ok(())
+}
+
 /// `rt try --test --fail-alloc N -- in_memory_that_may_end` refuses the Nth allocation. Where the text is written while the input
 /// is read, nothing was read then; where the input is held, its end wasn't. A bad line is reported whatever memory does.
 #[test]
 fn in_memory_that_may_end(rt: HostRuntime) -> Result<(), Fail> {
     let line = b"0 4 7\n".as_slice();
     let (standard, longest) = (MatchKind::Standard, MatchKind::LeftmostLongest);
-    for (mode, kind, engine, text, pieces) in [
-        (Replace, standard, Engine::Auto, RAN, 0),
-        (List, standard, Engine::Auto, line, 0),
-        (Replace, standard, Engine::Noncontiguous, RAN, 0),
-        (Replace, standard, Engine::Contiguous, RAN, 0),
-        (Replace, standard, Engine::Dfa, RAN, 0),
-        (Replace, longest, Engine::Auto, RAN, 4),
-        (Replace, longest, Engine::Packed, RAN, 4),
-        (Overlap, standard, Engine::Auto, line, 4),
+    for (mode, kind, engines, text, pieces) in [
+        (Replace, standard, AUTOMATA, RAN, 0),
+        (List, standard, AUTOMATA, line, 0),
+        (Replace, longest, ENGINES, RAN, 4),
+        (List, longest, ENGINES, line, 4),
+        (Overlap, standard, AUTOMATA, line, 4),
     ] {
         let told = Told {
             mode,
             kind,
-            engine,
             ..PLAIN
         };
-        writes_where_there_is_memory(&rt, rt.alloc(), &told.settings()?, text, pieces);
+        each_writes_where_there_is_memory(&rt, rt.alloc(), told, engines, text, pieces)?;
     }
     reads_where_there_is_memory(&rt, rt.alloc());
     let settings = PLAIN.settings()?;

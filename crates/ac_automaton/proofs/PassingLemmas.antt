@@ -1,13 +1,15 @@
 -- Reading on over what is passed: places at which no pattern opens, but for the last bytes, which are read from the start.
 use Rattle.std.proofs.Common.{◌≡◌, inl, inr, ⊎_elim, ℕ, ◌+◌, ◌-◌, ◌<◌, ◌≤◌, Bool, false, IsTrue, zero, suc, List, [], ◌∷◌, ◌++◌, length, take, drop, Option, Some, None, sym, ap, subst, refl, ◌∙◌, arith, length-append, length-drop}
+use Rattle.std.specs.Coded.{le_prop}
 use Rattle.std.specs.Prelude.{slice_index}
+use Rattle.std.proofs.Math.Logic.{∥∥₁_elim}
 use Rattle.std.proofs.lemmas.Bool.{cases_lt}
 use Rattle.std.proofs.lemmas.List.{append_assoc, get_or-drop, length-take-le}
 use Rattle.ac_input.specs.Number.{StateID}
 use Rattle.ac_input.specs.declared.search.Anchored.{Anchored}
 use Rattle.ac_input.specs.declared.search.Anchored.TheVariants.{No}
 use Rattle.ac_input.specs.declared.steps.Steps.{Steps}
-use Rattle.ac_input.specs.Dictionary.{IsLive, live_len}
+use Rattle.ac_input.specs.Dictionary.{Dictionary, IsLive, live_len}
 use Rattle.ac_input.specs.LiveLaws.{IsOwnInverse, shifted_place}
 use Rattle.ac_input.specs.Opening.{NoneIsShorter, HasNoOpening, OpensNotBefore}
 use Rattle.ac_input.specs.Steps.{Done}
@@ -16,12 +18,15 @@ use Rattle.ac_input.specs.Work.{IsLookups}
 use Rattle.ac_input.proofs.OpeningLemmas.{front-opens-not, opens-not-dead, opens-not-listed, live-passed, live_len-passed}
 use Rattle.ac_input.proofs.SomeLemmas.{live-some}
 use Rattle.ac_input.proofs.StateLemmas.{live-one}
-use Rattle.ac_automaton.specs.Automaton.{Built, Leads, IsReadCost}
+use Rattle.ac_automaton.specs.Automaton.{Built, IsReached, Leads, IsReadCost}
 use Rattle.ac_literal.specs.declared.openings.Openings.{Openings}
+use Rattle.ac_literal.specs.Openings.{AreOpenings}
 use Rattle.ac_automaton.specs.declared.automaton.Advance.{Advance}
+use Rattle.ac_automaton.specs.declared.look.Between.{Between}
 use Rattle.ac_automaton.specs.declared.look.LookUp.{Ghosts}
-use Rattle.ac_automaton.specs.ReadOn.{is_between}
-use Rattle.ac_automaton.specs.Passing.{HasPassed, MayPass, MaySkipBy}
+use Rattle.ac_automaton.specs.declared.skip.Skips.{Skips}
+use Rattle.ac_automaton.specs.ReadOn.{is_between, StaysBut}
+use Rattle.ac_automaton.specs.Passing.{AreOpenedBy, HasPassed, MayPass, MayReadBy, MaySkipBy, ReadsAll}
 use Rattle.ac_automaton.proofs.CursorLemmas.{HasAdvanced, lookups-join}
 use Rattle.ac_automaton.proofs.IdleLemmas.{take-both}
 
@@ -150,24 +155,22 @@ module _ (b : Built) (Reaches : Anchored → List ℕ → StateID → Type 0) (m
       few j k = small-take j k (drop n bytes) (λ i. let same : slice_index (drop n bytes) i ≡ slice_index bytes (n + i) = get_or-drop n bytes i 0 in subst (λ (v : ℕ). v < 256) (sym same) (small (n + i)))
 
 -- Reading on over what was passed, if anything was.
-pub advanced-on : {S : Type 0} (A : Ghosts S) (automaton : S) (openings : Openings) (start : StateID) (first last : ℕ) (sid current : StateID) (bytes rest : List ℕ) (n : ℕ) (stop : Advance) (s t u : Steps)
-    → MaySkipBy A automaton openings start first last
+pub advanced-on : {S : Type 0} (A : Ghosts S) (automaton : S) (openings : Openings) (start : StateID) (two : Between) (sid current : StateID) (bytes rest : List ℕ) (n : ℕ) (stop : Advance) (s t u : Steps)
+    → MaySkipBy A automaton openings start two
     → IsOwnInverse (A.built automaton).dictionary.pairing → 0 < openings.len
     → ((text : List ℕ) (i : StateID) → A.Reaches automaton No text i → Tells (A.built automaton).dictionary No text (A.matches automaton i))
-    → ((k : ℕ) → slice_index bytes k < 256) → n ≤ length bytes → rest ≡ drop n bytes
-    → HasPassed A automaton openings start current rest stop t u
-    → HasAdvanced (A.built automaton) (A.Reaches automaton) No (is_between first last) sid bytes n current s t
-    → (n + stop.taken ≤ length bytes) × HasAdvanced (A.built automaton) (A.Reaches automaton) No (is_between first last) sid bytes (n + stop.taken) stop.sid s u
-advanced-on A automaton openings start first last sid current bytes rest n stop s t u may inverse some tells small within is (inl none) has =
+    → ((k : ℕ) → slice_index bytes k < 256) → n ≤ length bytes → rest ≡ drop n bytes → current ≡ start
+    → HasPassed A automaton openings start rest stop t u
+    → HasAdvanced (A.built automaton) (A.Reaches automaton) No (is_between two) sid bytes n current s t
+    → (n + stop.taken ≤ length bytes) × HasAdvanced (A.built automaton) (A.Reaches automaton) No (is_between two) sid bytes (n + stop.taken) stop.sid s u
+advanced-on A automaton openings start two sid current bytes rest n stop s t u may inverse some tells small within is at (inl none) has =
     let e : n ≡ n + stop.taken = let z = none.1 in omega (arith, z) in (
       let z = none.1 in omega (arith, z, within),
-      subst (λ (i : ℕ). HasAdvanced (A.built automaton) (A.Reaches automaton) No (is_between first last) sid bytes i stop.sid s u) e
-          (subst (λ (i : StateID). HasAdvanced (A.built automaton) (A.Reaches automaton) No (is_between first last) sid bytes n i s u) (sym none.0)
-          (subst (λ (x : Steps). HasAdvanced (A.built automaton) (A.Reaches automaton) No (is_between first last) sid bytes n current s x) (sym none.2) has)),
+      subst (λ (i : ℕ). HasAdvanced (A.built automaton) (A.Reaches automaton) No (is_between two) sid bytes i stop.sid s u) e
+          (subst (λ (i : StateID). HasAdvanced (A.built automaton) (A.Reaches automaton) No (is_between two) sid bytes n i s u) (at ∙ sym none.0)
+          (subst (λ (x : Steps). HasAdvanced (A.built automaton) (A.Reaches automaton) No (is_between two) sid bytes n current s x) (sym none.2) has)),
     )
-advanced-on A automaton openings start first last sid current bytes rest n stop s t u may inverse some tells small within is (inr both) has =
-    let at = both.0 in
-    let to = both.1 in
+advanced-on A automaton openings start two sid current bytes rest n stop s t u may inverse some tells small within is at (inr to) has =
     let b = A.built automaton in
     let R = A.Reaches automaton in
     let left = length-drop n bytes in
@@ -179,10 +182,48 @@ advanced-on A automaton openings start first last sid current bytes rest n stop 
     let none : OpensNotBefore b.dictionary openings.len (drop n bytes) (to.skipped + to.end) =
     subst (λ (k : ℕ). OpensNotBefore b.dictionary openings.len (drop n bytes) k) (sym all)
     (subst (λ (l : List ℕ). OpensNotBefore b.dictionary openings.len l stop.taken) is (to.none b.dictionary may.open_)) in
-    let reads : Leads (R No) start (take to.end (drop to.skipped (drop n bytes))) stop.sid = subst (λ (l : List ℕ). Leads (R No) start (take to.end (drop to.skipped l)) stop.sid) is to.reads in
-    let cost : IsReadCost b R No start (take to.end (drop to.skipped (drop n bytes))) to.between u = subst (λ (l : List ℕ). IsReadCost b R No start (take to.end (drop to.skipped l)) to.between u) is to.cost in
-    let here = subst (λ (i : StateID). HasAdvanced b R No (is_between first last) sid bytes n i s t) at has in
-    let on = advanced-passed b R (A.matches automaton) (is_between first last) openings.len start inverse some long may.may tells may.quiet sid stop.sid bytes n to.skipped to.end s t to.between u small fits none to.enough reads to.looks cost here in (
+    let end = subst (λ (l : List ℕ). ReadsAll A automaton start (take to.end (drop to.skipped l)) stop.sid to.between u) is to.reads in
+    let here = subst (λ (i : StateID). HasAdvanced b R No (is_between two) sid bytes n i s t) at has in
+    let on = advanced-passed b R (A.matches automaton) (is_between two) openings.len start inverse some long may.may tells may.quiet sid stop.sid bytes n to.skipped to.end s t to.between u small fits none to.enough end.leads to.looks end.cost here in (
       omega (arith, fits, all),
-      subst (λ (k : ℕ). HasAdvanced b R No (is_between first last) sid bytes (n + k) stop.sid s u) all on,
+      subst (λ (k : ℕ). HasAdvanced b R No (is_between two) sid bytes (n + k) stop.sid s u) all on,
     )
+
+-- ---- what an automaton has to know
+
+-- the openings that an automaton has are those of its dictionary
+opened : (m : Dictionary) (held : Option Openings) (openings : Openings) → held ≡ Some openings → ∥ AreOpenedBy m held ∥₁ → AreOpenings m openings
+opened m held openings is h =
+    record {
+      short = λ n p pattern. ∥∥₁_elim there le_prop (λ w. w.short n p pattern);
+      marks = λ text at opens none. ∥∥₁_elim there (λ x y. absurd x) (λ w. w.marks text at opens none);
+    }
+  where
+    there : ∥ AreOpenings m openings ∥₁
+    there = subst (λ (o : Option Openings). ∥ AreOpenedBy m o ∥₁) is h
+
+-- A search whose last state to stop at is before the start stops last at the last one that matches.
+abbrev pub StopsBefore : StateID → ℕ → StateID → Type 0
+StopsBefore start last greatest = last < start → last ≡ greatest
+
+-- An automaton reads on by its skips if the states that match are not after a greatest one.
+pub may-read : {S : Type 0} (A : Ghosts S) (automaton : S) (skips : Skips) (two : Between) (greatest : StateID)
+    → ∥ AreOpenedBy (A.built automaton).dictionary skips.openings ∥₁
+    → ((anchored : Anchored) → StaysBut (A.Reaches automaton anchored) skips.starters skips.start)
+    → ((len sid : ℕ) → 0 < len → NoneIsShorter (A.built automaton).dictionary len → IsReached (A.Reaches automaton No) sid → greatest < skips.start → MayPass (A.built automaton).dictionary len (A.Reaches automaton No) skips.start)
+    → ((sid : StateID) (text : List ℕ) → two.last ≤ greatest → A.Reaches automaton No text sid → A.matches automaton sid ≡ [] → ¬ IsLive (A.built automaton).dictionary false text None → ¬ IsTrue (is_between two sid))
+    → StopsBefore skips.start two.last greatest
+    → MayReadBy A automaton skips two
+may-read A automaton skips two greatest made stays passes quiet before =
+    record {
+      stays = stays;
+      passes = λ openings sid is lt reached.
+          let last = before lt in
+          let open_ = opened (A.built automaton).dictionary skips.openings openings is made in
+          record {
+            open_ = open_;
+            may = passes openings.len sid openings.some open_.short reached (omega (arith, lt, last));
+            before = omega (arith, lt);
+            quiet = λ text i reads none alive. quiet i text (omega (arith, last)) reads none alive;
+          };
+    }

@@ -1,7 +1,7 @@
 -- Reading on over one part of some bytes after another, and over bytes that leave a search in the start.
-use Rattle.std.proofs.Common.{◌≡◌, ◌↔◌, ⊎_elim, ℕ, zero, suc, ◌+◌, ◌-◌, ◌<◌, ◌≤◌, Bool, false, IsTrue, List, [], ◌∷◌, ◌++◌, length, take, drop, Option, sym, ap, subst, ◌∙◌, arith, length-append, length-drop}
+use Rattle.std.proofs.Common.{◌≡◌, ◌↔◌, ⊎_elim, ℕ, zero, suc, ◌+◌, ◌-◌, ◌<◌, ◌≤◌, Bool, false, IsTrue, List, [], ◌∷◌, ◌++◌, length, take, drop, get_or, Option, sym, ap, subst, ◌∙◌, arith, length-append, length-drop}
 use Rattle.std.specs.Prelude.{nat_le, slice_index}
-use Rattle.std.proofs.lemmas.Bool.{and_parts, and_from, cases_lt, le-leb, leb-true}
+use Rattle.std.proofs.lemmas.Bool.{and_parts, and_from, cases_lt, false≢true, le-leb, leb-true}
 use Rattle.std.proofs.lemmas.List.{append_assoc, get_or-drop, length-take-le, take-take}
 use Rattle.std.proofs.lemmas.Option.{slice_get-get_or}
 use Rattle.ac_input.specs.Number.{StateID}
@@ -11,24 +11,56 @@ use Rattle.ac_input.specs.Dictionary.{IsLive, live_len}
 use Rattle.ac_input.specs.Input.{is_anchored}
 use Rattle.ac_input.specs.Work.{IsLookups}
 use Rattle.ac_automaton.specs.Automaton.{Built, Leads, IsReadCost, PassesPlain}
-use Rattle.ac_automaton.specs.ReadOn.{is_between, ReadsTo, ReadsSome, StaysBut}
+use Rattle.ac_automaton.specs.ReadOn.{is_between, ReadsTo, StaysBut}
+use Rattle.ac_automaton.specs.Passing.{ReadsToBy, ReadsSome}
 use Rattle.ac_automaton.specs.Starters.{is_starter, PassesIdle}
 use Rattle.ac_automaton.specs.declared.automaton.Advance.{Advance}
+use Rattle.ac_automaton.specs.declared.look.Between.{Between}
+use Rattle.ac_automaton.specs.declared.look.LookUp.{Ghosts}
 use Rattle.ac_automaton.specs.declared.starters.Starters.{Starters}
-use Rattle.ac_automaton.proofs.CursorLemmas.{HasAdvanced, leads-none, lookups-join, take-more}
+use Rattle.ac_automaton.proofs.CursorLemmas.{HasAdvanced, advanced-all_cost, advanced-cost, advanced-more, advances-all, advances-there, leads-none, lookups-join, take-more}
 use Rattle.ac_automaton.proofs.IdleLemmas.{advanced-run, advanced-same, take-both}
 
 -- ---- between two numbers
 
-pub between : (first last i : ℕ) → IsTrue (is_between first last i) ↔ ((first ≤ i) × (i ≤ last))
-between first last i = (
-  λ e. let both = and_parts (nat_le first i) (nat_le i last) e in (leb-true first i both.0, leb-true i last both.1),
-  λ w. and_from (nat_le first i) (nat_le i last) (le-leb first i w.0) (le-leb i last w.1),
+pub between : (two : Between) (i : ℕ) → IsTrue (is_between two i) ↔ ((two.first ≤ i) × (i ≤ two.last))
+between two i = (
+  λ e. let both = and_parts (nat_le two.first i) (nat_le i two.last) e in (leb-true two.first i both.0, leb-true i two.last both.1),
+  λ w. and_from (nat_le two.first i) (nat_le i two.last) (le-leb two.first i w.0) (le-leb i two.last w.1),
 )
 
 -- a number past the last is none
-pub past-between : (first last i : ℕ) → last < i → ¬ IsTrue (is_between first last i)
-past-between first last i past e = let w = (between first last i).0 e in omega (arith, w.1, past)
+pub past-between : (two : Between) (i : ℕ) → two.last < i → ¬ IsTrue (is_between two i)
+past-between two i past e = let w = (between two i).0 e in omega (arith, w.1, past)
+
+-- ---- one byte after another
+
+-- After one byte more reading on stops at a state between two numbers; elsewhere it goes on.
+pub after-byte : (b : Built) (Reaches : Anchored → List ℕ → StateID → Type 0) (anchored : Anchored) (two : Between) (sid : StateID) (bytes : List ℕ) (n : ℕ) (current next : StateID) (has : Bool) (s t u : Steps)
+    → n < length bytes → HasAdvanced b Reaches anchored (is_between two) sid bytes n current s t
+    → ((text : List ℕ) → Reaches anchored text current → (live : Option ℕ) × IsLive b.dictionary (is_anchored anchored) text live)
+    → Leads (Reaches anchored) current (get_or bytes n 0 ∷ []) next → IsReadCost b Reaches anchored current (get_or bytes n 0 ∷ []) t u → has ≡ is_between two next
+    → (IsTrue has → ReadsTo b Reaches anchored two sid bytes (record { sid = next; taken = n + 1 }) s u)
+    × (has ≡ false → HasAdvanced b Reaches anchored (is_between two) sid bytes (n + 1) next s u)
+after-byte b Reaches anchored two sid bytes n current next has s t u within so_far lives leads cost says =
+    let stops = is_between two in
+    let is = slice_get-get_or bytes n 0 within in (
+      λ yes. record {
+        goes = advances-there b Reaches anchored stops sid bytes n _ current next s t is within so_far leads (sym says ∙ yes);
+        cost = advanced-cost b Reaches anchored stops sid bytes n _ current s t u is so_far lives cost;
+      },
+      λ no. advanced-more b Reaches anchored stops sid bytes n _ current next s t u is so_far lives leads cost (λ e. false≢true (sym no ∙ (says ∙ e))),
+    )
+
+-- After the last byte it stops wherever it is.
+pub reads-all : (b : Built) (Reaches : Anchored → List ℕ → StateID → Type 0) (anchored : Anchored) (two : Between) (sid : StateID) (bytes : List ℕ) (n taken : ℕ) (current : StateID) (s t : Steps)
+    → n ≡ taken → taken ≡ length bytes → HasAdvanced b Reaches anchored (is_between two) sid bytes n current s t
+    → ReadsTo b Reaches anchored two sid bytes (record { sid = current; taken = taken }) s t
+reads-all b Reaches anchored two sid bytes n taken current s t is all has =
+    record {
+      goes = advances-all b Reaches anchored (is_between two) sid bytes n taken current s t is all has;
+      cost = advanced-all_cost b Reaches anchored (is_between two) sid bytes n taken current s t is has;
+    }
 
 -- ---- one part after another
 
@@ -76,97 +108,106 @@ plain-both Reaches stops sid current bytes n k plain leads more = λ at some lt.
 
 -- ---- reading on by an automaton's own loop
 
--- where it stops at the start, too, it stops at each state at which the search does
-pub some-to-start : (b : Built) (Reaches : Anchored → List ℕ → StateID → Type 0) (anchored : Anchored) (first last start : ℕ) (sid : StateID) (bytes : List ℕ) (stop : Advance) (s t : Steps)
-    → last ≤ start → 0 < length bytes → ReadsTo b Reaches anchored first start sid bytes stop s t → ReadsSome b Reaches anchored first last sid bytes stop s t
-some-to-start b Reaches anchored first last start sid bytes stop s t before some to =
-    let goes = to.goes in
-    let taken = goes.taken in
-    record {
-      some = taken.1 some;
-      within = taken.0;
-      reads = goes.reads;
-      plain = λ at lt le. let mid = goes.plain at lt le in (
-        mid.0,
-        mid.1,
-        λ e. mid.2 (let w = (between first last mid.0).0 e in (between first start mid.0).1 (w.0, omega (arith, w.1, before))),
-      );
-      cost = to.cost;
-    }
-
--- the same over a part of the bytes
-pub some-of-part : (b : Built) (Reaches : Anchored → List ℕ → StateID → Type 0) (anchored : Anchored) (first last : ℕ) (sid : StateID) (bytes part : List ℕ) (n : ℕ) (stop : Advance) (s t : Steps)
-    → 0 < n → n ≤ length bytes → part ≡ take n bytes → ReadsTo b Reaches anchored first last sid part stop s t → ReadsSome b Reaches anchored first last sid bytes stop s t
-some-of-part b Reaches anchored first last sid bytes part n stop s t positive fits is to =
-    let goes = to.goes in
-    let taken = goes.taken in
-    let size : length part ≡ n = ap length is ∙ length-take-le n bytes fits in
-    let inside = taken.0 in
-    let front : (j : ℕ) → j ≤ n → take j part ≡ take j bytes = λ j le. ap (take j) is ∙ take-take j n bytes le in
-    let all = front stop.taken (omega (arith, inside, size)) in
-    record {
-      some = taken.1 (omega (arith, size, positive));
-      within = omega (arith, inside, size, fits);
-      reads = subst (λ (l : List ℕ). Leads (Reaches anchored) sid l stop.sid) all goes.reads;
-      plain = λ at lt le. let mid = goes.plain at lt le in (mid.0, subst (λ (l : List ℕ). Leads (Reaches anchored) sid l mid.0) (front at (omega (arith, le, inside, size))) mid.1, mid.2);
-      cost = subst (λ (l : List ℕ). IsReadCost b Reaches anchored sid l s t) all to.cost;
-    }
-
--- some bytes more, whose last state is none at which the search stops
-pub advanced-some : (b : Built) (Reaches : Anchored → List ℕ → StateID → Type 0) (anchored : Anchored) (first last : ℕ) (sid current : StateID) (bytes rest : List ℕ) (n : ℕ) (stop : Advance) (s t u : Steps)
-    → rest ≡ drop n bytes → n ≤ length bytes
-    → ((text : List ℕ) → Reaches anchored text current → (live : Option ℕ) × IsLive b.dictionary (is_anchored anchored) text live)
-    → ReadsSome b Reaches anchored first last current rest stop t u → ¬ IsTrue (is_between first last stop.sid)
-    → HasAdvanced b Reaches anchored (is_between first last) sid bytes n current s t
-    → (n + stop.taken ≤ length bytes) × HasAdvanced b Reaches anchored (is_between first last) sid bytes (n + stop.taken) stop.sid s u
-advanced-some b Reaches anchored first last sid current bytes rest n stop s t u is within lives some apart has =
-    let R = Reaches anchored in
-    let stops = is_between first last in
-    let k = stop.taken in
-    let left = length-drop n bytes in
-    let size = ap length is in
-    let inside = some.within in
-    let fits : n + k ≤ length bytes = omega (arith, left, size, inside, within) in
-    let leads = subst (λ (l : List ℕ). Leads R current (take k l) stop.sid) is some.reads in
-    let reads = read-both R sid current stop.sid bytes n k has.reads leads in
-    let plain = plain-both R stops sid current bytes n k has.plain has.reads (subst (λ (l : List ℕ). PassesPlain R stops current l k) is some.plain) in (
-      fits,
+module _ {S : Type 0} (A : Ghosts S) (automaton : S) (anchored : Anchored) (two : Between) (sid : StateID) (bytes : List ℕ) where
+  -- where it stops at the start, too, it stops at each state at which the search does
+  pub some-to-start : (upper : Between) (stop : Advance) (s t : Steps) → upper.first ≡ two.first → two.last ≤ upper.last → 0 < length bytes → ReadsToBy A automaton anchored upper sid bytes stop s t → ReadsSome A automaton anchored two sid bytes stop s t
+  some-to-start upper stop s t first before some to =
+      let goes = to.goes in
+      let taken = goes.taken in
       record {
-        reads = reads;
-        plain = λ at lt le. ⊎_elim
-            (λ (sooner : at < n + k). plain at lt sooner)
-            (λ (here : n + k ≤ at). let e : n + k ≡ at = omega (arith, here, le) in
-            subst (λ (i : ℕ). (mid : StateID) × Leads R sid (take i bytes) mid × ¬ IsTrue (stops mid)) e (stop.sid, reads, apart))
-            (cases_lt at (n + k));
-        cost = cost-both b Reaches anchored sid current bytes n k s t u fits has.reads lives has.cost (subst (λ (l : List ℕ). IsReadCost b Reaches anchored current (take k l) t u) is some.cost);
-      },
-    )
+        some = taken.1 some;
+        within = taken.0;
+        reads = goes.reads;
+        plain = λ at lt le. let mid = goes.plain at lt le in (
+          mid.0,
+          mid.1,
+          λ e. mid.2 (let w = (between two mid.0).0 e in (between upper mid.0).1 (omega (arith, w.0, first), omega (arith, w.1, before))),
+        );
+        cost = to.cost;
+      }
 
--- or is one
-pub reads-there : (b : Built) (Reaches : Anchored → List ℕ → StateID → Type 0) (anchored : Anchored) (first last : ℕ) (sid current : StateID) (bytes rest : List ℕ) (n : ℕ) (stop : Advance) (s t u : Steps)
-    → rest ≡ drop n bytes → n ≤ length bytes
-    → ((text : List ℕ) → Reaches anchored text current → (live : Option ℕ) × IsLive b.dictionary (is_anchored anchored) text live)
-    → ReadsSome b Reaches anchored first last current rest stop t u → IsTrue (is_between first last stop.sid)
-    → HasAdvanced b Reaches anchored (is_between first last) sid bytes n current s t
-    → ReadsTo b Reaches anchored first last sid bytes (record { sid = stop.sid; taken = n + stop.taken }) s u
-reads-there b Reaches anchored first last sid current bytes rest n stop s t u is within lives some there has =
-    let R = Reaches anchored in
-    let stops = is_between first last in
-    let k = stop.taken in
-    let left = length-drop n bytes in
-    let size = ap length is in
-    let inside = some.within in
-    let positive = some.some in
-    let fits : n + k ≤ length bytes = omega (arith, left, size, inside, within) in
-    record {
+  -- the same over a part of the bytes
+  pub some-of-part : (part : List ℕ) (n : ℕ) (stop : Advance) (s t : Steps) → 0 < n → n ≤ length bytes → part ≡ take n bytes → ReadsToBy A automaton anchored two sid part stop s t → ReadsSome A automaton anchored two sid bytes stop s t
+  some-of-part part n stop s t positive fits is to =
+      let R = A.Reaches automaton anchored in
+      let goes = to.goes in
+      let taken = goes.taken in
+      let size : length part ≡ n = ap length is ∙ length-take-le n bytes fits in
+      let inside = taken.0 in
+      let front : (j : ℕ) → j ≤ n → take j part ≡ take j bytes = λ j le. ap (take j) is ∙ take-take j n bytes le in
+      let all = front stop.taken (omega (arith, inside, size)) in
+      record {
+        some = taken.1 (omega (arith, size, positive));
+        within = omega (arith, inside, size, fits);
+        reads = subst (λ (l : List ℕ). Leads R sid l stop.sid) all goes.reads;
+        plain = λ at lt le. let mid = goes.plain at lt le in (mid.0, subst (λ (l : List ℕ). Leads R sid l mid.0) (front at (omega (arith, le, inside, size))) mid.1, mid.2);
+        cost = subst (λ (l : List ℕ). IsReadCost (A.built automaton) (A.Reaches automaton) anchored sid l s t) all to.cost;
+      }
+
+  -- some bytes more
+  some-more : (current : StateID) (rest : List ℕ) (n : ℕ) (stop : Advance) (s t u : Steps)
+      → rest ≡ drop n bytes → n ≤ length bytes
+      → ((text : List ℕ) → A.Reaches automaton anchored text current → (live : Option ℕ) × IsLive (A.built automaton).dictionary (is_anchored anchored) text live)
+      → ReadsSome A automaton anchored two current rest stop t u
+      → HasAdvanced (A.built automaton) (A.Reaches automaton) anchored (is_between two) sid bytes n current s t
+      → ReadsSome A automaton anchored two sid bytes (record { sid = stop.sid; taken = n + stop.taken }) s u
+  some-more current rest n stop s t u is within lives some has =
+      let b = A.built automaton in
+      let R = A.Reaches automaton in
+      let stops = is_between two in
+      let k = stop.taken in
+      let left = length-drop n bytes in
+      let size = ap length is in
+      let inside = some.within in
+      let positive = some.some in
+      let fits : n + k ≤ length bytes = omega (arith, left, size, inside, within) in
+      record {
+        some = omega (arith, positive);
+        within = fits;
+        reads = read-both (R anchored) sid current stop.sid bytes n k has.reads (subst (λ (l : List ℕ). Leads (R anchored) current (take k l) stop.sid) is some.reads);
+        plain = plain-both (R anchored) stops sid current bytes n k has.plain has.reads (subst (λ (l : List ℕ). PassesPlain (R anchored) stops current l k) is some.plain);
+        cost = cost-both b R anchored sid current bytes n k s t u fits has.reads lives has.cost (subst (λ (l : List ℕ). IsReadCost b R anchored current (take k l) t u) is some.cost);
+      }
+
+  -- The search stops there at a state between two numbers; elsewhere it goes on.
+  pub after-some : (current : StateID) (rest : List ℕ) (n : ℕ) (stop : Advance) (has : Bool) (s t u : Steps)
+      → rest ≡ drop n bytes → n ≤ length bytes
+      → ((text : List ℕ) → A.Reaches automaton anchored text current → (live : Option ℕ) × IsLive (A.built automaton).dictionary (is_anchored anchored) text live)
+      → ReadsSome A automaton anchored two current rest stop t u
+      → HasAdvanced (A.built automaton) (A.Reaches automaton) anchored (is_between two) sid bytes n current s t
+      → has ≡ is_between two stop.sid
+      → (IsTrue has → ReadsToBy A automaton anchored two sid bytes (record { sid = stop.sid; taken = n + stop.taken }) s u)
+      × (has ≡ false → (n + stop.taken ≤ length bytes) × HasAdvanced (A.built automaton) (A.Reaches automaton) anchored (is_between two) sid bytes (n + stop.taken) stop.sid s u)
+  after-some current rest n stop has s t u is within lives read so_far says = (
+    λ yes. record {
       goes = record {
-        taken = (fits, λ _. omega (arith, positive));
-        reads = read-both R sid current stop.sid bytes n k has.reads (subst (λ (l : List ℕ). Leads R current (take k l) stop.sid) is some.reads);
-        plain = plain-both R stops sid current bytes n k has.plain has.reads (subst (λ (l : List ℕ). PassesPlain R stops current l k) is some.plain);
-        stops = λ _. there;
+        taken = (some.within, λ _. some.some);
+        reads = some.reads;
+        plain = some.plain;
+        stops = λ _. sym says ∙ yes;
       };
-      cost = cost-both b Reaches anchored sid current bytes n k s t u fits has.reads lives has.cost (subst (λ (l : List ℕ). IsReadCost b Reaches anchored current (take k l) t u) is some.cost);
-    }
+      cost = some.cost;
+    },
+    λ no. (
+      some.within,
+      record {
+        reads = some.reads;
+        plain = λ at lt le. ⊎_elim
+            (λ (sooner : at < k). some.plain at lt sooner)
+            (λ (here : k ≤ at). let e : k ≡ at = omega (arith, here, le) in
+            subst (λ (i : ℕ). (mid : StateID) × Leads (A.Reaches automaton anchored) sid (take i bytes) mid × ¬ IsTrue (is_between two mid)) e
+            (stop.sid, some.reads, λ e2. false≢true (sym no ∙ (says ∙ e2))))
+            (cases_lt at k);
+        cost = some.cost;
+      },
+    ),
+  )
+    where
+      k : ℕ
+      k = n + stop.taken
+
+      some : ReadsSome A automaton anchored two sid bytes (record { sid = stop.sid; taken = n + stop.taken }) s u
+      some = some-more current rest n stop s t u is within lives read so_far
 
 -- ---- bytes that leave a search in the start
 

@@ -1,6 +1,7 @@
--- What a search passes that stands in the start: places at which no pattern opens.
-use Rattle.std.specs.Prelude.{◌≡◌, ◌⊎◌, ℕ, ◌+◌, ◌<◌, ◌≤◌, false, IsTrue, List, [], ◌++◌, length, take, drop, slice_index, Some, None}
+-- What a search passes that stands in the start: places at which no pattern opens, and bytes that leave it there.
+use Rattle.std.specs.Prelude.{◌≡◌, ◌⊎◌, ℕ, ◌+◌, ◌<◌, ◌≤◌, false, IfSome, IsTrue, List, [], ◌++◌, length, take, drop, slice_index, Option, Some, None}
 use Rattle.ac_input.specs.Number.{StateID}
+use Rattle.ac_input.specs.declared.search.Anchored.{Anchored}
 use Rattle.ac_input.specs.declared.search.Anchored.TheVariants.{No}
 use Rattle.ac_input.specs.declared.steps.Steps.{Steps}
 use Rattle.ac_input.specs.Dictionary.{Dictionary, IsLive}
@@ -8,10 +9,37 @@ use Rattle.ac_input.specs.Opening.{HasNoOpening}
 use Rattle.ac_input.specs.Steps.{Done}
 use Rattle.ac_literal.specs.declared.openings.Openings.{Openings}
 use Rattle.ac_literal.specs.Openings.{AreOpenings, PassesOpenings}
-use Rattle.ac_automaton.specs.Automaton.{Leads, IsReadCost}
-use Rattle.ac_automaton.specs.ReadOn.{is_between}
+use Rattle.ac_automaton.specs.Automaton.{IsReached, Leads, IsReadCost, PassesPlain}
+use Rattle.ac_automaton.specs.ReadOn.{is_between, ReadsTo, StaysBut}
 use Rattle.ac_automaton.specs.declared.automaton.Advance.{Advance}
+use Rattle.ac_automaton.specs.declared.look.Between.{Between}
 use Rattle.ac_automaton.specs.declared.look.LookUp.{Ghosts}
+use Rattle.ac_automaton.specs.declared.skip.Skips.{Skips}
+
+-- ---- reading on with an automaton
+
+-- Reading on stops at the first state between two numbers, or after the last byte; and what it cost.
+abbrev pub ReadsToBy : {S : Type 0} → Ghosts S → S → Anchored → Between → StateID → List ℕ → Advance → Steps → Steps → Type 0
+ReadsToBy A automaton anchored two sid bytes stop before after = ReadsTo (A.built automaton) (A.Reaches automaton) anchored two sid bytes stop before after
+
+-- Some bytes were read, and no state on the way is between two numbers, but for the one after the last of them.
+pub record ReadsSome {S : Type 0} (A : Ghosts S) (automaton : S) (anchored : Anchored) (two : Between) (sid : StateID) (bytes : List ℕ) (stop : Advance) (before after : Steps) : Type 0 where
+  pub some : 0 < stop.taken
+  pub within : stop.taken ≤ length bytes
+  pub reads : Leads (A.Reaches automaton anchored) sid (take stop.taken bytes) stop.sid
+  pub plain : PassesPlain (A.Reaches automaton anchored) (is_between two) sid bytes stop.taken
+  pub cost : IsReadCost (A.built automaton) (A.Reaches automaton) anchored sid (take stop.taken bytes) before after
+
+-- All the bytes were read, by a search that isn't anchored.
+pub record ReadsAll {S : Type 0} (A : Ghosts S) (automaton : S) (sid : StateID) (bytes : List ℕ) (to : StateID) (before after : Steps) : Type 0 where
+  pub leads : Leads (A.Reaches automaton No) sid bytes to
+  pub cost : IsReadCost (A.built automaton) (A.Reaches automaton) No sid bytes before after
+
+-- ---- what may be passed
+
+-- The openings, if there are some, are those of the dictionary.
+abbrev pub AreOpenedBy : Dictionary → Option Openings → Type 0
+AreOpenedBy m openings = IfSome openings (AreOpenings m)
 
 -- Where a search stands in the start, nothing of what was read is live, and every text leads somewhere. A text in which no pattern
 -- opens leads where its end leads, if that has all bytes that can still be live.
@@ -23,11 +51,19 @@ pub record MayPass (m : Dictionary) (len : ℕ) (Reaches : List ℕ → StateID 
 
 -- Openings by which a search may pass that stops between two numbers: they are those of the automaton's dictionary, a state at which
 -- nothing matches and that isn't dead is not between the two, and neither is after the start.
-pub record MaySkipBy {S : Type 0} (A : Ghosts S) (automaton : S) (openings : Openings) (start : StateID) (first last : ℕ) : Type 0 where
+pub record MaySkipBy {S : Type 0} (A : Ghosts S) (automaton : S) (openings : Openings) (start : StateID) (two : Between) : Type 0 where
   pub open_ : AreOpenings (A.built automaton).dictionary openings
   pub may : MayPass (A.built automaton).dictionary openings.len (A.Reaches automaton No) start
-  pub before : last ≤ start
-  pub quiet : (text : List ℕ) (sid : StateID) → A.Reaches automaton No text sid → A.matches automaton sid ≡ [] → ¬ IsLive (A.built automaton).dictionary false text None → ¬ IsTrue (is_between first last sid)
+  pub before : two.last ≤ start
+  pub quiet : (text : List ℕ) (sid : StateID) → A.Reaches automaton No text sid → A.matches automaton sid ≡ [] → ¬ IsLive (A.built automaton).dictionary false text None → ¬ IsTrue (is_between two sid)
+
+-- An automaton may read on by these skips to the first state between two numbers: each byte that is none of the starters leads from
+-- the start to itself, and an unanchored search may pass by the openings, where the start is past the two.
+pub record MayReadBy {S : Type 0} (A : Ghosts S) (automaton : S) (skips : Skips) (two : Between) : Type 0 where
+  pub stays : (anchored : Anchored) → StaysBut (A.Reaches automaton anchored) skips.starters skips.start
+  pub passes : (openings : Openings) (sid : StateID) → skips.openings ≡ Some openings → two.last < skips.start → IsReached (A.Reaches automaton No) sid → MaySkipBy A automaton openings skips.start two
+
+-- ---- what was passed
 
 -- So many bytes were passed from the start, each with a look, and so many more read from the start, up to a place before which no
 -- pattern opens; these are all that can still be live.
@@ -38,11 +74,10 @@ pub record PassesTo {S : Type 0} (A : Ghosts S) (automaton : S) (openings : Open
   pub within : stop.taken ≤ length bytes
   pub enough : openings.len ≤ end + 1
   pub none : PassesOpenings openings bytes stop.taken
-  pub reads : Leads (A.Reaches automaton No) start (take end (drop skipped bytes)) stop.sid
   pub between : Steps
   pub looks : Done skipped 0 0 before between
-  pub cost : IsReadCost (A.built automaton) (A.Reaches automaton) No start (take end (drop skipped bytes)) between after
+  pub reads : ReadsAll A automaton start (take end (drop skipped bytes)) stop.sid between after
 
--- The same from a state that is the start; or nothing was passed.
-abbrev pub HasPassed : {S : Type 0} → Ghosts S → S → Openings → StateID → StateID → List ℕ → Advance → Steps → Steps → Type 0
-HasPassed A automaton openings start sid bytes stop before after = ((stop.sid ≡ sid) × (stop.taken ≡ 0) × (after ≡ before)) ⊎ ((sid ≡ start) × PassesTo A automaton openings start bytes stop before after)
+-- That; or nothing was passed.
+abbrev pub HasPassed : {S : Type 0} → Ghosts S → S → Openings → StateID → List ℕ → Advance → Steps → Steps → Type 0
+HasPassed A automaton openings start bytes stop before after = ((stop.sid ≡ start) × (stop.taken ≡ 0) × (after ≡ before)) ⊎ PassesTo A automaton openings start bytes stop before after

@@ -2,7 +2,7 @@
 //!
 //! A search that skips needs no more of an automaton than where bytes lead. An automaton that skips in its own `advance` says that
 //! here, so that its searches and the skip don't call each other.
-ghost use Rattle.std.specs.Prelude.{◌≡◌};
+ghost use Rattle.std.specs.Prelude.{◌≡◌, ◌<◌, ◌↔◌, IsTrue};
 ghost use Rattle.ac_automaton.specs.ReadOn.{is_between};
 
 use crate::automaton::Advance;
@@ -10,13 +10,51 @@ use ac_input::primitives::StateID;
 use ac_input::search::Anchored;
 use ac_input::steps::Steps;
 
-/// Whether the state is between two numbers, these included.
-#[inline(always)]
-pub fn is_between(first: u32, last: u32, sid: StateID) -> bool
-    ensures { result ≡ is_between first last sid }
-{
-    let at = sid.as_u32();
-    first <= at && at <= last
+/// Two numbers. A search that reads on stops at the states between them, these included.
+#[derive(Clone, Copy)]
+pub struct Between {
+    first: u32,
+    last: u32,
+}
+
+impl Between {
+    /// From a number up to that of a state.
+    #[inline(always)]
+    pub fn new(from: u32, to: StateID) -> Between
+        ensures first { result.first ≡ from }
+        ensures last { result.last ≡ to }
+    {
+        Between {
+            first: from,
+            last: to.as_u32(),
+        }
+    }
+
+    /// The same, up to another state.
+    #[inline(always)]
+    pub fn up_to(self, to: StateID) -> Between
+        ensures first { result.first ≡ self.first }
+        ensures last { result.last ≡ to }
+    {
+        Between::new(self.first, to)
+    }
+
+    /// Whether both are before a state.
+    #[inline(always)]
+    pub fn is_before(self, sid: StateID) -> bool
+        ensures { IsTrue result ↔ (self.last < sid) }
+    {
+        self.last < sid.as_u32()
+    }
+
+    /// Whether the state is one of them.
+    #[inline(always)]
+    pub fn has(self, sid: StateID) -> bool
+        ensures { result ≡ is_between self sid }
+    {
+        let at = sid.as_u32();
+        self.first <= at && at <= self.last
+    }
 }
 
 /// The look-ups of a search: all that a search that skips asks of an automaton.
@@ -58,18 +96,17 @@ pub trait LookUp {
         anchored: Anchored,
         sid: StateID,
         bytes: &[u8],
-        first: u32,
-        last: u32,
+        to: Between,
         steps: &mut Steps,
     ) -> Advance
         requires { IsReached (Reaches self.now anchored) sid }
-        ensures { ReadsTo (built self.now) (Reaches self.now) anchored first last sid bytes.now
-            result steps.old steps.new }
+        ensures { ReadsTo (built self.now) (Reaches self.now) anchored to sid bytes.now result
+            steps.old steps.new }
     {
         let mut current = sid;
         for (read, byte) in bytes.iter().enumerate() {
             current = self.look_up(anchored, current, *byte, steps);
-            if is_between(first, last, current) {
+            if to.has(current) {
                 return Advance {
                     sid: current,
                     taken: read + 1,

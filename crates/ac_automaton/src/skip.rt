@@ -7,16 +7,17 @@
 //! At a place that openings find, only the last bytes before it can still be live, one fewer than an opening has. The search reads
 //! those from the start, and has come to the state to which all bytes before lead. Each byte that is passed counts as one look.
 //!
-//! An automaton calls [`skip`] where it isn't anchored and stops at no start. Where the openings pass few bytes, they are left for a
-//! while, as a prefilter is, and the automaton's loop stops at no start.
-ghost use Rattle.std.specs.Prelude.{◌≡◌, ◌<◌, ◌≤◌, drop, length};
-ghost use Rattle.ac_automaton.specs.Automaton.{IsReached, IsReadCost, Leads};
-ghost use Rattle.ac_automaton.specs.ReadOn.{ReadsSome, ReadsTo, StaysBut};
-ghost use Rattle.ac_automaton.specs.Passing.{HasPassed, MaySkipBy};
+//! An automaton stores [`Skips`] and reads on by them. They skip only where the search stops at no start, and by openings only where
+//! it isn't anchored. Where the openings pass few bytes, they are left for a while, as a prefilter is, and the automaton's loop stops
+//! at no start.
+ghost use Rattle.std.specs.Prelude.{◌<◌, ◌≤◌, length};
+ghost use Rattle.ac_automaton.specs.Automaton.{IsReached};
+ghost use Rattle.ac_automaton.specs.ReadOn.{StaysBut};
+ghost use Rattle.ac_automaton.specs.Passing.{HasPassed, MayReadBy, MaySkipBy, ReadsAll, ReadsSome, ReadsToBy};
 
 use crate::automaton::Advance;
 use crate::gain::Gain;
-use crate::look::{LookUp, is_between};
+use crate::look::{Between, LookUp};
 use crate::starters::Starters;
 use ac_input::primitives::StateID;
 use ac_input::search::Anchored;
@@ -26,13 +27,53 @@ use ac_literal::openings::Openings;
 /// How many bytes openings have to pass, to pay.
 const COST: usize = 24;
 
+/// What an automaton skips by while a search stands in its start.
+#[derive(Clone, Copy)]
+pub struct Skips {
+    /// The start of the searches that aren't anchored.
+    pub start: StateID,
+    /// Where a pattern may begin, if the patterns are few.
+    pub openings: Option<Openings>,
+    /// The bytes that lead from the start to another state.
+    pub starters: Starters,
+}
+
+impl Skips {
+    /// Reads on to the first state between two numbers, these included, in the way that is the fastest there.
+    #[inline(always)]
+    pub fn read_to<A: LookUp>(
+        &self,
+        automaton: &A,
+        anchored: Anchored,
+        sid: StateID,
+        bytes: &[u8],
+        to: Between,
+        steps: &mut Steps,
+    ) -> Advance
+        requires reached { IsReached (A.Reaches automaton.now anchored) sid }
+        requires may { MayReadBy A.LookUp automaton.now self.now to }
+        ensures { ReadsToBy A.LookUp automaton.now anchored to sid bytes.now result
+            steps.old steps.new }
+    {
+        let start = self.start;
+        if to.is_before(start) {
+            if let (Some(openings), Anchored::No) = (&self.openings, anchored) {
+                return skip(automaton, openings, start, sid, bytes, to, steps);
+            }
+            let starters = &self.starters;
+            if starters.are_few() {
+                return skip_idle(automaton, starters, start, anchored, sid, bytes, to, steps);
+            }
+        }
+        automaton.read_on(anchored, sid, bytes, to, steps)
+    }
+}
+
 /// Reads all the bytes on from a state.
 #[inline]
 fn read_all<A: LookUp>(automaton: &A, sid: StateID, bytes: &[u8], steps: &mut Steps) -> StateID
     requires { IsReached (A.Reaches automaton.now Anchored.No) sid }
-    ensures reads { Leads (A.Reaches automaton.now Anchored.No) sid bytes.now result }
-    ensures cost { IsReadCost (A.built automaton.now) (A.Reaches automaton.now) Anchored.No sid
-        bytes.now steps.old steps.new }
+    ensures { ReadsAll A.LookUp automaton.now sid bytes.now result steps.old steps.new }
 {
     let mut current = sid;
     for byte in bytes {
@@ -51,7 +92,7 @@ fn pass<A: LookUp>(
     steps: &mut Steps,
 ) -> Advance
     requires { IsReached (A.Reaches automaton.now Anchored.No) start }
-    ensures { HasPassed A.LookUp automaton.now openings.now start start bytes.now result
+    ensures { HasPassed A.LookUp automaton.now openings.now start bytes.now result
         steps.old steps.new }
 {
     let passed = openings.pass(bytes);
@@ -70,73 +111,48 @@ fn pass<A: LookUp>(
     }
 }
 
-/// The same where a search stands in the start and asks the openings. Elsewhere it passes nothing.
-#[inline(always)]
-fn pass_from<A: LookUp>(
-    automaton: &A,
-    openings: &Openings,
-    start: StateID,
-    sid: StateID,
-    bytes: &[u8],
-    alone: usize,
-    gain: &mut Gain,
-    steps: &mut Steps,
-) -> Advance
-    requires { IsReached (A.Reaches automaton.now Anchored.No) sid }
-    ensures { HasPassed A.LookUp automaton.now openings.now start sid bytes.now result
-        steps.old steps.new }
-{
-    if alone > 0 || sid != start {
-        return Advance { sid, taken: 0 };
-    }
-    let stop = pass(automaton, openings, sid, bytes, steps);
-    gain.passed(stop.taken);
-    stop
-}
-
 /// Reads on to the first state between two numbers or to the start; or, alone, through so many bytes and past the start.
 #[inline(always)]
 fn read_some<A: LookUp>(
     automaton: &A,
     start: StateID,
+    anchored: Anchored,
     sid: StateID,
     bytes: &[u8],
     alone: usize,
-    first: u32,
-    last: u32,
+    to: Between,
     steps: &mut Steps,
 ) -> Advance
-    requires reached { IsReached (A.Reaches automaton.now Anchored.No) sid }
-    requires before { last ≤ start }
+    requires reached { IsReached (A.Reaches automaton.now anchored) sid }
+    requires before { to.last ≤ start }
     requires some { 0 < length bytes.now }
-    ensures { ReadsSome (A.built automaton.now) (A.Reaches automaton.now) Anchored.No first last sid
-        bytes.now result steps.old steps.new }
+    ensures { ReadsSome A.LookUp automaton.now anchored to sid bytes.now result
+        steps.old steps.new }
 {
     if alone == 0 {
-        return automaton.read_on(Anchored::No, sid, bytes, first, start.as_u32(), steps);
+        return automaton.read_on(anchored, sid, bytes, to.up_to(start), steps);
     }
     let part = &bytes[..alone.min(bytes.len())];
-    automaton.read_on(Anchored::No, sid, part, first, last, steps)
+    automaton.read_on(anchored, sid, part, to, steps)
 }
 
 /// Reads on to the first state between two numbers, these included, and passes the bytes that can't begin a pattern.
 ///
 /// It stays out of the calls that make it, whose other loops are the slower for it.
 #[inline(never)]
-pub fn skip<A: LookUp>(
+fn skip<A: LookUp>(
     automaton: &A,
     openings: &Openings,
     start: StateID,
     sid: StateID,
     bytes: &[u8],
-    first: u32,
-    last: u32,
+    to: Between,
     steps: &mut Steps,
 ) -> Advance
     requires reached { IsReached (A.Reaches automaton.now Anchored.No) sid }
-    requires may { MaySkipBy A.LookUp automaton.now openings.now start first last }
-    ensures { ReadsTo (A.built automaton.now) (A.Reaches automaton.now) Anchored.No first last sid
-        bytes.now result steps.old steps.new }
+    requires may { MaySkipBy A.LookUp automaton.now openings.now start to }
+    ensures { ReadsToBy A.LookUp automaton.now Anchored.No to sid bytes.now result
+        steps.old steps.new }
 {
     let mut gain = Gain::new(COST);
     let mut current = sid;
@@ -144,19 +160,29 @@ pub fn skip<A: LookUp>(
     while read < bytes.len() {
         let alone = gain.alone(read);
         let rest = &bytes[read..];
-        let stop = read_some(automaton, start, current, rest, alone, first, last, steps);
+        let stop = read_some(
+            automaton,
+            start,
+            Anchored::No,
+            current,
+            rest,
+            alone,
+            to,
+            steps,
+        );
         current = stop.sid;
         read += stop.taken;
-        if is_between(first, last, current) {
+        if to.has(current) {
             return Advance {
                 sid: current,
                 taken: read,
             };
         }
-        let rest = &bytes[read..];
-        let stop = pass_from(
-            automaton, openings, start, current, rest, alone, &mut gain, steps,
-        );
+        if alone > 0 || current != start {
+            continue;
+        }
+        let stop = pass(automaton, openings, start, &bytes[read..], steps);
+        gain.passed(stop.taken);
         current = stop.sid;
         read += stop.taken;
     }
@@ -170,31 +196,30 @@ pub fn skip<A: LookUp>(
 ///
 /// It stays out of the calls that make it, whose other loops are the slower for it.
 #[inline(never)]
-pub fn skip_idle<A: LookUp>(
+fn skip_idle<A: LookUp>(
     automaton: &A,
     starters: &Starters,
     start: StateID,
     anchored: Anchored,
     sid: StateID,
     bytes: &[u8],
-    first: u32,
-    last: u32,
+    to: Between,
     steps: &mut Steps,
 ) -> Advance
     requires reached { IsReached (A.Reaches automaton.now anchored) sid }
-    requires before { last < start }
+    requires before { to.last < start }
     requires stays { StaysBut (A.Reaches automaton.now anchored) starters.now start }
-    ensures { ReadsTo (A.built automaton.now) (A.Reaches automaton.now) anchored first last sid
-        bytes.now result steps.old steps.new }
+    ensures { ReadsToBy A.LookUp automaton.now anchored to sid bytes.now result
+        steps.old steps.new }
 {
     let mut current = sid;
     let mut read = 0;
     while read < bytes.len() {
         let rest = &bytes[read..];
-        let stop = automaton.read_on(anchored, current, rest, first, start.as_u32(), steps);
+        let stop = read_some(automaton, start, anchored, current, rest, 0, to, steps);
         current = stop.sid;
         read += stop.taken;
-        if is_between(first, last, current) {
+        if to.has(current) {
             return Advance {
                 sid: current,
                 taken: read,

@@ -8,6 +8,7 @@ use Rattle.ac_input.specs.Dictionary.{Dictionary}
 use Rattle.ac_input.proofs.SameLemmas.{own_inverse-pairing}
 use Rattle.ac_automaton.specs.Automaton.{IsReached, Advances, is_matching}
 use Rattle.ac_automaton.specs.declared.automaton.Advance.{Advance}
+use Rattle.ac_automaton.specs.declared.look.Between.{Between}
 use Rattle.ac_automaton.specs.Named.{IsIdleBy}
 use Rattle.ac_automaton.proofs.CursorLemmas.{reached-state}
 use Rattle.ac_automaton.proofs.IdleLemmas as idle
@@ -42,25 +43,25 @@ idle-by nfa byte idle =
     }
 
 -- so each byte that is none of the starters leads from the start to itself
-pub stays-in-start : (nfa : NFA) (anchored : Anchored) → StaysBut (IsRead nfa anchored) nfa.starters nfa.tables.start
+pub stays-in-start : (nfa : NFA) (anchored : Anchored) → StaysBut (IsRead nfa anchored) nfa.skips.starters nfa.tables.start
 stays-in-start nfa anchored =
-    idle.idle-stays (built_as nfa) (IsNamingOf (dictionary nfa) nfa.tables) (matches_at nfa) (is_start_at nfa) (is_special_at nfa) nfa.tables.start nfa.starters anchored (all-names nfa) (∥∥₁_map nfa.skips (λ skips byte lt none. idle-by nfa byte (skips byte lt none)))
+    idle.idle-stays (built_as nfa) (IsNamingOf (dictionary nfa) nfa.tables) (matches_at nfa) (is_start_at nfa) (is_special_at nfa) nfa.tables.start nfa.skips.starters anchored (all-names nfa) (∥∥₁_map nfa.idle (λ skips byte lt none. idle-by nfa byte (skips byte lt none)))
 
 -- ---- where it stops
 
 -- the states that match are those from 2 on, up to the greatest that matches;
-pub between-matching : (nfa : NFA) (first last : ℕ) (anchored : Anchored) (sid : ℕ) (bytes : List ℕ) (stop : Advance) → first ≡ 2 → last ≡ nfa.tables.max_match → IsReached (IsRead nfa anchored) sid → Advances (IsRead nfa anchored) (is_between first last) sid bytes stop → Advances (IsRead nfa anchored) (is_matching (matches_at nfa)) sid bytes stop
-between-matching nfa first last anchored sid bytes stop from to reached =
-    idle.advances-alike (IsRead nfa anchored) (is_between first last) (is_matching (matches_at nfa)) sid bytes stop reached (λ i there.
+pub between-matching : (nfa : NFA) (two : Between) (anchored : Anchored) (sid : ℕ) (bytes : List ℕ) (stop : Advance) → two.first ≡ 2 → two.last ≡ nfa.tables.max_match → IsReached (IsRead nfa anchored) sid → Advances (IsRead nfa anchored) (is_between two) sid bytes stop → Advances (IsRead nfa anchored) (is_matching (matches_at nfa)) sid bytes stop
+between-matching nfa two anchored sid bytes stop from to reached =
+    idle.advances-alike (IsRead nfa anchored) (is_between two) (is_matching (matches_at nfa)) sid bytes stop reached (λ i there.
     let state = reached-state (IsRead nfa) anchored i there in (
-      (λ e. let w = (between first last i).0 e in matching-some (matches_at nfa i) (state-many nfa i state (omega (arith, w.0, from)) (omega (arith, w.1, to)))),
-      (λ e. let m = state-matches nfa i state (some-matching (matches_at nfa i) e) in (between first last i).1 (omega (arith, m.0, from), omega (arith, m.1, to))),
+      (λ e. let w = (between two i).0 e in matching-some (matches_at nfa i) (state-many nfa i state (omega (arith, w.0, from)) (omega (arith, w.1, to)))),
+      (λ e. let m = state-matches nfa i state (some-matching (matches_at nfa i) e) in (between two i).1 (omega (arith, m.0, from), omega (arith, m.1, to))),
     ))
 
 -- and those that are special are all up to the last special one
-pub between-special : (nfa : NFA) (first last : ℕ) (anchored : Anchored) (sid : ℕ) (bytes : List ℕ) (stop : Advance) → first ≡ 0 → last ≡ nfa.max_special → IsReached (IsRead nfa anchored) sid → Advances (IsRead nfa anchored) (is_between first last) sid bytes stop → Advances (IsRead nfa anchored) (is_special_at nfa) sid bytes stop
-between-special nfa first last anchored sid bytes stop from to reached =
-    idle.advances-alike (IsRead nfa anchored) (is_between first last) (is_special_at nfa) sid bytes stop reached (λ i there. (
-      (λ e. let w = (between first last i).0 e in le-leb i nfa.max_special (omega (arith, w.1, to))),
-      (λ e. let le = leb-true i nfa.max_special e in (between first last i).1 (omega (arith, from), omega (arith, le, to))),
+pub between-special : (nfa : NFA) (two : Between) (anchored : Anchored) (sid : ℕ) (bytes : List ℕ) (stop : Advance) → two.first ≡ 0 → two.last ≡ nfa.max_special → IsReached (IsRead nfa anchored) sid → Advances (IsRead nfa anchored) (is_between two) sid bytes stop → Advances (IsRead nfa anchored) (is_special_at nfa) sid bytes stop
+between-special nfa two anchored sid bytes stop from to reached =
+    idle.advances-alike (IsRead nfa anchored) (is_between two) (is_special_at nfa) sid bytes stop reached (λ i there. (
+      (λ e. let w = (between two i).0 e in le-leb i nfa.max_special (omega (arith, w.1, to))),
+      (λ e. let le = leb-true i nfa.max_special e in (between two i).1 (omega (arith, from), omega (arith, le, to))),
     ))

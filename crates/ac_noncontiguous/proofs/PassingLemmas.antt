@@ -20,7 +20,7 @@ use Rattle.ac_automaton.proofs.NamedPassingLemmas.{may-pass}
 use Rattle.ac_noncontiguous.specs.declared.nfa.NFA.{NFA}
 use Rattle.ac_noncontiguous.specs.declared.nfa.tables.Tables.{Tables}
 use Rattle.ac_noncontiguous.specs.declared.nfa.tables.Transition.{Transition}
-use Rattle.ac_noncontiguous.specs.Nfa.{AreOpenedBy, transitions_from, fail_of, byte_at, next_at}
+use Rattle.ac_noncontiguous.specs.Nfa.{transitions_from, fail_of, byte_at, next_at}
 use Rattle.ac_noncontiguous.specs.Lookups.{StepsTo, IsNextIn, IsNamingOf}
 use Rattle.ac_noncontiguous.specs.Reads.{dictionary, built_as, matches_at, is_start_at, is_special_at, IsRead}
 use Rattle.ac_automaton.proofs.ReadOnLemmas.{between}
@@ -81,7 +81,7 @@ linked-by nfa names fits =
 -- ---- the start
 
 -- it passes places at which no pattern opens, where nothing matches in the start
-pub nfa-may-pass : (nfa : NFA) (len : ℕ) → 0 < len → NoneIsShorter (dictionary nfa) len → nfa.tables.max_match < nfa.tables.start → MayPass (dictionary nfa) len (IsRead nfa No) nfa.tables.start
+nfa-may-pass : (nfa : NFA) (len : ℕ) → 0 < len → NoneIsShorter (dictionary nfa) len → nfa.tables.max_match < nfa.tables.start → MayPass (dictionary nfa) len (IsRead nfa No) nfa.tables.start
 nfa-may-pass nfa len some long past =
     let start = nfa.tables.start in
     let Fits = IsNamingOf (dictionary nfa) nfa.tables in
@@ -91,9 +91,9 @@ nfa-may-pass nfa len some long past =
     (λ bytes small. (_, run-leads (built_as nfa) Fits (matches_at nfa) (is_start_at nfa) (is_special_at nfa) start (edge_by nfa.tables) (fail_of nfa.tables.states.items) (all-names nfa) (linked-by nfa) start bytes small))
 
 -- a state at which nothing matches and that isn't dead is none between those at which a search stops
-pub nfa-quiet : (nfa : NFA) (first last sid : ℕ) (text : List ℕ) → last ≤ nfa.tables.max_match → IsRead nfa No text sid → matches_at nfa sid ≡ [] → ¬ IsLive (dictionary nfa) false text None → ¬ IsTrue (is_between first last sid)
-nfa-quiet nfa first last sid text below reads none alive e =
-    let w = (between first last sid).0 e in
+nfa-quiet : (nfa : NFA) (two : Between) (sid : ℕ) (text : List ℕ) → two.last ≤ nfa.tables.max_match → IsRead nfa No text sid → matches_at nfa sid ≡ [] → ¬ IsLive (dictionary nfa) false text None → ¬ IsTrue (is_between two sid)
+nfa-quiet nfa two sid text below reads none alive e =
+    let w = (between two sid).0 e in
     let state = ∣ (No, text, reads) ∣₁ in
     let apart : sid ≢ 1 = λ one. state-holds ⊥ nfa sid (λ x y. absurd x) (λ texts t within other. other one) state in
     ⊎_elim

@@ -1,5 +1,5 @@
 -- What the states of the automaton stand for, and what its tables store for them.
-use Rattle.std.specs.Prelude.{◌≡◌, ◌≢◌, ◌↔◌, ◌⊎◌, ℕ, zero, suc, ◌+◌, ◌-◌, ◌<◌, ◌≤◌, map, false, List, [], ◌∷◌, ◌++◌, length, take, drop, slice_index, slice_index_or, Option, Some, None, IfSome}
+use Rattle.std.specs.Prelude.{◌≡◌, ◌≢◌, ◌↔◌, ◌⊎◌, ℕ, zero, suc, ◌+◌, ◌-◌, ◌<◌, ◌≤◌, map, false, List, [], ◌∷◌, ◌++◌, length, take, drop, slice_index, slice_index_or, Option, Some, None}
 use Rattle.ac_input.specs.Alphabet.{class}
 use Rattle.ac_input.specs.Candidate.{Filter}
 use Rattle.ac_input.specs.Classes.{AreByteClasses}
@@ -10,8 +10,6 @@ use Rattle.ac_input.specs.declared.primitives.number.TheConstants.{GREATEST}
 use Rattle.ac_input.specs.Limits.{IsPrefix, HasStates, IsWithinLimits}
 use Rattle.ac_input.specs.LiveLaws.{canonical}
 use Rattle.ac_input.specs.States.{LeadsTo, FailsTo, BeginsBefore}
-use Rattle.ac_literal.specs.declared.openings.Openings.{Openings}
-use Rattle.ac_literal.specs.Openings.{AreOpenings}
 use Rattle.ac_noncontiguous.specs.declared.nfa.tables.State.{State}
 use Rattle.ac_noncontiguous.specs.declared.nfa.tables.Transition.{Transition}
 use Rattle.ac_noncontiguous.specs.declared.nfa.tables.Tables.{Tables}
@@ -167,10 +165,6 @@ AreTablesOf m tables = (text : ℕ → List ℕ) × AreTables m text tables
 -- The prefilter, if there is one, is made for the automaton's dictionary.
 abbrev pub IsHeldFor : Dictionary → Option Filter → Type 0
 IsHeldFor m held = (f : Filter) → held ≡ Some f → f.dictionary ≡ m
-
--- The openings, if there are some, are those of the automaton's dictionary.
-abbrev pub AreOpenedBy : Dictionary → Option Openings → Type 0
-AreOpenedBy m openings = IfSome openings (AreOpenings m)
 
 -- the tables of an automaton, the classes of its bytes, its prefilter, if it has one, its limits and its pairing
 pub record AreParts (m : Dictionary) (tables : Tables) (prefilter : Option Filter) : Type 0 where

@@ -14,18 +14,19 @@ pub(crate) mod tables;
 ghost use Rattle.std.specs.Prelude.{◌≡◌, ◌+◌};
 ghost use Rattle.std.proofs.Props.{props};
 ghost use Rattle.ac_automaton.specs.Held.{last_special_of};
+ghost use Rattle.ac_automaton.specs.Passing.{AreOpenedBy};
 ghost use Rattle.ac_automaton.specs.Starters.{SkipsIdle};
 ghost use Rattle.ac_input.specs.Classes.{AreByteClasses};
 ghost use Rattle.ac_input.specs.Dictionary.{dictionary_of};
 ghost use Rattle.ac_input.specs.Limits.{IsWithinLimits};
 ghost use Rattle.ac_input.specs.Pairing.{IsPairing};
-ghost use Rattle.ac_noncontiguous.specs.Nfa.{AreTablesOf, AreOpenedBy, IsHeldFor, AreParts};
+ghost use Rattle.ac_noncontiguous.specs.Nfa.{AreTablesOf, IsHeldFor, AreParts};
 ghost use Rattle.ac_noncontiguous.specs.Lookups.{IsIdle};
 
 use crate::nfa::pattern_lens::PatternLens;
 use crate::nfa::tables::Tables;
 use ac_automaton::held::last_special;
-use ac_automaton::starters::Starters;
+use ac_automaton::skip::Skips;
 use ac_input::pairing::Pairing;
 use ac_input::primitives::StateID;
 use ac_input::search::MatchKind;
@@ -36,13 +37,11 @@ use ac_literal::prefilter::Prefilter;
 #[derive(Drop)]
 pub struct NFA {
     tables: Tables,
-    starters: Starters,
+    skips: Skips,
     lens: PatternLens,
     /// The last state at which a search has more to do than to read on.
     max_special: StateID,
     prefilter: Option<Prefilter>,
-    /// Where a pattern may begin, if there are few patterns.
-    openings: Option<Openings>,
     pairing: Pairing,
     kind: MatchKind,
     ghost paired: { IsPairing pairing },
@@ -50,8 +49,9 @@ pub struct NFA {
     ghost stands: { ∥ AreTablesOf (dictionary_of lens pairing kind) tables ∥₁ },
     ghost classed: { ∥ AreByteClasses (dictionary_of lens pairing kind) tables.classes ∥₁ },
     ghost special: { max_special ≡ last_special_of prefilter (tables.start + 1) tables.max_match },
-    ghost skips: { ∥ SkipsIdle (IsIdle tables) starters ∥₁ },
-    ghost opened: { ∥ AreOpenedBy (dictionary_of lens pairing kind) openings ∥₁ },
+    ghost begins: { skips.start ≡ tables.start },
+    ghost idle: { ∥ SkipsIdle (IsIdle tables) skips.starters ∥₁ },
+    ghost opened: { ∥ AreOpenedBy (dictionary_of lens pairing kind) skips.openings ∥₁ },
     ghost held: { IsHeldFor (dictionary_of lens pairing kind) prefilter } by { Prim.hlevel props },
 }
 
@@ -73,14 +73,17 @@ impl NFA {
     {
         let start_anchored = StateID::must(tables.start.one_more());
         let max_special = last_special(&prefilter, start_anchored, tables.max_match);
-        let starters = tables.starters();
+        let skips = Skips {
+            start: tables.start,
+            openings,
+            starters: tables.starters(),
+        };
         NFA {
             tables,
-            starters,
+            skips,
             lens,
             max_special,
             prefilter,
-            openings,
             pairing,
             kind,
         }

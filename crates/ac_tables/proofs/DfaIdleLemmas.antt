@@ -10,6 +10,7 @@ use Rattle.ac_input.specs.Dfa.{Serves}
 use Rattle.ac_input.specs.Dictionary.{Dictionary}
 use Rattle.ac_automaton.specs.Automaton.{IsReached, Advances, is_matching}
 use Rattle.ac_automaton.specs.declared.automaton.Advance.{Advance}
+use Rattle.ac_automaton.specs.declared.look.Between.{Between}
 use Rattle.ac_automaton.specs.Named.{Naming, IsStep, IsIdleBy}
 use Rattle.ac_automaton.specs.Starters.{SkipsIdle}
 use Rattle.ac_automaton.proofs.CursorLemmas.{reached-state}
@@ -55,28 +56,28 @@ idle-by dfa anchored byte small idle =
     by true names fits met = absurd (false≢true (sym fits.1.unanchored ∙ met))
 
 -- so what the starters pass over is idle
-skips-by : (dfa : DFA) (anchored : Anchored) → ∥ SkipsIdle (IsIdleBy (dictionary dfa) (IsNamingFor dfa anchored) (matches_at dfa) dfa.table.start) dfa.starters ∥₁
-skips-by dfa anchored = ∥∥₁_map dfa.skips (λ skips byte small none. idle-by dfa anchored byte small (skips byte small none))
+skips-by : (dfa : DFA) (anchored : Anchored) → ∥ SkipsIdle (IsIdleBy (dictionary dfa) (IsNamingFor dfa anchored) (matches_at dfa) dfa.table.start) dfa.skips.starters ∥₁
+skips-by dfa anchored = ∥∥₁_map dfa.idle (λ skips byte small none. idle-by dfa anchored byte small (skips byte small none))
 
 -- they lead from the start to itself
-pub stays-in-start : (dfa : DFA) (anchored : Anchored) → StaysBut (IsRead dfa anchored) dfa.starters dfa.table.start
-stays-in-start dfa anchored = idle-stays (built_as dfa) (IsNamingFor dfa anchored) (matches_at dfa) (is_start_at dfa) (is_special_at dfa) dfa.table.start dfa.starters anchored (all-names dfa anchored) (skips-by dfa anchored)
+pub stays-in-start : (dfa : DFA) (anchored : Anchored) → StaysBut (IsRead dfa anchored) dfa.skips.starters dfa.table.start
+stays-in-start dfa anchored = idle-stays (built_as dfa) (IsNamingFor dfa anchored) (matches_at dfa) (is_start_at dfa) (is_special_at dfa) dfa.table.start dfa.skips.starters anchored (all-names dfa anchored) (skips-by dfa anchored)
 
 -- ---- where it stops
 
 -- the states that match are those from 1 on, up to the greatest that matches;
-pub between-matching : (dfa : DFA) (first last : ℕ) (anchored : Anchored) (sid : ℕ) (bytes : List ℕ) (stop : Advance) → first ≡ 1 → last ≡ dfa.table.max_match → IsReached (IsRead dfa anchored) sid → Advances (IsRead dfa anchored) (is_between first last) sid bytes stop → Advances (IsRead dfa anchored) (is_matching (matches_at dfa)) sid bytes stop
-between-matching dfa first last anchored sid bytes stop from to reached =
-    advances-alike (IsRead dfa anchored) (is_between first last) (is_matching (matches_at dfa)) sid bytes stop reached (λ i there.
+pub between-matching : (dfa : DFA) (two : Between) (anchored : Anchored) (sid : ℕ) (bytes : List ℕ) (stop : Advance) → two.first ≡ 1 → two.last ≡ dfa.table.max_match → IsReached (IsRead dfa anchored) sid → Advances (IsRead dfa anchored) (is_between two) sid bytes stop → Advances (IsRead dfa anchored) (is_matching (matches_at dfa)) sid bytes stop
+between-matching dfa two anchored sid bytes stop from to reached =
+    advances-alike (IsRead dfa anchored) (is_between two) (is_matching (matches_at dfa)) sid bytes stop reached (λ i there.
     let state = reached-state (IsRead dfa) anchored i there in (
-      (λ e. let w = (between first last i).0 e in matching-some (matches_at dfa i) (state-matches dfa i state (λ zero. let at : i ≡ 0 = zero in omega (arith, w.0, from, at)) (omega (arith, w.1, to)))),
-      (λ e. let m = listed-within dfa.table i (some-matching (matches_at dfa i) e) in let some = m.0 in (between first last i).1 (omega (arith, some, from), omega (arith, m.1, to))),
+      (λ e. let w = (between two i).0 e in matching-some (matches_at dfa i) (state-matches dfa i state (λ zero. let at : i ≡ 0 = zero in omega (arith, w.0, from, at)) (omega (arith, w.1, to)))),
+      (λ e. let m = listed-within dfa.table i (some-matching (matches_at dfa i) e) in let some = m.0 in (between two i).1 (omega (arith, some, from), omega (arith, m.1, to))),
     ))
 
 -- and those that are special are all up to the last special one
-pub between-special : (dfa : DFA) (first last : ℕ) (anchored : Anchored) (sid : ℕ) (bytes : List ℕ) (stop : Advance) → first ≡ 0 → last ≡ dfa.max_special → IsReached (IsRead dfa anchored) sid → Advances (IsRead dfa anchored) (is_between first last) sid bytes stop → Advances (IsRead dfa anchored) (is_special_at dfa) sid bytes stop
-between-special dfa first last anchored sid bytes stop from to reached =
-    advances-alike (IsRead dfa anchored) (is_between first last) (is_special_at dfa) sid bytes stop reached (λ i there. (
-      (λ e. let w = (between first last i).0 e in le-leb i dfa.max_special (omega (arith, w.1, to))),
-      (λ e. let le = leb-true i dfa.max_special e in (between first last i).1 (omega (arith, from), omega (arith, le, to))),
+pub between-special : (dfa : DFA) (two : Between) (anchored : Anchored) (sid : ℕ) (bytes : List ℕ) (stop : Advance) → two.first ≡ 0 → two.last ≡ dfa.max_special → IsReached (IsRead dfa anchored) sid → Advances (IsRead dfa anchored) (is_between two) sid bytes stop → Advances (IsRead dfa anchored) (is_special_at dfa) sid bytes stop
+between-special dfa two anchored sid bytes stop from to reached =
+    advances-alike (IsRead dfa anchored) (is_between two) (is_special_at dfa) sid bytes stop reached (λ i there. (
+      (λ e. let w = (between two i).0 e in le-leb i dfa.max_special (omega (arith, w.1, to))),
+      (λ e. let le = leb-true i dfa.max_special e in (between two i).1 (omega (arith, from), omega (arith, le, to))),
     ))

@@ -20,7 +20,7 @@ use Rattle.ac_automaton.proofs.CursorLemmas.{leads-none}
 use Rattle.ac_automaton.proofs.NamedPassingLemmas.{may-pass}
 use Rattle.ac_automaton.proofs.ReadOnLemmas.{between}
 use Rattle.ac_literal.specs.declared.openings.Openings.{Openings}
-use Rattle.ac_noncontiguous.specs.Nfa.{AreOpenedBy}
+use Rattle.ac_automaton.specs.Passing.{AreOpenedBy}
 use Rattle.ac_tables.specs.declared.dfa.DFA.{DFA}
 use Rattle.ac_tables.specs.declared.dfa.table.Table.{Table}
 use Rattle.ac_tables.specs.DfaReads.{dictionary, built_as, matches_at, is_start_at, is_special_at, IsNamingFor, IsRead}
@@ -57,7 +57,7 @@ reached-serves : (dfa : DFA) (sid : ℕ) → IsReached (IsRead dfa No) sid → S
 reached-serves dfa sid h = serves-told dfa.table.kind (∥∥₁_elim h ∥∥₁_prop (λ w. ∥∥₁_map w.1.reached (λ v. v.1.0)))
 
 -- it passes places at which no pattern opens, where nothing matches in the start
-pub dfa-may-pass : (dfa : DFA) (len sid : ℕ) → 0 < len → NoneIsShorter (dictionary dfa) len → IsReached (IsRead dfa No) sid → dfa.table.max_match < dfa.table.start → MayPass (dictionary dfa) len (IsRead dfa No) dfa.table.start
+dfa-may-pass : (dfa : DFA) (len sid : ℕ) → 0 < len → NoneIsShorter (dictionary dfa) len → IsReached (IsRead dfa No) sid → dfa.table.max_match < dfa.table.start → MayPass (dictionary dfa) len (IsRead dfa No) dfa.table.start
 dfa-may-pass dfa len sid some long h past =
     let start = dfa.table.start in
     may-pass (built_as dfa) (IsNamingFor dfa No) (matches_at dfa) (is_start_at dfa) (is_special_at dfa) len start (all-names dfa No) some long
@@ -65,9 +65,9 @@ dfa-may-pass dfa len sid some long h past =
     (start-has start start dfa.table.start_anchored (inl refl)) (past-none dfa.table start past) (λ bytes small. (run dfa.table start bytes, run-leads dfa start bytes small))
 
 -- a number at which nothing matches and that isn't dead is none between those at which a search stops
-pub dfa-quiet : (dfa : DFA) (first last sid : ℕ) (text : List ℕ) → last ≤ dfa.table.max_match → IsRead dfa No text sid → matches_at dfa sid ≡ [] → ¬ IsLive (dictionary dfa) false text None → ¬ IsTrue (is_between first last sid)
-dfa-quiet dfa first last sid text below reads none alive e =
-    let w = (between first last sid).0 e in
+dfa-quiet : (dfa : DFA) (two : Between) (sid : ℕ) (text : List ℕ) → two.last ≤ dfa.table.max_match → IsRead dfa No text sid → matches_at dfa sid ≡ [] → ¬ IsLive (dictionary dfa) false text None → ¬ IsTrue (is_between two sid)
+dfa-quiet dfa two sid text below reads none alive e =
+    let w = (between two sid).0 e in
     ⊎_elim
     (λ (zero : sid ≡ 0). alive ((dead-said dfa sid true (λ _. zero, λ _. refl) No text reads).0 refl))
     (λ some. state-matches dfa sid ∣ (No, text, reads) ∣₁ some (omega (arith, w.1, below)) none)

@@ -6,6 +6,7 @@ use Rattle.std.proofs.lemmas.Bool.{false≢true}
 use Rattle.ac_input.specs.declared.search.Anchored.{Anchored}
 use Rattle.ac_input.specs.Dictionary.{Dictionary}
 use Rattle.ac_automaton.specs.declared.automaton.Advance.{Advance}
+use Rattle.ac_automaton.specs.declared.look.Between.{Between}
 use Rattle.ac_automaton.specs.Automaton.{IsReached, Advances, is_matching}
 use Rattle.ac_automaton.specs.Named.{Naming, IsStep, IsIdleBy}
 use Rattle.ac_automaton.specs.Starters.{SkipsIdle}
@@ -44,29 +45,29 @@ idle-by nfa byte small idle =
     by true names fits met = absurd (false≢true (sym (laid-numbers nfa names fits).unanchored ∙ met))
 
 -- so what the starters pass over is idle
-pub skips-by : (nfa : NFA) → ∥ SkipsIdle (IsIdleBy (dictionary nfa) (IsLaidOut nfa) (matches_at nfa) nfa.table.start) nfa.starters ∥₁
-skips-by nfa = ∥∥₁_map nfa.skips (λ skips byte small none. idle-by nfa byte small (skips byte small none))
+pub skips-by : (nfa : NFA) → ∥ SkipsIdle (IsIdleBy (dictionary nfa) (IsLaidOut nfa) (matches_at nfa) nfa.table.start) nfa.skips.starters ∥₁
+skips-by nfa = ∥∥₁_map nfa.idle (λ skips byte small none. idle-by nfa byte small (skips byte small none))
 
 -- they lead from the start to itself
-pub stays-in-start : (nfa : NFA) (anchored : Anchored) → StaysBut (IsRead nfa anchored) nfa.starters nfa.table.start
-stays-in-start nfa anchored = idle-stays (built_as nfa) (IsLaidOut nfa) (matches_at nfa) (is_start_at nfa) (is_special_at nfa) nfa.table.start nfa.starters anchored (names-are nfa) (skips-by nfa)
+pub stays-in-start : (nfa : NFA) (anchored : Anchored) → StaysBut (IsRead nfa anchored) nfa.skips.starters nfa.table.start
+stays-in-start nfa anchored = idle-stays (built_as nfa) (IsLaidOut nfa) (matches_at nfa) (is_start_at nfa) (is_special_at nfa) nfa.table.start nfa.skips.starters anchored (names-are nfa) (skips-by nfa)
 
 -- ---- where it stops
 
 -- the states that match are those from 1 on, up to the greatest that matches;
-pub between-matching : (nfa : NFA) (first last : ℕ) (anchored : Anchored) (sid : ℕ) (bytes : List ℕ) (stop : Advance) → first ≡ 1 → last ≡ nfa.table.max_match → IsReached (IsRead nfa anchored) sid → Advances (IsRead nfa anchored) (is_between first last) sid bytes stop → Advances (IsRead nfa anchored) (is_matching (matches_at nfa)) sid bytes stop
-between-matching nfa first last anchored sid bytes stop from to reached =
-    advances-alike (IsRead nfa anchored) (is_between first last) (is_matching (matches_at nfa)) sid bytes stop reached (λ i there.
+pub between-matching : (nfa : NFA) (two : Between) (anchored : Anchored) (sid : ℕ) (bytes : List ℕ) (stop : Advance) → two.first ≡ 1 → two.last ≡ nfa.table.max_match → IsReached (IsRead nfa anchored) sid → Advances (IsRead nfa anchored) (is_between two) sid bytes stop → Advances (IsRead nfa anchored) (is_matching (matches_at nfa)) sid bytes stop
+between-matching nfa two anchored sid bytes stop from to reached =
+    advances-alike (IsRead nfa anchored) (is_between two) (is_matching (matches_at nfa)) sid bytes stop reached (λ i there.
     let state = reached-state (IsRead nfa) anchored i there in
     let apart = state-apart nfa i state in (
-      (λ e. let w = (between first last i).0 e in matching-some (matches_at nfa i) (state-many nfa i state (omega (arith, w.0, from, apart)) (omega (arith, w.1, to)))),
-      (λ e. let m = state-matches nfa i state (some-matching (matches_at nfa i) e) in let past = m.0 in (between first last i).1 (omega (arith, past, from), omega (arith, m.1, to))),
+      (λ e. let w = (between two i).0 e in matching-some (matches_at nfa i) (state-many nfa i state (omega (arith, w.0, from, apart)) (omega (arith, w.1, to)))),
+      (λ e. let m = state-matches nfa i state (some-matching (matches_at nfa i) e) in let past = m.0 in (between two i).1 (omega (arith, past, from), omega (arith, m.1, to))),
     ))
 
 -- and those that are special are all up to the last special one
-pub between-special : (nfa : NFA) (first last : ℕ) (anchored : Anchored) (sid : ℕ) (bytes : List ℕ) (stop : Advance) → first ≡ 0 → last ≡ nfa.max_special → IsReached (IsRead nfa anchored) sid → Advances (IsRead nfa anchored) (is_between first last) sid bytes stop → Advances (IsRead nfa anchored) (is_special_at nfa) sid bytes stop
-between-special nfa first last anchored sid bytes stop from to reached =
-    advances-alike (IsRead nfa anchored) (is_between first last) (is_special_at nfa) sid bytes stop reached (λ i there. (
-      (λ e. let w = (between first last i).0 e in (test-le i nfa.max_special).1 (omega (arith, w.1, to))),
-      (λ e. let le = (test-le i nfa.max_special).0 e in (between first last i).1 (omega (arith, from), omega (arith, le, to))),
+pub between-special : (nfa : NFA) (two : Between) (anchored : Anchored) (sid : ℕ) (bytes : List ℕ) (stop : Advance) → two.first ≡ 0 → two.last ≡ nfa.max_special → IsReached (IsRead nfa anchored) sid → Advances (IsRead nfa anchored) (is_between two) sid bytes stop → Advances (IsRead nfa anchored) (is_special_at nfa) sid bytes stop
+between-special nfa two anchored sid bytes stop from to reached =
+    advances-alike (IsRead nfa anchored) (is_between two) (is_special_at nfa) sid bytes stop reached (λ i there. (
+      (λ e. let w = (between two i).0 e in (test-le i nfa.max_special).1 (omega (arith, w.1, to))),
+      (λ e. let le = (test-le i nfa.max_special).0 e in (between two i).1 (omega (arith, from), omega (arith, le, to))),
     ))

@@ -164,7 +164,7 @@ linked-by nfa names fits = record {
 -- ---- the start
 
 -- it passes places at which no pattern opens, where nothing matches in the start
-pub words-may-pass : (nfa : NFA) (len : ℕ) → 0 < len → NoneIsShorter (dictionary nfa) len → nfa.table.max_match < nfa.table.start → MayPass (dictionary nfa) len (IsRead nfa No) nfa.table.start
+words-may-pass : (nfa : NFA) (len : ℕ) → 0 < len → NoneIsShorter (dictionary nfa) len → nfa.table.max_match < nfa.table.start → MayPass (dictionary nfa) len (IsRead nfa No) nfa.table.start
 words-may-pass nfa len some long past =
     let start = nfa.table.start in
     may-pass (built_as nfa) (IsLaidOut nfa) (matches_at nfa) (is_start_at nfa) (is_special_at nfa) len start (names-are nfa) some long
@@ -173,9 +173,9 @@ words-may-pass nfa len some long past =
     (λ bytes small. (_, run-leads (built_as nfa) (IsLaidOut nfa) (matches_at nfa) (is_start_at nfa) (is_special_at nfa) start (edge_by nfa.table) (fail_by nfa.table) (names-are nfa) (linked-by nfa) start bytes small))
 
 -- a state at which nothing matches and that isn't dead is none between those at which a search stops
-pub words-quiet : (nfa : NFA) (first last sid : ℕ) (text : List ℕ) → last ≤ nfa.table.max_match → IsRead nfa No text sid → matches_at nfa sid ≡ [] → ¬ IsLive (dictionary nfa) false text None → ¬ IsTrue (is_between first last sid)
-words-quiet nfa first last sid text below reads none alive e =
-    let w = (between first last sid).0 e in
+words-quiet : (nfa : NFA) (two : Between) (sid : ℕ) (text : List ℕ) → two.last ≤ nfa.table.max_match → IsRead nfa No text sid → matches_at nfa sid ≡ [] → ¬ IsLive (dictionary nfa) false text None → ¬ IsTrue (is_between two sid)
+words-quiet nfa two sid text below reads none alive e =
+    let w = (between two sid).0 e in
     let state = ∣ (No, text, reads) ∣₁ in
     let apart = state-apart nfa sid state in
     ⊎_elim

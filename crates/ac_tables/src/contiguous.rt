@@ -48,15 +48,16 @@ ghost use Rattle.std.proofs.Props.{props};
 ghost use Rattle.ac_input.specs.Dictionary.{dictionary_of};
 ghost use Rattle.ac_input.specs.Limits.{IsWithinLimits};
 ghost use Rattle.ac_input.specs.Pairing.{IsPairing};
-ghost use Rattle.ac_noncontiguous.specs.Nfa.{AreOpenedBy, IsHeldFor};
+ghost use Rattle.ac_noncontiguous.specs.Nfa.{IsHeldFor};
 ghost use Rattle.ac_automaton.specs.Held.{last_special_of};
+ghost use Rattle.ac_automaton.specs.Passing.{AreOpenedBy};
 ghost use Rattle.ac_automaton.specs.Starters.{SkipsIdle};
 ghost use Rattle.ac_tables.specs.ContiguousTable.{AreSomeStates, AreContiguousParts};
 ghost use Rattle.ac_tables.specs.WordReads.{IsIdleAt};
 
 use crate::contiguous::table::Table;
 use ac_automaton::held::last_special;
-use ac_automaton::starters::Starters;
+use ac_automaton::skip::Skips;
 use ac_input::pairing::Pairing;
 use ac_input::primitives::StateID;
 use ac_input::search::MatchKind;
@@ -69,21 +70,20 @@ pub use builder::Builder;
 #[derive(Drop)]
 pub struct NFA {
     table: Table,
-    starters: Starters,
+    skips: Skips,
     lens: PatternLens,
     /// The last state at which a search has more to do than to read on.
     max_special: StateID,
     prefilter: Option<Prefilter>,
-    /// Where a pattern may begin, if the patterns are few.
-    openings: Option<Openings>,
     pairing: Pairing,
     kind: MatchKind,
     ghost paired: { IsPairing pairing },
     ghost within: { ∥ IsWithinLimits (dictionary_of lens pairing kind) ∥₁ },
     ghost stands: { AreSomeStates (dictionary_of lens pairing kind) table },
-    ghost skips: { ∥ SkipsIdle (IsIdleAt table) starters ∥₁ },
+    ghost begins: { skips.start ≡ table.start },
+    ghost idle: { ∥ SkipsIdle (IsIdleAt table) skips.starters ∥₁ },
     ghost special: { max_special ≡ last_special_of prefilter table.start_anchored table.max_match },
-    ghost opened: { ∥ AreOpenedBy (dictionary_of lens pairing kind) openings ∥₁ },
+    ghost opened: { ∥ AreOpenedBy (dictionary_of lens pairing kind) skips.openings ∥₁ },
     ghost held: { IsHeldFor (dictionary_of lens pairing kind) prefilter } by { Prim.hlevel props },
 }
 
@@ -104,14 +104,17 @@ impl NFA {
         ensures { IsMadeOf (dictionary_of lens pairing kind) table prefilter result }
     {
         let max_special = last_special(&prefilter, table.start_anchored, table.max_match);
-        let starters = table.starters();
+        let skips = Skips {
+            start: table.start,
+            openings,
+            starters: table.starters(),
+        };
         NFA {
             table,
-            starters,
+            skips,
             lens,
             max_special,
             prefilter,
-            openings,
             pairing,
             kind,
         }

@@ -44,15 +44,16 @@ ghost use Rattle.std.specs.Prelude.{◌≡◌};
 ghost use Rattle.std.proofs.Props.{props};
 ghost use Rattle.ac_input.specs.Dictionary.{dictionary_of};
 ghost use Rattle.ac_input.specs.Pairing.{IsPairing};
-ghost use Rattle.ac_noncontiguous.specs.Nfa.{AreOpenedBy, IsHeldFor};
+ghost use Rattle.ac_noncontiguous.specs.Nfa.{IsHeldFor};
 ghost use Rattle.ac_automaton.specs.Held.{last_special_of};
+ghost use Rattle.ac_automaton.specs.Passing.{AreOpenedBy};
 ghost use Rattle.ac_automaton.specs.Starters.{SkipsIdle};
 ghost use Rattle.ac_tables.specs.DfaLookups.{IsIdleIn};
 ghost use Rattle.ac_tables.specs.DfaTable.{AreSomeRows, AreDfaParts};
 
 use crate::dfa::table::Table;
 use ac_automaton::held::last_special;
-use ac_automaton::starters::Starters;
+use ac_automaton::skip::Skips;
 use ac_input::pairing::Pairing;
 use ac_input::primitives::StateID;
 use ac_input::search::MatchKind;
@@ -65,20 +66,19 @@ pub use builder::Builder;
 #[derive(Drop)]
 pub struct DFA {
     table: Table,
-    starters: Starters,
+    skips: Skips,
     lens: PatternLens,
     /// The last state at which a search has more to do than to read on.
     max_special: StateID,
     prefilter: Option<Prefilter>,
-    /// Where a pattern may begin, if the patterns are few.
-    openings: Option<Openings>,
     pairing: Pairing,
     kind: MatchKind,
     ghost paired: { IsPairing pairing },
     ghost stands: { AreSomeRows (dictionary_of lens pairing kind) table },
     ghost special: { max_special ≡ last_special_of prefilter table.start_anchored table.max_match },
-    ghost skips: { ∥ SkipsIdle (IsIdleIn table) starters ∥₁ },
-    ghost opened: { ∥ AreOpenedBy (dictionary_of lens pairing kind) openings ∥₁ },
+    ghost begins: { skips.start ≡ table.start },
+    ghost idle: { ∥ SkipsIdle (IsIdleIn table) skips.starters ∥₁ },
+    ghost opened: { ∥ AreOpenedBy (dictionary_of lens pairing kind) skips.openings ∥₁ },
     ghost held: { IsHeldFor (dictionary_of lens pairing kind) prefilter } by { Prim.hlevel props },
 }
 
@@ -99,14 +99,17 @@ impl DFA {
         ensures { IsMadeOf (dictionary_of lens pairing kind) table prefilter result }
     {
         let max_special = last_special(&prefilter, table.start_anchored, table.max_match);
-        let starters = table.starters();
+        let skips = Skips {
+            start: table.start,
+            openings,
+            starters: table.starters(),
+        };
         DFA {
             table,
-            starters,
+            skips,
             lens,
             max_special,
             prefilter,
-            openings,
             pairing,
             kind,
         }

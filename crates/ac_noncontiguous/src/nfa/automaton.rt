@@ -2,54 +2,16 @@
 //!
 //! Where the patterns are few, a search that stands in the start finds the next place at which one may begin by its first bytes;
 //! where few bytes lead out of the start, it finds the next of these by `memchr`.
-ghost use Rattle.ac_automaton.specs.Automaton.{IsReached};
-ghost use Rattle.ac_automaton.specs.ReadOn.{ReadsTo, StopsBefore};
-ghost use Rattle.ac_noncontiguous.specs.Reads.{built_as, IsRead};
 
 use crate::nfa::NFA;
 use crate::nfa::tables::FAIL;
 use ac_automaton::automaton::{Advance, Automaton};
 use ac_automaton::error::MatchError;
-use ac_automaton::look::LookUp;
-use ac_automaton::skip::{skip, skip_idle};
+use ac_automaton::look::{Between, LookUp};
 use ac_input::primitives::{PatternID, StateID};
 use ac_input::search::{Anchored, MatchKind};
 use ac_input::steps::Steps;
 use ac_literal::prefilter::Prefilter;
-
-impl NFA {
-    /// Reads on to the first state between two numbers, these included, in the way that is the fastest there.
-    #[inline(always)]
-    fn read_to(
-        &self,
-        anchored: Anchored,
-        sid: StateID,
-        bytes: &[u8],
-        first: u32,
-        last: u32,
-        steps: &mut Steps,
-    ) -> Advance
-        requires reached { IsReached (IsRead self.now anchored) sid }
-        requires stops { StopsBefore self.now.tables.start last self.now.tables.max_match }
-        ensures { ReadsTo (built_as self.now) (IsRead self.now) anchored first last sid bytes.now
-            result steps.old steps.new }
-    {
-        let start = self.tables.start;
-        if last >= start.as_u32() {
-            return self.read_on(anchored, sid, bytes, first, last, steps);
-        }
-        if let (Some(openings), Anchored::No) = (&self.openings, anchored) {
-            return skip(self, openings, start, sid, bytes, first, last, steps);
-        }
-        if self.starters.are_few() {
-            let starters = &self.starters;
-            return skip_idle(
-                self, starters, start, anchored, sid, bytes, first, last, steps,
-            );
-        }
-        self.read_on(anchored, sid, bytes, first, last, steps)
-    }
-}
 
 impl LookUp for NFA {
     ghost use Rattle.ac_noncontiguous.specs.Reads.{built_as, IsRead, matches_at};
@@ -120,8 +82,8 @@ impl Automaton for NFA {
         bytes: &[u8],
         steps: &mut Steps,
     ) -> Advance {
-        let last_special = self.max_special.as_u32();
-        self.read_to(anchored, sid, bytes, 0, last_special, steps)
+        let special = Between::new(0, self.max_special);
+        self.skips.read_to(self, anchored, sid, bytes, special, steps)
     }
 
     fn advance_to_match(
@@ -131,9 +93,8 @@ impl Automaton for NFA {
         bytes: &[u8],
         steps: &mut Steps,
     ) -> Advance {
-        let first = FAIL as u32 + 1;
-        let last_match = self.tables.max_match.as_u32();
-        self.read_to(anchored, sid, bytes, first, last_match, steps)
+        let matching = Between::new(FAIL as u32 + 1, self.tables.max_match);
+        self.skips.read_to(self, anchored, sid, bytes, matching, steps)
     }
 
     #[inline]

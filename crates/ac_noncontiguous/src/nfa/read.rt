@@ -99,7 +99,7 @@ impl NFA {
     ghost use Rattle.std.specs.Prelude.{List, ℕ};
     ghost use Rattle.ac_input.specs.Pairing.{IsPairing};
     ghost use Rattle.ac_noncontiguous.specs.Reads.{built_as, matches_at};
-    ghost use Rattle.ac_noncontiguous.specs.Nfa.{AreOpenedBy};
+    ghost use Rattle.ac_automaton.specs.Passing.{AreOpenedBy};
     ghost use Rattle.ac_noncontiguous.specs.ReadCalls.{AlikeIn, state_len, fail_in, depth_in, edges_in, classes_in, special_in, ClassesAreThose, CountsIn, IsWithin, FailsIn, IsDeepIn, ListsIn, EdgesLeadIn, MayBeMet, LeadsIn, SpecialIn, StandForSome, TextsBegin, AreRead, OrderedIn, IsReadable, IsCopy};
 
     /// How many states there are.
@@ -254,7 +254,7 @@ impl NFA {
     pub fn openings(&self) -> Option<Openings>
         ensures { ∥ AreOpenedBy (built_as self.now).dictionary result ∥₁ }
     {
-        self.openings
+        self.skips.openings
     }
 
     /// A copy of the automaton, in memory from `alloc`.
@@ -269,7 +269,7 @@ impl NFA {
             tables,
             lens,
             prefilter,
-            self.openings,
+            self.skips.openings,
             self.pairing,
             self.kind,
         ))

@@ -7,7 +7,6 @@
 ghost use Rattle.std.specs.Prelude.{false};
 ghost use Rattle.ac_automaton.specs.Automaton.{IsReached};
 ghost use Rattle.ac_input.specs.Input.{is_anchored};
-ghost use Rattle.ac_automaton.specs.ReadOn.{ReadsTo, StopsBefore};
 ghost use Rattle.ac_tables.specs.ContiguousReads.{built_as, IsRead, IsMet, LooksUp};
 ghost use Rattle.ac_tables.specs.WordReads.{ByteLeadsTo, IsFailOf};
 
@@ -15,8 +14,7 @@ use crate::contiguous::NFA;
 use crate::contiguous::layout::NOWHERE;
 use ac_automaton::automaton::{Advance, Automaton};
 use ac_automaton::error::MatchError;
-use ac_automaton::look::LookUp;
-use ac_automaton::skip::{skip, skip_idle};
+use ac_automaton::look::{Between, LookUp};
 use ac_input::primitives::{PatternID, StateID};
 use ac_input::search::{Anchored, MatchKind};
 use ac_input::steps::Steps;
@@ -67,38 +65,6 @@ impl NFA {
             Anchored::No => self.follow(sid, byte, steps),
             Anchored::Yes => StateID::ZERO,
         }
-    }
-
-    /// Reads on to the first state between two numbers, these included, in the way that is the fastest there.
-    #[inline(always)]
-    fn read_to(
-        &self,
-        anchored: Anchored,
-        sid: StateID,
-        bytes: &[u8],
-        first: u32,
-        last: u32,
-        steps: &mut Steps,
-    ) -> Advance
-        requires reached { IsReached (IsRead self.now anchored) sid }
-        requires stops { StopsBefore self.now.table.start last self.now.table.max_match }
-        ensures { ReadsTo (built_as self.now) (IsRead self.now) anchored first last sid bytes.now
-            result steps.old steps.new }
-    {
-        let start = self.table.start;
-        if last >= start.as_u32() {
-            return self.read_on(anchored, sid, bytes, first, last, steps);
-        }
-        if let (Some(openings), Anchored::No) = (&self.openings, anchored) {
-            return skip(self, openings, start, sid, bytes, first, last, steps);
-        }
-        if self.starters.are_few() {
-            let starters = &self.starters;
-            return skip_idle(
-                self, starters, start, anchored, sid, bytes, first, last, steps,
-            );
-        }
-        self.read_on(anchored, sid, bytes, first, last, steps)
     }
 }
 
@@ -171,8 +137,8 @@ impl Automaton for NFA {
         bytes: &[u8],
         steps: &mut Steps,
     ) -> Advance {
-        let last_special = self.max_special.as_u32();
-        self.read_to(anchored, sid, bytes, 0, last_special, steps)
+        let special = Between::new(0, self.max_special);
+        self.skips.read_to(self, anchored, sid, bytes, special, steps)
     }
 
     fn advance_to_match(
@@ -182,8 +148,8 @@ impl Automaton for NFA {
         bytes: &[u8],
         steps: &mut Steps,
     ) -> Advance {
-        let last_match = self.table.max_match.as_u32();
-        self.read_to(anchored, sid, bytes, 1, last_match, steps)
+        let matching = Between::new(1, self.table.max_match);
+        self.skips.read_to(self, anchored, sid, bytes, matching, steps)
     }
 
     #[inline]

@@ -35,7 +35,7 @@ impl NFA {
             table,
             lens,
             prefilter,
-            self.openings,
+            self.skips.openings,
             self.pairing,
             self.kind,
         ))

@@ -6,15 +6,13 @@
 //! may begin by its first bytes; where few bytes lead out of the start, it finds the next of these by `memchr`.
 ghost use Rattle.std.specs.Prelude.{[], ◌∷◌, IsTrue};
 ghost use Rattle.ac_automaton.specs.Automaton.{IsReached, Leads};
-ghost use Rattle.ac_automaton.specs.ReadOn.{ReadsTo, StopsBefore};
 ghost use Rattle.ac_tables.specs.DfaLookups.{ArePlain};
 ghost use Rattle.ac_tables.specs.DfaReads.{built_as, IsRead, CostsReading};
 
 use crate::dfa::DFA;
 use ac_automaton::automaton::{Advance, Automaton};
 use ac_automaton::error::MatchError;
-use ac_automaton::look::{LookUp, is_between};
-use ac_automaton::skip::{skip, skip_idle};
+use ac_automaton::look::{Between, LookUp};
 use ac_input::primitives::{PatternID, StateID};
 use ac_input::search::{Anchored, MatchKind};
 use ac_input::steps::Steps;
@@ -38,38 +36,6 @@ impl DFA {
     {
         steps.look();
         self.table.next(plain, sid, byte)
-    }
-
-    /// Reads on to the first state between two numbers, these included, in the way that is the fastest there.
-    #[inline(always)]
-    fn read_to(
-        &self,
-        anchored: Anchored,
-        sid: StateID,
-        bytes: &[u8],
-        first: u32,
-        last: u32,
-        steps: &mut Steps,
-    ) -> Advance
-        requires reached { IsReached (IsRead self.now anchored) sid }
-        requires stops { StopsBefore self.now.table.start last self.now.table.max_match }
-        ensures { ReadsTo (built_as self.now) (IsRead self.now) anchored first last sid bytes.now
-            result steps.old steps.new }
-    {
-        let start = self.table.start;
-        if last >= start.as_u32() {
-            return self.read_on(anchored, sid, bytes, first, last, steps);
-        }
-        if let (Some(openings), Anchored::No) = (&self.openings, anchored) {
-            return skip(self, openings, start, sid, bytes, first, last, steps);
-        }
-        if self.starters.are_few() {
-            let starters = &self.starters;
-            return skip_idle(
-                self, starters, start, anchored, sid, bytes, first, last, steps,
-            );
-        }
-        self.read_on(anchored, sid, bytes, first, last, steps)
     }
 }
 
@@ -99,15 +65,14 @@ impl LookUp for DFA {
         anchored: Anchored,
         sid: StateID,
         bytes: &[u8],
-        first: u32,
-        last: u32,
+        to: Between,
         steps: &mut Steps,
     ) -> Advance {
         let plain = self.table.is_plain();
         let mut current = sid;
         for (read, byte) in bytes.iter().enumerate() {
             current = self.step(plain, anchored, current, *byte, steps);
-            if is_between(first, last, current) {
+            if to.has(current) {
                 return Advance {
                     sid: current,
                     taken: read + 1,
@@ -177,8 +142,8 @@ impl Automaton for DFA {
         bytes: &[u8],
         steps: &mut Steps,
     ) -> Advance {
-        let last_special = self.max_special.as_u32();
-        self.read_to(anchored, sid, bytes, 0, last_special, steps)
+        let special = Between::new(0, self.max_special);
+        self.skips.read_to(self, anchored, sid, bytes, special, steps)
     }
 
     fn advance_to_match(
@@ -188,8 +153,8 @@ impl Automaton for DFA {
         bytes: &[u8],
         steps: &mut Steps,
     ) -> Advance {
-        let last_match = self.table.max_match.as_u32();
-        self.read_to(anchored, sid, bytes, 1, last_match, steps)
+        let matching = Between::new(1, self.table.max_match);
+        self.skips.read_to(self, anchored, sid, bytes, matching, steps)
     }
 
     #[inline]

@@ -86,7 +86,7 @@ impl DFA {
             table,
             lens,
             prefilter,
-            self.openings,
+            self.skips.openings,
             self.pairing,
             self.kind,
         ))

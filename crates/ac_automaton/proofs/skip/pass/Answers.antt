@@ -7,22 +7,18 @@ returns-then-passed-end g c = inl (refl, refl, refl)
 
 pub returns : goal.returns
 returns g c =
-    let a = c.args.automaton.now in
     let skipped = c.pass-passed.result - (c.len-end.result - 1) in
     let more = c.if-passed-end.false in
     let size = c.len-end.ensures in
-    inr (
-      refl,
-      record {
-        skipped = skipped;
-        end = c.pass-passed.result - skipped;
-        taken = omega (arith, more);
-        within = c.pass-passed.ensures.within;
-        enough = omega (arith, more, size);
-        none = c.pass-passed.ensures.passed;
-        reads = c.read_all.ensures.reads;
-        between = c.looks.new.self;
-        looks = c.looks.ensures;
-        cost = c.read_all.ensures.cost;
-      },
-    )
+    inr
+    (record {
+      skipped = skipped;
+      end = c.pass-passed.result - skipped;
+      taken = omega (arith, more);
+      within = c.pass-passed.ensures.within;
+      enough = omega (arith, more, size);
+      none = c.pass-passed.ensures.passed;
+      between = c.looks.new.self;
+      looks = c.looks.ensures;
+      reads = c.read_all.ensures;
+    })

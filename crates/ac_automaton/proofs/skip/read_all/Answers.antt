@@ -5,7 +5,7 @@ use Rattle.std.proofs.lemmas.List.{take_all}
 use Rattle.std.proofs.lemmas.Option.{slice_get-get_or}
 use Rattle.ac_input.specs.Number.{StateID}
 use Rattle.ac_input.specs.declared.search.Anchored.TheVariants.{No}
-use Rattle.ac_automaton.specs.Automaton.{Leads, IsReadCost}
+use Rattle.ac_automaton.specs.Passing.{ReadsAll}
 use Rattle.ac_automaton.proofs.CursorLemmas.{advanced-none, advanced-more, reached-on}
 use Rattle.ac_automaton.proofs.skip.read_all.Goals as goal
 
@@ -22,15 +22,9 @@ loop-byte-preserved g c =
     let lives = λ (text : List ℕ) (reads : g.A.LookUp.Reaches a No text c.loop-byte.current). g.met.A.LookUp.lives a No text c.loop-byte.current reads in
     advanced-more (g.A.LookUp.built a) (g.A.LookUp.Reaches a) No (λ (i : StateID). false) c.args.sid c.args.bytes.now c.loop-byte.byte-index _ c.loop-byte.current _ _ _ _ is c.loop-byte.invariant lives c.look_up-current.ensures.next c.look_up-current.ensures.cost (λ e. false≢true e)
 
-pub returns-clause-reads : goal.returns-clause-reads
-returns-clause-reads g c =
+pub returns : goal.returns
+returns g c =
     let done : length c.args.bytes.now ≤ c.loop-byte.byte-index = let e = c.loop-byte-test.false in omega (arith, e) in
     let all = take_all c.loop-byte.byte-index c.args.bytes.now done in
-    subst (λ (l : List ℕ). Leads (g.A.LookUp.Reaches c.args.automaton.now No) c.args.sid l c.loop-byte.current) all c.loop-byte.invariant.reads
-
-pub returns-clause-cost : goal.returns-clause-cost
-returns-clause-cost g c =
-    let a = c.args.automaton.now in
-    let done : length c.args.bytes.now ≤ c.loop-byte.byte-index = let e = c.loop-byte-test.false in omega (arith, e) in
-    let all = take_all c.loop-byte.byte-index c.args.bytes.now done in
-    subst (λ (l : List ℕ). IsReadCost (g.A.LookUp.built a) (g.A.LookUp.Reaches a) No c.args.sid l c.args.steps.now c.loop-byte.steps) all c.loop-byte.invariant.cost
+    let so_far = c.loop-byte.invariant in
+    subst (λ (l : List ℕ). ReadsAll g.A.LookUp c.args.automaton.now c.args.sid l c.loop-byte.current c.args.steps.now c.loop-byte.steps) all (record { leads = so_far.reads; cost = so_far.cost })

@@ -6,7 +6,7 @@ use Rattle.ac_automaton.proofs.CursorLemmas.{HasAdvanced}
 use Rattle.ac_automaton.proofs.skip.skip.Given as goal
 
 abbrev pub invariant-loop-read : goal.invariant-loop-read
-invariant-loop-read g l = (l.read ≤ length l.bytes) × HasAdvanced (g.A.LookUp.built l.automaton) (g.A.LookUp.Reaches l.automaton) No (is_between l.first l.last) l.fn.sid l.bytes l.read l.current l.initial.steps l.steps
+invariant-loop-read g l = (l.read ≤ length l.bytes) × HasAdvanced (g.A.LookUp.built l.automaton) (g.A.LookUp.Reaches l.automaton) No (is_between l.to) l.fn.sid l.bytes l.read l.current l.initial.steps l.steps
 
 abbrev pub decreases-loop-read : goal.decreases-loop-read
 decreases-loop-read g l = length l.bytes - l.read

@@ -5,4 +5,4 @@ use Rattle.ac_automaton.proofs.look.LookUp.read_on.Given as goal
 
 abbrev pub invariant-loop-read : goal.invariant-loop-read
 invariant-loop-read g l =
-    HasAdvanced (g.Self.LookUp.built l.self) (g.Self.LookUp.Reaches l.self) l.anchored (is_between l.first l.last) l.fn.sid l.bytes l.read l.current l.initial.steps l.steps
+    HasAdvanced (g.Self.LookUp.built l.self) (g.Self.LookUp.Reaches l.self) l.anchored (is_between l.to) l.fn.sid l.bytes l.read l.current l.initial.steps l.steps

@@ -2,7 +2,7 @@
 use Rattle.std.proofs.Common.{◌≡◌, ℕ, List, ap, subst, sym, ◌∙◌}
 use Rattle.ac_input.specs.Dictionary.{dictionary_of}
 use Rattle.ac_literal.specs.Packed.{bytes_of}
-use Rattle.ac_noncontiguous.specs.Nfa.{AreOpenedBy}
+use Rattle.ac_automaton.specs.Passing.{AreOpenedBy}
 use Rattle.ac_noncontiguous.specs.Builder.{Settings, dictionary_by}
 use Rattle.ac_noncontiguous.proofs.BuilderLemmas.{opened-kind, parts-of}
 use Rattle.ac_noncontiguous.proofs.builder.Builder.build.Goals as goal

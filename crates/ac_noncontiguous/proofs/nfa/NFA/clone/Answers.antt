@@ -2,7 +2,8 @@ use Rattle.std.proofs.Common.{sym, subst, ap, ◌∙◌, List, ℕ}
 use Rattle.ac_input.specs.Classes.{AreByteClasses}
 use Rattle.ac_input.specs.Dictionary.{dictionary_of}
 use Rattle.ac_input.specs.Limits.{IsWithinLimits}
-use Rattle.ac_noncontiguous.specs.Nfa.{AreOpenedBy, AreTablesOf}
+use Rattle.ac_automaton.specs.Passing.{AreOpenedBy}
+use Rattle.ac_noncontiguous.specs.Nfa.{AreTablesOf}
 use Rattle.ac_noncontiguous.specs.Reads.{dictionary}
 use Rattle.ac_noncontiguous.proofs.ReadCallLemmas.{same-tables}
 use Rattle.ac_noncontiguous.proofs.nfa.NFA.clone.Goals as goal
@@ -24,4 +25,4 @@ from_parts-requires-clause-parts c =
 pub from_parts-requires-clause-opened : goal.from_parts-requires-clause-opened
 from_parts-requires-clause-opened c =
     let a = c.args.self.now in
-    subst (λ (patterns : List (List ℕ)). ∥ AreOpenedBy (dictionary_of patterns a.pairing a.kind) a.openings ∥₁) (sym c.in_ok-lens.ensures) a.opened
+    subst (λ (patterns : List (List ℕ)). ∥ AreOpenedBy (dictionary_of patterns a.pairing a.kind) a.skips.openings ∥₁) (sym c.in_ok-lens.ensures) a.opened

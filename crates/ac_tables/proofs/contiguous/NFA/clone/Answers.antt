@@ -2,7 +2,7 @@
 use Rattle.std.proofs.Common.{List, ℕ, sym, subst, ap, ◌∙◌}
 use Rattle.ac_input.specs.Dictionary.{dictionary_of}
 use Rattle.ac_input.specs.Limits.{IsWithinLimits}
-use Rattle.ac_noncontiguous.specs.Nfa.{AreOpenedBy}
+use Rattle.ac_automaton.specs.Passing.{AreOpenedBy}
 use Rattle.ac_tables.specs.ContiguousTable.{AreSomeStates}
 use Rattle.ac_tables.specs.ContiguousReads.{dictionary}
 use Rattle.ac_tables.proofs.WordTableLemmas.{states-copied}
@@ -22,4 +22,4 @@ from_parts-requires-clause-parts c =
 pub from_parts-requires-clause-opened : goal.from_parts-requires-clause-opened
 from_parts-requires-clause-opened c =
     let a = c.args.self.now in
-    subst (λ (patterns : List (List ℕ)). ∥ AreOpenedBy (dictionary_of patterns a.pairing a.kind) a.openings ∥₁) (sym c.in_ok-lens.ensures) a.opened
+    subst (λ (patterns : List (List ℕ)). ∥ AreOpenedBy (dictionary_of patterns a.pairing a.kind) a.skips.openings ∥₁) (sym c.in_ok-lens.ensures) a.opened

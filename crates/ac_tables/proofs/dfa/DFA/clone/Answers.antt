@@ -2,7 +2,7 @@
 use Rattle.std.proofs.Common.{◌≡◌, ◌^◌, ℕ, true, List, Option, sym, ap, ap₂, subst, ◌∙◌}
 use Rattle.ac_input.specs.Candidate.{Filter}
 use Rattle.ac_input.specs.Dictionary.{Dictionary, dictionary_of}
-use Rattle.ac_noncontiguous.specs.Nfa.{AreOpenedBy}
+use Rattle.ac_automaton.specs.Passing.{AreOpenedBy}
 use Rattle.ac_tables.specs.declared.dfa.table.Table.{Table}
 use Rattle.ac_tables.specs.DfaReads.{dictionary}
 use Rattle.ac_tables.specs.DfaTable.{AreDfaParts}
@@ -23,7 +23,7 @@ from_parts-requires-clause-parts c =
 pub from_parts-requires-clause-opened : goal.from_parts-requires-clause-opened
 from_parts-requires-clause-opened c =
     let a = c.args.self.now in
-    subst (λ (patterns : List (List ℕ)). ∥ AreOpenedBy (dictionary_of patterns a.pairing a.kind) a.openings ∥₁) (sym c.in_ok-lens.ensures) a.opened
+    subst (λ (patterns : List (List ℕ)). ∥ AreOpenedBy (dictionary_of patterns a.pairing a.kind) a.skips.openings ∥₁) (sym c.in_ok-lens.ensures) a.opened
 
 pub returns : goal.returns
 returns c =

@@ -3,7 +3,7 @@ use Rattle.std.proofs.Common.{◌≡◌, false, Option, ap, sym, subst, ◌∙�
 use Rattle.ac_input.specs.Candidate.{Filter}
 use Rattle.ac_input.specs.Dictionary.{Dictionary}
 use Rattle.ac_input.specs.Limits.{IsWithinLimits}
-use Rattle.ac_noncontiguous.specs.Nfa.{AreOpenedBy}
+use Rattle.ac_automaton.specs.Passing.{AreOpenedBy}
 use Rattle.ac_noncontiguous.specs.Reads as reads
 use Rattle.ac_tables.specs.declared.contiguous.table.Table.{Table}
 use Rattle.ac_tables.specs.ContiguousTable.{AreWordsOf, AreSomeStates}

@@ -3,7 +3,7 @@ use Rattle.std.proofs.Common.{◌≡◌, ℕ, List, ap, sym, subst, ◌∙◌}
 use Rattle.std.proofs.lemmas.Result.{err_from_is_err_and}
 use Rattle.ac_input.specs.declared.search.MatchKind.{MatchKind}
 use Rattle.ac_input.specs.Dictionary.{Dictionary, dictionary_of}
-use Rattle.ac_noncontiguous.specs.Nfa.{AreOpenedBy}
+use Rattle.ac_automaton.specs.Passing.{AreOpenedBy}
 use Rattle.ac_noncontiguous.specs.Reads.{dictionary, built_as}
 use Rattle.ac_tables.specs.DfaBuild.{Settings}
 use Rattle.ac_tables.specs.DfaMade.{IsTableFor, IsTableRefused}

@@ -207,23 +207,25 @@ abbrev pub StopsBefore : StateID → ℕ → StateID → Type 0
 StopsBefore start last greatest = last < start → last ≡ greatest
 
 -- An automaton reads on by its skips if the states that match are not after a greatest one.
-pub may-read : {S : Type 0} (A : Ghosts S) (automaton : S) (skips : Skips) (two : Between) (greatest : StateID)
-    → ∥ AreOpenedBy (A.built automaton).dictionary skips.openings ∥₁
-    → ((anchored : Anchored) → StaysBut (A.Reaches automaton anchored) skips.starters skips.start)
-    → ((len sid : ℕ) → 0 < len → NoneIsShorter (A.built automaton).dictionary len → IsReached (A.Reaches automaton No) sid → greatest < skips.start → MayPass (A.built automaton).dictionary len (A.Reaches automaton No) skips.start)
+pub may-read : {S : Type 0} (A : Ghosts S) (automaton : S) (skips : Skips) (two : Between) (start greatest : StateID)
+    → skips.start ≡ start → ∥ AreOpenedBy (A.built automaton).dictionary skips.openings ∥₁
+    → ((anchored : Anchored) → StaysBut (A.Reaches automaton anchored) skips.starters start)
+    → ((len sid : ℕ) → 0 < len → NoneIsShorter (A.built automaton).dictionary len → IsReached (A.Reaches automaton No) sid → greatest < start → MayPass (A.built automaton).dictionary len (A.Reaches automaton No) start)
     → ((sid : StateID) (text : List ℕ) → two.last ≤ greatest → A.Reaches automaton No text sid → A.matches automaton sid ≡ [] → ¬ IsLive (A.built automaton).dictionary false text None → ¬ IsTrue (is_between two sid))
-    → StopsBefore skips.start two.last greatest
+    → StopsBefore start two.last greatest
     → MayReadBy A automaton skips two
-may-read A automaton skips two greatest made stays passes quiet before =
+may-read A automaton skips two start greatest begins made stays passes quiet before =
     record {
-      stays = stays;
-      passes = λ openings sid is lt reached.
+      stays = λ anchored. subst (StaysBut (A.Reaches automaton anchored) skips.starters) (sym begins) (stays anchored);
+      passes = λ openings sid is past reached.
+          let lt : two.last < start = omega (arith, past, begins) in
           let last = before lt in
           let open_ = opened (A.built automaton).dictionary skips.openings openings is made in
-          record {
+          subst (λ (at : StateID). MaySkipBy A automaton openings at two) (sym begins)
+          (record {
             open_ = open_;
             may = passes openings.len sid openings.some open_.short reached (omega (arith, lt, last));
             before = omega (arith, lt);
             quiet = λ text i reads none alive. quiet i text (omega (arith, last)) reads none alive;
-          };
+          });
     }

@@ -1,7 +1,5 @@
 -- What a search passes in the start: places at which no pattern opens.
 use Rattle.std.proofs.Common.{◌≡◌, ◌≢◌, ℕ, zero, suc, ◌+◌, ◌-◌, ◌<◌, ◌≤◌, Bool, true, false, IsTrue, List, [], Option, None, Some, inl, inr, ⊎_elim, refl, sym, subst, ◌∙◌, arith}
-use Rattle.std.specs.Coded.{le_prop}
-use Rattle.std.proofs.Math.Logic.{∥∥₁_elim}
 use Rattle.std.specs.Prelude.{◌==◌, if◌then◌else◌, slice_index}
 use Rattle.std.proofs.lemmas.Bool.{cases_lt, cases_eq, eqb-true, eq-eqb, false≢true}
 use Rattle.ac_input.specs.declared.search.Anchored.TheVariants.{No}
@@ -9,12 +7,10 @@ use Rattle.ac_input.specs.Candidate.{Filter}
 use Rattle.ac_input.specs.Dictionary.{Dictionary, IsLive}
 use Rattle.ac_input.specs.Opening.{NoneIsShorter}
 use Rattle.ac_input.proofs.SameLemmas.{own_inverse-pairing}
-use Rattle.ac_literal.specs.declared.openings.Openings.{Openings}
-use Rattle.ac_literal.specs.Openings.{AreOpenings}
 use Rattle.ac_automaton.specs.Held.{last_special_of}
 use Rattle.ac_automaton.specs.Named.{Naming, AreLinked}
 use Rattle.ac_automaton.specs.ReadOn.{is_between}
-use Rattle.ac_automaton.specs.Passing.{MayPass}
+use Rattle.ac_automaton.specs.Passing.{MayPass, MayReadBy}
 use Rattle.ac_automaton.proofs.LinkedLemmas.{run-leads}
 use Rattle.ac_automaton.proofs.NamedPassingLemmas.{may-pass}
 use Rattle.ac_noncontiguous.specs.declared.nfa.NFA.{NFA}
@@ -23,7 +19,11 @@ use Rattle.ac_noncontiguous.specs.declared.nfa.tables.Transition.{Transition}
 use Rattle.ac_noncontiguous.specs.Nfa.{transitions_from, fail_of, byte_at, next_at}
 use Rattle.ac_noncontiguous.specs.Lookups.{StepsTo, IsNextIn, IsNamingOf}
 use Rattle.ac_noncontiguous.specs.Reads.{dictionary, built_as, matches_at, is_start_at, is_special_at, IsRead}
+use Rattle.ac_automaton.proofs.PassingLemmas.{StopsBefore, may-read}
 use Rattle.ac_automaton.proofs.ReadOnLemmas.{between}
+use Rattle.ac_automaton.specs.declared.look.Between.{Between}
+use Rattle.ac_automaton.specs.declared.look.LookUp.{Ghosts}
+use Rattle.ac_noncontiguous.proofs.IdleLemmas.{stays-in-start}
 use Rattle.ac_noncontiguous.proofs.LookupLemmas.{kept-ordered, leads-range}
 use Rattle.ac_noncontiguous.proofs.NextLemmas.{names-numbers, names-edge, names-failure}
 use Rattle.ac_noncontiguous.proofs.ReadLemmas.{all-names, dead-said, start-has, start-plain, start-read, state-holds, state-many}
@@ -104,22 +104,19 @@ nfa-quiet nfa two sid text below reads none alive e =
 -- ---- up to which state a search stops
 
 -- the last special state is past the last that matches only where a prefilter is held; then the starts are special
-pub special-matches : (nfa : NFA) → nfa.max_special < nfa.tables.start → nfa.max_special ≡ nfa.tables.max_match
-special-matches nfa lt = by nfa.prefilter nfa.special
+pub special-below : (nfa : NFA) (last : ℕ) → last ≡ nfa.max_special → StopsBefore nfa.tables.start last nfa.tables.max_match
+special-below nfa last is lt = by nfa.prefilter nfa.special
   where
-    by : (held : Option Filter) → nfa.max_special ≡ last_special_of held (nfa.tables.start + 1) nfa.tables.max_match → nfa.max_special ≡ nfa.tables.max_match
-    by None at = at
-    by (Some f) at = absurd (omega (arith, at, lt))
+    by : (held : Option Filter) → nfa.max_special ≡ last_special_of held (nfa.tables.start + 1) nfa.tables.max_match → last ≡ nfa.tables.max_match
+    by None at = is ∙ at
+    by (Some f) at = absurd (omega (arith, at, is, lt))
 
--- ---- its openings
+-- ---- by its skips
 
--- the openings that an automaton has are those of its dictionary
-pub opened : (m : Dictionary) (held : Option Openings) (openings : Openings) → held ≡ Some openings → ∥ AreOpenedBy m held ∥₁ → AreOpenings m openings
-opened m held openings is h =
-    record {
-      short = λ n p pattern. ∥∥₁_elim there le_prop (λ w. w.short n p pattern);
-      marks = λ text at opens none. ∥∥₁_elim there (λ x y. absurd x) (λ w. w.marks text at opens none);
-    }
-  where
-    there : ∥ AreOpenings m openings ∥₁
-    there = subst (λ (o : Option Openings). ∥ AreOpenedBy m o ∥₁) is h
+-- what a search that skips asks of the automaton
+abbrev pub look_ups : Ghosts NFA
+look_ups = record { built = built_as; Reaches = IsRead; matches = matches_at }
+
+-- it may read on by its skips to a state before the start, if that is the last that matches
+pub may-read-by : (nfa : NFA) (two : Between) → StopsBefore nfa.tables.start two.last nfa.tables.max_match → MayReadBy look_ups nfa nfa.skips two
+may-read-by nfa two = may-read look_ups nfa nfa.skips two nfa.tables.start nfa.tables.max_match nfa.begins nfa.opened (stays-in-start nfa) (λ len sid some long reached past. nfa-may-pass nfa len some long past) (nfa-quiet nfa two)

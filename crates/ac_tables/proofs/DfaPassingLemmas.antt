@@ -15,17 +15,19 @@ use Rattle.ac_input.specs.Dictionary.{Dictionary, IsLive}
 use Rattle.ac_input.specs.Opening.{NoneIsShorter}
 use Rattle.ac_automaton.specs.Automaton.{IsReached, Leads}
 use Rattle.ac_automaton.specs.Held.{last_special_of}
-use Rattle.ac_automaton.specs.Passing.{MayPass}
+use Rattle.ac_automaton.specs.Passing.{AreOpenedBy, MayPass, MayReadBy}
 use Rattle.ac_automaton.proofs.CursorLemmas.{leads-none}
 use Rattle.ac_automaton.proofs.NamedPassingLemmas.{may-pass}
+use Rattle.ac_automaton.proofs.PassingLemmas.{StopsBefore, may-read}
 use Rattle.ac_automaton.proofs.ReadOnLemmas.{between}
+use Rattle.ac_automaton.specs.declared.look.Between.{Between}
+use Rattle.ac_automaton.specs.declared.look.LookUp.{Ghosts}
 use Rattle.ac_literal.specs.declared.openings.Openings.{Openings}
-use Rattle.ac_automaton.specs.Passing.{AreOpenedBy}
 use Rattle.ac_tables.specs.declared.dfa.DFA.{DFA}
 use Rattle.ac_tables.specs.declared.dfa.table.Table.{Table}
 use Rattle.ac_tables.specs.DfaReads.{dictionary, built_as, matches_at, is_start_at, is_special_at, IsNamingFor, IsRead}
-use Rattle.ac_automaton.specs.ReadOn.{is_between, StopsBefore}
-use Rattle.ac_tables.proofs.DfaIdleLemmas.{past-none}
+use Rattle.ac_automaton.specs.ReadOn.{is_between}
+use Rattle.ac_tables.proofs.DfaIdleLemmas.{past-none, stays-in-start}
 use Rattle.ac_tables.proofs.DfaReadLemmas.{all-names, dead-said, row-leads, start-read, starts-placed, state-matches}
 use Rattle.ac_tables.proofs.TestLemmas.{start-has}
 
@@ -93,3 +95,13 @@ special-below dfa last is lt = by dfa.prefilter dfa.special
 pub kept-opened : (m : Dictionary) (all kept : Option Openings) → IfSome kept (λ o. all ≡ Some o) → ∥ AreOpenedBy m all ∥₁ → ∥ AreOpenedBy m kept ∥₁
 kept-opened m all None is h = ∣ tt ∣₁
 kept-opened m all (Some o) is h = subst (λ (x : Option Openings). ∥ AreOpenedBy m x ∥₁) is h
+
+-- ---- by its skips
+
+-- what a search that skips asks of the automaton
+abbrev pub look_ups : Ghosts DFA
+look_ups = record { built = built_as; Reaches = IsRead; matches = matches_at }
+
+-- it may read on by its skips to a state before the start, if that is the last that matches
+pub may-read-by : (dfa : DFA) (two : Between) → StopsBefore dfa.table.start two.last dfa.table.max_match → MayReadBy look_ups dfa dfa.skips two
+may-read-by dfa two = may-read look_ups dfa dfa.skips two dfa.table.start dfa.table.max_match dfa.begins dfa.opened (stays-in-start dfa) (dfa-may-pass dfa) (dfa-quiet dfa two)

@@ -11,20 +11,24 @@ use Rattle.ac_input.specs.Dictionary.{IsLive}
 use Rattle.ac_input.specs.Opening.{NoneIsShorter}
 use Rattle.ac_automaton.specs.Held.{last_special_of}
 use Rattle.ac_automaton.specs.Named.{Naming, AreLinked}
-use Rattle.ac_automaton.specs.Passing.{MayPass}
+use Rattle.ac_automaton.specs.Passing.{MayPass, MayReadBy}
 use Rattle.ac_automaton.proofs.LinkedLemmas.{run-leads}
 use Rattle.ac_automaton.proofs.NamedLemmas.{read-dead}
 use Rattle.ac_automaton.proofs.NamedPassingLemmas.{may-pass}
+use Rattle.ac_automaton.proofs.PassingLemmas.{StopsBefore, may-read}
 use Rattle.ac_automaton.proofs.ReadOnLemmas.{between}
+use Rattle.ac_automaton.specs.declared.look.Between.{Between}
+use Rattle.ac_automaton.specs.declared.look.LookUp.{Ghosts}
 use Rattle.ac_tables.specs.declared.contiguous.NFA.{NFA}
 use Rattle.ac_tables.specs.declared.contiguous.table.Table.{Table}
 use Rattle.ac_tables.specs.Words.{StateParts, next_by}
 use Rattle.ac_tables.specs.WordReads.{unpacked, IsFirstPlace, IsStateAt, IsSparseAt, ByteLeadsTo, IsFailOf}
 use Rattle.ac_tables.specs.ContiguousReads.{dictionary, built_as, matches_at, is_start_at, is_special_at, IsLaidOut, IsRead}
-use Rattle.ac_automaton.specs.ReadOn.{is_between, StopsBefore}
+use Rattle.ac_automaton.specs.ReadOn.{is_between}
 use Rattle.ac_tables.proofs.DecodeLemmas.{state-fail}
 use Rattle.ac_tables.proofs.FollowLemmas.{laid-numbers, laid-edge, laid-failure}
 use Rattle.ac_tables.proofs.NameLemmas.{list-past, names-are, start-read, state-apart, state-many}
+use Rattle.ac_tables.proofs.SkipLemmas.{stays-in-start}
 use Rattle.ac_tables.proofs.StateLemmas.{dense-at, one-at, sparse-at, sparse-hit, sparse-miss}
 use Rattle.ac_tables.proofs.TestLemmas.{start-has}
 
@@ -198,3 +202,13 @@ special-below nfa last is lt = by nfa.prefilter nfa.special
       where
         ordered : nfa.table.start ≤ nfa.table.start_anchored
         ordered = ∥∥₁_elim nfa.stands le_prop (λ w. let past = w.2.past in omega (arith, past.1))
+
+-- ---- by its skips
+
+-- what a search that skips asks of the automaton
+abbrev pub look_ups : Ghosts NFA
+look_ups = record { built = built_as; Reaches = IsRead; matches = matches_at }
+
+-- it may read on by its skips to a state before the start, if that is the last that matches
+pub may-read-by : (nfa : NFA) (two : Between) → StopsBefore nfa.table.start two.last nfa.table.max_match → MayReadBy look_ups nfa nfa.skips two
+may-read-by nfa two = may-read look_ups nfa nfa.skips two nfa.table.start nfa.table.max_match nfa.begins nfa.opened (stays-in-start nfa) (λ len sid some long reached past. words-may-pass nfa len some long past) (words-quiet nfa two)

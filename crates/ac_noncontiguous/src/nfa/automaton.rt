@@ -83,7 +83,8 @@ impl Automaton for NFA {
         steps: &mut Steps,
     ) -> Advance {
         let special = Between::new(0, self.max_special);
-        self.skips.read_to(self, anchored, sid, bytes, special, steps)
+        self.skips
+            .read_to(self, anchored, sid, bytes, special, steps)
     }
 
     fn advance_to_match(
@@ -94,7 +95,8 @@ impl Automaton for NFA {
         steps: &mut Steps,
     ) -> Advance {
         let matching = Between::new(FAIL as u32 + 1, self.tables.max_match);
-        self.skips.read_to(self, anchored, sid, bytes, matching, steps)
+        self.skips
+            .read_to(self, anchored, sid, bytes, matching, steps)
     }
 
     #[inline]

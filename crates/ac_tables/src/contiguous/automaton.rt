@@ -138,7 +138,8 @@ impl Automaton for NFA {
         steps: &mut Steps,
     ) -> Advance {
         let special = Between::new(0, self.max_special);
-        self.skips.read_to(self, anchored, sid, bytes, special, steps)
+        self.skips
+            .read_to(self, anchored, sid, bytes, special, steps)
     }
 
     fn advance_to_match(
@@ -149,7 +150,8 @@ impl Automaton for NFA {
         steps: &mut Steps,
     ) -> Advance {
         let matching = Between::new(1, self.table.max_match);
-        self.skips.read_to(self, anchored, sid, bytes, matching, steps)
+        self.skips
+            .read_to(self, anchored, sid, bytes, matching, steps)
     }
 
     #[inline]

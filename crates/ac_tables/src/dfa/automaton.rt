@@ -143,7 +143,8 @@ impl Automaton for DFA {
         steps: &mut Steps,
     ) -> Advance {
         let special = Between::new(0, self.max_special);
-        self.skips.read_to(self, anchored, sid, bytes, special, steps)
+        self.skips
+            .read_to(self, anchored, sid, bytes, special, steps)
     }
 
     fn advance_to_match(
@@ -154,7 +155,8 @@ impl Automaton for DFA {
         steps: &mut Steps,
     ) -> Advance {
         let matching = Between::new(1, self.table.max_match);
-        self.skips.read_to(self, anchored, sid, bytes, matching, steps)
+        self.skips
+            .read_to(self, anchored, sid, bytes, matching, steps)
     }
 
     #[inline]

@@ -2,8 +2,8 @@ use Rattle.ac_input.specs.Dictionary.{dictionary_of}
 use Rattle.ac_tables.proofs.SkipLemmas.{start-place}
 use Rattle.ac_tables.proofs.contiguous.NFA.from_parts.Goals as goal
 
-pub starters-starters-requires : goal.starters-starters-requires
-starters-starters-requires c = start-place (dictionary_of c.args.lens c.args.pairing c.args.kind) c.args.table c.requires.parts.stands
+pub starters-requires : goal.starters-requires
+starters-requires c = start-place (dictionary_of c.args.lens c.args.pairing c.args.kind) c.args.table c.requires.parts.stands
 
-pub invariant_of-result-clause-skips : goal.invariant_of-result-clause-skips
-invariant_of-result-clause-skips c = ∣ c.starters-starters.ensures ∣₁
+pub invariant_of-result-clause-idle : goal.invariant_of-result-clause-idle
+invariant_of-result-clause-idle c = ∣ c.starters.ensures ∣₁

@@ -1,9 +1,9 @@
-use Rattle.std.proofs.Common.{refl}
 use Rattle.ac_noncontiguous.proofs.IdleLemmas.{between-matching}
+use Rattle.ac_noncontiguous.proofs.PassingLemmas.{may-read-by}
 use Rattle.ac_noncontiguous.proofs.nfa.automaton.NFAAutomaton.advance_to_match.Goals as goal
 
-pub read_to-requires-clause-stops : goal.read_to-requires-clause-stops
-read_to-requires-clause-stops c = λ lt. c.as_u32-last_match.ensures.value
+pub read_to-requires-clause-may : goal.read_to-requires-clause-may
+read_to-requires-clause-may c = may-read-by c.args.self.now c.new-matching.result (λ lt. c.new-matching.ensures.last)
 
 pub returns-clause-goes : goal.returns-clause-goes
-returns-clause-goes c = let a = c.args.self.now in between-matching a 2 c.as_u32-last_match.result c.args.anchored c.args.sid c.args.bytes.now c.read_to.result refl c.as_u32-last_match.ensures.value c.requires c.read_to.ensures.goes
+returns-clause-goes c = let a = c.args.self.now in between-matching a c.new-matching.result c.args.anchored c.args.sid c.args.bytes.now c.read_to.result c.new-matching.ensures.first c.new-matching.ensures.last c.requires c.read_to.ensures.goes

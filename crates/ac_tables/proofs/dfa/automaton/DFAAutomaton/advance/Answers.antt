@@ -1,10 +1,9 @@
-use Rattle.std.proofs.Common.{refl}
 use Rattle.ac_tables.proofs.DfaIdleLemmas.{between-special}
-use Rattle.ac_tables.proofs.DfaPassingLemmas.{special-below}
+use Rattle.ac_tables.proofs.DfaPassingLemmas.{may-read-by, special-below}
 use Rattle.ac_tables.proofs.dfa.automaton.DFAAutomaton.advance.Goals as goal
 
-pub read_to-requires-clause-stops : goal.read_to-requires-clause-stops
-read_to-requires-clause-stops c = special-below c.args.self.now c.as_u32-last_special.result c.as_u32-last_special.ensures.value
+pub read_to-requires-clause-may : goal.read_to-requires-clause-may
+read_to-requires-clause-may c = may-read-by c.args.self.now c.new-special.result (special-below c.args.self.now c.new-special.result.last c.new-special.ensures.last)
 
 pub returns-clause-goes : goal.returns-clause-goes
-returns-clause-goes c = let a = c.args.self.now in between-special a 0 c.as_u32-last_special.result c.args.anchored c.args.sid c.args.bytes.now c.read_to.result refl c.as_u32-last_special.ensures.value c.requires c.read_to.ensures.goes
+returns-clause-goes c = let a = c.args.self.now in between-special a c.new-special.result c.args.anchored c.args.sid c.args.bytes.now c.read_to.result c.new-special.ensures.first c.new-special.ensures.last c.requires c.read_to.ensures.goes

@@ -1,9 +1,9 @@
-use Rattle.std.proofs.Common.{arith, refl}
 use Rattle.ac_tables.proofs.DfaIdleLemmas.{between-matching}
+use Rattle.ac_tables.proofs.DfaPassingLemmas.{may-read-by}
 use Rattle.ac_tables.proofs.dfa.automaton.DFAAutomaton.advance_to_match.Goals as goal
 
-pub read_to-requires-clause-stops : goal.read_to-requires-clause-stops
-read_to-requires-clause-stops c = λ lt. let e = c.as_u32-last_match.ensures.value in omega (arith, e)
+pub read_to-requires-clause-may : goal.read_to-requires-clause-may
+read_to-requires-clause-may c = may-read-by c.args.self.now c.new-matching.result (λ lt. c.new-matching.ensures.last)
 
 pub returns-clause-goes : goal.returns-clause-goes
-returns-clause-goes c = let a = c.args.self.now in between-matching a 1 c.as_u32-last_match.result c.args.anchored c.args.sid c.args.bytes.now c.read_to.result refl c.as_u32-last_match.ensures.value c.requires c.read_to.ensures.goes
+returns-clause-goes c = let a = c.args.self.now in between-matching a c.new-matching.result c.args.anchored c.args.sid c.args.bytes.now c.read_to.result c.new-matching.ensures.first c.new-matching.ensures.last c.requires c.read_to.ensures.goes

@@ -4,4 +4,4 @@ use Rattle.ac_tables.specs.DfaReads.{built_as, IsRead}
 use Rattle.ac_tables.proofs.dfa.automaton.DFALookUp.read_on.Given as goal
 
 abbrev pub invariant-loop-read : goal.invariant-loop-read
-invariant-loop-read l = HasAdvanced (built_as l.self) (IsRead l.self) l.anchored (is_between l.first l.last) l.fn.sid l.bytes l.read l.current l.initial.steps l.steps
+invariant-loop-read l = HasAdvanced (built_as l.self) (IsRead l.self) l.anchored (is_between l.to) l.fn.sid l.bytes l.read l.current l.initial.steps l.steps

@@ -62,6 +62,18 @@ below-all states of low at found first none b =
 
 -- ---- those of all states
 
+-- those of none
+pub all-none : (states : List State) (firsts ids bytes : List ℕ) → firsts ≡ 0 ∷ [] → ids ≡ [] → bytes ≡ [] → AreAllChildren states 0 firsts ids bytes
+all-none states firsts ids bytes one none no_byte =
+    record {
+      counted = ap length one;
+      last = ap (λ (xs : List ℕ). slice_index xs 0) one ∙ sym (ap length none);
+      bytes_are = no_byte ∙ sym (ap (map (byte states)) none);
+      spans = λ i lt. absurd (omega arith);
+      only = λ i k lt from below. absurd (omega arith);
+      all = λ c some within lt. absurd (omega arith);
+    }
+
 -- one state more
 pub all-more : (states : List State) (most : ℕ) (firsts ids bytes firsts_after ids_after bytes_after : List ℕ) → AreAllChildren states most firsts ids bytes → AppendsChildren states most ids ids_after → bytes_after ≡ map (byte states) ids_after → firsts_after ≡ firsts ++ length ids_after ∷ [] → AreAllChildren states (most + 1) firsts_after ids_after bytes_after
 all-more states most firsts ids bytes firsts_after ids_after bytes_after a more bytes_are pushed =

@@ -1,9 +1,20 @@
 -- Each state's list is its own patterns and the list of its failure, which was made before.
-use Rattle.std.proofs.Common.{◌<◌, length, arith}
+use Rattle.std.proofs.Common.{◌<◌, length, arith, rules}
 use Rattle.ac_noncontiguous.proofs.FailLemmas.{stands-of}
 use Rattle.ac_noncontiguous.proofs.FailsLemmas.{order-read}
-use Rattle.ac_noncontiguous.proofs.ListLemmas.{rest-above, room-more, lists-more, lists-all}
+use Rattle.ac_noncontiguous.proofs.ListLemmas.{room-none, rest-above, room-more, lists-more, lists-all}
 use Rattle.ac_noncontiguous.proofs.links.Links.from_fails.Goals as goal
+
+pub loop-id-init : goal.loop-id-init
+loop-id-init c = record {
+  room = room-none _ _ _ _ _ (omega (arith, c.requires.shallower.counted)) (c.in_ok-ranges.ensures.items_if_clones_equal (λ y same. search rules)) (search rules);
+  known = λ m t leads k lt. absurd (omega arith);
+}
+
+pub rest-rest-requires-clause-within : goal.rest-rest-requires-clause-within
+rest-rest-requires-clause-within c =
+    let h = order-read _ c.args.order.now c.loop-id.id-index c.id-item.result c.requires.order (omega arith) c.id-item.is in
+    rw c.deref.ensures.value (omega (arith, h.1, c.requires.shallower.counted))
 
 pub rest-rest-requires-clause-inner : goal.rest-rest-requires-clause-inner
 rest-rest-requires-clause-inner c =

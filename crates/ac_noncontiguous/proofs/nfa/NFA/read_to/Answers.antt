@@ -1,7 +1,6 @@
 -- Where openings are held, the search passes places at which no pattern opens.
 use Rattle.std.proofs.Common.{◌<◌, sym, subst, arith}
 use Rattle.ac_input.specs.declared.search.Anchored.{Anchored}
-use Rattle.ac_input.specs.declared.search.Anchored.TheVariants.{No}
 use Rattle.ac_automaton.specs.Automaton.{IsReached}
 use Rattle.ac_automaton.specs.ReadOn.{ReadsTo}
 use Rattle.ac_noncontiguous.specs.Reads.{dictionary, built_as, IsRead}

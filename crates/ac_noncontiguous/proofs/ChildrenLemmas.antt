@@ -1,13 +1,14 @@
 -- The children of a trie's states, put side by side.
-use Rattle.std.proofs.Common.{◌≡◌, ◌≢◌, ℕ, zero, suc, ◌+◌, ◌-◌, ◌<◌, ◌≤◌, List, [], ◌∷◌, ◌++◌, length, map, refl, sym, ap, subst, ◌∙◌, ⊎_elim, arith, get_or, slice_index, length-append}
+use Rattle.std.proofs.Common.{◌≡◌, ◌≢◌, ℕ, ◌+◌, ◌-◌, ◌<◌, ◌≤◌, List, [], ◌∷◌, ◌++◌, length, map, sym, ap, subst, ◌∙◌, ⊎_elim, arith, get_or, slice_index, length-append, Some}
 use Rattle.std.specs.List.{Contains}
 use Rattle.std.proofs.lemmas.Bool.{cases_lt}
-use Rattle.std.proofs.lemmas.List.{get_or_read, get_or_append_left, get_or-append-add}
+use Rattle.std.proofs.lemmas.List.{get_or_read, get_or_append_left, get_or-append-add, get_or-map, length-map}
 use Rattle.std.proofs.lemmas.List.Elements.{Contains-append_cases}
 use Rattle.std.proofs.lemmas.Option.{slice_get-get_or, get_or_from_slice_get}
 use Rattle.ac_noncontiguous.specs.declared.trie.State.{State}
 use Rattle.ac_noncontiguous.specs.Tree.{IsTree, IsFirstChild, parent, byte}
 use Rattle.ac_noncontiguous.specs.Entering.{HasNoChild}
+use Rattle.ac_noncontiguous.specs.Failures.{IsChildOf}
 use Rattle.ac_noncontiguous.specs.Children.{AreChildren, AppendsChildren, AreAllChildren}
 use Rattle.ac_noncontiguous.proofs.OrderLemmas.{contains-kept, contains-last, index-kept, index-last}
 
@@ -60,6 +61,18 @@ below-all states of low at found first none b =
     }
 
 -- ---- those of all states
+
+-- those of none
+pub all-none : (states : List State) (firsts ids bytes : List ℕ) → firsts ≡ 0 ∷ [] → ids ≡ [] → bytes ≡ [] → AreAllChildren states 0 firsts ids bytes
+all-none states firsts ids bytes one none no_byte =
+    record {
+      counted = ap length one;
+      last = ap (λ (xs : List ℕ). slice_index xs 0) one ∙ sym (ap length none);
+      bytes_are = no_byte ∙ sym (ap (map (byte states)) none);
+      spans = λ i lt. absurd (omega arith);
+      only = λ i k lt from below. absurd (omega arith);
+      all = λ c some within lt. absurd (omega arith);
+    }
 
 -- one state more
 pub all-more : (states : List State) (most : ℕ) (firsts ids bytes firsts_after ids_after bytes_after : List ℕ) → AreAllChildren states most firsts ids bytes → AppendsChildren states most ids ids_after → bytes_after ≡ map (byte states) ids_after → firsts_after ≡ firsts ++ length ids_after ∷ [] → AreAllChildren states (most + 1) firsts_after ids_after bytes_after
@@ -120,6 +133,27 @@ all-more states most firsts ids bytes firsts_after ids_after bytes_after a more 
           (cases_lt (parent states c) most);
     }
 
+-- where the children of a state begin, as it is read
+pub first-read : (states : List State) (most : ℕ) (firsts ids bytes : List ℕ) (index i r : ℕ) → AreAllChildren states most firsts ids bytes → i ≤ most → index ≡ i → r ≡ get_or firsts index r → r ≡ slice_index firsts i
+first-read states most firsts ids bytes index i r a le at read = get_or_read firsts index r (omega (arith, a.counted)) read 0 ∙ ap (slice_index firsts) at
+
+-- a place among the children of a state is one among those of all states
+pub among-within : (states : List State) (firsts ids bytes : List ℕ) (of end k : ℕ) → AreAllChildren states (length states) firsts ids bytes → of < length states → end ≡ slice_index firsts (of + 1) → k < end → (k < length ids) × (k < length bytes)
+among-within states firsts ids bytes of end k a within end_is below =
+    let s = a.spans of within in
+    (omega (arith, s.1), omega (arith, s.1, ap length a.bytes_are, length-map ids (byte states)))
+
+-- the byte at such a place is that of the child there
+byte-among : (states : List State) (most : ℕ) (firsts ids bytes : List ℕ) (k : ℕ) → AreAllChildren states most firsts ids bytes → k < length ids → slice_index bytes k ≡ byte states (slice_index ids k)
+byte-among states most firsts ids bytes k a inside = ap (λ (xs : List ℕ). slice_index xs k) a.bytes_are ∙ get_or-map (byte states) ids k 0 0 inside
+
+-- a child of a state that has the byte
+pub one-among : (states : List State) (firsts ids bytes : List ℕ) (of low from end k id : ℕ) → AreAllChildren states (length states) firsts ids bytes → of < length states → from ≡ slice_index firsts of → end ≡ slice_index firsts (of + 1) → from ≤ k → k < end → slice_index bytes k ≡ low → id ≡ slice_index ids k → IsChildOf states of low (Some id)
+one-among states firsts ids bytes of low from end k id a within from_is end_is after below here id_is =
+    let h = a.only of k within (omega arith) (omega arith) in
+    let b = byte-among states _ firsts ids bytes k a (among-within states firsts ids bytes of end k a within end_is below).0 in
+    subst (λ (z : ℕ). IsChildOf states of low (Some z)) (sym id_is) (h.0, h.1, h.2, sym b ∙ here)
+
 -- where no child of a state has the byte
 pub none-among : (states : List State) (firsts ids bytes : List ℕ) (of low from end : ℕ) → AreAllChildren states (length states) firsts ids bytes → of < length states → from ≡ slice_index firsts of → end ≡ slice_index firsts (of + 1) → ((k : ℕ) → from ≤ k → k < end → slice_index bytes k ≢ low) → HasNoChild states of low
 none-among states firsts ids bytes of low from end a within from_is end_is none c some c_in is same =
@@ -128,10 +162,4 @@ none-among states firsts ids bytes of low from end a within from_is end_is none 
     let e : slice_index firsts (parent states c + 1) ≡ end = ap (λ (n : ℕ). slice_index firsts (n + 1)) is ∙ sym end_is in
     let s = a.spans (parent states c) (omega (arith, is, within)) in
     let inside : h.0 < length ids = omega (arith, h.2, s.1) in
-    let b : slice_index bytes h.0 ≡ byte states (slice_index ids h.0) = ap (λ (xs : List ℕ). slice_index xs h.0) a.bytes_are ∙ byte-at ids h.0 inside in
-    none h.0 (omega (arith, h.1, f)) (omega (arith, h.2, e)) (b ∙ (ap (byte states) h.3 ∙ same))
-  where
-    byte-at : (xs : List ℕ) (k : ℕ) → k < length xs → slice_index (map (byte states) xs) k ≡ byte states (slice_index xs k)
-    byte-at [] k lt = absurd (omega arith)
-    byte-at (x ∷ xs) zero lt = refl
-    byte-at (x ∷ xs) (suc k) lt = byte-at xs k (omega arith)
+    none h.0 (omega (arith, h.1, f)) (omega (arith, h.2, e)) (byte-among states _ firsts ids bytes h.0 a inside ∙ (ap (byte states) h.3 ∙ same))

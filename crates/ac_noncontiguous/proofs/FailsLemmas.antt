@@ -31,6 +31,12 @@ place-of states order o i within =
     let c = o.all i within in
     (c.0, c.1, sym (get_or_read order c.0 i c.1 (sym c.2) 0))
 
+-- a state that is read from the order
+pub order-read : (states : List State) (order : List ℕ) (k id : ℕ) → IsBreadthFirst states order → k < length order → id ≡ slice_index_or order k id → (id ≡ slice_index order k) × (id < length states)
+order-read states order k id o lt read =
+    let is : id ≡ slice_index order k = get_or_read order k id lt read 0 in
+    (is, omega (arith, is, o.within k lt))
+
 -- a state of lesser depth comes before
 pub shallower-before : (states : List State) (order : List ℕ) → IsBreadthFirst states order → (j k : ℕ) → j < length order → k < length order → depth states (slice_index order j) < depth states (slice_index order k) → j < k
 shallower-before states order o j k j_in k_in less =

@@ -1,8 +1,7 @@
 -- What a search passes over that stands in the start, by the tables; and at which states it stops between two numbers.
-use Rattle.std.proofs.Common.{◌≡◌, ◌↔◌, ℕ, ◌+◌, ◌<◌, ◌≤◌, Bool, IsTrue, List, length, drop, arith}
-use Rattle.std.specs.Prelude.{nat_le, slice_index}
+use Rattle.std.proofs.Common.{◌≡◌, ℕ, List, arith}
 use Rattle.std.proofs.Math.Logic.{∥∥₁_map}
-use Rattle.std.proofs.lemmas.Bool.{and_parts, and_from, leb-true, le-leb}
+use Rattle.std.proofs.lemmas.Bool.{leb-true, le-leb}
 use Rattle.ac_input.specs.declared.search.Anchored.{Anchored}
 use Rattle.ac_input.specs.Dictionary.{Dictionary}
 use Rattle.ac_input.proofs.SameLemmas.{own_inverse-pairing}

@@ -1,10 +1,10 @@
 -- A state that is pushed and linked in is one more state of the trie.
-use Rattle.std.proofs.Common.{◌≡◌, ◌≢◌, ℕ, zero, suc, ◌+◌, ◌<◌, ◌≤◌, false, List, [], ◌∷◌, ◌++◌, length, sym, ap, subst, ◌∙◌, ⊎_elim, arith, slice_index_or, slice_set, length-append, length-set, get_or-set_same, get_or-set_other}
+use Rattle.std.proofs.Common.{◌≡◌, ◌≢◌, ℕ, zero, suc, ◌+◌, ◌<◌, ◌≤◌, false, List, [], ◌∷◌, ◌++◌, length, refl, sym, ap, subst, ◌∙◌, ⊎_elim, arith, slice_index_or, slice_set, length-append, length-set, get_or-set_same, get_or-set_other}
 use Rattle.std.proofs.lemmas.Bool.{cases_eq}
 use Rattle.std.proofs.lemmas.List.{get_or_append_left, get_or-append-add, get_or_read}
 use Rattle.ac_input.specs.declared.primitives.number.TheConstants.{GREATEST}
 use Rattle.ac_noncontiguous.specs.declared.trie.State.{State}
-use Rattle.ac_noncontiguous.specs.Tree.{IsTree, parent, child, sibling, depth, state_at, no_state}
+use Rattle.ac_noncontiguous.specs.Tree.{IsTree, parent, byte, child, sibling, depth, is_match, state_at, no_state}
 use Rattle.ac_noncontiguous.proofs.GrownLemmas.{IsGrown}
 
 -- the states before a pushed one, and that one
@@ -33,35 +33,58 @@ column-set f xs j r within same i =
 abbrev pub fresh : ℕ → ℕ → ℕ → ℕ → State
 fresh of low at deep = record { parent = of; child = 0; sibling = at; depth = deep; byte = low; is_match = false }
 
+-- A state was added, and of another one a link was set: all other columns are what they were, or those of the added state.
+record IsRelinked (old xs new : List State) (y : State) (of low at deep j : ℕ) : Type 0 where
+  inside : j < length xs
+  was : y ≡ state_at xs j
+  older : (i : ℕ) → i < length old → state_at xs i ≡ state_at old i
+  after : state_at xs (length old) ≡ fresh of low at deep
+  len : length new ≡ length old + 1
+  same : (i : ℕ) → i < length old → (parent new i ≡ parent old i) × (byte new i ≡ byte old i) × (depth new i ≡ depth old i) × (is_match new i ≡ is_match old i)
+  added : (parent new (length old) ≡ of) × (byte new (length old) ≡ low) × (depth new (length old) ≡ depth old of + 1) × (is_match new (length old) ≡ false)
+
+relinked : (old xs : List State) (y r : State) (of low at deep j : ℕ) → xs ≡ old ++ fresh of low at deep ∷ [] → deep ≡ depth old of + 1 → j < length old → y ≡ slice_index_or xs j y → r.parent ≡ y.parent → r.byte ≡ y.byte → r.depth ≡ y.depth → r.is_match ≡ y.is_match → IsRelinked old xs (slice_set xs j r) y of low at deep j
+relinked old xs y r of low at deep j pushed deeper j_old read parent_is byte_is depth_is mark_is =
+    let s : State = fresh of low at deep in
+    let len : length xs ≡ length old + 1 = ap length pushed ∙ length-append old (s ∷ []) in
+    let j_in : j < length xs = omega arith in
+    let now : y ≡ state_at xs j = get_or_read xs j y j_in read no_state in
+    let before : (i : ℕ) → i < length old → state_at xs i ≡ state_at old i = λ i lt. ap (λ (zs : List State). state_at zs i) pushed ∙ pushed-before old s i lt in
+    let last : state_at xs (length old) ≡ s = ap (λ (zs : List State). state_at zs (length old)) pushed ∙ pushed-last old s in
+    let parents = column-set (λ (z : State). z.parent) xs j r j_in (parent_is ∙ ap (λ (z : State). z.parent) now) in
+    let bytes = column-set (λ (z : State). z.byte) xs j r j_in (byte_is ∙ ap (λ (z : State). z.byte) now) in
+    let depths = column-set (λ (z : State). z.depth) xs j r j_in (depth_is ∙ ap (λ (z : State). z.depth) now) in
+    let marks = column-set (λ (z : State). z.is_match) xs j r j_in (mark_is ∙ ap (λ (z : State). z.is_match) now) in
+    record {
+      inside = j_in;
+      was = now;
+      older = before;
+      after = last;
+      len = length-set xs j r ∙ len;
+      same = λ i lt.
+          let e = before i lt in
+          (parents i ∙ ap (λ (z : State). z.parent) e, bytes i ∙ ap (λ (z : State). z.byte) e, depths i ∙ ap (λ (z : State). z.depth) e, marks i ∙ ap (λ (z : State). z.is_match) e);
+      added =
+          (parents (length old) ∙ ap (λ (z : State). z.parent) last, bytes (length old) ∙ ap (λ (z : State). z.byte) last, depths (length old) ∙ (ap (λ (z : State). z.depth) last ∙ deeper), marks (length old) ∙ ap (λ (z : State). z.is_match) last);
+    }
+
 -- linked in as the first child
 pub linked-child : (old xs : List State) (y : State) (of low before at deep j id : ℕ) → of < length old → before ≡ 0 → xs ≡ old ++ fresh of low at deep ∷ [] → deep ≡ depth old of + 1 → j ≡ of → id ≡ length old → y ≡ slice_index_or xs j y
     → IsGrown old (slice_set xs j (record { parent = y.parent; child = id; sibling = y.sibling; depth = y.depth; byte = y.byte; is_match = y.is_match })) of low before at
 linked-child old xs y of low before at deep j id within none pushed deeper here last read =
-    let s : State = fresh of low at deep in
     let r : State = record { parent = y.parent; child = id; sibling = y.sibling; depth = y.depth; byte = y.byte; is_match = y.is_match } in
-    let len : length xs ≡ length old + 1 = ap length pushed ∙ length-append old (s ∷ []) in
-    let j_in : j < length xs = omega arith in
-    let was : y ≡ state_at xs j = get_or_read xs j y j_in read no_state in
-    let older : (i : ℕ) → i < length old → state_at xs i ≡ state_at old i = λ i lt. ap (λ (zs : List State). state_at zs i) pushed ∙ pushed-before old s i lt in
-    let after : state_at xs (length old) ≡ s = ap (λ (zs : List State). state_at zs (length old)) pushed ∙ pushed-last old s in
-    let parents = column-set (λ (z : State). z.parent) xs j r j_in (ap (λ (z : State). z.parent) was) in
-    let bytes = column-set (λ (z : State). z.byte) xs j r j_in (ap (λ (z : State). z.byte) was) in
-    let depths = column-set (λ (z : State). z.depth) xs j r j_in (ap (λ (z : State). z.depth) was) in
-    let marks = column-set (λ (z : State). z.is_match) xs j r j_in (ap (λ (z : State). z.is_match) was) in
-    let siblings = column-set (λ (z : State). z.sibling) xs j r j_in (ap (λ (z : State). z.sibling) was) in
+    let k = relinked old xs y r of low at deep j pushed deeper (omega arith) read refl refl refl refl in
+    let siblings = column-set (λ (z : State). z.sibling) xs j r k.inside (ap (λ (z : State). z.sibling) k.was) in
     record {
-      len = length-set xs j r ∙ len;
-      same = λ i lt.
-          let e = older i lt in
-          (parents i ∙ ap (λ (z : State). z.parent) e, bytes i ∙ ap (λ (z : State). z.byte) e, depths i ∙ ap (λ (z : State). z.depth) e, marks i ∙ ap (λ (z : State). z.is_match) e);
-      added =
-          (parents (length old) ∙ ap (λ (z : State). z.parent) after, bytes (length old) ∙ ap (λ (z : State). z.byte) after, depths (length old) ∙ (ap (λ (z : State). z.depth) after ∙ deeper), marks (length old) ∙ ap (λ (z : State). z.is_match) after);
+      len = k.len;
+      same = k.same;
+      added = k.added;
       added_links =
-          (ap (λ (z : State). z.child) (set-there xs j (length old) r (omega arith)) ∙ ap (λ (z : State). z.child) after, siblings (length old) ∙ ap (λ (z : State). z.sibling) after);
-      others = λ i lt ne. ap (λ (z : State). z.child) (set-there xs j i r (omega arith)) ∙ ap (λ (z : State). z.child) (older i lt);
+          (ap (λ (z : State). z.child) (set-there xs j (length old) r (omega arith)) ∙ ap (λ (z : State). z.child) k.after, siblings (length old) ∙ ap (λ (z : State). z.sibling) k.after);
+      others = λ i lt ne. ap (λ (z : State). z.child) (set-there xs j i r (omega arith)) ∙ ap (λ (z : State). z.child) (k.older i lt);
       kept = λ some. absurd (omega arith);
-      first = λ _. subst (λ (k : ℕ). child (slice_set xs j r) k ≡ length old) here (ap (λ (z : State). z.child) (set-here xs j r j_in) ∙ last);
-      rest = λ i lt ne. siblings i ∙ ap (λ (z : State). z.sibling) (older i lt);
+      first = λ _. subst (λ (k : ℕ). child (slice_set xs j r) k ≡ length old) here (ap (λ (z : State). z.child) (set-here xs j r k.inside) ∙ last);
+      rest = λ i lt ne. siblings i ∙ ap (λ (z : State). z.sibling) (k.older i lt);
       next = λ some. absurd (omega arith);
     }
 
@@ -69,32 +92,20 @@ linked-child old xs y of low before at deep j id within none pushed deeper here 
 pub linked-sibling : (old xs : List State) (y : State) (of low before at deep j id : ℕ) → of < length old → before < length old → 0 < before → xs ≡ old ++ fresh of low at deep ∷ [] → deep ≡ depth old of + 1 → j ≡ before → id ≡ length old → y ≡ slice_index_or xs j y
     → IsGrown old (slice_set xs j (record { parent = y.parent; child = y.child; sibling = id; depth = y.depth; byte = y.byte; is_match = y.is_match })) of low before at
 linked-sibling old xs y of low before at deep j id within before_in some pushed deeper here last read =
-    let s : State = fresh of low at deep in
     let r : State = record { parent = y.parent; child = y.child; sibling = id; depth = y.depth; byte = y.byte; is_match = y.is_match } in
-    let len : length xs ≡ length old + 1 = ap length pushed ∙ length-append old (s ∷ []) in
-    let j_in : j < length xs = omega arith in
-    let was : y ≡ state_at xs j = get_or_read xs j y j_in read no_state in
-    let older : (i : ℕ) → i < length old → state_at xs i ≡ state_at old i = λ i lt. ap (λ (zs : List State). state_at zs i) pushed ∙ pushed-before old s i lt in
-    let after : state_at xs (length old) ≡ s = ap (λ (zs : List State). state_at zs (length old)) pushed ∙ pushed-last old s in
-    let parents = column-set (λ (z : State). z.parent) xs j r j_in (ap (λ (z : State). z.parent) was) in
-    let bytes = column-set (λ (z : State). z.byte) xs j r j_in (ap (λ (z : State). z.byte) was) in
-    let depths = column-set (λ (z : State). z.depth) xs j r j_in (ap (λ (z : State). z.depth) was) in
-    let marks = column-set (λ (z : State). z.is_match) xs j r j_in (ap (λ (z : State). z.is_match) was) in
-    let children = column-set (λ (z : State). z.child) xs j r j_in (ap (λ (z : State). z.child) was) in
+    let k = relinked old xs y r of low at deep j pushed deeper (omega arith) read refl refl refl refl in
+    let children = column-set (λ (z : State). z.child) xs j r k.inside (ap (λ (z : State). z.child) k.was) in
     record {
-      len = length-set xs j r ∙ len;
-      same = λ i lt.
-          let e = older i lt in
-          (parents i ∙ ap (λ (z : State). z.parent) e, bytes i ∙ ap (λ (z : State). z.byte) e, depths i ∙ ap (λ (z : State). z.depth) e, marks i ∙ ap (λ (z : State). z.is_match) e);
-      added =
-          (parents (length old) ∙ ap (λ (z : State). z.parent) after, bytes (length old) ∙ ap (λ (z : State). z.byte) after, depths (length old) ∙ (ap (λ (z : State). z.depth) after ∙ deeper), marks (length old) ∙ ap (λ (z : State). z.is_match) after);
+      len = k.len;
+      same = k.same;
+      added = k.added;
       added_links =
-          (children (length old) ∙ ap (λ (z : State). z.child) after, ap (λ (z : State). z.sibling) (set-there xs j (length old) r (omega arith)) ∙ ap (λ (z : State). z.sibling) after);
-      others = λ i lt ne. children i ∙ ap (λ (z : State). z.child) (older i lt);
-      kept = λ _. children of ∙ ap (λ (z : State). z.child) (older of within);
+          (children (length old) ∙ ap (λ (z : State). z.child) k.after, ap (λ (z : State). z.sibling) (set-there xs j (length old) r (omega arith)) ∙ ap (λ (z : State). z.sibling) k.after);
+      others = λ i lt ne. children i ∙ ap (λ (z : State). z.child) (k.older i lt);
+      kept = λ _. children of ∙ ap (λ (z : State). z.child) (k.older of within);
       first = λ none. absurd (omega arith);
-      rest = λ i lt ne. ap (λ (z : State). z.sibling) (set-there xs j i r (omega arith)) ∙ ap (λ (z : State). z.sibling) (older i lt);
-      next = λ _. subst (λ (k : ℕ). sibling (slice_set xs j r) k ≡ length old) here (ap (λ (z : State). z.sibling) (set-here xs j r j_in) ∙ last);
+      rest = λ i lt ne. ap (λ (z : State). z.sibling) (set-there xs j i r (omega arith)) ∙ ap (λ (z : State). z.sibling) (k.older i lt);
+      next = λ _. subst (λ (k : ℕ). sibling (slice_set xs j r) k ≡ length old) here (ap (λ (z : State). z.sibling) (set-here xs j r k.inside) ∙ last);
     }
 
 -- a state is no deeper than its number

@@ -1,9 +1,9 @@
 -- The lists of patterns of a trie's states: each pattern stands in them once, and they are those of the definitions.
-use Rattle.std.proofs.Common.{◌≡◌, ◌≢◌, ℕ, suc, ◌+◌, ◌-◌, ◌<◌, ◌≤◌, List, [], ◌∷◌, ◌++◌, length, take, drop, Option, Some, None, refl, sym, ap, subst, ◌∙◌, inl, inr, ⊎_elim, arith, get_or, slice_get, slice_index, slice_set, length-append, length-set, length-drop, get_or-set_same, get_or-set_other, append-nil, append_assoc}
+use Rattle.std.proofs.Common.{◌≡◌, ◌≢◌, ℕ, suc, ◌+◌, ◌-◌, ◌<◌, ◌≤◌, List, [], ◌∷◌, ◌++◌, length, take, drop, Option, Some, None, refl, sym, ap, subst, ◌∙◌, inl, inr, ⊎_elim, arith, get_or, slice_get, slice_index, slice_set, length-append, length-set, length-drop, get_or-set_same, get_or-set_other, append-nil, append_assoc, replicate}
 use Rattle.std.specs.List.{Contains, slice_range}
 use Rattle.std.proofs.Math.Seq.{drop-append_seam}
 use Rattle.std.proofs.lemmas.Bool.{cases_lt, cases_eq}
-use Rattle.std.proofs.lemmas.List.{get_or_read, take_all, take-append-le, drop-append-le, take-append-drop, length-take-le}
+use Rattle.std.proofs.lemmas.List.{get_or_read, take_all, take-append-le, drop-append-le, take-append-drop, length-take-le, length-replicate, get_or-replicate}
 use Rattle.std.proofs.lemmas.List.Elements.{Contains-append_left, Contains-append_right, Contains-append_cases}
 use Rattle.std.proofs.lemmas.Option.{slice_get_within, slice_get-get_or, get_or_from_slice_get}
 use Rattle.ac_input.proofs.OrderLemmas.{slice_range-length}
@@ -138,14 +138,17 @@ listed-copied ends i rest range old mid new own are pushed copied inside from_is
     }
 
 -- at first nothing is listed
-pub room-none : (states : List State) (ends : List (Option ℕ)) (ranges : List Range) → length ranges ≡ length states → ((i : ℕ) → i < length states → range_at ranges i ≡ no_range) → AreRoom states ends ranges []
-room-none states ends ranges len none =
-    record {
-      counted = len;
+pub room-none : (states : List State) (ends : List (Option ℕ)) (len : ℕ) (ranges : List Range) (matches : List ℕ) → len ≡ length states → ranges ≡ replicate len no_range → matches ≡ [] → AreRoom states ends ranges matches
+room-none states ends len ranges matches all filled empty =
+    let none : (i : ℕ) → i < length states → range_at ranges i ≡ no_range =
+    λ i within. ap (λ (xs : List Range). range_at xs i) filled ∙ get_or-replicate len i no_range no_range (omega arith) in
+    subst (AreRoom states ends ranges) (sym empty)
+    (record {
+      counted = ap length filled ∙ (length-replicate len no_range ∙ all);
       inside = λ i within. subst (IsRangeOf []) (sym (none i within)) (omega arith);
       above = λ i within. subst (λ (r : Range). EndAbove states ends (depth states i + 1) (in_range [] r)) (sym (none i within)) (record { distinct = tt; ended = λ n c. absurd (Contains-nil n c) });
       known = λ n c. absurd (Contains-nil n c);
-    }
+    })
 
 -- the rest of a state's list is that of its failure, in states of lesser depth
 pub rest-above : (states : List State) (ends fails : List (Option ℕ)) (ranges : List Range) (matches : List ℕ) (i : ℕ) (rest : Range) → AreShallower states fails → AreRoom states ends ranges matches → i < length states → IsRest fails ranges i rest → IsRangeOf matches rest × EndAbove states ends (depth states i) (in_range matches rest)

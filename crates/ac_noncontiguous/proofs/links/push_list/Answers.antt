@@ -1,6 +1,6 @@
 -- The own patterns come first, and then a copy of the rest; each stands there once, so their number fits.
 use Rattle.std.proofs.Common.{arith}
-use Rattle.ac_noncontiguous.proofs.ListLemmas.{list-fits, listed-copied}
+use Rattle.ac_noncontiguous.proofs.ListLemmas.{list-fits, listed-shared, listed-copied}
 use Rattle.ac_noncontiguous.proofs.links.push_list.Goals as goal
 
 pub overflow_cast-len : goal.overflow_cast-len
@@ -14,3 +14,8 @@ pub returns : goal.returns
 returns c =
     let a = c.in_ok-push_own.ensures in
     listed-copied _ c.args.id c.args.rest.now _ c.args.matches.now.items c.push_own.new.list.items c.extend_from_within.new.self.items a.0 a.1 a.2 c.in_ok-extend_from_within.ensures.items c.requires.inside (omega arith) (omega arith)
+
+pub returns-then-len-from : goal.returns-then-len-from
+returns-then-len-from c =
+    let a = c.in_ok-push_own.ensures in
+    listed-shared _ c.args.id c.args.rest.now c.args.matches.now.items c.push_own.new.list.items a.0 a.1 a.2 (omega arith) c.requires.inside

@@ -1,9 +1,20 @@
 -- Each state's list is its own patterns and the list of its failure, which was made before.
-use Rattle.std.proofs.Common.{◌≡◌, ◌<◌, length, slice_index, arith}
-use Rattle.std.proofs.lemmas.List.{get_or_read}
+use Rattle.std.proofs.Common.{◌<◌, length, arith, rules}
 use Rattle.ac_noncontiguous.proofs.FailLemmas.{stands-of}
-use Rattle.ac_noncontiguous.proofs.ListLemmas.{rest-above, room-more, lists-more, lists-all}
+use Rattle.ac_noncontiguous.proofs.FailsLemmas.{order-read}
+use Rattle.ac_noncontiguous.proofs.ListLemmas.{room-none, rest-above, room-more, lists-more, lists-all}
 use Rattle.ac_noncontiguous.proofs.links.Links.from_fails.Goals as goal
+
+pub loop-id-init : goal.loop-id-init
+loop-id-init c = record {
+  room = room-none _ _ _ _ _ (omega (arith, c.requires.shallower.counted)) (c.in_ok-ranges.ensures.items_if_clones_equal (λ y same. search rules)) (search rules);
+  known = λ m t leads k lt. absurd (omega arith);
+}
+
+pub rest-rest-requires-clause-within : goal.rest-rest-requires-clause-within
+rest-rest-requires-clause-within c =
+    let h = order-read _ c.args.order.now c.loop-id.id-index c.id-item.result c.requires.order (omega arith) c.id-item.is in
+    rw c.deref.ensures.value (omega (arith, h.1, c.requires.shallower.counted))
 
 pub rest-rest-requires-clause-inner : goal.rest-rest-requires-clause-inner
 rest-rest-requires-clause-inner c =
@@ -11,11 +22,7 @@ rest-rest-requires-clause-inner c =
 
 pub push_list-requires-clause-within : goal.push_list-requires-clause-within
 push_list-requires-clause-within c =
-    let order = c.args.order.now in
-    let k = c.loop-id.id-index in
-    let lt : k < length order = omega arith in
-    let is : c.id-item.result ≡ slice_index order k = get_or_read order k c.id-item.result lt c.id-item.is 0 in
-    omega (arith, is, c.requires.order.within k lt)
+    (order-read _ c.args.order.now c.loop-id.id-index c.id-item.result c.requires.order (omega arith) c.id-item.is).1
 
 pub push_list-requires-clause-inside : goal.push_list-requires-clause-inside
 push_list-requires-clause-inside c =
@@ -29,11 +36,7 @@ push_list-requires-clause-above c =
 
 pub index_mut-requires : goal.index_mut-requires
 index_mut-requires c =
-    let order = c.args.order.now in
-    let k = c.loop-id.id-index in
-    let lt : k < length order = omega arith in
-    let is : c.id-item.result ≡ slice_index order k = get_or_read order k c.id-item.result lt c.id-item.is 0 in
-    omega (arith, is, c.requires.order.within k lt, c.as_usize.ensures.value, c.loop-id.invariant.room.counted)
+    omega (arith, order-read _ c.args.order.now c.loop-id.id-index c.id-item.result c.requires.order (omega arith) c.id-item.is, c.as_usize.ensures.value, c.loop-id.invariant.room.counted)
 
 pub loop-id-preserved : goal.loop-id-preserved
 loop-id-preserved c =
@@ -42,17 +45,16 @@ loop-id-preserved c =
     let k = c.loop-id.id-index in
     let id = c.id-item.result in
     let lt : k < length order = omega arith in
-    let is : id ≡ slice_index order k = get_or_read order k id lt c.id-item.is 0 in
-    let within : id < length states = omega (arith, is, c.requires.order.within k lt) in
+    let h = order-read states order k id c.requires.order lt c.id-item.is in
     let rest = rw (c.deref.ensures.value, c.deref-in-loop-id.ensures.value) at c.rest-rest.ensures in
     let room = c.loop-id.invariant.room in
-    let above = rest-above states c.args.trie.now.ends.items _ _ _ id c.rest-rest.result c.requires.shallower room within rest in
+    let above = rest-above states c.args.trie.now.ends.items _ _ _ id c.rest-rest.result c.requires.shallower room h.1 rest in
     rw c.as_usize.ensures.value
     (record {
-      room = room-more states _ _ _ _ id c.rest-rest.result c.in_ok-range.range room within above.1 c.in_ok-range.ensures;
+      room = room-more states _ _ _ _ id c.rest-rest.result c.in_ok-range.range room h.1 above.1 c.in_ok-range.ensures;
       known = λ m t leads.
           let s = stands-of c.args.trie.now m t in
-          lists-more m states _ _ _ _ _ order k id c.rest-rest.result c.in_ok-range.range s leads c.requires.shallower c.requires.order lt is room rest c.in_ok-range.ensures
+          lists-more m states _ _ _ _ _ order k id c.rest-rest.result c.in_ok-range.range s leads c.requires.shallower c.requires.order lt h.0 room rest c.in_ok-range.ensures
           (c.loop-id.invariant.known m t leads);
     })
 

@@ -1,8 +1,14 @@
 -- One state after another.
-use Rattle.std.proofs.Common.{◌≡◌, ◌∷◌, ◌++◌, [], ℕ, length, subst, ap, ◌∙◌, arith}
+use Rattle.std.proofs.Common.{◌≡◌, ◌∷◌, ◌++◌, [], ℕ, length, subst, ap, ◌∙◌, arith, rules}
 use Rattle.ac_noncontiguous.specs.Children.{AppendsChildren}
-use Rattle.ac_noncontiguous.proofs.ChildrenLemmas.{all-more}
+use Rattle.ac_noncontiguous.proofs.ChildrenLemmas.{all-none, all-more}
 use Rattle.ac_noncontiguous.proofs.trie.Trie.children.Goals as goal
+
+pub loop-of-init : goal.loop-of-init
+loop-of-init c = all-none _ _ _ _ (search rules) (search rules) (search rules)
+
+pub push_children-requires-clause-before : goal.push_children-requires-clause-before
+push_children-requires-clause-before c = c.loop-of.invariant.bytes_are
 
 pub loop-of-preserved : goal.loop-of-preserved
 loop-of-preserved c =

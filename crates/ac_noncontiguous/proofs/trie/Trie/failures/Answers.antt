@@ -1,8 +1,21 @@
 -- Each state fails by the failures of those before it, which are all of lesser depth.
-use Rattle.std.proofs.Common.{◌≡◌, ◌<◌, length, slice_index, arith}
-use Rattle.std.proofs.lemmas.List.{get_or_read}
-use Rattle.ac_noncontiguous.proofs.FailsLemmas.{fails-above, shallower-more, fails-more, fails-all}
+use Rattle.std.proofs.Common.{◌<◌, length, arith, rules}
+use Rattle.ac_noncontiguous.proofs.FailsLemmas.{order-read, fails-filled, fails-above, shallower-more, fails-more, fails-all}
 use Rattle.ac_noncontiguous.proofs.trie.Trie.failures.Goals as goal
+
+pub loop-id-init : goal.loop-id-init
+loop-id-init c = record {
+  shallower = fails-filled c.args.self.now.states.items _ _ (omega arith) (c.in_ok-fails.ensures.items_if_clones_equal (λ y same. search rules));
+  known = λ m t k r lt given. absurd (omega arith);
+}
+
+pub failure-failure-requires-clause-within : goal.failure-failure-requires-clause-within
+failure-failure-requires-clause-within c = (order-read _ c.args.order.now c.loop-id.id-index c.id-item.result c.requires (omega arith) c.id-item.is).1
+
+pub index_mut-requires : goal.index_mut-requires
+index_mut-requires c =
+    let h = order-read _ c.args.order.now c.loop-id.id-index c.id-item.result c.requires (omega arith) c.id-item.is in
+    omega (arith, h.1, c.as_usize.ensures.value, c.loop-id.invariant.shallower.counted)
 
 pub loop-id-preserved : goal.loop-id-preserved
 loop-id-preserved c =
@@ -12,12 +25,12 @@ loop-id-preserved c =
     let k = c.loop-id.id-index in
     let lt : k < length order = omega arith in
     let id = c.id-item.result in
-    let is : id ≡ slice_index order k = get_or_read order k id lt c.id-item.is 0 in
-    let within : id < length states = omega (arith, is, c.requires.within k lt) in
+    let h = order-read states order k id c.requires lt c.id-item.is in
+    let is = h.0 in
     let r = c.failure-failure.result in
     rw c.as_usize.ensures.value
     (record {
-      shallower = shallower-more states fails id r c.loop-id.invariant.shallower within c.failure-failure.ensures.shallower;
+      shallower = shallower-more states fails id r c.loop-id.invariant.shallower h.1 c.failure-failure.ensures.shallower;
       known = λ m t.
           let known = c.loop-id.invariant.known m t in
           let above = fails-above m states fails order k c.requires lt known in

@@ -4,7 +4,7 @@ use Rattle.std.proofs.lemmas.Bool.Decides.{nat_tests}
 use Rattle.std.proofs.lemmas.List.{map-append}
 use Rattle.ac_noncontiguous.specs.declared.trie.State.{State}
 use Rattle.ac_noncontiguous.specs.Tree.{IsFirstChild, parent, byte, sibling}
-use Rattle.ac_noncontiguous.proofs.ChildrenLemmas.{below-none, below-more}
+use Rattle.ac_noncontiguous.proofs.ChildrenLemmas.{below-none, below-more, below-all}
 use Rattle.ac_noncontiguous.proofs.trie.Trie.push_children.Goals as goal
 
 pub loop-at-init : goal.loop-at-init
@@ -35,3 +35,8 @@ loop-at-preserved c =
       pushed ∙ (ap (λ (xs : List ℕ). xs ++ at ∷ []) i.4 ∙ append_assoc c.args.ids.now.items i.1 (at ∷ [])),
       c.in_ok-push-2.ensures.items ∙ (ap (λ (xs : List ℕ). xs ++ c.state-state.result.byte ∷ []) i.5 ∙ (ap (λ (b : ℕ). map (byte states) c.loop-at.ids.items ++ b ∷ []) (ap (λ (s : State). s.byte) c.state-state.ensures) ∙ (sym (map-append (byte states) c.loop-at.ids.items (at ∷ [])) ∙ ap (map (byte states)) (sym pushed)))),
     )
+
+pub returns-clause-children : goal.returns-clause-children
+returns-clause-children c =
+    let i = c.loop-at.invariant in
+    (i.1, below-all _ _ i.0 c.loop-at.at i.1 i.2 (grind (arith, nat_tests)) i.3, i.4)

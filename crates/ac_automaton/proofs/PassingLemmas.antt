@@ -3,6 +3,7 @@ use Rattle.std.proofs.Common.{◌≡◌, inl, inr, ⊎_elim, ℕ, ◌+◌, ◌-�
 use Rattle.std.specs.Coded.{le_prop}
 use Rattle.std.specs.Prelude.{slice_index}
 use Rattle.std.proofs.Math.Logic.{∥∥₁_elim}
+use Rattle.std.proofs.Props.{props}
 use Rattle.std.proofs.lemmas.Bool.{cases_lt}
 use Rattle.std.proofs.lemmas.List.{append_assoc, get_or-drop, length-take-le}
 use Rattle.ac_input.specs.Number.{StateID}
@@ -196,9 +197,15 @@ opened : (m : Dictionary) (held : Option Openings) (openings : Openings) → hel
 opened m held openings is h =
     record {
       short = λ n p pattern. ∥∥₁_elim there le_prop (λ w. w.short n p pattern);
-      marks = λ text at opens none. ∥∥₁_elim there (λ x y. absurd x) (λ w. w.marks text at opens none);
+      marks = λ text at opens. record {
+        left = λ none. ∥∥₁_elim there (λ x y. absurd x) (λ w. (w.marks text at opens).left none);
+        printed = ∥∥₁_elim there (equal-prop _ _) (λ w. (w.marks text at opens).printed);
+      };
     }
   where
+    equal-prop : (a b : ℕ) → IsProp (a ≡ b)
+    equal-prop a b = hlevel props
+
     there : ∥ AreOpenings m openings ∥₁
     there = subst (λ (o : Option Openings). ∥ AreOpenedBy m o ∥₁) is h
 

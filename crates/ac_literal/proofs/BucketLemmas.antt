@@ -36,11 +36,11 @@ abbrev pub with_bucket : List ℕ → ℕ → ℕ → List ℕ
 with_bucket table place bucket = set table place (bit_or (get_or table place 0) (bit_of bucket))
 
 -- it has the bucket there
-own-there : (table : List ℕ) (place bucket : ℕ) → place < length table → bucket < 8 → bit_at (get_or (with_bucket table place bucket) place 0) bucket ≡ 1
+pub own-there : (table : List ℕ) (place bucket : ℕ) → place < length table → bucket < 8 → bit_at (get_or (with_bucket table place bucket) place 0) bucket ≡ 1
 own-there table place bucket within few = ap (λ x. bit_at x bucket) (get_or-set_same table place (bit_or (get_or table place 0) (bit_of bucket)) 0 within) ∙ bit_at_set_same w8 (get_or table place 0) bucket few
 
 -- and whatever it had before
-kept-there : (table : List ℕ) (place bucket at other : ℕ) → place < length table → bit_at (get_or table at 0) other ≡ 1 → bit_at (get_or (with_bucket table place bucket) at 0) other ≡ 1
+pub kept-there : (table : List ℕ) (place bucket at other : ℕ) → place < length table → bit_at (get_or table at 0) other ≡ 1 → bit_at (get_or (with_bucket table place bucket) at 0) other ≡ 1
 kept-there table place bucket at other within had =
     let more = bit_or (get_or table place 0) (bit_of bucket) in
     elim (cases_eq at place) [

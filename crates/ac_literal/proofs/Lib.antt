@@ -13,6 +13,7 @@ pub mod PreferenceLemmas
 pub mod TextLemmas
 pub mod TableLemmas
 pub mod FindLemmas
+pub mod FingerprintLemmas
 pub mod NextLemmas
 pub mod OnlyLemmas
 pub mod LaneLemmas

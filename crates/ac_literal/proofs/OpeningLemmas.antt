@@ -1,26 +1,27 @@
 -- Where a pattern opens, its bucket is left; and what passes no mark passes no opening.
-use Rattle.std.proofs.Common.{◌≡◌, ◌≢◌, ◌⊎◌, ⊎_elim, ℕ, zero, suc, ◌+◌, ◌-◌, ◌/◌, ◌<◌, ◌≤◌, inl, inr, List, [], ◌∷◌, length, take, drop, get_or, map, IsTrue, refl, sym, ap, subst, ◌∙◌, arith, get_or-take, length-take-le}
+use Rattle.std.proofs.Common.{◌≡◌, ◌≢◌, ◌⊎◌, ⊎_elim, ℕ, zero, suc, ◌+◌, ◌-◌, ◌/◌, ◌%◌, ◌<◌, ◌≤◌, inl, inr, List, [], ◌∷◌, length, take, drop, get_or, map, IsTrue, refl, sym, ap, subst, ◌∙◌, arith, get_or-take, length-take-le}
 use Rattle.std.specs.Int.{bit_at}
-use Rattle.std.specs.Prelude.{◌==◌, bit_or}
+use Rattle.std.specs.Prelude.{◌==◌}
 use Rattle.std.specs.Borrow.{Bor}
 use Rattle.std.proofs.lemmas.Bool.{cases_eq, cases_lt, and_parts, or_cases, eqb-true}
 use Rattle.std.proofs.lemmas.List.{get_or-drop}
-use Rattle.std.proofs.lemmas.Nat.{le_or_l, le_or_r}
-use Rattle.std.proofs.lemmas.Nat.Bits.{bit_at-zero}
 use Rattle.std.proofs.lemmas.Option.{get_or_from_slice_get, slice_get_within}
 use Rattle.ac_input.specs.declared.search.MatchKind.{MatchKind}
 use Rattle.ac_input.specs.Dictionary.{Dictionary, dictionary_of}
 use Rattle.ac_input.specs.Opening.{NoneIsShorter, IsOpening, OpensNotBefore}
+use Rattle.ac_input.specs.LiveLaws.{IsOwnInverse}
 use Rattle.ac_input.specs.Same.{other, same, same_text}
 use Rattle.ac_literal.specs.declared.openings.Openings.{Openings}
 use Rattle.ac_literal.specs.declared.packed.teddy.Probe.{Probe}
 use Rattle.ac_literal.specs.declared.packed.teddy.Teddy.{Teddy}
-use Rattle.ac_literal.specs.declared.openings.buckets.Buckets.{Buckets}
-use Rattle.ac_literal.specs.Marks.{left_in, marked_in, HasPartners, HaveOpened, LookBefore, HasOpened, HaveAllOpened, KeepsOpened}
-use Rattle.ac_literal.specs.Openings.{AreOpenings}
+use Rattle.ac_literal.specs.declared.openings.fingerprints.Fingerprints.{Fingerprints}
+use Rattle.ac_literal.specs.Fingerprints.{print_of, IsPrinted, KeepsPrints, ArePrinted}
+use Rattle.ac_literal.specs.Marks.{HasPartners, HaveOpened}
+use Rattle.ac_literal.specs.Openings.{IsMarked, AreOpenings}
 use Rattle.ac_literal.specs.Packed.{bytes_of, pattern_at, AreAsLong}
-use Rattle.ac_literal.specs.Teddy.{HasBucket, KeepsBuckets, KeepsPatterns, LooksBefore, HasPattern, low_at, marked_at}
-use Rattle.ac_literal.proofs.TeddyLemmas.{all-leave, keeps-near, keeps-pattern}
+use Rattle.ac_literal.specs.Teddy.{HasBucket, KeepsBuckets, KeepsPatterns, LooksBefore, HasPattern, IsNextMarks, low_at, marked_at}
+use Rattle.ac_literal.proofs.FingerprintLemmas.{same-print}
+use Rattle.ac_literal.proofs.TeddyLemmas.{all-leave, keeps-pattern}
 
 -- ---- bytes that are the same
 
@@ -94,34 +95,17 @@ opening-marked patterns pairing kind len t text at near long all h =
     had-marked pairing len t (pattern_at patterns h.0) text at has.0 near (long h.0 within) has.1
     (subst (λ xs. IsTrue (same_text pairing (take len xs) (take len (drop at text)))) (sym pattern) h.3)
 
--- what is left by one of three is left by all
-left-first : (a b c : ℕ) → a ≢ 0 → bit_or (bit_or a b) c ≢ 0
-left-first a b c some e = some (omega (arith, e, le_or_l a b, le_or_l (bit_or a b) c))
-
-left-second : (a b c : ℕ) → b ≢ 0 → bit_or (bit_or a b) c ≢ 0
-left-second a b c some e = some (omega (arith, e, le_or_r a b, le_or_l (bit_or a b) c))
-
-left-third : (a b c : ℕ) → c ≢ 0 → bit_or (bit_or a b) c ≢ 0
-left-third a b c some e = some (omega (arith, e, le_or_r (bit_or a b) c))
-
--- by 24
-pub opening-left : (patterns : List (List ℕ)) (pairing : List ℕ) (kind : MatchKind) (len : ℕ) (b : Buckets) (text : List ℕ) (at : ℕ) → LookBefore len b → AreAsLong len patterns → HaveAllOpened pairing len patterns (length patterns) b → IsOpening (dictionary_of patterns pairing kind) len text at → left_in b text at ≢ 0
-opening-left patterns pairing kind len b text at near long all h =
+-- and its first bytes have a fingerprint in the set
+pub opening-printed : (patterns : List (List ℕ)) (pairing : List ℕ) (kind : MatchKind) (len : ℕ) (f : Fingerprints) (text : List ℕ) (at : ℕ) → IsOwnInverse pairing → ArePrinted pairing len patterns (length patterns) f → IsOpening (dictionary_of patterns pairing kind) len text at → IsPrinted f (take len (drop at text))
+opening-printed patterns pairing kind len f text at inverse are h =
     let within = slice_get_within patterns h.0 h.1 h.2 in
     let pattern : pattern_at patterns h.0 ≡ h.1 = get_or_from_slice_get patterns h.0 h.1 [] h.2 in
-    let p = pattern_at patterns h.0 in
-    let has = all h.0 within in
-    let enough = long h.0 within in
-    let here : IsTrue (same_text pairing (take len p) (take len (drop at text))) = subst (λ xs. IsTrue (same_text pairing (take len xs) (take len (drop at text)))) (sym pattern) h.3 in
-    elim has.1 [
-      | inl one ↦ left-first (marked_at b.first text at) (marked_at b.second text at) (marked_at b.third text at) (had-marked pairing len b.first p text at has.0 near.first enough one here)
-      | inr more ↦ elim more [
-        | inl two ↦ left-second (marked_at b.first text at) (marked_at b.second text at) (marked_at b.third text at) (had-marked pairing len b.second p text at has.0 near.second enough two here)
-        | inr three ↦ left-third (marked_at b.first text at) (marked_at b.second text at) (marked_at b.third text at) (had-marked pairing len b.third p text at has.0 near.third enough three here)
-      ]
-    ]
+    let same : IsTrue (same_text pairing (take len (pattern_at patterns h.0)) (take len (drop at text))) = subst (λ xs. IsTrue (same_text pairing (take len xs) (take len (drop at text)))) (sym pattern) h.3 in
+    let print : print_of f.pairing (take len (pattern_at patterns h.0)) ≡ print_of f.pairing (take len (drop at text)) =
+    subst (λ (p : List ℕ). print_of p (take len (pattern_at patterns h.0)) ≡ print_of p (take len (drop at text))) (sym are.0) (same-print pairing (take len (pattern_at patterns h.0)) (take len (drop at text)) inverse same) in
+    subst (λ k. bit_at (get_or f.bits (k / 8) 0) (k % 8) ≡ 1) print (are.1 h.0 within)
 
--- ---- 24 buckets, while patterns come
+-- ---- buckets, while patterns come
 
 -- what is kept twice is kept
 kept-twice : (a b c : Probe) → KeepsBuckets a b → KeepsBuckets b c → KeepsBuckets a c
@@ -135,40 +119,15 @@ keeps-twice a b c one two = record {
   fourth = kept-twice a.fourth b.fourth c.fourth one.fourth two.fourth;
 }
 
--- tables to which nothing came
-same-buckets : (probe : Probe) → KeepsBuckets probe probe
-same-buckets probe = record { offset = refl; has = λ byte bucket h. h }
-
-pub keeps-same : (t : Teddy) → KeepsPatterns t t
-keeps-same t = record { first = same-buckets t.first; second = same-buckets t.second; third = same-buckets t.third; fourth = same-buckets t.fourth }
-
--- the probes look where they looked
-pub keeps-look : (old new : Buckets) (len : ℕ) → KeepsOpened old new → LookBefore len old → LookBefore len new
-keeps-look old new len keeps near = record {
-  first = keeps-near old.first new.first len keeps.first near.first;
-  second = keeps-near old.second new.second len keeps.second near.second;
-  third = keeps-near old.third new.third len keeps.third near.third;
-}
-
--- a bucket that has a pattern keeps it
-keeps-opened : (pairing : List ℕ) (len : ℕ) (old new : Buckets) (pattern : List ℕ) → KeepsOpened old new → HasOpened pairing len old pattern → HasOpened pairing len new pattern
-keeps-opened pairing len old new pattern keeps has = (
-  has.0,
-  elim has.1 [
-    | inl one ↦ inl (keeps-partners pairing len old.first new.first pattern has.0 keeps.first one)
-    | inr more ↦ elim more [
-      | inl two ↦ inr (inl (keeps-partners pairing len old.second new.second pattern has.0 keeps.second two))
-      | inr three ↦ inr (inr (keeps-partners pairing len old.third new.third pattern has.0 keeps.third three))
-    ]
+-- the set has the first bytes of the patterns so far, and of one more
+pub printed-more : (pairing : List ℕ) (len : ℕ) (patterns : List (List ℕ)) (count : ℕ) (old new : Fingerprints) (pattern : List ℕ) → pattern_at patterns count ≡ pattern → ArePrinted pairing len patterns count old → KeepsPrints old new → IsPrinted new (take len pattern) → ArePrinted pairing len patterns (count + 1) new
+printed-more pairing len patterns count old new pattern is so_far keeps own = (
+  keeps.pairing ∙ so_far.0,
+  λ number within. elim (cases_eq number count) [
+    | inl here ↦ subst (λ (p : List ℕ). IsPrinted new (take len p)) (sym (ap (pattern_at patterns) here ∙ is)) own
+    | inr apart ↦ keeps.has (take len (pattern_at patterns number)) (so_far.1 number (omega (arith, within, apart)))
   ],
 )
-
--- the patterns so far, and one more
-pub all-more : (pairing : List ℕ) (len : ℕ) (patterns : List (List ℕ)) (count : ℕ) (old new : Buckets) (pattern : List ℕ) → pattern_at patterns count ≡ pattern → HaveAllOpened pairing len patterns count old → KeepsOpened old new → HasOpened pairing len new pattern → HaveAllOpened pairing len patterns (count + 1) new
-all-more pairing len patterns count old new pattern is so_far keeps own number within = elim (cases_eq number count) [
-  | inl here ↦ subst (λ (p : List ℕ). HasOpened pairing len new p) (sym (ap (pattern_at patterns) here ∙ is)) own
-  | inr apart ↦ keeps-opened pairing len old new (pattern_at patterns number) keeps (so_far number (omega (arith, within, apart)))
-]
 
 -- no pattern is shorter than the length that all have
 pub none-shorter : (patterns : List (List ℕ)) (pairing : List ℕ) (kind : MatchKind) (len : ℕ) → AreAsLong len patterns → NoneIsShorter (dictionary_of patterns pairing kind) len
@@ -180,43 +139,27 @@ none-shorter patterns pairing kind len long n p is =
 -- ---- what is passed
 
 -- up to a place before which there is no mark
-pub passed-none : (openings : Openings) (text : List ℕ) (count : ℕ) → ((place : ℕ) → place < count → marked_in openings.marks text place ≡ 0) → (m : Dictionary) → AreOpenings m openings → OpensNotBefore m openings.len text count
-passed-none openings text count none m are at within opens = are.marks text at opens (none at within)
+pub passed-none : (openings : Openings) (text : List ℕ) (count : ℕ) → ((place : ℕ) → place < count → ¬ IsMarked openings text place) → (m : Dictionary) → AreOpenings m openings → OpensNotBefore m openings.len text count
+passed-none openings text count none m are at within opens = none at within (are.marks text at opens)
 
--- up to the lowest mark of a block
-pub below-lowest : (left : ℕ → ℕ) (block marks lowest : ℕ) → lowest < 32 → ((place : ℕ) → 0 ≤ place → place < block → left place ≡ 0) → ((k : ℕ) → k < 32 → left (block + k) ≢ 0 → bit_at marks k ≡ 1) → ((k : ℕ) → k < lowest → bit_at marks k ≡ 0) → (place : ℕ) → place < block + lowest → left place ≡ 0
-below-lowest left block marks lowest few before set below place within = elim (cases_lt place block) [
-  | inl early ↦ before place (omega arith) early
-  | inr late ↦
-      let k : ℕ = place - block in
-      let here : place ≡ block + k = omega (arith, late) in
-      elim (cases_eq (left place) 0) [
-        | inl zero_mark ↦ zero_mark
-        | inr some ↦
-            let is = set k (omega (arith, late, within, few)) (subst (λ p. left p ≢ 0) here some) in
-            let clear = below k (omega (arith, late, within)) in
-            absurd (omega (arith, is, clear))
-      ]
-]
+module _ (o : Openings) (text : List ℕ) (from to block marks : ℕ) (next : IsNextMarks o.teddy text from to block marks) (before : (place : ℕ) → place < from → ¬ IsMarked o text place) where
+  -- up to the next block that has a mark
+  pub block-before : (place : ℕ) → place < block → ¬ IsMarked o text place
+  block-before place within is = elim (cases_lt place from) [
+    | inl early ↦ before place early is
+    | inr late ↦ is.left (next.passed place (omega (arith, late)) within)
+  ]
 
--- a block of which no place has a mark
-pub block-clear : (left : ℕ → ℕ) (block marks : ℕ) → marks ≡ 0 → ((place : ℕ) → place < block → left place ≡ 0) → ((k : ℕ) → k < 32 → left (block + k) ≢ 0 → bit_at marks k ≡ 1) → (place : ℕ) → place < block + 32 → left place ≡ 0
-block-clear left block marks none before set = below-all
-  where
-    below-all : (place : ℕ) → place < block + 32 → left place ≡ 0
-    below-all place within = elim (cases_lt place block) [
-      | inl early ↦ before place early
-      | inr late ↦
-          let k : ℕ = place - block in
-          let here : place ≡ block + k = omega (arith, late) in
-          elim (cases_eq (left place) 0) [
-            | inl zero_mark ↦ zero_mark
-            | inr some ↦
-                let is = set k (omega (arith, late, within)) (subst (λ p. left p ≢ 0) here some) in
-                let clear = ap (λ (m : ℕ). bit_at m k) none ∙ bit_at-zero k in
-                absurd (omega (arith, is, clear))
-          ]
-    ]
+  -- and, within it, up to a place before which no mark has a fingerprint in the set
+  pub block-passed : (count : ℕ) → count ≤ 32 → marks ≢ 0 → ((k : ℕ) → k < count → bit_at marks k ≡ 1 → ¬ IsPrinted o.prints (take o.len (drop (block + k) text))) → (place : ℕ) → place < block + count → ¬ IsMarked o text place
+  block-passed count few some unprinted place within is = elim (cases_lt place block) [
+    | inl early ↦ block-before place early is
+    | inr late ↦
+        let k : ℕ = place - block in
+        let here : place ≡ block + k = omega (arith, late) in
+        let there : IsMarked o text (block + k) = subst (IsMarked o text) here is in
+        unprinted k (omega (arith, late, within)) (next.set some k (omega (arith, late, within, few)) there.left) there.printed
+  ]
 
 -- ---- patterns that are lent
 

@@ -8,6 +8,7 @@ pub use Rattle.ac_input.specs.Computed
 pub mod Packed
 pub mod RabinKarp
 pub mod Teddy
+pub mod Fingerprints
 pub mod Marks
 pub mod Openings
 pub mod Scanner

@@ -1,15 +1,21 @@
 -- What openings mark: the places at which the first bytes of some pattern stand.
-use Rattle.std.specs.Prelude.{◌≢◌, ℕ, List}
+use Rattle.std.specs.Prelude.{◌≢◌, ℕ, List, drop, take}
 use Rattle.ac_input.specs.declared.search.MatchKind.{MatchKind}
 use Rattle.ac_input.specs.Dictionary.{Dictionary, dictionary_of}
 use Rattle.ac_input.specs.Opening.{NoneIsShorter, IsOpening, OpensNotBefore}
 use Rattle.ac_literal.specs.declared.openings.Openings.{Openings}
-use Rattle.ac_literal.specs.Marks.{marked_in}
+use Rattle.ac_literal.specs.Fingerprints.{IsPrinted}
+use Rattle.ac_literal.specs.Teddy.{marked_at}
+
+-- a place is marked: a bucket is left, and the fingerprint of its first bytes is in the set
+pub record IsMarked (o : Openings) (text : List ℕ) (at : ℕ) : Type 0 where
+  pub left : marked_at o.teddy text at ≢ 0
+  pub printed : IsPrinted o.prints (take o.len (drop at text))
 
 -- The openings are those of a dictionary: all its patterns have so many bytes, and each place at which some pattern opens is marked.
 pub record AreOpenings (m : Dictionary) (openings : Openings) : Type 0 where
   pub short : NoneIsShorter m openings.len
-  pub marks : (text : List ℕ) (at : ℕ) → IsOpening m openings.len text at → marked_in openings.marks text at ≢ 0
+  pub marks : (text : List ℕ) (at : ℕ) → IsOpening m openings.len text at → IsMarked openings text at
 
 -- of these patterns, whatever the kind
 abbrev pub OpenAll : List (List ℕ) → List ℕ → Openings → Type 0

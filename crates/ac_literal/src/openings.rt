@@ -2,21 +2,24 @@
 //!
 //! A search that stands in the start waits for a pattern to begin. [`Openings`] finds the next place at which it may: it marks, 32
 //! places at a time, where the first bytes of some pattern may stand, by the tables of `teddy`. These are the first four bytes, or as
-//! many as the shortest pattern has. Each byte and its partner count as one.
+//! many as the shortest pattern has. Each byte and its partner count as one. Where a place is marked, its first bytes are looked up as
+//! a whole, by their fingerprint.
 //!
-//! To pass a place costs a fraction of what an automaton takes for a byte; but each mark leads the automaton to some bytes in vain.
-//! The more patterns there are, the more marks there are. Up to [`FEW`] patterns are in eight buckets; more are in 24, which costs
-//! three times as much and leaves fewer marks. For more than [`LIMIT`] patterns there are no openings, nor for patterns of one byte.
-//! They take some 500 bytes of memory, however many patterns there are.
-mod buckets;
+//! To pass a place costs a fraction of what an automaton takes for a byte; but each mark that is left leads the automaton to some
+//! bytes in vain. The more patterns there are, the more marks there are. For more than [`LIMIT`] patterns there are no openings, nor
+//! for patterns of one byte. They take less than 2 KB of memory, however many patterns there are.
+mod fingerprints;
 
-ghost use Rattle.std.specs.Prelude.{◌≡◌, ℕ, ◌+◌, ◌<◌, ◌≤◌, length, slice_index, IfSome};
+ghost use Rattle.std.specs.Prelude.{◌≡◌, ℕ, ◌+◌, ◌<◌, ◌≤◌, length, slice_index, take, drop, IfSome};
+ghost use Rattle.std.specs.Int.{bit_at};
+ghost use Rattle.ac_input.specs.Same.{other};
+ghost use Rattle.ac_literal.specs.Fingerprints.{ArePrinted, IsPrinted};
+ghost use Rattle.ac_literal.specs.Marks.{HasPartners, HaveOpened};
 ghost use Rattle.ac_literal.specs.Packed.{bytes_of, AreAsLong};
-ghost use Rattle.ac_literal.specs.Teddy.{LooksBefore, marked_at};
-ghost use Rattle.ac_literal.specs.Marks.{AreNear, HaveOpened};
+ghost use Rattle.ac_literal.specs.Teddy.{LooksBefore, KeepsPatterns, marked_at};
 
-use crate::openings::buckets::{Buckets, EACH, add};
-use crate::packed::teddy::{Teddy, lowest};
+use crate::openings::fingerprints::Fingerprints;
+use crate::packed::teddy::{LANES, Teddy, lowest, without};
 use crate::prefilter::needles::FewBytes;
 use crate::prefilter::rank::stops_within;
 use ac_input::pairing::Pairing;
@@ -24,28 +27,22 @@ use ac_input::pairing::Pairing;
 /// For how many patterns there are openings, at most.
 const LIMIT: usize = 128;
 
-/// For how many eight buckets do.
-const FEW: usize = 32;
-
 /// How many bytes an opening has, at least and at most.
 const LEAST: usize = 2;
 
 pub const MOST: usize = 4;
 
-/// What marks the places.
-#[derive(Clone, Copy, Drop)]
-enum Marks {
-    Few(Teddy),
-    Many(Buckets),
-}
+/// How many buckets there are.
+const BUCKETS: usize = 8;
 
 /// Finds the places at which some pattern may begin.
 #[derive(Clone, Copy, Drop)]
 pub struct Openings {
-    marks: Marks,
+    teddy: Teddy,
+    prints: Fingerprints,
     len: usize,
     ghost some: { 0 < len },
-    ghost near: { AreNear len marks },
+    ghost near: { LooksBefore len teddy },
 }
 
 /// How often a byte that begins a pattern may come in a thousand bytes, so that a scan for these bytes is faster.
@@ -77,8 +74,50 @@ fn len_of(patterns: &[&[u8]]) -> usize
     len
 }
 
-/// Eight buckets of some patterns, told apart by their first `len` bytes.
-fn eight(patterns: &[&[u8]], pairing: &Pairing, len: usize) -> Teddy
+/// The partners of the first bytes of a pattern.
+fn partners(pattern: &[u8], pairing: &Pairing, len: usize) -> [u8; MOST]
+    requires short { len ≤ length pattern.now }
+    requires few { len ≤ MOST }
+    ensures { (k : ℕ) → k < len
+        → slice_index result k ≡ other pairing.now (slice_index pattern.now k) }
+{
+    let mut bytes = [0; MOST];
+    for at in 0..len {
+        bytes[at] = pairing.other(pattern[at]);
+    }
+    bytes
+}
+
+/// One more pattern, and its partners, in a bucket.
+fn add(teddy: &mut Teddy, pattern: &[u8], pairing: &Pairing, len: usize, bucket: u8)
+    requires bucket { bucket < 8 }
+    requires near { LooksBefore len teddy.old }
+    requires few { len ≤ MOST }
+    requires long { len ≤ length pattern.now }
+    ensures own { HasPartners pairing.now len teddy.new pattern.now bucket }
+    ensures kept { KeepsPatterns teddy.old teddy.new }
+{
+    teddy.add(pattern, bucket);
+    teddy.add(&partners(pattern, pairing, len), bucket);
+}
+
+/// The bucket of a pattern, by its place in the order of their bytes: neighbours share a bucket, so that fewer bytes fit into it.
+fn bucket_of(patterns: &[&[u8]], number: usize) -> u8
+    requires { number < length patterns.now }
+    ensures { result < 8 }
+{
+    let mut before: usize = 0;
+    for other in patterns {
+        if *other < patterns[number] {
+            before += 1;
+        }
+    }
+    let place = before.min(LIMIT) * BUCKETS / patterns.len();
+    place.min(BUCKETS - 1) as u8
+}
+
+/// The buckets of some patterns, told apart by their first `len` bytes.
+fn buckets_of(patterns: &[&[u8]], pairing: &Pairing, len: usize) -> Teddy
     requires some { 0 < len }
     requires few { len ≤ MOST }
     requires short { AreAsLong len (bytes_of patterns.now) }
@@ -87,25 +126,22 @@ fn eight(patterns: &[&[u8]], pairing: &Pairing, len: usize) -> Teddy
 {
     let mut teddy = Teddy::empty(len, patterns.len());
     for number in 0..patterns.len() {
-        let bucket = (number % EACH) as u8;
+        let bucket = bucket_of(patterns, number);
         add(&mut teddy, patterns[number], pairing, len, bucket);
     }
     teddy
 }
 
-/// How many places may be passed, of those before the place `to`: up to the first mark, or up to the last ones.
-#[inline]
-fn pass_few(teddy: &Teddy, bytes: &[u8], to: usize, len: usize) -> usize
-    requires near { LooksBefore len teddy.now }
-    requires room { to + len ≤ length bytes.now + 1 }
-    ensures within { result ≤ to }
-    ensures passed { (place : ℕ) → place < result → marked_at teddy.now bytes.now place ≡ 0 }
+/// The fingerprints of their first `len` bytes.
+fn prints_of(patterns: &[&[u8]], pairing: &Pairing, len: usize) -> Fingerprints
+    requires short { AreAsLong len (bytes_of patterns.now) }
+    ensures { ArePrinted pairing.now len (bytes_of patterns.now) (length patterns.now) result }
 {
-    let (block, marks) = teddy.next_marks(bytes, 0, to, len);
-    if marks == 0 {
-        return block;
+    let mut prints = Fingerprints::new(pairing);
+    for pattern in patterns {
+        prints.add(&pattern[..len]);
     }
-    block + lowest(marks)
+    prints
 }
 
 impl Openings {
@@ -123,12 +159,11 @@ impl Openings {
         if len < LEAST || have_rare_starts(patterns, pairing) {
             return None;
         }
-        let marks = if patterns.len() <= FEW {
-            Marks::Few(eight(patterns, pairing, len))
-        } else {
-            Marks::Many(Buckets::new(patterns, pairing, len))
-        };
-        Some(Openings { marks, len })
+        Some(Openings {
+            teddy: buckets_of(patterns, pairing, len),
+            prints: prints_of(patterns, pairing, len),
+            len,
+        })
     }
 
     /// How many bytes an opening has.
@@ -139,9 +174,25 @@ impl Openings {
         self.len
     }
 
-    /// Whether the patterns are few enough for eight buckets. The marks of 24 cost about as much as a DFA takes for the bytes.
-    pub fn are_few(&self) -> bool {
-        matches!(self.marks, Marks::Few(_))
+    /// The first place of a block that is marked and whose fingerprint is in the set; 32 where there is none.
+    #[inline]
+    fn first_printed(&self, bytes: &[u8], block: usize, marks: u64) -> usize
+        requires room { block + self.now.len + 31 ≤ length bytes.now }
+        requires few { marks < 4294967296 }
+        ensures within { result ≤ 32 }
+        ensures passed { (k : ℕ) → k < result → bit_at marks k ≡ 1
+            → ¬ IsPrinted self.now.prints (take self.now.len (drop (block + k) bytes.now)) }
+    {
+        let mut left = marks;
+        while left != 0 {
+            let place = lowest(left);
+            let at = block + place;
+            if self.prints.has(&bytes[at..at + self.len]) {
+                return place;
+            }
+            left = without(left, place);
+        }
+        LANES
     }
 
     /// How many bytes at the front may be passed: up to the next place at which a pattern may begin, or up to the last ones.
@@ -154,9 +205,18 @@ impl Openings {
             return 0;
         }
         let to = bytes.len() - self.len + 1;
-        match &self.marks {
-            Marks::Few(teddy) => pass_few(teddy, bytes, to, self.len),
-            Marks::Many(buckets) => buckets.pass(bytes, to, self.len),
+        let mut at = 0;
+        while to - at >= LANES {
+            let (block, marks) = self.teddy.next_marks(bytes, at, to, self.len);
+            if marks == 0 {
+                return block;
+            }
+            let place = self.first_printed(bytes, block, marks);
+            if place < LANES {
+                return block + place;
+            }
+            at = block + LANES;
         }
+        at
     }
 }

@@ -89,13 +89,6 @@ special-below dfa last is lt = by dfa.prefilter dfa.special
     by None at = is ∙ at
     by (Some f) at = absurd (let e = starts-ordered dfa in omega (arith, at, is, e, lt))
 
--- ---- its openings
-
--- some that are kept, or none, are those of the dictionary
-pub kept-opened : (m : Dictionary) (all kept : Option Openings) → IfSome kept (λ o. all ≡ Some o) → ∥ AreOpenedBy m all ∥₁ → ∥ AreOpenedBy m kept ∥₁
-kept-opened m all None is h = ∣ tt ∣₁
-kept-opened m all (Some o) is h = subst (λ (x : Option Openings). ∥ AreOpenedBy m x ∥₁) is h
-
 -- ---- by its skips
 
 -- what a search that skips asks of the automaton

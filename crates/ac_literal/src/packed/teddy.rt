@@ -107,7 +107,7 @@ fn has_lane(lanes: u8x32) -> bool
 
 /// Bit k is set where lane k isn't 0.
 #[inline(always)]
-pub(crate) fn set_lanes(lanes: u8x32) -> u64
+fn set_lanes(lanes: u8x32) -> u64
     ensures set { (k : ℕ) → k < 32 → slice_index lanes k ≢ 0 → bit_at result k ≡ 1 }
     ensures few { result < 4294967296 }
 {
@@ -273,7 +273,7 @@ impl Teddy {
 
     /// The buckets that are left at each of 32 places.
     #[inline(always)]
-    pub(crate) fn left(&self, haystack: &[u8], at: usize, len: usize) -> u8x32
+    fn left(&self, haystack: &[u8], at: usize, len: usize) -> u8x32
         requires near { LooksBefore len self.now }
         requires room { at + len + 31 ≤ length haystack.now }
         ensures { HasLanes result (λ k. marked_at self.now haystack.now (at + k)) }

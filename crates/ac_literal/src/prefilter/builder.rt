@@ -312,8 +312,7 @@ impl PrefilterBuilder {
     pub fn ascii_case_insensitive(&mut self, yes: bool) -> &mut PrefilterBuilder
         requires { self.old.patterns ≡ [] }
         ensures same { result.ghost_name ≡ self.entry.ghost_name }
-        ensures kind { result.now.kind ≡ self.old.kind }
-        ensures patterns { result.now.patterns ≡ [] }
+        ensures rest { result.now ≡ record self.old { pairing = result.now.pairing } }
         ensures pairing { IsFolded yes result.now.pairing }
     {
         let pairing = if yes {

@@ -18,7 +18,6 @@ use ac_automaton::automaton::Automaton;
 use ac_automaton::held::clone_held;
 use ac_input::pairing::Pairing;
 use ac_input::search::{Anchored, MatchKind, StartKind};
-use ac_literal::openings::Openings;
 use ac_noncontiguous::builder;
 use ac_noncontiguous::error::BuildError;
 use ac_noncontiguous::nfa::NFA;
@@ -107,14 +106,6 @@ impl Table {
             classes,
         })
     }
-}
-
-/// The openings that are faster than a DFA: those of few patterns.
-fn quick(openings: Option<Openings>) -> Option<Openings>
-    ensures { IfSome result (λ kept. openings ≡ Some kept) }
-{
-    let kept = openings?;
-    if kept.are_few() { Some(kept) } else { None }
 }
 
 impl Builder {
@@ -212,7 +203,7 @@ impl Builder {
         let table = Table::of(alloc, nfa, self.start_kind, self.byte_classes)?;
         let lens = nfa.pattern_lens().clone(alloc)?;
         let prefilter = clone_held(alloc, nfa.prefilter())?;
-        let openings = quick(nfa.openings());
+        let openings = nfa.openings();
         Ok(DFA::from_parts(
             table,
             lens,

@@ -1,14 +1,12 @@
--- Where a pattern opens, its bucket is left.
-use Rattle.std.proofs.Common.{◌≢◌, ℕ, subst, sym, arith}
+-- Where a pattern opens, its bucket is left, and its fingerprint is in the set.
+use Rattle.std.proofs.Common.{ℕ, List, subst, arith}
 use Rattle.std.proofs.lemmas.List.{length-map}
 use Rattle.std.specs.Borrow.{Bor}
-use Rattle.std.proofs.Common.{List}
-use Rattle.ac_literal.specs.declared.openings.Marks.{Marks}
+use Rattle.ac_input.specs.Pairing.{IsPairing}
+use Rattle.ac_input.proofs.SameLemmas.{own_inverse-pairing}
 use Rattle.ac_literal.specs.Packed.{bytes_of}
-use Rattle.ac_literal.specs.Marks.{marked_in}
-use Rattle.ac_literal.proofs.OpeningLemmas.{opening-left, opening-marked, none-shorter}
+use Rattle.ac_literal.proofs.OpeningLemmas.{opening-marked, opening-printed, none-shorter}
 use Rattle.ac_literal.proofs.openings.Openings.new.Goals as goal
-use Rattle.ac_literal.proofs.openings.Openings.new.Goals.{then-patterns-le-FEW, else-patterns-le-FEW}
 
 pub returns : goal.returns
 returns c kind =
@@ -16,15 +14,14 @@ returns c kind =
     let all = bytes_of patterns in
     let pairing = c.args.pairing.now in
     let len = c.len_of-len.result in
+    let short = c.len_of-len.ensures.short in
     let count = length-map patterns (λ (p : Bor (List ℕ)). p.now) in
+    let buckets = c.buckets_of in
+    let prints = c.prints_of in
     record {
-      short = none-shorter all pairing kind len c.len_of-len.ensures.short;
-      marks = λ text at h. elim c.if-patterns-le-FEW.branch [
-        | then-patterns-le-FEW w ↦
-            subst (λ (m : Marks). marked_in m text at ≢ 0) (sym w.marks-is)
-            (opening-marked all pairing kind len w.eight.result text at w.eight.ensures.near c.len_of-len.ensures.short (λ number within. w.eight.ensures.all number (omega (arith, within, count))) h)
-        | else-patterns-le-FEW w ↦
-            subst (λ (m : Marks). marked_in m text at ≢ 0) (sym w.marks-is)
-            (opening-left all pairing kind len w.new.result text at w.new.ensures.near c.len_of-len.ensures.short (λ number within. w.new.ensures.all number (omega (arith, within, count))) h)
-      ];
+      short = none-shorter all pairing kind len short;
+      marks = λ text at h. record {
+        left = opening-marked all pairing kind len buckets.result text at buckets.ensures.near short (λ number within. buckets.ensures.all number (omega (arith, within, count))) h;
+        printed = opening-printed all pairing kind len prints.result text at (own_inverse-pairing pairing (subst IsPairing prints.ensures.0 prints.result.paired)) (prints.ensures.0, λ number within. prints.ensures.1 number (omega (arith, within, count))) h;
+      };
     }

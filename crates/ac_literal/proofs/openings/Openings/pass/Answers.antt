@@ -1,14 +1,30 @@
 -- What is passed has no mark.
-use Rattle.std.proofs.Common.{ap, ◌∙◌}
-use Rattle.ac_literal.specs.Marks.{marked_in}
-use Rattle.ac_literal.specs.declared.openings.Marks.{Marks}
-use Rattle.ac_literal.proofs.OpeningLemmas.{passed-none}
+use Rattle.std.proofs.Common.{arith}
+use Rattle.ac_literal.proofs.OpeningLemmas.{passed-none, block-before, block-passed}
 use Rattle.ac_literal.proofs.openings.Openings.pass.Goals as goal
 
-pub returns-in-Few-clause-passed : goal.returns-in-Few-clause-passed
-returns-in-Few-clause-passed c =
-    passed-none c.args.self.now c.args.bytes.now c.pass_few.result (λ place within. ap (λ (m : Marks). marked_in m c.args.bytes.now place) c.in-Few.is ∙ c.pass_few.ensures.passed place within)
+pub returns-then-marks-eq0-clause-passed : goal.returns-then-marks-eq0-clause-passed
+returns-then-marks-eq0-clause-passed c =
+    let o = c.args.self.now in
+    let bytes = c.args.bytes.now in
+    passed-none o bytes c.next_marks-block.result.0 (block-before o bytes c.loop-at.at _ c.next_marks-block.result.0 c.next_marks-block.result.1 c.next_marks-block.ensures c.loop-at.invariant.passed)
 
-pub returns-in-Many-clause-passed : goal.returns-in-Many-clause-passed
-returns-in-Many-clause-passed c =
-    passed-none c.args.self.now c.args.bytes.now c.pass.result (λ place within. ap (λ (m : Marks). marked_in m c.args.bytes.now place) c.in-Many.is ∙ c.pass.ensures.passed place within)
+pub returns-then-place-lt-LANES-clause-passed : goal.returns-then-place-lt-LANES-clause-passed
+returns-then-place-lt-LANES-clause-passed c =
+    let o = c.args.self.now in
+    let bytes = c.args.bytes.now in
+    let place = c.first_printed-place in
+    passed-none o bytes _ (block-passed o bytes c.loop-at.at _ c.next_marks-block.result.0 c.next_marks-block.result.1 c.next_marks-block.ensures c.loop-at.invariant.passed place.result place.ensures.within c.if-marks-eq0.false place.ensures.passed)
+
+pub loop-at-preserved : goal.loop-at-preserved
+loop-at-preserved c =
+    let o = c.args.self.now in
+    let bytes = c.args.bytes.now in
+    let place = c.first_printed-place in
+    let next = c.next_marks-block.ensures in
+    let whole = next.whole c.if-marks-eq0.false in
+    let all = c.if-place-lt-LANES.false in
+    record {
+      within = whole;
+      passed = block-passed o bytes c.loop-at.at _ c.next_marks-block.result.0 c.next_marks-block.result.1 next c.loop-at.invariant.passed 32 (omega arith) c.if-marks-eq0.false (λ k within. place.ensures.passed k (omega (arith, within, all)));
+    }

@@ -9,7 +9,6 @@ use Rattle.ac_tables.specs.DfaBuild.{Settings}
 use Rattle.ac_tables.specs.DfaMade.{IsTableFor, IsTableRefused}
 use Rattle.ac_tables.specs.DfaReads.{IsMadeOf}
 use Rattle.ac_tables.proofs.DfaBuildLemmas.{dfa-of, refused-of, parts-of}
-use Rattle.ac_tables.proofs.DfaPassingLemmas.{kept-opened}
 use Rattle.ac_tables.proofs.dfa.builder.Builder.build_from_noncontiguous.Goals as goal
 
 pub returns-in_err-table-clause-refused : goal.returns-in_err-table-clause-refused
@@ -32,7 +31,7 @@ from_parts-requires-clause-opened c =
     let same : dictionary_of c.in_ok-lens.lens c.pairing.result.now c.match_kind.result ≡ dictionary nfa =
     ap (λ (q : List (List ℕ)). dictionary_of q c.pairing.result.now c.match_kind.result) (c.in_ok-lens.ensures ∙ c.pattern_lens.ensures)
     ∙ (ap (λ (q : List ℕ). dictionary_of (dictionary nfa).patterns q c.match_kind.result) c.pairing.ensures.value ∙ ap (λ (k : MatchKind). dictionary_of (dictionary nfa).patterns (dictionary nfa).pairing k) c.match_kind.ensures) in
-    subst (λ (m : Dictionary). ∥ AreOpenedBy m c.quick-openings.result ∥₁) (sym same) (kept-opened (dictionary nfa) c.openings.result c.quick-openings.result c.quick-openings.ensures c.openings.ensures)
+    subst (λ (m : Dictionary). ∥ AreOpenedBy m c.openings-openings.result ∥₁) (sym same) c.openings-openings.ensures
 
 pub returns-clause-built : goal.returns-clause-built
 returns-clause-built c =

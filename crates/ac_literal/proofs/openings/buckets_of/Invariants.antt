@@ -2,7 +2,7 @@
 use Rattle.ac_literal.specs.Marks.{HaveOpened}
 use Rattle.ac_literal.specs.Packed.{bytes_of}
 use Rattle.ac_literal.specs.Teddy.{LooksBefore}
-use Rattle.ac_literal.proofs.openings.eight.Given as goal
+use Rattle.ac_literal.proofs.openings.buckets_of.Given as goal
 
 abbrev pub invariant-loop-number : goal.invariant-loop-number
 invariant-loop-number l = record {

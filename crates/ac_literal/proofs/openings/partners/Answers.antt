@@ -2,7 +2,7 @@
 use Rattle.std.proofs.Common.{◌<◌, inl, inr, length, set, ap, sym, ◌∙◌, arith, get_or, get_or-set_same, get_or-set_other, length-set}
 use Rattle.std.proofs.lemmas.Bool.{cases_eq}
 use Rattle.ac_input.specs.Same.{other}
-use Rattle.ac_literal.proofs.openings.buckets.partners.Goals as goal
+use Rattle.ac_literal.proofs.openings.partners.Goals as goal
 
 pub loop-at-preserved : goal.loop-at-preserved
 loop-at-preserved c =

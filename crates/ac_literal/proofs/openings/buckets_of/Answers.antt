@@ -1,10 +1,11 @@
--- One more pattern is in its bucket.
+-- One more pattern is in its bucket, and so are its partners.
 use Rattle.std.proofs.Common.{ℕ, List, [], length, ap, arith}
 use Rattle.std.proofs.lemmas.List.{length-map}
 use Rattle.std.specs.Borrow.{Bor}
 use Rattle.ac_literal.specs.Packed.{bytes_of}
-use Rattle.ac_literal.proofs.OpeningLemmas.{all-more, keeps-look, pattern-lent}
-use Rattle.ac_literal.proofs.openings.buckets.Buckets.new.Goals as goal
+use Rattle.ac_literal.proofs.OpeningLemmas.{pattern-lent, opened-more}
+use Rattle.ac_literal.proofs.TeddyLemmas.{keeps-near}
+use Rattle.ac_literal.proofs.openings.buckets_of.Goals as goal
 
 pub add-requires-clause-long : goal.add-requires-clause-long
 add-requires-clause-long c =
@@ -18,12 +19,16 @@ add-requires-clause-long c =
 pub loop-number-preserved : goal.loop-number-preserved
 loop-number-preserved c =
     let patterns = c.args.patterns.now in
+    let all = bytes_of patterns in
+    let pairing = c.args.pairing.now in
+    let len = c.args.len in
+    let number = c.loop-number.number in
     let d : Bor (List ℕ) = record { ref_ptr = (0, 0); now = [] } in
-    let old = c.loop-number.buckets in
-    let new = c.add.new.self in
+    let old = c.loop-number.teddy in
+    let new = c.add.new.teddy in
     record {
-      near = keeps-look old new c.args.len c.add.ensures.kept c.loop-number.invariant.near;
-      all = all-more c.args.pairing.now c.args.len (bytes_of patterns) c.loop-number.number old new _ (pattern-lent patterns d c.loop-number.number c.loop-number-test.true) c.loop-number.invariant.all c.add.ensures.kept c.add.ensures.own;
+      near = keeps-near old new len c.add.ensures.kept c.loop-number.invariant.near;
+      all = opened-more pairing len all number _ old new _ (pattern-lent patterns d number c.loop-number-test.true) c.loop-number.invariant.all c.add.ensures.kept c.add.ensures.own;
     }
 
 pub returns-clause-all : goal.returns-clause-all

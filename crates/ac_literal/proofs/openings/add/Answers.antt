@@ -2,7 +2,7 @@
 use Rattle.std.proofs.Common.{refl}
 use Rattle.ac_literal.proofs.OpeningLemmas.{has-both, keeps-twice}
 use Rattle.ac_literal.proofs.TeddyLemmas.{keeps-near}
-use Rattle.ac_literal.proofs.openings.buckets.add.Goals as goal
+use Rattle.ac_literal.proofs.openings.add.Goals as goal
 
 pub returns-clause-own : goal.returns-clause-own
 returns-clause-own c =

@@ -1,0 +1,76 @@
+//! A set of fingerprints: a second look at a place that is marked.
+//!
+//! Where a bucket has many patterns, some byte of each fits together at many places at which no pattern begins. So the first bytes
+//! of a marked place are looked up as a whole, too: their fingerprint is a number below 8192, and the set has a bit for each that
+//! the first bytes of some pattern have. A byte and its partner count as one, the lesser of them.
+//!
+//! A set takes 1,280 bytes of memory. A hundred patterns set a bit of eighty, so of the marks that no pattern made few are left.
+ghost use Rattle.std.specs.Prelude.{◌≡◌, ◌+◌, ◌*◌, ◌%◌, ◌<◌, IsFalse, length};
+ghost use Rattle.ac_input.specs.Pairing.{IsPairing};
+
+use ac_input::pairing::Pairing;
+
+/// How many fingerprints there are.
+const PRINTS: usize = 8192;
+
+/// The fingerprints of some bytes.
+#[derive(Clone, Copy, Drop)]
+pub struct Fingerprints {
+    pairing: [u8; 256],
+    bits: [u8; PRINTS / 8],
+    ghost paired: { IsPairing pairing },
+}
+
+/// A fingerprint with one more byte.
+#[inline(always)]
+fn after(print: usize, byte: u8) -> usize
+    requires { print < 8192 }
+    ensures { result ≡ (print * 31 + byte) % 8192 }
+{
+    (print * 31 + byte as usize) % PRINTS
+}
+
+impl Fingerprints {
+    ghost use Rattle.ac_literal.specs.Fingerprints.{print_of, IsPrinted, KeepsPrints};
+
+    /// No bytes yet.
+    pub fn new(pairing: &Pairing) -> Fingerprints
+        ensures { result.pairing ≡ pairing.now }
+    {
+        Fingerprints {
+            pairing: pairing.table(),
+            bits: [0; PRINTS / 8],
+        }
+    }
+
+    /// The fingerprint of some bytes.
+    #[inline(always)]
+    fn print_of(&self, bytes: &[u8]) -> usize
+        ensures value { result ≡ print_of self.now.pairing bytes.now }
+        ensures fits { result < 8192 }
+    {
+        let mut print = 0;
+        for byte in bytes {
+            print = after(print, (*byte).min(self.pairing[*byte as usize]));
+        }
+        print
+    }
+
+    /// Some bytes more.
+    pub fn add(&mut self, bytes: &[u8])
+        ensures own { IsPrinted self.new bytes.now }
+        ensures kept { KeepsPrints self.old self.new }
+    {
+        let print = self.print_of(bytes);
+        self.bits[print / 8] |= 1 << (print % 8);
+    }
+
+    /// Whether the set has the fingerprint of some bytes.
+    #[inline(always)]
+    pub fn has(&self, bytes: &[u8]) -> bool
+        ensures { IsFalse result → ¬ IsPrinted self.now bytes.now }
+    {
+        let print = self.print_of(bytes);
+        self.bits[print / 8] >> (print % 8) & 1 != 0
+    }
+}

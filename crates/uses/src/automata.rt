@@ -218,17 +218,11 @@ fn each_holds<T: Abort>(rt: &T, alloc: Global, each: &[Kept]) -> Result<(), Fail
     Ok(())
 }
 
+/// States in order, of each kind, and of paired bytes.
 #[test]
-fn states_in_order(rt: HostRuntime) -> Result<(), Fail> {
-    each_holds(&rt, rt.alloc(), order::KEPT)
-}
-
-#[test]
-fn states_of_each_kind(rt: HostRuntime) -> Result<(), Fail> {
-    each_holds(&rt, rt.alloc(), kinds::KEPT)
-}
-
-#[test]
-fn states_of_paired_bytes(rt: HostRuntime) -> Result<(), Fail> {
-    each_holds(&rt, rt.alloc(), pairs::KEPT)
+fn states(rt: HostRuntime) -> Result<(), Fail> {
+    for each in [order::KEPT, kinds::KEPT, pairs::KEPT] {
+        each_holds(&rt, rt.alloc(), each)?;
+    }
+    Ok(())
 }

@@ -49,8 +49,8 @@ pub fn replaced(
     replacements: &[&[u8]],
 ) -> Result<(), StreamError>
     requires { length replacements.now ≡ pattern_count ac.now }
-    ensures { OnOk result ((inner_of writer.new).items ≡ (inner_of writer.old).items
-        ++ replaced_in (built_as ac.now) (map (λ r. r.now) replacements.now) text.now) }
+    ensures { OnOk result
+        (IsWritten (built_as ac.now) replacements.now text.now writer.old writer.new) }
 {
     let mut reader = Watched::new(text);
     ac.try_stream_replace_all(alloc, &mut reader, writer, replacements)

@@ -18,7 +18,7 @@ use std::test::Fail;
 
 /// What a closure does at a match, in place of going on: it stops after it appended the replacement, or it returns out of memory before
 /// that.
-#[derive(Clone, Copy, Debug, PartialEq, Eq)]
+#[derive(Clone, Copy)]
 pub enum At {
     Stops(usize),
     Fails(usize),
@@ -59,11 +59,11 @@ pub fn append<A: Automaton>(
         dst,
         |found: &Match, _text: &str, dst: &mut String| -> Result<bool, AllocError> {
             let number = found.pattern().as_usize();
-            if until == Some(At::Fails(number)) {
+            if matches!(until, Some(At::Fails(at)) if at == number) {
                 return Err(AllocError);
             }
             dst.push_str(replacements.get(number).ok_or(AllocError)?)?;
-            Ok(until != Some(At::Stops(number)))
+            Ok(!matches!(until, Some(At::Stops(at)) if at == number))
         },
     )
 }
@@ -83,11 +83,11 @@ pub fn append_bytes<A: Automaton>(
         dst,
         |found: &Match, _bytes: &[u8], dst: &mut Vec<u8>| -> Result<bool, AllocError> {
             let number = found.pattern().as_usize();
-            if until == Some(At::Fails(number)) {
+            if matches!(until, Some(At::Fails(at)) if at == number) {
                 return Err(AllocError);
             }
             dst.extend_from_slice(replacements.get(number).ok_or(AllocError)?.as_bytes())?;
-            Ok(until != Some(At::Stops(number)))
+            Ok(!matches!(until, Some(At::Stops(at)) if at == number))
         },
     )
 }
@@ -199,11 +199,11 @@ fn number(
         dst,
         move |found: &Match, _text: &str, dst: &mut String| -> Result<bool, AllocError> {
             let number = found.pattern().as_usize();
-            if until == Some(At::Fails(number)) {
+            if matches!(until, Some(At::Fails(at)) if at == number) {
                 return Err(AllocError);
             }
             dst.push_str(NUMBERS.get(number).ok_or(AllocError)?)?;
-            Ok(until != Some(At::Stops(number)))
+            Ok(!matches!(until, Some(At::Stops(at)) if at == number))
         },
     )
 }
@@ -224,11 +224,11 @@ fn number_bytes(
         dst,
         move |found: &Match, _bytes: &[u8], dst: &mut Vec<u8>| -> Result<bool, AllocError> {
             let number = found.pattern().as_usize();
-            if until == Some(At::Fails(number)) {
+            if matches!(until, Some(At::Fails(at)) if at == number) {
                 return Err(AllocError);
             }
             dst.extend_from_slice(NUMBERS.get(number).ok_or(AllocError)?.as_bytes())?;
-            Ok(until != Some(At::Stops(number)))
+            Ok(!matches!(until, Some(At::Stops(at)) if at == number))
         },
     )
 }

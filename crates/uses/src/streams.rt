@@ -90,6 +90,21 @@ impl Row<'_> {
         assert_eq!(rt; tally.reads.get(), reads, "{shows}");
         Ok(())
     }
+
+    /// Asserts the same by so many bytes a read as the row says, also with the matches that are held.
+    fn gives_each<T: Abort, A: Automaton>(
+        &self,
+        rt: &T,
+        alloc: Global,
+        automaton: &A,
+        text: &[u8],
+    ) -> Result<(), Fail> {
+        for most in self.most {
+            self.gives(rt, alloc, automaton, text, *most, false)?;
+            self.gives(rt, alloc, automaton, text, *most, true)?;
+        }
+        Ok(())
+    }
 }
 
 impl Case for Row<'_> {
@@ -112,11 +127,7 @@ impl Case for Row<'_> {
             return Ok(());
         }
         let text = self.text.concat(alloc)?;
-        for most in self.most {
-            self.gives(rt, alloc, automaton, &text, *most, false)?;
-            self.gives(rt, alloc, automaton, &text, *most, true)?;
-        }
-        Ok(())
+        self.gives_each(rt, alloc, automaton, &text)
     }
 }
 
@@ -133,29 +144,6 @@ fn ended_by(finds: &'static [Pick], len: usize) -> &'static [Pick] {
 
 /// A stream whose read fails after a front of the text: of no bytes, of one, and so on. The matches that end in that front are given.
 struct Stops(Row<'static>);
-
-impl Stops {
-    /// Asserts what is returned when the read after this many bytes fails.
-    fn gives_by<T: Abort, A: Automaton>(
-        &self,
-        rt: &T,
-        alloc: Global,
-        automaton: &A,
-        text: &[u8],
-        len: usize,
-    ) -> Result<(), Fail> {
-        let front = text.get(..len).ok_or("a front of the text")?;
-        let row = Row {
-            finds: ended_by(self.0.finds, len),
-            ..self.0
-        };
-        for most in row.most {
-            row.gives(rt, alloc, automaton, front, *most, false)?;
-            row.gives(rt, alloc, automaton, front, *most, true)?;
-        }
-        Ok(())
-    }
-}
 
 impl Case for Stops {
     fn asked(&self) -> Asked<'_> {
@@ -174,7 +162,12 @@ impl Case for Stops {
         }
         let text = self.0.text.concat(alloc)?;
         for len in 0..=text.len() {
-            self.gives_by(rt, alloc, automaton, &text, len)?;
+            let front = text.as_slice().get(..len).ok_or("a front of the text")?;
+            let row = Row {
+                finds: ended_by(self.0.finds, len),
+                ..self.0
+            };
+            row.gives_each(rt, alloc, automaton, front)?;
         }
         Ok(())
     }

@@ -1,12 +1,12 @@
 //! The front: streams. Readers and writers here are slices and `Vec`s, whose bytes a contract can name.
-ghost use Rattle.std.specs.Prelude.{◌≡◌, ◌+◌, ◌*◌, ◌≤◌, ◌++◌, [], false, length, map, IfOk, OnOk};
+ghost use Rattle.std.specs.Prelude.{◌≡◌, ◌+◌, ◌*◌, ◌≤◌, ◌++◌, [], false, length, IfOk, OnOk};
 ghost use Rattle.ac_input.specs.Steps.{looked_of};
 ghost use Rattle.ac_automaton.specs.Replace.{matches_in};
 ghost use Rattle.ac_automaton.specs.Stream.{CanStream, read_by};
 ghost use Rattle.ac_automaton.specs.StreamIter.{progress_of};
-ghost use Rattle.ac_automaton.specs.StreamReplace.{replaced_in};
 ghost use Rattle.ac_automaton.specs.Watched.{has_ended, inner_of};
 ghost use Rattle.aho_corasick.specs.AhoCorasick.{built_as, supported_by, pattern_count};
+ghost use Rattle.uses.specs.Callers.{IsWritten};
 
 use ac_input::search::Match;
 use ac_input::steps::Steps;

@@ -5,8 +5,8 @@ ghost use Rattle.ac_input.specs.Steps.{looked_of};
 ghost use Rattle.ac_automaton.specs.Replace.{matches_in};
 ghost use Rattle.ac_automaton.specs.Stream.{AreAllGiven, CanBeCounted, read_by};
 ghost use Rattle.ac_automaton.specs.StreamIter.{progress_of, reader_name, reader_of};
-ghost use Rattle.ac_automaton.specs.StreamReplace.{replaced_in};
 ghost use Rattle.ac_automaton.specs.Watched.{failures_of, has_ended, inner_of};
+ghost use Rattle.uses.specs.Callers.{IsWritten};
 
 use ac_automaton::automaton::Automaton;
 use ac_automaton::error::StreamError;

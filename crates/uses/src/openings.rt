@@ -163,6 +163,15 @@ fn spread(alloc: Global) -> Result<Vec<u8>, AllocError> {
     Ok(text)
 }
 
+#[test]
+fn stretches(rt: HostRuntime) -> Result<(), Fail> {
+    let text = spread(rt.alloc())?;
+    for patterns in PATTERNS {
+        alike(&rt, rt.alloc(), patterns, Cased, &text, &[1, 32, 100])?;
+    }
+    Ok(())
+}
+
 /// How many bytes a block of a text has.
 const BLOCK: usize = 128;
 
@@ -178,24 +187,11 @@ fn placed(alloc: Global) -> Result<Vec<u8>, AllocError> {
     Ok(text)
 }
 
-/// Compares both for each list of patterns.
-fn each_alike<T: Abort>(
-    rt: &T,
-    alloc: Global,
-    text: &[u8],
-    most: &'static [usize],
-) -> Result<(), Fail> {
+#[test]
+fn ends_of_reads(rt: HostRuntime) -> Result<(), Fail> {
+    let text = placed(rt.alloc())?;
     for patterns in PATTERNS {
-        alike(rt, alloc, patterns, Cased, text, most)?;
+        alike(&rt, rt.alloc(), patterns, Cased, &text, &[32, 64, BLOCK])?;
     }
     Ok(())
-}
-
-/// Stretches of each length, and patterns about the ends of reads.
-#[test]
-fn long_texts(rt: HostRuntime) -> Result<(), Fail> {
-    let text = spread(rt.alloc())?;
-    each_alike(&rt, rt.alloc(), &text, &[1, 32, 100])?;
-    let text = placed(rt.alloc())?;
-    each_alike(&rt, rt.alloc(), &text, &[32, 64, BLOCK])
 }

@@ -180,23 +180,12 @@ fn is_kept<T: Abort>(rt: &T, alloc: Global, nfa: &NFA, kept: &Kept) -> Result<()
     Ok(())
 }
 
-/// Asserts that a copy takes as much memory, and what it keeps.
-fn copy_is_kept<T: Abort>(
-    rt: &T,
-    alloc: Global,
-    nfa: &NFA,
-    copy: &NFA,
-    kept: &Kept,
-) -> Result<(), Fail> {
-    assert_eq!(rt; copy.memory_usage(), nfa.memory_usage());
-    is_kept(rt, alloc, copy, kept)
-}
-
-/// Asserts what the automaton keeps, and a copy of it.
+/// Asserts what the automaton keeps, and a copy of it, which takes as much memory.
 fn keeps<T: Abort>(rt: &T, alloc: Global, nfa: &NFA, kept: &Kept) -> Result<(), Fail> {
     is_kept(rt, alloc, nfa, kept)?;
     let copy = nfa.clone(alloc)?;
-    copy_is_kept(rt, alloc, nfa, &copy, kept)
+    assert_eq!(rt; copy.memory_usage(), nfa.memory_usage());
+    is_kept(rt, alloc, &copy, kept)
 }
 
 /// Asserts what the automaton of these patterns keeps of them.
@@ -218,17 +207,11 @@ fn each_holds<T: Abort>(rt: &T, alloc: Global, each: &[Kept]) -> Result<(), Fail
     Ok(())
 }
 
+/// States in order, of each kind, and of paired bytes.
 #[test]
-fn states_in_order(rt: HostRuntime) -> Result<(), Fail> {
-    each_holds(&rt, rt.alloc(), order::KEPT)
-}
-
-#[test]
-fn states_of_each_kind(rt: HostRuntime) -> Result<(), Fail> {
-    each_holds(&rt, rt.alloc(), kinds::KEPT)
-}
-
-#[test]
-fn states_of_paired_bytes(rt: HostRuntime) -> Result<(), Fail> {
-    each_holds(&rt, rt.alloc(), pairs::KEPT)
+fn states(rt: HostRuntime) -> Result<(), Fail> {
+    for each in [order::KEPT, kinds::KEPT, pairs::KEPT] {
+        each_holds(&rt, rt.alloc(), each)?;
+    }
+    Ok(())
 }

@@ -319,13 +319,8 @@ const LENGTHS: &[Lengths] = &[
     },
 ];
 
-/// Asserts what automata say of their patterns.
-fn lengths_hold<T: Abort>(rt: &T, alloc: Global) -> Result<(), Fail> {
-    all(rt, alloc, LENGTHS)
-}
-
 #[test]
 fn what_automata_say(rt: HostRuntime) -> Result<(), Fail> {
-    lengths_hold(&rt, rt.alloc())?;
+    all(&rt, rt.alloc(), LENGTHS)?;
     all(&rt, rt.alloc(), ROWS)
 }

@@ -291,13 +291,6 @@ fn reads_hold<T: Abort>(rt: &T, row: &Reads) {
     );
 }
 
-#[test]
-fn watched_reads(rt: HostRuntime) {
-    for row in READS {
-        reads_hold(&rt, row);
-    }
-}
-
 /// What is sent to a writer, by itself or through an output.
 enum Sending {
     /// These bytes, whole.
@@ -531,8 +524,12 @@ fn sends_hold<T: Abort>(rt: &T, alloc: Global, row: &Sent) -> Result<(), Fail> {
     Ok(())
 }
 
+/// Watched reads, and whole and gathered writes.
 #[test]
-fn whole_and_gathered_writes(rt: HostRuntime) -> Result<(), Fail> {
+fn reads_and_writes(rt: HostRuntime) -> Result<(), Fail> {
+    for row in READS {
+        reads_hold(&rt, row);
+    }
     for row in SENT {
         sends_hold(&rt, rt.alloc(), row)?;
     }

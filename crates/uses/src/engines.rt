@@ -20,7 +20,7 @@ use std::process::Abort;
 use std::test::Fail;
 
 /// Which bytes are taken for the same.
-#[derive(Clone, Copy, Debug)]
+#[derive(Clone, Copy)]
 pub enum Letters {
     /// None.
     Cased,
@@ -39,21 +39,21 @@ pub struct Asked<'a> {
 }
 
 /// Whether an automaton may hold a prefilter.
-#[derive(Clone, Copy, Debug, PartialEq, Eq)]
+#[derive(Clone, Copy)]
 pub enum Prefiltering {
     Off,
     On,
 }
 
 /// Whether a table has an entry for each class of bytes, or for each byte.
-#[derive(Clone, Copy, Debug, PartialEq, Eq)]
+#[derive(Clone, Copy)]
 pub enum Alphabet {
     Classes,
     Bytes,
 }
 
 /// An automaton, and how it is built.
-#[derive(Clone, Copy, Debug)]
+#[derive(Clone, Copy)]
 pub enum Engine {
     /// The noncontiguous NFA, whose states have rows to this depth.
     Noncontiguous(Prefiltering, usize),
@@ -167,7 +167,7 @@ fn builder(asked: Asked<'_>, prefilter: Prefiltering, depth: usize) -> Result<Bu
     builder
         .match_kind(asked.kind)
         .pairing(pairing(asked.letters)?)
-        .prefilter(prefilter == On)
+        .prefilter(matches!(prefilter, On))
         .dense_depth(depth);
     Ok(builder)
 }
@@ -216,9 +216,9 @@ fn contiguous_builder(
     builder
         .match_kind(asked.kind)
         .pairing(pairing(asked.letters)?)
-        .prefilter(prefilter == On)
+        .prefilter(matches!(prefilter, On))
         .dense_depth(depth)
-        .byte_classes(alphabet == Classes);
+        .byte_classes(matches!(alphabet, Classes));
     Ok(builder)
 }
 
@@ -249,8 +249,8 @@ fn dfa_builder(
     builder
         .match_kind(asked.kind)
         .pairing(pairing(asked.letters)?)
-        .prefilter(prefilter == On)
-        .byte_classes(alphabet == Classes)
+        .prefilter(matches!(prefilter, On))
+        .byte_classes(matches!(alphabet, Classes))
         .start_kind(starts);
     Ok(builder)
 }
@@ -326,8 +326,8 @@ fn by<T: Abort, C: Case>(rt: &T, alloc: Global, case: &C, engine: Engine) -> Res
         Front(named, starts, prefilter, depth, alphabet) => {
             let mut builder = front_builder(case.asked(), named, starts)?;
             builder
-                .prefilter(prefilter == On)
-                .byte_classes(alphabet == Classes);
+                .prefilter(matches!(prefilter, On))
+                .byte_classes(matches!(alphabet, Classes));
             by_set_front(rt, alloc, case, builder, starts, depth)
         }
     }

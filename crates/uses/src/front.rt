@@ -12,7 +12,7 @@ mod streams;
 use crate::answers::{Asks, collected, input, same};
 use crate::callers::front::{can_list, serves};
 use crate::engines::{Asked, Case, Letters, front_builder, pick};
-use crate::rows::{Row, Table, bytes, empty, inside, several, words};
+use crate::rows::{Row, SUBJECTS, Table};
 use ac_input::search::{Input, MatchKind, StartKind};
 use ac_input::steps::Steps;
 use aho_corasick::AhoCorasickKind::{ContiguousNFA, DFA, NoncontiguousNFA};
@@ -334,10 +334,8 @@ fn the_front_by_its_own_calls(rt: HostRuntime) -> Result<(), Fail> {
     for row in SERVED {
         serves_so(&rt, alloc, row)?;
     }
-    all_own(&rt, alloc, inside::TABLES)?;
-    all_own(&rt, alloc, several::TABLES)?;
-    all_own(&rt, alloc, words::TABLES)?;
-    all_own(&rt, alloc, empty::TABLES)?;
-    all_own(&rt, alloc, bytes::TABLES)?;
+    for tables in SUBJECTS {
+        all_own(&rt, alloc, tables)?;
+    }
     streams::hold(&rt, alloc)
 }

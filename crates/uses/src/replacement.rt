@@ -18,7 +18,7 @@ use std::test::Fail;
 
 /// What a closure does at a match, in place of going on: it stops after it appended the replacement, or it returns out of memory before
 /// that.
-#[derive(Clone, Copy, Debug, PartialEq, Eq)]
+#[derive(Clone, Copy)]
 pub enum At {
     Stops(usize),
     Fails(usize),
@@ -44,6 +44,23 @@ fn bytes_of<'a>(alloc: Global, texts: &[&'a str]) -> Result<Vec<&'a [u8]>, Alloc
     texts.iter().map(|text| text.as_bytes()).collect(alloc)
 }
 
+/// What a closure appends at a match, and whether it goes on after that; or out of memory, where it is to return that.
+fn exchanged<'a>(
+    found: &Match,
+    replacements: &[&'a str],
+    until: Option<At>,
+) -> Result<(&'a str, bool), AllocError> {
+    let number = found.pattern().as_usize();
+    if matches!(until, Some(At::Fails(at)) if at == number) {
+        return Err(AllocError);
+    }
+    let instead = replacements.get(number).ok_or(AllocError)?;
+    Ok((
+        *instead,
+        !matches!(until, Some(At::Stops(at)) if at == number),
+    ))
+}
+
 /// Appends the text, with a closure that appends the replacement of each match's pattern.
 pub fn append<A: Automaton>(
     automaton: &A,
@@ -58,12 +75,9 @@ pub fn append<A: Automaton>(
         text,
         dst,
         |found: &Match, _text: &str, dst: &mut String| -> Result<bool, AllocError> {
-            let number = found.pattern().as_usize();
-            if until == Some(At::Fails(number)) {
-                return Err(AllocError);
-            }
-            dst.push_str(replacements.get(number).ok_or(AllocError)?)?;
-            Ok(until != Some(At::Stops(number)))
+            let (instead, goes_on) = exchanged(found, replacements, until)?;
+            dst.push_str(instead)?;
+            Ok(goes_on)
         },
     )
 }
@@ -82,12 +96,9 @@ pub fn append_bytes<A: Automaton>(
         bytes,
         dst,
         |found: &Match, _bytes: &[u8], dst: &mut Vec<u8>| -> Result<bool, AllocError> {
-            let number = found.pattern().as_usize();
-            if until == Some(At::Fails(number)) {
-                return Err(AllocError);
-            }
-            dst.extend_from_slice(replacements.get(number).ok_or(AllocError)?.as_bytes())?;
-            Ok(until != Some(At::Stops(number)))
+            let (instead, goes_on) = exchanged(found, replacements, until)?;
+            dst.extend_from_slice(instead.as_bytes())?;
+            Ok(goes_on)
         },
     )
 }
@@ -198,12 +209,9 @@ fn number(
         text,
         dst,
         move |found: &Match, _text: &str, dst: &mut String| -> Result<bool, AllocError> {
-            let number = found.pattern().as_usize();
-            if until == Some(At::Fails(number)) {
-                return Err(AllocError);
-            }
-            dst.push_str(NUMBERS.get(number).ok_or(AllocError)?)?;
-            Ok(until != Some(At::Stops(number)))
+            let (instead, goes_on) = exchanged(found, NUMBERS, until)?;
+            dst.push_str(instead)?;
+            Ok(goes_on)
         },
     )
 }
@@ -223,12 +231,9 @@ fn number_bytes(
         bytes,
         dst,
         move |found: &Match, _bytes: &[u8], dst: &mut Vec<u8>| -> Result<bool, AllocError> {
-            let number = found.pattern().as_usize();
-            if until == Some(At::Fails(number)) {
-                return Err(AllocError);
-            }
-            dst.extend_from_slice(NUMBERS.get(number).ok_or(AllocError)?.as_bytes())?;
-            Ok(until != Some(At::Stops(number)))
+            let (instead, goes_on) = exchanged(found, NUMBERS, until)?;
+            dst.extend_from_slice(instead.as_bytes())?;
+            Ok(goes_on)
         },
     )
 }

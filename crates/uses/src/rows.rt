@@ -13,13 +13,13 @@ use std::alloc::Global;
 use std::process::Abort;
 use std::test::Fail;
 
-pub mod bytes;
-pub mod empty;
-pub mod inside;
+mod bytes;
+mod empty;
+mod inside;
 mod layouts;
-pub mod several;
+mod several;
 mod vectors;
-pub mod words;
+mod words;
 
 /// Some patterns, and what searches for them give.
 #[derive(Drop)]
@@ -221,23 +221,19 @@ pub fn hold<T: Abort>(
     Ok(())
 }
 
-#[test]
-fn one_inside_another(rt: HostRuntime) -> Result<(), Fail> {
-    hold(&rt, rt.alloc(), inside::TABLES, ENGINES)
-}
+/// Patterns inside one another, which of several is found, words, empty patterns and none, and bytes that are the same.
+pub const SUBJECTS: [&[Table<'static>]; 5] = [
+    inside::TABLES,
+    several::TABLES,
+    words::TABLES,
+    empty::TABLES,
+    bytes::TABLES,
+];
 
 #[test]
-fn which_of_several(rt: HostRuntime) -> Result<(), Fail> {
-    hold(&rt, rt.alloc(), several::TABLES, ENGINES)?;
-    hold(&rt, rt.alloc(), words::TABLES, ENGINES)
-}
-
-#[test]
-fn empty_patterns_and_none(rt: HostRuntime) -> Result<(), Fail> {
-    hold(&rt, rt.alloc(), empty::TABLES, ENGINES)
-}
-
-#[test]
-fn bytes_taken_for_the_same(rt: HostRuntime) -> Result<(), Fail> {
-    hold(&rt, rt.alloc(), bytes::TABLES, ENGINES)
+fn small_texts(rt: HostRuntime) -> Result<(), Fail> {
+    for tables in SUBJECTS {
+        hold(&rt, rt.alloc(), tables, ENGINES)?;
+    }
+    Ok(())
 }

@@ -13,23 +13,7 @@ use std::alloc::Global;
 use std::process::Abort;
 use std::test::Fail;
 
-/// Asserts what a walk by the automaton of `a0` and `a` gives over `A0 a1`.
-fn gives<T: Abort, A: Automaton>(
-    rt: &T,
-    alloc: Global,
-    automaton: &A,
-    want: &[Pick],
-) -> Result<(), Fail> {
-    let row = Row {
-        shows: "the last setting decides",
-        asks: Asks::Walk,
-        text: Whole(b"A0 a1"),
-        gives: want,
-    };
-    row_holds_of_each(rt, alloc, automaton, StartKind::Unanchored, &row)
-}
-
-/// Asserts of what kind the automaton is, whether it holds a prefilter, and what it gives.
+/// Asserts of what kind the automaton is, whether it holds a prefilter, and what a walk by it gives over `A0 a1`.
 fn is_built<T: Abort, A: Automaton>(
     rt: &T,
     alloc: Global,
@@ -40,7 +24,13 @@ fn is_built<T: Abort, A: Automaton>(
 ) -> Result<(), Fail> {
     let facts = (automaton.match_kind(), automaton.prefilter().is_some());
     assert_eq!(rt; facts, (kind, held));
-    gives(rt, alloc, automaton, want)
+    let row = Row {
+        shows: "the last setting decides",
+        asks: Asks::Walk,
+        text: Whole(b"A0 a1"),
+        gives: want,
+    };
+    row_holds_of_each(rt, alloc, automaton, StartKind::Unanchored, &row)
 }
 
 /// Asserts the same of what the builder builds.

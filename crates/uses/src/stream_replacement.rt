@@ -219,6 +219,13 @@ const DONE: Row = Row {
     written: &[],
 };
 
+/// A fox, which a sloth replaces.
+const SLOTH: Row = Row {
+    patterns: &[b"fox"],
+    replacements: &[b"sloth"],
+    ..DONE
+};
+
 /// Three words in a text of twenty bytes, by one, two and seven bytes a read.
 const FOX: Row = Row {
     patterns: &[b"fox", b"brown", b"quick"],
@@ -291,13 +298,11 @@ const ROWS: &[Row] = &[
     },
     Row {
         shows: "all is written before the next read, but for what may still begin a match",
-        patterns: &[b"fox"],
-        replacements: &[b"sloth"],
         given: Given::Whole(b"a foxes"),
         by: &[By { most: 1, reads: 8 }],
         due: &[0, 1, 2, 2, 2, 7, 8, 9],
         written: &[b"a slothes"],
-        ..DONE
+        ..SLOTH
     },
     Row {
         shows: "each of three words is written before the next read, and of the rest no more than five bytes are kept back",
@@ -311,66 +316,52 @@ const ROWS: &[Row] = &[
     },
     Row {
         shows: "an empty read within a match ends the input",
-        patterns: &[b"fox"],
-        replacements: &[b"sloth"],
         given: Given::Pauses(b"fo", b"x"),
         by: &[By { most: 1, reads: 3 }, By { most: 2, reads: 2 }],
         written: &[b"fo"],
-        ..DONE
+        ..SLOTH
     },
     Row {
         shows: "an empty read after a match ends the input",
-        patterns: &[b"fox"],
-        replacements: &[b"sloth"],
         given: Given::Pauses(b"The fox", b" ran"),
         by: &[By { most: 1, reads: 8 }, By { most: 7, reads: 2 }],
         written: &[b"The sloth"],
-        ..DONE
+        ..SLOTH
     },
     Row {
         shows: "a read fails after a match and two bytes more",
-        patterns: &[b"fox"],
-        replacements: &[b"sloth"],
         given: Given::Fails(b"The fox r", b"uns"),
         by: &[By { most: 1, reads: 10 }, By { most: 4, reads: 4 }],
         outcome: FAILED_READ,
         written: &[b"The sloth r"],
-        ..DONE
+        ..SLOTH
     },
     Row {
         shows: "a read fails within a match",
-        patterns: &[b"fox"],
-        replacements: &[b"sloth"],
         given: Given::Fails(b"The fo", b"x ran"),
         by: &[By { most: 1, reads: 7 }, By { most: 7, reads: 2 }],
         outcome: FAILED_READ,
         written: &[b"The", b"The "],
-        ..DONE
+        ..SLOTH
     },
     Row {
         shows: "a read fails next to a match",
-        patterns: &[b"fox"],
-        replacements: &[b"sloth"],
         given: Given::Fails(b"The fox", b" ran"),
         by: &[By { most: 1, reads: 8 }, By { most: 2, reads: 5 }],
         outcome: FAILED_READ,
         written: &[b"The sloth"],
-        ..DONE
+        ..SLOTH
     },
     Row {
         shows: "the first read fails",
-        patterns: &[b"fox"],
-        replacements: &[b"sloth"],
         given: Given::Fails(b"", b"The fox ran"),
         by: &[By { most: 1, reads: 1 }],
         outcome: FAILED_READ,
         written: &[b""],
-        ..DONE
+        ..SLOTH
     },
     Row {
         shows: "a writer that takes one byte a call",
-        patterns: &[b"fox"],
-        replacements: &[b"sloth"],
         given: Given::Whole(b"The fox ran"),
         by: &[By { most: 1, reads: 12 }, By { most: 7, reads: 3 }],
         room: Room {
@@ -379,12 +370,10 @@ const ROWS: &[Row] = &[
             fails: false,
         },
         written: &[b"The sloth ran"],
-        ..DONE
+        ..SLOTH
     },
     Row {
         shows: "a write fails within what replaces a match, after one read of all",
-        patterns: &[b"fox"],
-        replacements: &[b"sloth"],
         given: Given::Whole(b"The fox"),
         by: &[By { most: 20, reads: 2 }],
         room: Room {
@@ -394,12 +383,10 @@ const ROWS: &[Row] = &[
         },
         outcome: Outcome::Write(ErrorKind::Interrupted),
         written: &[b"The s"],
-        ..DONE
+        ..SLOTH
     },
     Row {
         shows: "a write takes none within what replaces a match, after one read of all",
-        patterns: &[b"fox"],
-        replacements: &[b"sloth"],
         given: Given::Whole(b"The fox"),
         by: &[By { most: 20, reads: 2 }],
         room: Room {
@@ -409,7 +396,7 @@ const ROWS: &[Row] = &[
         },
         outcome: Outcome::WriteZero,
         written: &[b"The s"],
-        ..DONE
+        ..SLOTH
     },
     Row {
         shows: "the number of each pattern",
@@ -596,11 +583,9 @@ fn stops_there<T: Abort, A: Automaton>(
 const STOPS: &[Stops] = &[Stops {
     row: Row {
         shows: "a read that fails after a front of the text",
-        patterns: &[b"fox"],
-        replacements: &[b"sloth"],
         given: Given::Whole(b"The fox ran"),
         outcome: FAILED_READ,
-        ..DONE
+        ..SLOTH
     },
     written: &[
         &[b""],
@@ -618,12 +603,16 @@ const STOPS: &[Stops] = &[Stops {
 }];
 
 /// A stream that is replaced for a writer which has room for a front of the text alone: of no bytes, of one, and so on. That front is
-/// written. There are so many reads at most as the row has for each front.
-struct Fronts(Row);
+/// written. By this many bytes a read there are so many reads at most for each front.
+struct Fronts {
+    row: Row,
+    most: usize,
+    reads: &'static [usize],
+}
 
 impl Case for Fronts {
     fn asked(&self) -> Asked<'_> {
-        self.0.asked()
+        self.row.asked()
     }
 
     fn check<T: Abort, A: Automaton>(
@@ -636,79 +625,39 @@ impl Case for Fronts {
         if !serves(starts, Anchored::No) {
             return Ok(());
         }
-        let whole = self.0.written.first().ok_or("a text")?;
-        for (bytes, by) in self.0.by.iter().enumerate() {
+        let whole = self.row.written.first().ok_or("a text")?;
+        let most = self.most;
+        for (bytes, reads) in self.reads.iter().enumerate() {
             let front = whole.get(..bytes).ok_or("a front of the text")?;
             let room = Room {
                 bytes,
-                ..self.0.room
+                ..self.row.room
             };
-            self.0.writes(rt, alloc, automaton, *by, room, &[front])?;
+            let by = By {
+                most,
+                reads: *reads,
+            };
+            self.row.writes(rt, alloc, automaton, by, room, &[front])?;
         }
         Ok(())
     }
 }
 
 /// All is written before the next read but for what may begin a fox, and what replaces a match once the match was read.
-const FRONTS_BY: &[By] = &[
-    By { most: 1, reads: 1 },
-    By { most: 1, reads: 2 },
-    By { most: 1, reads: 3 },
-    By { most: 1, reads: 4 },
-    By { most: 1, reads: 7 },
-    By { most: 1, reads: 7 },
-    By { most: 1, reads: 7 },
-    By { most: 1, reads: 7 },
-    By { most: 1, reads: 7 },
-    By { most: 1, reads: 8 },
-    By { most: 1, reads: 9 },
-    By { most: 1, reads: 10 },
-    By { most: 1, reads: 11 },
-];
+const BY_ONE: &[usize] = &[1, 2, 3, 4, 7, 7, 7, 7, 7, 8, 9, 10, 11];
 
 /// The same by two bytes a read, and by seven.
-const FRONTS_BY_TWO: &[By] = &[
-    By { most: 2, reads: 1 },
-    By { most: 2, reads: 1 },
-    By { most: 2, reads: 2 },
-    By { most: 2, reads: 2 },
-    By { most: 2, reads: 4 },
-    By { most: 2, reads: 4 },
-    By { most: 2, reads: 4 },
-    By { most: 2, reads: 4 },
-    By { most: 2, reads: 4 },
-    By { most: 2, reads: 4 },
-    By { most: 2, reads: 5 },
-    By { most: 2, reads: 5 },
-    By { most: 2, reads: 6 },
-];
+const BY_TWO: &[usize] = &[1, 1, 2, 2, 4, 4, 4, 4, 4, 4, 5, 5, 6];
 
-const FRONTS_BY_SEVEN: &[By] = &[
-    By { most: 7, reads: 1 },
-    By { most: 7, reads: 1 },
-    By { most: 7, reads: 1 },
-    By { most: 7, reads: 1 },
-    By { most: 7, reads: 1 },
-    By { most: 7, reads: 1 },
-    By { most: 7, reads: 1 },
-    By { most: 7, reads: 1 },
-    By { most: 7, reads: 1 },
-    By { most: 7, reads: 2 },
-    By { most: 7, reads: 2 },
-    By { most: 7, reads: 2 },
-    By { most: 7, reads: 2 },
-];
+const BY_SEVEN: &[usize] = &[1, 1, 1, 1, 1, 1, 1, 1, 1, 2, 2, 2, 2];
 
 /// A writer that has room for a front of the text, and then takes none.
 const TAKES_NONE: Row = Row {
     shows: "a writer that has room for a front of the text, and then takes none",
-    patterns: &[b"fox"],
-    replacements: &[b"sloth"],
     given: Given::Whole(b"The fox ran"),
-    by: FRONTS_BY,
     outcome: Outcome::WriteZero,
     written: &[b"The sloth ran"],
-    ..DONE
+    ..SLOTH
 };
 
 /// A writer that has room for a front of the text, and then fails.
@@ -724,24 +673,36 @@ const FAILS: Row = Row {
 };
 
 const FRONTS: &[Fronts] = &[
-    Fronts(TAKES_NONE),
-    Fronts(Row {
-        by: FRONTS_BY_TWO,
-        ..TAKES_NONE
-    }),
-    Fronts(Row {
-        by: FRONTS_BY_SEVEN,
-        ..TAKES_NONE
-    }),
-    Fronts(FAILS),
-    Fronts(Row {
-        by: FRONTS_BY_TWO,
-        ..FAILS
-    }),
-    Fronts(Row {
-        by: FRONTS_BY_SEVEN,
-        ..FAILS
-    }),
+    Fronts {
+        row: TAKES_NONE,
+        most: 1,
+        reads: BY_ONE,
+    },
+    Fronts {
+        row: TAKES_NONE,
+        most: 2,
+        reads: BY_TWO,
+    },
+    Fronts {
+        row: TAKES_NONE,
+        most: 7,
+        reads: BY_SEVEN,
+    },
+    Fronts {
+        row: FAILS,
+        most: 1,
+        reads: BY_ONE,
+    },
+    Fronts {
+        row: FAILS,
+        most: 2,
+        reads: BY_TWO,
+    },
+    Fronts {
+        row: FAILS,
+        most: 7,
+        reads: BY_SEVEN,
+    },
 ];
 
 #[test]

@@ -90,6 +90,21 @@ impl Row<'_> {
         assert_eq!(rt; tally.reads.get(), reads, "{shows}");
         Ok(())
     }
+
+    /// Asserts the same by so many bytes a read as the row says, also with the matches that are held.
+    fn gives_each<T: Abort, A: Automaton>(
+        &self,
+        rt: &T,
+        alloc: Global,
+        automaton: &A,
+        text: &[u8],
+    ) -> Result<(), Fail> {
+        for most in self.most {
+            self.gives(rt, alloc, automaton, text, *most, false)?;
+            self.gives(rt, alloc, automaton, text, *most, true)?;
+        }
+        Ok(())
+    }
 }
 
 impl Case for Row<'_> {
@@ -112,11 +127,7 @@ impl Case for Row<'_> {
             return Ok(());
         }
         let text = self.text.concat(alloc)?;
-        for most in self.most {
-            self.gives(rt, alloc, automaton, &text, *most, false)?;
-            self.gives(rt, alloc, automaton, &text, *most, true)?;
-        }
-        Ok(())
+        self.gives_each(rt, alloc, automaton, &text)
     }
 }
 
@@ -133,30 +144,6 @@ fn ended_by(finds: &'static [Pick], len: usize) -> &'static [Pick] {
 
 /// A stream whose read fails after a front of the text: of no bytes, of one, and so on. The matches that end in that front are given.
 struct Stops(Row<'static>);
-
-impl Stops {
-    /// Asserts what is returned when the read after this many bytes fails.
-    fn gives_by<T: Abort, A: Automaton>(
-        &self,
-        rt: &T,
-        alloc: Global,
-        automaton: &A,
-        text: &[u8],
-        len: usize,
-    ) -> Result<(), Fail> {
-        let front = text.get(..len).ok_or("a front of the text")?;
-        let row = Row {
-            fails: true,
-            finds: ended_by(self.0.finds, len),
-            ..self.0
-        };
-        for most in row.most {
-            row.gives(rt, alloc, automaton, front, *most, false)?;
-            row.gives(rt, alloc, automaton, front, *most, true)?;
-        }
-        Ok(())
-    }
-}
 
 impl Case for Stops {
     fn asked(&self) -> Asked<'_> {
@@ -175,7 +162,12 @@ impl Case for Stops {
         }
         let text = self.0.text.concat(alloc)?;
         for len in 0..=text.len() {
-            self.gives_by(rt, alloc, automaton, &text, len)?;
+            let front = text.as_slice().get(..len).ok_or("a front of the text")?;
+            let row = Row {
+                finds: ended_by(self.0.finds, len),
+                ..self.0
+            };
+            row.gives_each(rt, alloc, automaton, front)?;
         }
         Ok(())
     }
@@ -302,6 +294,40 @@ const ROWS: &[Row<'static>] = &[
     },
 ];
 
+/// Texts of four parts with many bytes between them, by pieces of one byte, of a few and of all.
+const PARTED: Row<'static> = Row {
+    most: &[1, 7, 1000],
+    ..PLAIN
+};
+
+/// The greatest byte of all begins patterns.
+const GREATEST: Row<'static> = Row {
+    patterns: &[b"qx", b"\xFFx", b"\x00x"],
+    text: &[
+        b"\xFFx", POINTS, b"\xFFq", POINTS, b"qx\xFFx", POINTS, b"\xFFqx",
+    ],
+    finds: &[(1, 0, 2), (0, 400, 402), (1, 402, 404), (0, 603, 605)],
+    ..PARTED
+};
+
+/// The least byte of all does, and the greatest.
+const LEAST: Row<'static> = Row {
+    text: &[
+        b"\x00x",
+        POINTS,
+        b"\x00\xFF",
+        POINTS,
+        b"\xFFx\x00x",
+        POINTS,
+        b"\x00\xFFx",
+    ],
+    finds: &[(2, 0, 2), (1, 400, 402), (2, 402, 404), (1, 603, 605)],
+    ..GREATEST
+};
+
+/// Their patterns, and one whose first byte no text has.
+const OF_FOUR: &[&[u8]] = &[b"qx", b"\xFFx", b"\x00x", b"kx"];
+
 /// Streams in which a search stands in the start most of the time. It passes over bytes that leave it there: one to three bytes lead
 /// on, or too many to be looked for.
 const STARTS: &[Row<'static>] = &[
@@ -309,87 +335,49 @@ const STARTS: &[Row<'static>] = &[
         shows: "one first byte",
         patterns: &[b"qx"],
         text: &[b"qx", POINTS, b"qq", POINTS, b"qxqx", POINTS, b"qqx"],
-        most: &[1, 7, 1000],
         finds: &[(0, 0, 2), (0, 400, 402), (0, 402, 404), (0, 603, 605)],
-        ..PLAIN
+        ..PARTED
     },
     Row {
         shows: "two first bytes",
         patterns: &[b"qx", b"zx"],
         text: &[b"qx", POINTS, b"qz", POINTS, b"zxqx", POINTS, b"qzx"],
-        most: &[1, 7, 1000],
         finds: &[(0, 0, 2), (1, 400, 402), (0, 402, 404), (1, 603, 605)],
-        ..PLAIN
+        ..PARTED
     },
     Row {
         shows: "three first bytes, the greatest of all and the first pattern's",
-        patterns: &[b"qx", b"\xFFx", b"\x00x"],
-        text: &[
-            b"\xFFx", POINTS, b"\xFFq", POINTS, b"qx\xFFx", POINTS, b"\xFFqx",
-        ],
-        most: &[1, 7, 1000],
-        finds: &[(1, 0, 2), (0, 400, 402), (1, 402, 404), (0, 603, 605)],
-        ..PLAIN
+        ..GREATEST
     },
     Row {
         shows: "three first bytes, the least of all and the greatest",
-        patterns: &[b"qx", b"\xFFx", b"\x00x"],
-        text: &[
-            b"\x00x",
-            POINTS,
-            b"\x00\xFF",
-            POINTS,
-            b"\xFFx\x00x",
-            POINTS,
-            b"\x00\xFFx",
-        ],
-        most: &[1, 7, 1000],
-        finds: &[(2, 0, 2), (1, 400, 402), (2, 402, 404), (1, 603, 605)],
-        ..PLAIN
+        ..LEAST
     },
     Row {
         shows: "four first bytes, one of which no text has, the greatest of all and the first pattern's",
-        patterns: &[b"qx", b"\xFFx", b"\x00x", b"kx"],
-        text: &[
-            b"\xFFx", POINTS, b"\xFFq", POINTS, b"qx\xFFx", POINTS, b"\xFFqx",
-        ],
-        most: &[1, 7, 1000],
-        finds: &[(1, 0, 2), (0, 400, 402), (1, 402, 404), (0, 603, 605)],
-        ..PLAIN
+        patterns: OF_FOUR,
+        ..GREATEST
     },
     Row {
         shows: "four first bytes, the least of all and the greatest",
-        patterns: &[b"qx", b"\xFFx", b"\x00x", b"kx"],
-        text: &[
-            b"\x00x",
-            POINTS,
-            b"\x00\xFF",
-            POINTS,
-            b"\xFFx\x00x",
-            POINTS,
-            b"\x00\xFFx",
-        ],
-        most: &[1, 7, 1000],
-        finds: &[(2, 0, 2), (1, 400, 402), (2, 402, 404), (1, 603, 605)],
-        ..PLAIN
+        patterns: OF_FOUR,
+        ..LEAST
     },
     Row {
         shows: "a letter in both cases and a digit: three first bytes",
         patterns: &[b"qX", b"7x"],
         letters: Folded,
         text: &[b"Qx", POINTS, b"Q7", POINTS, b"7XQx", POINTS, b"Q7X"],
-        most: &[1, 7, 1000],
         finds: &[(0, 0, 2), (1, 400, 402), (0, 402, 404), (1, 603, 605)],
-        ..PLAIN
+        ..PARTED
     },
     Row {
         shows: "two letters in both cases: four first bytes",
         patterns: &[b"qX", b"Kx"],
         letters: Folded,
         text: &[b"qx", POINTS, b"qk", POINTS, b"kXqx", POINTS, b"qkX"],
-        most: &[1, 7, 1000],
         finds: &[(0, 0, 2), (1, 400, 402), (0, 402, 404), (1, 603, 605)],
-        ..PLAIN
+        ..PARTED
     },
 ];
 
@@ -405,71 +393,72 @@ const LONG: Row<'static> = Row {
     finds: &[(0, 65_534, 65_538), (0, 131_066, 131_070)],
 };
 
+/// One pattern, and a reader that ends.
+const ENDS: Row<'static> = Row {
+    patterns: &[b"fox"],
+    ..PLAIN
+};
+
+/// The same pattern, and a reader that fails.
+const FAILS: Row<'static> = Row {
+    fails: true,
+    ..ENDS
+};
+
 /// Readers that end or fail, and one whose reads give more than one match.
 const SCRIPTED: &[Row<'static>] = &[
     Row {
         shows: "a read that fails after a match",
-        patterns: &[b"fox"],
         text: &[b"The fox r"],
         after: b"uns",
-        fails: true,
         most: &[1, 9],
         finds: &[(0, 4, 7)],
-        ..PLAIN
+        ..FAILS
     },
     Row {
         shows: "a read that fails next to a match",
-        patterns: &[b"fox"],
         text: &[b"The fox"],
         after: b" ran",
-        fails: true,
         most: &[1, 7],
         finds: &[(0, 4, 7)],
-        ..PLAIN
+        ..FAILS
     },
     Row {
         shows: "a read that fails within a match",
-        patterns: &[b"fox"],
         text: &[b"The fo"],
         after: b"x ran",
-        fails: true,
         most: &[1, 2],
-        ..PLAIN
+        ..FAILS
     },
     Row {
         shows: "a first read that fails",
-        patterns: &[b"fox"],
         text: &[b""],
         after: b"fox",
-        fails: true,
         most: &[1],
-        ..PLAIN
+        ..FAILS
     },
     Row {
         shows: "an empty read within a match ends the input",
-        patterns: &[b"fox"],
         text: &[b"fo"],
         after: b"x",
         most: &[1, 2],
-        ..PLAIN
+        ..ENDS
     },
     Row {
         shows: "an empty read between two matches ends the input",
-        patterns: &[b"fox"],
         text: &[b"a fox"],
         after: b" fox",
         most: &[1, 2],
         finds: &[(0, 2, 5)],
-        ..PLAIN
+        ..ENDS
     },
     Row {
         shows: "a second match that was read with the first is given before the next read",
-        patterns: &[b"fox"],
         text: &[b"fox fox fox"],
         after: b"fox",
         most: &[7],
         finds: &[(0, 0, 3), (0, 4, 7), (0, 8, 11)],
-        ..PLAIN
+        ..ENDS
     },
 ];
 
@@ -477,12 +466,11 @@ const SCRIPTED: &[Row<'static>] = &[
 const STOPS: &[Stops] = &[
     Stops(Row {
         shows: "a read that fails before, within or after a match",
-        patterns: &[b"fox"],
         text: &[b"The fox ran"],
         after: b"x",
         most: &[1, 2, 7],
         finds: &[(0, 4, 7)],
-        ..PLAIN
+        ..FAILS
     }),
     Stops(Row {
         shows: "a read that fails about each of several matches",
@@ -491,7 +479,7 @@ const STOPS: &[Stops] = &[
         after: b"p",
         most: &[1, 2, 7],
         finds: &[(2, 0, 3), (2, 11, 14), (2, 22, 25)],
-        ..PLAIN
+        ..FAILS
     }),
 ];
 

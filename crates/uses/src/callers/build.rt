@@ -1,11 +1,10 @@
 //! Building automata.
-ghost use Rattle.std.specs.Prelude.{◌≡◌, ◌↔◌, false, IfOk, IfErr, IsTrue, None};
-ghost use Rattle.ac_input.specs.Dictionary.{Dictionary, dictionary_of, whole};
+ghost use Rattle.std.specs.Prelude.{◌≡◌, ◌↔◌, IfOk, IfErr, IsTrue};
+ghost use Rattle.ac_input.specs.Dictionary.{Dictionary};
 ghost use Rattle.ac_literal.specs.Packed.{bytes_of};
 ghost use Rattle.ac_noncontiguous.specs.Reads.{built_as};
 ghost use Rattle.ac_noncontiguous.specs.declared.error.BuildErrorKind.TheVariants.{Memory};
-ghost use Rattle.aho_corasick.specs.AhoCorasick.{HasOccurrence};
-ghost use Rattle.uses.specs.Callers.{FindsBytes, FindsFolded};
+ghost use Rattle.uses.specs.Callers.{FindsBytes, FindsFolded, IsPlain, OccursIn};
 
 use ac_automaton::automaton::Automaton;
 use ac_input::pairing::Pairing;
@@ -40,9 +39,7 @@ pub fn thrifty(
     kind: MatchKind,
     pairing: Pairing,
 ) -> Result<NFA, BuildError>
-    ensures dictionary { IfOk result (λ nfa. (built_as nfa).dictionary
-        ≡ dictionary_of (bytes_of patterns.now) pairing kind) }
-    ensures prefilter { IfOk result (λ nfa. (built_as nfa).prefilter ≡ None) }
+    ensures { IfOk result (λ nfa. IsPlain (bytes_of patterns.now) pairing kind (built_as nfa)) }
 {
     let mut builder = NFA::builder();
     builder
@@ -63,7 +60,7 @@ pub fn of_nothing(alloc: Global) -> Result<NFA, BuildError>
 /// Whether one of the patterns occurs in the text, from the patterns to the result.
 pub fn occurs_in(alloc: Global, patterns: &[&[u8]], text: &[u8]) -> Result<bool, BuildError>
     ensures { IfOk result (λ found. (m : Dictionary) × FindsBytes (bytes_of patterns.now) m
-        × (IsTrue found ↔ HasOccurrence (whole m text.now false))) }
+        × (IsTrue found ↔ OccursIn m text.now)) }
 {
     let nfa = NFA::new(alloc, patterns)?;
     Ok(nfa.try_find(&Input::new(text)).unwrap().is_some())

@@ -1,12 +1,10 @@
 //! Searches for one match.
-ghost use Rattle.std.specs.Prelude.{◌≡◌, ◌↔◌, ◌+◌, ◌-◌, ◌*◌, ◌<◌, ◌≤◌, ℕ, List, false, length, option_map, IfOk, IfSome, IsTrue};
+ghost use Rattle.std.specs.Prelude.{◌≡◌, ◌↔◌, ◌+◌, ◌-◌, ◌*◌, ◌<◌, ◌≤◌, false, length, option_map, IfOk, IfSome, IsTrue};
 ghost use Rattle.ac_input.specs.declared.search.MatchKind.TheVariants.{Standard};
 ghost use Rattle.ac_input.specs.Dictionary.{whole};
 ghost use Rattle.ac_input.specs.Input.{IsSpanOf};
-ghost use Rattle.ac_input.specs.Occurrence.{Occurrence, Occurs};
 ghost use Rattle.ac_input.specs.Steps.{looked_of};
-ghost use Rattle.aho_corasick.specs.AhoCorasick.{HasOccurrence};
-ghost use Rattle.uses.specs.Callers.{BeginsWithPattern, IsFirstEnd, LiesIn, first_in};
+ghost use Rattle.uses.specs.Callers.{BeginsWithPattern, IsFirstEnd, IsMostBytes, LiesIn, OccursIn, first_in};
 
 use ac_automaton::automaton::Automaton;
 use ac_automaton::error::MatchError;
@@ -16,8 +14,8 @@ use ac_input::steps::Steps;
 
 /// Whether any of the patterns occurs in the text.
 pub fn contains_any<A: Automaton>(automaton: &A, text: &[u8]) -> Result<bool, MatchError>
-    ensures { IfOk result (λ found. IsTrue found
-        ↔ HasOccurrence (whole (A.built automaton.now).dictionary text.now false)) }
+    ensures { IfOk result (λ it. IsTrue it
+        ↔ OccursIn (A.built automaton.now).dictionary text.now) }
 {
     Ok(automaton.try_find(&Input::new(text))?.is_some())
 }
@@ -78,17 +76,14 @@ pub fn first_match_counted<A: Automaton>(
 
 /// Whether the text is long enough for a match: no pattern occurs in a text that is shorter than the shortest one.
 pub fn may_match<A: Automaton>(automaton: &A, text: &[u8]) -> bool
-    ensures { HasOccurrence (whole (A.built automaton.now).dictionary text.now false)
-        → IsTrue result }
+    ensures { OccursIn (A.built automaton.now).dictionary text.now → IsTrue result }
 {
     text.len() >= automaton.min_pattern_len()
 }
 
 /// How many bytes an occurrence has at most. If you cut a text, hold back this many bytes, and you lose none.
 pub fn most_bytes<A: Automaton>(automaton: &A) -> usize
-    ensures { (text : List ℕ) (o : Occurrence)
-        → Occurs (whole (A.built automaton.now).dictionary text false) o
-        → o.end ≤ o.start + result }
+    ensures { IsMostBytes (A.built automaton.now).dictionary result }
 {
     automaton.max_pattern_len()
 }

@@ -1,12 +1,10 @@
 //! The front: how it is built, and what it says of itself.
-ghost use Rattle.std.specs.Prelude.{◌≡◌, ◌≢◌, ◌↔◌, ◌+◌, ◌<◌, ◌≤◌, ℕ, List, Some, None, false, IfOk, IfSome, IsTrue};
-ghost use Rattle.ac_input.specs.Dictionary.{dictionary_of, whole};
-ghost use Rattle.ac_input.specs.Occurrence.{Occurrence, Occurs};
+ghost use Rattle.std.specs.Prelude.{◌≡◌, ◌≢◌, ◌↔◌, ◌<◌, Some, None, false, IfOk, IfSome, IsTrue};
 ghost use Rattle.ac_literal.specs.Packed.{bytes_of};
 ghost use Rattle.ac_input.specs.declared.search.MatchKind.TheVariants.{Standard};
 ghost use Rattle.ac_input.specs.declared.search.StartKind.TheVariants.{Unanchored};
-ghost use Rattle.aho_corasick.specs.AhoCorasick.{HasOccurrence, MeansSame, built_as, supported_by, pattern_count};
-ghost use Rattle.uses.specs.Callers.{FindsBytes, FindsFolded};
+ghost use Rattle.aho_corasick.specs.AhoCorasick.{MeansSame, built_as, supported_by, pattern_count};
+ghost use Rattle.uses.specs.Callers.{FindsBytes, FindsFolded, IsMostBytes, IsPlain, OccursIn};
 
 use ac_input::pairing::Pairing;
 use ac_input::primitives::PatternID;
@@ -42,10 +40,9 @@ pub fn thrifty(
     pairing: Pairing,
     starts: StartKind,
 ) -> Result<AhoCorasick, BuildError>
-    ensures dictionary { IfOk result (λ ac. (built_as ac).dictionary
-        ≡ dictionary_of (bytes_of patterns.now) pairing Standard) }
+    ensures plain { IfOk result
+        (λ ac. IsPlain (bytes_of patterns.now) pairing Standard (built_as ac)) }
     ensures starts { IfOk result (λ ac. ac.start_kind ≡ starts) }
-    ensures prefilter { IfOk result (λ ac. (built_as ac).prefilter ≡ None) }
 {
     let mut builder = AhoCorasickBuilder::new();
     builder
@@ -106,16 +103,14 @@ pub fn can_list(ac: &AhoCorasick) -> bool
 
 /// Whether the text is long enough for a match: no pattern occurs in a text that is shorter than the shortest one.
 pub fn may_match(ac: &AhoCorasick, text: &[u8]) -> bool
-    ensures { HasOccurrence (whole (built_as ac.now).dictionary text.now false)
-        → IsTrue result }
+    ensures { OccursIn (built_as ac.now).dictionary text.now → IsTrue result }
 {
     text.len() >= ac.min_pattern_len()
 }
 
 /// How many bytes an occurrence has at most.
 pub fn most_bytes(ac: &AhoCorasick) -> usize
-    ensures { (text : List ℕ) (o : Occurrence)
-        → Occurs (whole (built_as ac.now).dictionary text false) o → o.end ≤ o.start + result }
+    ensures { IsMostBytes (built_as ac.now).dictionary result }
 {
     ac.max_pattern_len()
 }

@@ -9,8 +9,8 @@ ghost use Rattle.ac_input.specs.Steps.{looked_of};
 ghost use Rattle.ac_literal.specs.Packed.{search_kind};
 ghost use Rattle.ac_automaton.specs.Automaton.{listing_in};
 ghost use Rattle.ac_automaton.specs.Replace.{matches_in};
-ghost use Rattle.aho_corasick.specs.AhoCorasick.{HasOccurrence, built_as, supported_by};
-ghost use Rattle.uses.specs.Callers.{BeginsWithPattern, first_in};
+ghost use Rattle.aho_corasick.specs.AhoCorasick.{built_as, supported_by};
+ghost use Rattle.uses.specs.Callers.{BeginsWithPattern, OccursIn, first_in};
 
 use ac_input::search::{Anchored, Input, Match};
 use ac_input::steps::Steps;
@@ -22,8 +22,7 @@ use std::alloc::{AllocError, Global};
 /// Whether any of the patterns occurs in the text.
 pub fn contains_any(ac: &AhoCorasick, text: &[u8]) -> bool
     requires { supported_by ac.now Anchored.No }
-    ensures { IsTrue result
-        ↔ HasOccurrence (whole (built_as ac.now).dictionary text.now false) }
+    ensures { IsTrue result ↔ OccursIn (built_as ac.now).dictionary text.now }
 {
     ac.is_match(Input::new(text))
 }
@@ -38,7 +37,7 @@ pub fn first_match(ac: &AhoCorasick, text: &[u8]) -> Option<Match>
 
 /// Whether one of the patterns begins the text, where the automaton serves anchored searches.
 pub fn begins_with_any(ac: &AhoCorasick, text: &[u8]) -> Result<bool, MatchError>
-    ensures { IfOk result (λ begins. IsTrue begins
+    ensures { IfOk result (λ it. IsTrue it
         ↔ BeginsWithPattern (built_as ac.now).dictionary text.now) }
 {
     let found = ac.try_find(Input::new(text).anchored(Anchored::Yes))?;
@@ -123,7 +122,7 @@ pub fn occurrence(ac: &AhoCorasick, text: &[u8], index: usize) -> Option<Match>
 /// The first occurrence in the text: of those that end first the one that starts first.
 pub fn first_occurrence(ac: &AhoCorasick, text: &[u8]) -> Result<Option<Match>, MatchError>
     ensures { IfOk result
-        (λ found. found ≡ slice_get (listing_in (built_as ac.now) (whole_of text.now)) 0) }
+        (λ it. it ≡ slice_get (listing_in (built_as ac.now) (whole_of text.now)) 0) }
 {
     let mut state = OverlappingState::start();
     ac.try_find_overlapping(Input::new(text), &mut state)?;

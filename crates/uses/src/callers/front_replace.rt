@@ -1,11 +1,9 @@
 //! The front: replacement in memory.
-ghost use Rattle.std.specs.Prelude.{◌≡◌, ◌++◌, false, length, map, IfOk, OnOk};
+ghost use Rattle.std.specs.Prelude.{◌≡◌, ◌++◌, length, map, IfOk, OnOk};
 ghost use Rattle.std.specs.String.{string_bytes};
-ghost use Rattle.ac_input.specs.Dictionary.{whole};
 ghost use Rattle.ac_input.specs.Same.{IsUnpaired};
-ghost use Rattle.ac_automaton.specs.Replace.{text_matches_in};
-ghost use Rattle.aho_corasick.specs.AhoCorasick.{HasOccurrence, built_as, supported_by, pattern_count};
-ghost use Rattle.uses.specs.Callers.{with_first};
+ghost use Rattle.aho_corasick.specs.AhoCorasick.{built_as, supported_by, pattern_count};
+ghost use Rattle.uses.specs.Callers.{AppendsOne, KeepsUnmatched};
 
 use ac_input::search::Anchored;
 use aho_corasick::{AhoCorasick, ReplaceError};
@@ -20,8 +18,8 @@ pub fn replaced_text(
 ) -> Result<String, AllocError>
     requires supports { supported_by ac.now Anchored.No }
     requires one_each { length replacements.now ≡ pattern_count ac.now }
-    ensures { ¬ HasOccurrence (whole (built_as ac.now).dictionary text.now false)
-        → IfOk result (λ replaced. string_bytes replaced ≡ text.now) }
+    ensures { IfOk result
+        (λ it. KeepsUnmatched (built_as ac.now) text.now (string_bytes it)) }
 {
     ac.replace_all(alloc, text, replacements)
 }
@@ -34,8 +32,8 @@ pub fn try_replaced_text(
     replacements: &[&str],
 ) -> Result<String, ReplaceError>
     requires { length replacements.now ≡ pattern_count ac.now }
-    ensures { ¬ HasOccurrence (whole (built_as ac.now).dictionary text.now false)
-        → IfOk result (λ replaced. string_bytes replaced ≡ text.now) }
+    ensures { IfOk result
+        (λ it. KeepsUnmatched (built_as ac.now) text.now (string_bytes it)) }
 {
     ac.try_replace_all(alloc, text, replacements)
 }
@@ -78,8 +76,8 @@ pub fn append_first_replaced(
     dst: &mut String,
 ) -> Result<(), AllocError>
     requires { supported_by ac.now Anchored.No }
-    ensures { OnOk result (string_bytes dst.new ≡ string_bytes dst.old
-        ++ with_first text.now replacement.now (text_matches_in (built_as ac.now) text.now)) }
+    ensures { OnOk result
+        (AppendsOne (built_as ac.now) text.now replacement.now dst.old dst.new) }
 {
     ac.replace_all_with(alloc, text, dst, |_, _, dst| {
         dst.push_str(replacement)?;
@@ -95,8 +93,8 @@ pub fn try_append_first_replaced(
     replacement: &str,
     dst: &mut String,
 ) -> Result<(), ReplaceError>
-    ensures { OnOk result (string_bytes dst.new ≡ string_bytes dst.old
-        ++ with_first text.now replacement.now (text_matches_in (built_as ac.now) text.now)) }
+    ensures { OnOk result
+        (AppendsOne (built_as ac.now) text.now replacement.now dst.old dst.new) }
 {
     ac.try_replace_all_with(alloc, text, dst, |_, _, dst| {
         dst.push_str(replacement)?;

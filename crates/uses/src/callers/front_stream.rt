@@ -1,12 +1,12 @@
 //! The front: streams. Readers and writers here are slices and `Vec`s, whose bytes a contract can name.
-ghost use Rattle.std.specs.Prelude.{◌≡◌, ◌+◌, ◌*◌, ◌≤◌, ◌++◌, [], false, length, map, IfOk, OnOk};
+ghost use Rattle.std.specs.Prelude.{◌≡◌, ◌+◌, ◌*◌, ◌≤◌, ◌++◌, [], false, length, IfOk, OnOk};
 ghost use Rattle.ac_input.specs.Steps.{looked_of};
 ghost use Rattle.ac_automaton.specs.Replace.{matches_in};
 ghost use Rattle.ac_automaton.specs.Stream.{CanStream, read_by};
 ghost use Rattle.ac_automaton.specs.StreamIter.{progress_of};
-ghost use Rattle.ac_automaton.specs.StreamReplace.{replaced_in};
 ghost use Rattle.ac_automaton.specs.Watched.{has_ended, inner_of};
 ghost use Rattle.aho_corasick.specs.AhoCorasick.{built_as, supported_by, pattern_count};
+ghost use Rattle.uses.specs.Callers.{IsWritten};
 
 use ac_input::search::Match;
 use ac_input::steps::Steps;
@@ -49,8 +49,8 @@ pub fn replaced(
     replacements: &[&[u8]],
 ) -> Result<(), StreamError>
     requires { length replacements.now ≡ pattern_count ac.now }
-    ensures { OnOk result ((inner_of writer.new).items ≡ (inner_of writer.old).items
-        ++ replaced_in (built_as ac.now) (map (λ r. r.now) replacements.now) text.now) }
+    ensures { OnOk result
+        (IsWritten (built_as ac.now) replacements.now text.now writer.old writer.new) }
 {
     let mut reader = Watched::new(text);
     ac.try_stream_replace_all(alloc, &mut reader, writer, replacements)

@@ -37,8 +37,8 @@ pub fn count_matches<A: Automaton>(automaton: &A, text: &[u8]) -> usize
 /// How many bytes of the text lie in matches. Matches never overlap, so they are no more than the text has.
 pub fn bytes_matched<A: Automaton>(automaton: &A, text: &[u8]) -> Result<usize, MatchError>
     ensures value { IfOk result
-        (λ bytes. bytes ≡ bytes_in (matches_in (A.built automaton.now) text.now)) }
-    ensures within { IfOk result (λ bytes. bytes ≤ length text.now) }
+        (λ n. n ≡ bytes_in (matches_in (A.built automaton.now) text.now)) }
+    ensures within { IfOk result (λ n. n ≤ length text.now) }
 {
     let mut bytes = 0;
     for found in automaton.try_find_iter(Input::new(text))? {

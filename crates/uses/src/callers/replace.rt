@@ -1,11 +1,8 @@
 //! Replacement in memory.
-ghost use Rattle.std.specs.Prelude.{◌≡◌, ◌++◌, false, length, map, IfOk, OnOk};
+ghost use Rattle.std.specs.Prelude.{◌≡◌, ◌++◌, length, map, IfOk, OnOk};
 ghost use Rattle.std.specs.String.{string_bytes};
-ghost use Rattle.ac_input.specs.Dictionary.{whole};
 ghost use Rattle.ac_input.specs.Same.{IsUnpaired};
-ghost use Rattle.ac_automaton.specs.Replace.{text_matches_in};
-ghost use Rattle.aho_corasick.specs.AhoCorasick.{HasOccurrence};
-ghost use Rattle.uses.specs.Callers.{with_first};
+ghost use Rattle.uses.specs.Callers.{AppendsOne, KeepsUnmatched};
 
 use ac_automaton::automaton::Automaton;
 use ac_automaton::error::ReplaceError;
@@ -33,8 +30,8 @@ pub fn replaced_text<A: Automaton>(
     replacements: &[&str],
 ) -> Result<String, ReplaceError>
     requires { length replacements.now ≡ length (A.built automaton.now).dictionary.patterns }
-    ensures { ¬ HasOccurrence (whole (A.built automaton.now).dictionary text.now false)
-        → IfOk result (λ replaced. string_bytes replaced ≡ text.now) }
+    ensures { IfOk result
+        (λ it. KeepsUnmatched (A.built automaton.now) text.now (string_bytes it)) }
 {
     automaton.try_replace_all(alloc, text, replacements)
 }
@@ -47,8 +44,8 @@ pub fn append_first_replaced<A: Automaton>(
     replacement: &str,
     dst: &mut String,
 ) -> Result<(), ReplaceError>
-    ensures { OnOk result (string_bytes dst.new ≡ string_bytes dst.old
-        ++ with_first text.now replacement.now (text_matches_in (A.built automaton.now) text.now)) }
+    ensures { OnOk result
+        (AppendsOne (A.built automaton.now) text.now replacement.now dst.old dst.new) }
 {
     automaton.try_replace_all_with(alloc, text, dst, |_, _, dst| {
         dst.push_str(replacement)?;

@@ -5,8 +5,8 @@ ghost use Rattle.ac_input.specs.Steps.{looked_of};
 ghost use Rattle.ac_automaton.specs.Replace.{matches_in};
 ghost use Rattle.ac_automaton.specs.Stream.{AreAllGiven, CanBeCounted, read_by};
 ghost use Rattle.ac_automaton.specs.StreamIter.{progress_of, reader_name, reader_of};
-ghost use Rattle.ac_automaton.specs.StreamReplace.{replaced_in};
 ghost use Rattle.ac_automaton.specs.Watched.{failures_of, has_ended, inner_of};
+ghost use Rattle.uses.specs.Callers.{IsWritten};
 
 use ac_automaton::automaton::Automaton;
 use ac_automaton::error::StreamError;
@@ -43,7 +43,7 @@ pub fn next_match<A: Automaton, R: Read>(
 ) -> Result<Option<Match>, StreamError>
     requires { has_ended (reader_of matches.old) ≡ false }
     ensures open { IfOk result
-        (λ found. IfSome found (λ o. has_ended (reader_of matches.new) ≡ false)) }
+        (λ it. IfSome it (λ o. has_ended (reader_of matches.new) ≡ false)) }
     ensures same_reference { reader_name matches.new ≡ reader_name matches.old }
 {
     match matches.next_counted(&mut Steps::new()) {
@@ -86,8 +86,8 @@ pub fn replaced<A: Automaton>(
     replacements: &[&[u8]],
 ) -> Result<(), StreamError>
     requires { length replacements.now ≡ length (A.built automaton.now).dictionary.patterns }
-    ensures { OnOk result ((inner_of writer.new).items ≡ (inner_of writer.old).items
-        ++ replaced_in (A.built automaton.now) (map (λ r. r.now) replacements.now) text.now) }
+    ensures { OnOk result
+        (IsWritten (A.built automaton.now) replacements.now text.now writer.old writer.new) }
 {
     let mut reader = Watched::new(text);
     automaton.try_stream_replace_all(alloc, &mut reader, writer, replacements)

@@ -1,8 +1,7 @@
 //! The contiguous NFA and the DFA, built and read.
-ghost use Rattle.std.specs.Prelude.{◌≡◌, ◌↔◌, ◌<◌, true, length, List, ℕ, IfOk, IsTrue, None};
+ghost use Rattle.std.specs.Prelude.{◌≡◌, ◌↔◌, ◌<◌, true, length, List, ℕ, IfOk, IsTrue};
 ghost use Rattle.ac_input.specs.declared.search.Anchored.TheVariants.{Yes};
 ghost use Rattle.ac_input.specs.Dfa.{dfa_states};
-ghost use Rattle.ac_input.specs.Dictionary.{dictionary_of};
 ghost use Rattle.ac_literal.specs.Packed.{bytes_of};
 ghost use Rattle.ac_noncontiguous.specs.ReadCalls.{classes_in, state_len};
 ghost use Rattle.ac_noncontiguous.specs.Reads as sources;
@@ -11,7 +10,7 @@ ghost use Rattle.ac_tables.specs.ContiguousReads as nfas;
 ghost use Rattle.ac_tables.specs.ContiguousTable.{AreWordsOf};
 ghost use Rattle.ac_tables.specs.DfaBuild.{determined, start_kind_in, states_in, transitions_in};
 ghost use Rattle.ac_tables.specs.DfaReads as dfas;
-ghost use Rattle.uses.specs.Callers.{FindsBytes, FindsFolded};
+ghost use Rattle.uses.specs.Callers.{FindsBytes, FindsFolded, IsPlain};
 
 use ac_input::pairing::Pairing;
 use ac_input::search::{MatchKind, StartKind};
@@ -50,9 +49,8 @@ pub fn contiguous_plain(
     kind: MatchKind,
     pairing: Pairing,
 ) -> Result<contiguous::NFA, BuildError>
-    ensures dictionary { IfOk result (λ nfa. (nfas.built_as nfa).dictionary
-        ≡ dictionary_of (bytes_of patterns.now) pairing kind) }
-    ensures prefilter { IfOk result (λ nfa. (nfas.built_as nfa).prefilter ≡ None) }
+    ensures { IfOk result
+        (λ nfa. IsPlain (bytes_of patterns.now) pairing kind (nfas.built_as nfa)) }
 {
     let mut builder = contiguous::Builder::new();
     builder.match_kind(kind).pairing(pairing).prefilter(false);
@@ -123,9 +121,8 @@ pub fn dfa_plain(
     pairing: Pairing,
     starts: StartKind,
 ) -> Result<DFA, BuildError>
-    ensures dictionary { IfOk result (λ dfa. (dfas.built_as dfa).dictionary
-        ≡ dictionary_of (bytes_of patterns.now) pairing kind) }
-    ensures prefilter { IfOk result (λ dfa. (dfas.built_as dfa).prefilter ≡ None) }
+    ensures plain { IfOk result
+        (λ dfa. IsPlain (bytes_of patterns.now) pairing kind (dfas.built_as dfa)) }
     ensures starts { IfOk result (λ dfa. start_kind_in dfa ≡ starts) }
 {
     let mut builder = dfa::Builder::new();

@@ -38,37 +38,12 @@ fn conversions() -> [bool; 9] {
     ]
 }
 
-/// The number that doesn't fit.
-const PAST: Option<u64> = Some(2147483647);
-
-#[test]
-fn numbers_that_fit(rt: HostRuntime) {
-    for (number, fits) in [
-        (0, true),
-        (2147483646, true),
-        (2147483647, false),
-        (u32::MAX, false),
-    ] {
-        assert_eq!(rt; taken(number), [fits; 12], "{number}");
-    }
-    assert_eq!(rt; conversions(), [true; 9]);
-    let facts = [
-        SmallIndex::new(2147483647).err().map(|it| it.attempted()) == PAST,
-        PatternID::new(2147483647).err().map(|it| it.attempted()) == PAST,
-        StateID::new(2147483647).err().map(|it| it.attempted()) == PAST,
-        SmallIndex::new(usize::MAX).err().map(|it| it.attempted()) == Some(u64::MAX),
-        PatternID::try_from(u64::MAX).err().map(|it| it.attempted()) == Some(u64::MAX),
-    ];
-    assert_eq!(rt; facts, [true; 5]);
-}
-
 /// The greatest number by each of its calls, and the least one.
-#[test]
-fn greatest_and_least_numbers(rt: HostRuntime) {
+fn greatest_and_least() -> [bool; 18] {
     let index = SmallIndex::MAX;
     let pattern = PatternID::MAX;
     let state = StateID::MAX;
-    let facts = [
+    [
         [index.as_usize(), pattern.as_usize(), state.as_usize()] == [2147483646; 3],
         [index.as_u64(), pattern.as_u64(), state.as_u64()] == [2147483646; 3],
         [index.as_u32(), pattern.as_u32(), state.as_u32()] == [2147483646; 3],
@@ -87,6 +62,30 @@ fn greatest_and_least_numbers(rt: HostRuntime) {
         state > StateID::ZERO,
         SmallIndex::from(pattern) == index,
         SmallIndex::from(state) == index,
+    ]
+}
+
+/// The number that doesn't fit.
+const PAST: Option<u64> = Some(2147483647);
+
+#[test]
+fn numbers(rt: HostRuntime) {
+    for (number, fits) in [
+        (0, true),
+        (2147483646, true),
+        (2147483647, false),
+        (u32::MAX, false),
+    ] {
+        assert_eq!(rt; taken(number), [fits; 12], "{number}");
+    }
+    assert_eq!(rt; conversions(), [true; 9]);
+    assert_eq!(rt; greatest_and_least(), [true; 18]);
+    let facts = [
+        SmallIndex::new(2147483647).err().map(|it| it.attempted()) == PAST,
+        PatternID::new(2147483647).err().map(|it| it.attempted()) == PAST,
+        StateID::new(2147483647).err().map(|it| it.attempted()) == PAST,
+        SmallIndex::new(usize::MAX).err().map(|it| it.attempted()) == Some(u64::MAX),
+        PatternID::try_from(u64::MAX).err().map(|it| it.attempted()) == Some(u64::MAX),
     ];
-    assert_eq!(rt; facts, [true; 18]);
+    assert_eq!(rt; facts, [true; 5]);
 }

@@ -5,6 +5,6 @@ use Rattle.uses.proofs.ReplaceLemmas.{replaced-none}
 use Rattle.uses.proofs.callers.front_replace.replaced_text.Goals as goal
 
 pub returns : goal.returns
-returns c = λ none.
-    let same = replaced-none (built_as c.args.ac.now) c.args.text.now (map (λ p. p.now) c.args.replacements.now) none in
-    IfOk-weaker c.replace_all.result _ _ (λ t is. is ∙ same) c.replace_all.ensures
+returns c =
+    let same = replaced-none (built_as c.args.ac.now) c.args.text.now (map (λ p. p.now) c.args.replacements.now) in
+    IfOk-weaker c.replace_all.result _ _ (λ t is none. is ∙ same none) c.replace_all.ensures

@@ -7,7 +7,7 @@ use Rattle.uses.proofs.ReplaceLemmas.{if-replaced, replaced-none}
 use Rattle.uses.proofs.callers.front_replace.try_replaced_text.Goals as goal
 
 pub returns : goal.returns
-returns c = λ none.
+returns c =
     let b = built_as c.args.ac.now in
-    let same = replaced-none b c.args.text.now (map (λ p. p.now) c.args.replacements.now) none in
-    IfOk-weaker c.try_replace_all.result _ _ (λ t is. is ∙ same) (if-replaced string_bytes text_matches_in b (supported_by c.args.ac.now) c.args.text.now c.args.replacements.now c.try_replace_all.result c.try_replace_all.ensures)
+    let same = replaced-none b c.args.text.now (map (λ p. p.now) c.args.replacements.now) in
+    IfOk-weaker c.try_replace_all.result _ _ (λ t is none. is ∙ same none) (if-replaced string_bytes text_matches_in b (supported_by c.args.ac.now) c.args.text.now c.args.replacements.now c.try_replace_all.result c.try_replace_all.ensures)

@@ -6,7 +6,7 @@ use Rattle.uses.proofs.ReplaceLemmas.{if-replaced, replaced-none}
 use Rattle.uses.proofs.callers.replace.replaced_text.Goals as goal
 
 pub returns : goal.returns
-returns g c = λ none.
+returns g c =
     let b = g.A.Automaton.built c.args.automaton.now in
-    let same = replaced-none b c.args.text.now (map (λ p. p.now) c.args.replacements.now) none in
-    IfOk-weaker c.try_replace_all.result _ _ (λ t is. is ∙ same) (if-replaced string_bytes text_matches_in b (g.A.Automaton.supports c.args.automaton.now) c.args.text.now c.args.replacements.now c.try_replace_all.result c.try_replace_all.ensures)
+    let same = replaced-none b c.args.text.now (map (λ p. p.now) c.args.replacements.now) in
+    IfOk-weaker c.try_replace_all.result _ _ (λ t is none. is ∙ same none) (if-replaced string_bytes text_matches_in b (g.A.Automaton.supports c.args.automaton.now) c.args.text.now c.args.replacements.now c.try_replace_all.result c.try_replace_all.ensures)

@@ -17,7 +17,7 @@ use Rattle.ac_literal.specs.declared.packed.teddy.Teddy.{Teddy}
 use Rattle.ac_literal.specs.declared.openings.fingerprints.Fingerprints.{Fingerprints}
 use Rattle.ac_literal.specs.Fingerprints.{print_of, IsPrinted, KeepsPrints, ArePrinted}
 use Rattle.ac_literal.specs.Marks.{HasPartners, HaveOpened}
-use Rattle.ac_literal.specs.Openings.{IsMarked, AreOpenings}
+use Rattle.ac_literal.specs.Openings.{MayOpen, AreOpenings}
 use Rattle.ac_literal.specs.Packed.{bytes_of, pattern_at, AreAsLong}
 use Rattle.ac_literal.specs.Teddy.{HasBucket, KeepsBuckets, KeepsPatterns, LooksBefore, HasPattern, IsNextMarks, low_at, marked_at}
 use Rattle.ac_literal.proofs.FingerprintLemmas.{same-print}
@@ -139,25 +139,25 @@ none-shorter patterns pairing kind len long n p is =
 -- ---- what is passed
 
 -- up to a place before which there is no mark
-pub passed-none : (openings : Openings) (text : List ℕ) (count : ℕ) → ((place : ℕ) → place < count → ¬ IsMarked openings text place) → (m : Dictionary) → AreOpenings m openings → OpensNotBefore m openings.len text count
+pub passed-none : (openings : Openings) (text : List ℕ) (count : ℕ) → ((place : ℕ) → place < count → ¬ MayOpen openings text place) → (m : Dictionary) → AreOpenings m openings → OpensNotBefore m openings.len text count
 passed-none openings text count none m are at within opens = none at within (are.marks text at opens)
 
-module _ (o : Openings) (text : List ℕ) (from to block marks : ℕ) (next : IsNextMarks o.teddy text from to block marks) (before : (place : ℕ) → place < from → ¬ IsMarked o text place) where
+module _ (o : Openings) (text : List ℕ) (from to block marks : ℕ) (next : IsNextMarks o.teddy text from to block marks) (before : (place : ℕ) → place < from → ¬ MayOpen o text place) where
   -- up to the next block that has a mark
-  pub block-before : (place : ℕ) → place < block → ¬ IsMarked o text place
+  pub block-before : (place : ℕ) → place < block → ¬ MayOpen o text place
   block-before place within is = elim (cases_lt place from) [
     | inl early ↦ before place early is
     | inr late ↦ is.left (next.passed place (omega (arith, late)) within)
   ]
 
   -- and, within it, up to a place before which no mark has a fingerprint in the set
-  pub block-passed : (count : ℕ) → count ≤ 32 → marks ≢ 0 → ((k : ℕ) → k < count → bit_at marks k ≡ 1 → ¬ IsPrinted o.prints (take o.len (drop (block + k) text))) → (place : ℕ) → place < block + count → ¬ IsMarked o text place
+  pub block-passed : (count : ℕ) → count ≤ 32 → marks ≢ 0 → ((k : ℕ) → k < count → bit_at marks k ≡ 1 → ¬ IsPrinted o.prints (take o.len (drop (block + k) text))) → (place : ℕ) → place < block + count → ¬ MayOpen o text place
   block-passed count few some unprinted place within is = elim (cases_lt place block) [
     | inl early ↦ block-before place early is
     | inr late ↦
         let k : ℕ = place - block in
         let here : place ≡ block + k = omega (arith, late) in
-        let there : IsMarked o text (block + k) = subst (IsMarked o text) here is in
+        let there : MayOpen o text (block + k) = subst (MayOpen o text) here is in
         unprinted k (omega (arith, late, within)) (next.set some k (omega (arith, late, within, few)) there.left) there.printed
   ]
 

@@ -7,15 +7,15 @@ use Rattle.ac_literal.specs.declared.openings.Openings.{Openings}
 use Rattle.ac_literal.specs.Fingerprints.{IsPrinted}
 use Rattle.ac_literal.specs.Teddy.{marked_at}
 
--- a place is marked: a bucket is left, and the fingerprint of its first bytes is in the set
-pub record IsMarked (o : Openings) (text : List ℕ) (at : ℕ) : Type 0 where
+-- a pattern may open at a place: a bucket is left, and the fingerprint of its first bytes is in the set
+pub record MayOpen (o : Openings) (text : List ℕ) (at : ℕ) : Type 0 where
   pub left : marked_at o.teddy text at ≢ 0
   pub printed : IsPrinted o.prints (take o.len (drop at text))
 
--- The openings are those of a dictionary: all its patterns have so many bytes, and each place at which some pattern opens is marked.
+-- The openings are those of a dictionary: all its patterns have so many bytes, and where some pattern opens, one may.
 pub record AreOpenings (m : Dictionary) (openings : Openings) : Type 0 where
   pub short : NoneIsShorter m openings.len
-  pub marks : (text : List ℕ) (at : ℕ) → IsOpening m openings.len text at → IsMarked openings text at
+  pub marks : (text : List ℕ) (at : ℕ) → IsOpening m openings.len text at → MayOpen openings text at
 
 -- of these patterns, whatever the kind
 abbrev pub OpenAll : List (List ℕ) → List ℕ → Openings → Type 0

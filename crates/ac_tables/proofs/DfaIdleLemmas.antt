@@ -22,7 +22,7 @@ use Rattle.ac_tables.specs.declared.dfa.DFA.{DFA}
 use Rattle.ac_tables.specs.declared.dfa.table.Table.{Table}
 use Rattle.ac_tables.specs.DfaTable.{AreSomeRows, dfa_matches_by}
 use Rattle.ac_tables.specs.DfaLookups.{HasRow, IsIdleIn}
-use Rattle.ac_tables.specs.DfaReads.{dictionary, built_as, matches_at, is_start_at, is_special_at, IsNamingFor, IsRead}
+use Rattle.ac_tables.specs.DfaReads.{dfa_dictionary, dfa_built_as, dfa_matches_at, is_dfa_start_at, is_dfa_special_at, IsNamingFor, IsDfaRead}
 use Rattle.ac_tables.proofs.DfaReadLemmas.{all-names, listed-within, state-matches}
 
 -- the unanchored start has a row, where there are unanchored searches
@@ -44,40 +44,40 @@ past-none table sid past = by (dfa_matches_by table sid) refl
         absurd (omega (arith, le, past))
 
 -- an idle byte of the table is one by its names
-pub idle-by : (dfa : DFA) (anchored : Anchored) (byte : ℕ) → byte < 256 → IsIdleIn dfa.table byte → IsIdleBy (dictionary dfa) (IsNamingFor dfa anchored) (matches_at dfa) dfa.table.start byte
+pub idle-by : (dfa : DFA) (anchored : Anchored) (byte : ℕ) → byte < 256 → IsIdleIn dfa.table byte → IsIdleBy (dfa_dictionary dfa) (IsNamingFor dfa anchored) (dfa_matches_at dfa) dfa.table.start byte
 idle-by dfa anchored byte small idle =
     record {
       plain = past-none dfa.table dfa.table.start idle.plain;
       stays = by;
     }
   where
-    by : (side : Bool) (names : Naming) → IsNamingFor dfa anchored names → IsTrue (names.met side dfa.table.start) → IsStep (dictionary dfa) names side dfa.table.start byte dfa.table.start
-    by false names fits met = subst (IsStep (dictionary dfa) names false dfa.table.start byte) idle.stays (fits.1.steps No dfa.table.start byte idle.serves met small)
+    by : (side : Bool) (names : Naming) → IsNamingFor dfa anchored names → IsTrue (names.met side dfa.table.start) → IsStep (dfa_dictionary dfa) names side dfa.table.start byte dfa.table.start
+    by false names fits met = subst (IsStep (dfa_dictionary dfa) names false dfa.table.start byte) idle.stays (fits.1.steps No dfa.table.start byte idle.serves met small)
     by true names fits met = absurd (false≢true (sym fits.1.unanchored ∙ met))
 
 -- so what the starters pass over is idle
-skips-by : (dfa : DFA) (anchored : Anchored) → ∥ SkipsIdle (IsIdleBy (dictionary dfa) (IsNamingFor dfa anchored) (matches_at dfa) dfa.table.start) dfa.skips.starters ∥₁
+skips-by : (dfa : DFA) (anchored : Anchored) → ∥ SkipsIdle (IsIdleBy (dfa_dictionary dfa) (IsNamingFor dfa anchored) (dfa_matches_at dfa) dfa.table.start) dfa.skips.starters ∥₁
 skips-by dfa anchored = ∥∥₁_map dfa.idle (λ skips byte small none. idle-by dfa anchored byte small (skips byte small none))
 
 -- they lead from the start to itself
-pub stays-in-start : (dfa : DFA) (anchored : Anchored) → StaysBut (IsRead dfa anchored) dfa.skips.starters dfa.table.start
-stays-in-start dfa anchored = idle-stays (built_as dfa) (IsNamingFor dfa anchored) (matches_at dfa) (is_start_at dfa) (is_special_at dfa) dfa.table.start dfa.skips.starters anchored (all-names dfa anchored) (skips-by dfa anchored)
+pub stays-in-start : (dfa : DFA) (anchored : Anchored) → StaysBut (IsDfaRead dfa anchored) dfa.skips.starters dfa.table.start
+stays-in-start dfa anchored = idle-stays (dfa_built_as dfa) (IsNamingFor dfa anchored) (dfa_matches_at dfa) (is_dfa_start_at dfa) (is_dfa_special_at dfa) dfa.table.start dfa.skips.starters anchored (all-names dfa anchored) (skips-by dfa anchored)
 
 -- ---- where it stops
 
 -- the states that match are those from 1 on, up to the greatest that matches;
-pub between-matching : (dfa : DFA) (two : Between) (anchored : Anchored) (sid : ℕ) (bytes : List ℕ) (stop : Advance) → two.first ≡ 1 → two.last ≡ dfa.table.max_match → IsReached (IsRead dfa anchored) sid → Advances (IsRead dfa anchored) (is_between two) sid bytes stop → Advances (IsRead dfa anchored) (is_matching (matches_at dfa)) sid bytes stop
+pub between-matching : (dfa : DFA) (two : Between) (anchored : Anchored) (sid : ℕ) (bytes : List ℕ) (stop : Advance) → two.first ≡ 1 → two.last ≡ dfa.table.max_match → IsReached (IsDfaRead dfa anchored) sid → Advances (IsDfaRead dfa anchored) (is_between two) sid bytes stop → Advances (IsDfaRead dfa anchored) (is_matching (dfa_matches_at dfa)) sid bytes stop
 between-matching dfa two anchored sid bytes stop from to reached =
-    advances-alike (IsRead dfa anchored) (is_between two) (is_matching (matches_at dfa)) sid bytes stop reached (λ i there.
-    let state = reached-state (IsRead dfa) anchored i there in (
-      (λ e. let w = (between two i).0 e in matching-some (matches_at dfa i) (state-matches dfa i state (λ zero. let at : i ≡ 0 = zero in omega (arith, w.0, from, at)) (omega (arith, w.1, to)))),
-      (λ e. let m = listed-within dfa.table i (some-matching (matches_at dfa i) e) in let some = m.0 in (between two i).1 (omega (arith, some, from), omega (arith, m.1, to))),
+    advances-alike (IsDfaRead dfa anchored) (is_between two) (is_matching (dfa_matches_at dfa)) sid bytes stop reached (λ i there.
+    let state = reached-state (IsDfaRead dfa) anchored i there in (
+      (λ e. let w = (between two i).0 e in matching-some (dfa_matches_at dfa i) (state-matches dfa i state (λ zero. let at : i ≡ 0 = zero in omega (arith, w.0, from, at)) (omega (arith, w.1, to)))),
+      (λ e. let m = listed-within dfa.table i (some-matching (dfa_matches_at dfa i) e) in let some = m.0 in (between two i).1 (omega (arith, some, from), omega (arith, m.1, to))),
     ))
 
 -- and those that are special are all up to the last special one
-pub between-special : (dfa : DFA) (two : Between) (anchored : Anchored) (sid : ℕ) (bytes : List ℕ) (stop : Advance) → two.first ≡ 0 → two.last ≡ dfa.max_special → IsReached (IsRead dfa anchored) sid → Advances (IsRead dfa anchored) (is_between two) sid bytes stop → Advances (IsRead dfa anchored) (is_special_at dfa) sid bytes stop
+pub between-special : (dfa : DFA) (two : Between) (anchored : Anchored) (sid : ℕ) (bytes : List ℕ) (stop : Advance) → two.first ≡ 0 → two.last ≡ dfa.max_special → IsReached (IsDfaRead dfa anchored) sid → Advances (IsDfaRead dfa anchored) (is_between two) sid bytes stop → Advances (IsDfaRead dfa anchored) (is_dfa_special_at dfa) sid bytes stop
 between-special dfa two anchored sid bytes stop from to reached =
-    advances-alike (IsRead dfa anchored) (is_between two) (is_special_at dfa) sid bytes stop reached (λ i there. (
+    advances-alike (IsDfaRead dfa anchored) (is_between two) (is_dfa_special_at dfa) sid bytes stop reached (λ i there. (
       (λ e. let w = (between two i).0 e in le-leb i dfa.max_special (omega (arith, w.1, to))),
       (λ e. let le = leb-true i dfa.max_special e in (between two i).1 (omega (arith, from), omega (arith, le, to))),
     ))

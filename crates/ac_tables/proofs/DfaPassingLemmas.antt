@@ -25,7 +25,7 @@ use Rattle.ac_automaton.specs.declared.look.LookUp.{Ghosts}
 use Rattle.ac_literal.specs.declared.openings.Openings.{Openings}
 use Rattle.ac_tables.specs.declared.dfa.DFA.{DFA}
 use Rattle.ac_tables.specs.declared.dfa.table.Table.{Table}
-use Rattle.ac_tables.specs.DfaReads.{dictionary, built_as, matches_at, is_start_at, is_special_at, IsNamingFor, IsRead}
+use Rattle.ac_tables.specs.DfaReads.{dfa_dictionary, dfa_built_as, dfa_matches_at, is_dfa_start_at, is_dfa_special_at, IsNamingFor, IsDfaRead}
 use Rattle.ac_automaton.specs.ReadOn.{is_between}
 use Rattle.ac_tables.proofs.DfaIdleLemmas.{past-none, stays-in-start}
 use Rattle.ac_tables.proofs.DfaReadLemmas.{all-names, dead-said, row-leads, start-read, starts-placed, state-matches}
@@ -38,13 +38,13 @@ pub run : Table → ℕ → List ℕ → ℕ
 run table sid [] = sid
 run table sid (b ∷ bs) = run table (slice_index table.trans.items (sid + class table.classes b)) bs
 
-run-leads : (dfa : DFA) (sid : ℕ) (bytes : List ℕ) → ((k : ℕ) → slice_index bytes k < 256) → Leads (IsRead dfa No) sid bytes (run dfa.table sid bytes)
+run-leads : (dfa : DFA) (sid : ℕ) (bytes : List ℕ) → ((k : ℕ) → slice_index bytes k < 256) → Leads (IsDfaRead dfa No) sid bytes (run dfa.table sid bytes)
 unfolding run
-run-leads dfa sid [] small = leads-none (IsRead dfa No) sid
+run-leads dfa sid [] small = leads-none (IsDfaRead dfa No) sid
 run-leads dfa sid (b ∷ bs) small = λ text reads.
     let next = slice_index dfa.table.trans.items (sid + class dfa.table.classes b) in
     let there = row-leads dfa No sid b next (small 0) refl text reads in
-    subst (λ (l : List ℕ). IsRead dfa No l (run dfa.table next bs)) (append_assoc text (b ∷ []) bs) (run-leads dfa next bs (λ k. small (suc k)) (text ++ b ∷ []) there)
+    subst (λ (l : List ℕ). IsDfaRead dfa No l (run dfa.table next bs)) (append_assoc text (b ∷ []) bs) (run-leads dfa next bs (λ k. small (suc k)) (text ++ b ∷ []) there)
 
 -- ---- the start
 
@@ -55,19 +55,19 @@ serves-told Unanchored h = refl
 serves-told Anchored h = absurd (∥∥₁_elim h (λ x y. absurd x) (λ (e : No ≡ Yes). let r : ⊥ = cc in r))
 
 -- where an unanchored search has come to a number, there is a start for it
-reached-serves : (dfa : DFA) (sid : ℕ) → IsReached (IsRead dfa No) sid → Serves dfa.table.kind No
+reached-serves : (dfa : DFA) (sid : ℕ) → IsReached (IsDfaRead dfa No) sid → Serves dfa.table.kind No
 reached-serves dfa sid h = serves-told dfa.table.kind (∥∥₁_elim h ∥∥₁_prop (λ w. ∥∥₁_map w.1.reached (λ v. v.1.0)))
 
 -- it passes places at which no pattern opens, where nothing matches in the start
-dfa-may-pass : (dfa : DFA) (len sid : ℕ) → 0 < len → NoneIsShorter (dictionary dfa) len → IsReached (IsRead dfa No) sid → dfa.table.max_match < dfa.table.start → MayPass (dictionary dfa) len (IsRead dfa No) dfa.table.start
+dfa-may-pass : (dfa : DFA) (len sid : ℕ) → 0 < len → NoneIsShorter (dfa_dictionary dfa) len → IsReached (IsDfaRead dfa No) sid → dfa.table.max_match < dfa.table.start → MayPass (dfa_dictionary dfa) len (IsDfaRead dfa No) dfa.table.start
 dfa-may-pass dfa len sid some long h past =
     let start = dfa.table.start in
-    may-pass (built_as dfa) (IsNamingFor dfa No) (matches_at dfa) (is_start_at dfa) (is_special_at dfa) len start (all-names dfa No) some long
+    may-pass (dfa_built_as dfa) (IsNamingFor dfa No) (dfa_matches_at dfa) (is_dfa_start_at dfa) (is_dfa_special_at dfa) len start (all-names dfa No) some long
     (start-read dfa No start (reached-serves dfa sid h) refl)
     (start-has start start dfa.table.start_anchored (inl refl)) (past-none dfa.table start past) (λ bytes small. (run dfa.table start bytes, run-leads dfa start bytes small))
 
 -- a number at which nothing matches and that isn't dead is none between those at which a search stops
-dfa-quiet : (dfa : DFA) (two : Between) (sid : ℕ) (text : List ℕ) → two.last ≤ dfa.table.max_match → IsRead dfa No text sid → matches_at dfa sid ≡ [] → ¬ IsLive (dictionary dfa) false text None → ¬ IsTrue (is_between two sid)
+dfa-quiet : (dfa : DFA) (two : Between) (sid : ℕ) (text : List ℕ) → two.last ≤ dfa.table.max_match → IsDfaRead dfa No text sid → dfa_matches_at dfa sid ≡ [] → ¬ IsLive (dfa_dictionary dfa) false text None → ¬ IsTrue (is_between two sid)
 dfa-quiet dfa two sid text below reads none alive e =
     let w = (between two sid).0 e in
     ⊎_elim
@@ -79,7 +79,7 @@ dfa-quiet dfa two sid text below reads none alive e =
 
 -- the unanchored start stands before the anchored one
 starts-ordered : (dfa : DFA) → dfa.table.start ≤ dfa.table.start_anchored
-starts-ordered dfa = ∥∥₁_elim dfa.stands le_prop (λ w. let placed = starts-placed (dictionary dfa) dfa.table w.0 w.1 in omega (arith, placed))
+starts-ordered dfa = ∥∥₁_elim dfa.stands le_prop (λ w. let placed = starts-placed (dfa_dictionary dfa) dfa.table w.0 w.1 in omega (arith, placed))
 
 -- the last special number is past the last that matches only where a prefilter is held; then the starts are special
 pub special-below : (dfa : DFA) (last : ℕ) → last ≡ dfa.max_special → StopsBefore dfa.table.start last dfa.table.max_match
@@ -93,7 +93,7 @@ special-below dfa last is lt = by dfa.prefilter dfa.special
 
 -- what a search that skips asks of the automaton
 abbrev pub look_ups : Ghosts DFA
-look_ups = record { built = built_as; Reaches = IsRead; matches = matches_at }
+look_ups = record { built = dfa_built_as; Reaches = IsDfaRead; matches = dfa_matches_at }
 
 -- it may read on by its skips to a state before the start, if that is the last that matches
 pub may-read-by : (dfa : DFA) (two : Between) → StopsBefore dfa.table.start two.last dfa.table.max_match → MayReadBy look_ups dfa dfa.skips two

@@ -22,7 +22,7 @@ use Rattle.ac_tables.specs.declared.dfa.DFA.{DFA}
 use Rattle.ac_tables.specs.declared.dfa.table.Table.{Table}
 use Rattle.ac_tables.specs.DfaTable.{AreDfaRows, stride_of, dfa_list_of, list_start, list_end, dfa_matches_by, start_by}
 use Rattle.ac_tables.specs.DfaLookups.{list_at, ArePlain, HasRow, HasDfaList}
-use Rattle.ac_tables.specs.DfaReads.{dictionary, built_as, matches_at, is_start_at, is_special_at, IsNamingFor, IsRead}
+use Rattle.ac_tables.specs.DfaReads.{dfa_dictionary, dfa_built_as, dfa_matches_at, is_dfa_start_at, is_dfa_special_at, IsNamingFor, IsDfaRead}
 use Rattle.ac_tables.proofs.TestLemmas.{start-has, start-is, start-none}
 
 -- ---- where the starts stand
@@ -105,7 +105,7 @@ special-some m table names (Some f) anchored sid rows met some le =
 -- ---- what the numbers stand for
 
 -- the lists and the tests of the numbers are those of their states
-pub are-names : (dfa : DFA) (names : Naming) → AreDfaRows (dictionary dfa) dfa.table names → AreNames (built_as dfa) (matches_at dfa) (is_start_at dfa) (is_special_at dfa) names
+pub are-names : (dfa : DFA) (names : Naming) → AreDfaRows (dfa_dictionary dfa) dfa.table names → AreNames (dfa_built_as dfa) (dfa_matches_at dfa) (is_dfa_start_at dfa) (is_dfa_special_at dfa) names
 are-names dfa names rows =
     record {
       inverse = own_inverse-pairing dfa.pairing dfa.paired;
@@ -127,9 +127,9 @@ are-names dfa names rows =
     }
   where
     placed : (0 < stride_of dfa.table) × (2 * stride_of dfa.table ≤ dfa.table.start) × (dfa.table.start_anchored ≡ dfa.table.start + stride_of dfa.table)
-    placed = starts-placed (dictionary dfa) dfa.table names rows
+    placed = starts-placed (dfa_dictionary dfa) dfa.table names rows
 
-    stops : (anchored : Bool) (sid : ℕ) → IsTrue (names.met anchored sid) → sid ≤ dfa.max_special → IsSpecialState (built_as dfa) (matches_at dfa sid) (is_start_at dfa sid) (names.text sid)
+    stops : (anchored : Bool) (sid : ℕ) → IsTrue (names.met anchored sid) → sid ≤ dfa.max_special → IsSpecialState (dfa_built_as dfa) (dfa_matches_at dfa sid) (is_dfa_start_at dfa sid) (names.text sid)
     stops anchored sid met le =
         ⊎_elim
         (λ (zero : sid ≡ 0). inl ((rows.dead anchored sid met).1 zero))
@@ -137,57 +137,57 @@ are-names dfa names rows =
         ⊎_elim
         (λ (match : dfa_matches_by dfa.table sid ≢ []). inr (inl match))
         (λ (start : ((sid ≡ dfa.table.start) ⊎ (sid ≡ dfa.table.start_anchored)) × (dfa.prefilter ≢ None)). inr (inr (start-has sid dfa.table.start dfa.table.start_anchored start.0, start.1)))
-        (special-some (dictionary dfa) dfa.table names dfa.prefilter anchored sid rows met some (subst (λ (n : ℕ). sid ≤ n) dfa.special le)))
+        (special-some (dfa_dictionary dfa) dfa.table names dfa.prefilter anchored sid rows met some (subst (λ (n : ℕ). sid ≤ n) dfa.special le)))
         (cases_eq sid 0)
 
-    passed : (anchored : Bool) (sid : ℕ) → IsTrue (names.met anchored sid) → IsSpecialState (built_as dfa) (matches_at dfa sid) (is_start_at dfa sid) (names.text sid) → sid ≤ dfa.max_special
+    passed : (anchored : Bool) (sid : ℕ) → IsTrue (names.met anchored sid) → IsSpecialState (dfa_built_as dfa) (dfa_matches_at dfa sid) (is_dfa_start_at dfa sid) (names.text sid) → sid ≤ dfa.max_special
     passed anchored sid met (inl none) = let zero = (rows.dead anchored sid met).0 none in omega (arith, zero)
     passed anchored sid met (inr (inl match)) =
         let within = (listed-within dfa.table sid match).1 in
-        let more = last-past (dictionary dfa) dfa.table names dfa.prefilter rows in
+        let more = last-past (dfa_dictionary dfa) dfa.table names dfa.prefilter rows in
         omega (arith, within, more, dfa.special)
     passed anchored sid met (inr (inr held)) =
-        let within = last-starts (dictionary dfa) dfa.table names dfa.prefilter sid rows held.1 (start-is sid dfa.table.start dfa.table.start_anchored held.0) in
+        let within = last-starts (dfa_dictionary dfa) dfa.table names dfa.prefilter sid rows held.1 (start-is sid dfa.table.start dfa.table.start_anchored held.0) in
         omega (arith, within, dfa.special)
 
 -- whatever the names are
-pub all-names : (dfa : DFA) (anchored : Anchored) → AllNames (built_as dfa) (IsNamingFor dfa anchored) (matches_at dfa) (is_start_at dfa) (is_special_at dfa)
+pub all-names : (dfa : DFA) (anchored : Anchored) → AllNames (dfa_built_as dfa) (IsNamingFor dfa anchored) (dfa_matches_at dfa) (is_dfa_start_at dfa) (is_dfa_special_at dfa)
 all-names dfa anchored = λ names fits. are-names dfa names fits.1
 
 -- ---- a number that some text reaches
 
 -- what follows of a number that is met, whatever the names are, holds of one that is reached
-pub state-holds : (P : Type 0) (dfa : DFA) (sid : ℕ) → ((x y : P) → x ≡ y) → ((names : Naming) (anchored : Bool) → AreDfaRows (dictionary dfa) dfa.table names → IsTrue (names.met anchored sid) → P) → IsState (IsRead dfa) sid → P
+pub state-holds : (P : Type 0) (dfa : DFA) (sid : ℕ) → ((x y : P) → x ≡ y) → ((names : Naming) (anchored : Bool) → AreDfaRows (dfa_dictionary dfa) dfa.table names → IsTrue (names.met anchored sid) → P) → IsState (IsDfaRead dfa) sid → P
 state-holds P dfa sid prop follows h =
-    ∥∥₁_elim h prop (λ w. read-met P (built_as dfa) (IsNamingFor dfa w.0) (matches_at dfa) (is_start_at dfa) (is_special_at dfa) w.0 w.1 sid prop (λ names fits met. follows names (is_anchored w.0) fits.1 met) w.2)
+    ∥∥₁_elim h prop (λ w. read-met P (dfa_built_as dfa) (IsNamingFor dfa w.0) (dfa_matches_at dfa) (is_dfa_start_at dfa) (is_dfa_special_at dfa) w.0 w.1 sid prop (λ names fits met. follows names (is_anchored w.0) fits.1 met) w.2)
 
 -- it has a row
-pub read-row : (dfa : DFA) (anchored : Anchored) (sid : ℕ) → IsReached (IsRead dfa anchored) sid → HasRow dfa.table sid
+pub read-row : (dfa : DFA) (anchored : Anchored) (sid : ℕ) → IsReached (IsDfaRead dfa anchored) sid → HasRow dfa.table sid
 read-row dfa anchored sid h =
     record {
-      within = reached-met (sid + stride_of dfa.table ≤ length dfa.table.trans.items) (built_as dfa) (IsNamingFor dfa anchored) (matches_at dfa) (is_start_at dfa) (is_special_at dfa) anchored sid le_prop (λ names fits met. (fits.1.within (is_anchored anchored) sid met).0) h;
-      classes = λ byte small. reached-met (class dfa.table.classes byte < stride_of dfa.table) (built_as dfa) (IsNamingFor dfa anchored) (matches_at dfa) (is_start_at dfa) (is_special_at dfa) anchored sid le_prop (λ names fits met. fits.1.classes byte small) h;
+      within = reached-met (sid + stride_of dfa.table ≤ length dfa.table.trans.items) (dfa_built_as dfa) (IsNamingFor dfa anchored) (dfa_matches_at dfa) (is_dfa_start_at dfa) (is_dfa_special_at dfa) anchored sid le_prop (λ names fits met. (fits.1.within (is_anchored anchored) sid met).0) h;
+      classes = λ byte small. reached-met (class dfa.table.classes byte < stride_of dfa.table) (dfa_built_as dfa) (IsNamingFor dfa anchored) (dfa_matches_at dfa) (is_dfa_start_at dfa) (is_dfa_special_at dfa) anchored sid le_prop (λ names fits met. fits.1.classes byte small) h;
     }
 
 -- one look-up leads where the byte does
-pub row-leads : (dfa : DFA) (anchored : Anchored) (sid byte next : ℕ) → byte < 256 → next ≡ slice_index dfa.table.trans.items (sid + class dfa.table.classes byte) → Leads (IsRead dfa anchored) sid (byte ∷ []) next
+pub row-leads : (dfa : DFA) (anchored : Anchored) (sid byte next : ℕ) → byte < 256 → next ≡ slice_index dfa.table.trans.items (sid + class dfa.table.classes byte) → Leads (IsDfaRead dfa anchored) sid (byte ∷ []) next
 row-leads dfa anchored sid byte next small is =
-    read-next (built_as dfa) (IsNamingFor dfa anchored) (matches_at dfa) (is_start_at dfa) (is_special_at dfa) anchored sid byte next (all-names dfa anchored)
-    (λ names fits met. subst (IsStep (dictionary dfa) names (is_anchored anchored) sid byte) (sym is) (fits.1.steps anchored sid byte fits.0 met small))
+    read-next (dfa_built_as dfa) (IsNamingFor dfa anchored) (dfa_matches_at dfa) (is_dfa_start_at dfa) (is_dfa_special_at dfa) anchored sid byte next (all-names dfa anchored)
+    (λ names fits met. subst (IsStep (dfa_dictionary dfa) names (is_anchored anchored) sid byte) (sym is) (fits.1.steps anchored sid byte fits.0 met small))
 
 -- the start of a search that is served is read before the first byte
-pub start-read : (dfa : DFA) (anchored : Anchored) (sid : ℕ) → Serves dfa.table.kind anchored → sid ≡ start_by dfa.table (is_anchored anchored) → IsRead dfa anchored [] sid
+pub start-read : (dfa : DFA) (anchored : Anchored) (sid : ℕ) → Serves dfa.table.kind anchored → sid ≡ start_by dfa.table (is_anchored anchored) → IsDfaRead dfa anchored [] sid
 start-read dfa anchored sid serves is =
-    subst (IsRead dfa anchored []) (sym is)
-    (read-start (built_as dfa) (IsNamingFor dfa anchored) (matches_at dfa) (is_start_at dfa) (is_special_at dfa) anchored (start_by dfa.table (is_anchored anchored)) (all-names dfa anchored)
+    subst (IsDfaRead dfa anchored []) (sym is)
+    (read-start (dfa_built_as dfa) (IsNamingFor dfa anchored) (dfa_matches_at dfa) (is_dfa_start_at dfa) (is_dfa_special_at dfa) anchored (start_by dfa.table (is_anchored anchored)) (all-names dfa anchored)
     (∥∥₁_map dfa.stands (λ w. (w.0, (serves, w.1), w.1.first anchored serves))))
 
 -- it matches where it isn't dead and at most the last number that matches
-pub state-matches : (dfa : DFA) (sid : ℕ) → IsState (IsRead dfa) sid → sid ≢ 0 → sid ≤ dfa.table.max_match → matches_at dfa sid ≢ []
+pub state-matches : (dfa : DFA) (sid : ℕ) → IsState (IsDfaRead dfa) sid → sid ≢ 0 → sid ≤ dfa.table.max_match → dfa_matches_at dfa sid ≢ []
 state-matches dfa sid h some le none = state-holds ⊥ dfa sid (λ x y. absurd x) (λ names anchored rows met. (rows.matching anchored sid met some).1 le none) h
 
 -- where it matches its list stands among the others,
-pub state-list : (dfa : DFA) (sid : ℕ) → IsState (IsRead dfa) sid → matches_at dfa sid ≢ [] → HasDfaList dfa.table sid
+pub state-list : (dfa : DFA) (sid : ℕ) → IsState (IsDfaRead dfa) sid → dfa_matches_at dfa sid ≢ [] → HasDfaList dfa.table sid
 state-list dfa sid h match =
     let w = listed-within dfa.table sid match in
     record {
@@ -210,23 +210,23 @@ state-listed table sid match =
     cond-true (not (sid == 0) && nat_le sid table.max_match) (dfa_list_of table.lists (list_at table sid)) [] (and_from (not (sid == 0)) (nat_le sid table.max_match) (ap (λ (b : Bool). not b) (ne_eqb sid 0 w.0)) (le-leb sid table.max_match w.1))
 
 -- each pattern of it is one
-pub state-known : (dfa : DFA) (sid index n : ℕ) → IsState (IsRead dfa) sid → slice_get (matches_at dfa sid) index ≡ Some n → n < length (dictionary dfa).patterns
+pub state-known : (dfa : DFA) (sid index n : ℕ) → IsState (IsDfaRead dfa) sid → slice_get (dfa_matches_at dfa sid) index ≡ Some n → n < length (dfa_dictionary dfa).patterns
 state-known dfa sid index n h is =
-    ∥∥₁_elim h le_prop (λ w. read-known (built_as dfa) (IsNamingFor dfa w.0) (matches_at dfa) (is_start_at dfa) (is_special_at dfa) sid index n (all-names dfa w.0) ∣ (w.0, w.1, w.2) ∣₁ is)
+    ∥∥₁_elim h le_prop (λ w. read-known (dfa_built_as dfa) (IsNamingFor dfa w.0) (dfa_matches_at dfa) (is_dfa_start_at dfa) (is_dfa_special_at dfa) sid index n (all-names dfa w.0) ∣ (w.0, w.1, w.2) ∣₁ is)
 
 -- ---- what its tests say
 
 -- whether it is the dead state
-pub dead-said : (dfa : DFA) (sid : ℕ) (dead : Bool) → IsTrue dead ↔ (sid ≡ 0) → AtEach (IsRead dfa) sid (TellsDead (built_as dfa) dead)
+pub dead-said : (dfa : DFA) (sid : ℕ) (dead : Bool) → IsTrue dead ↔ (sid ≡ 0) → AtEach (IsDfaRead dfa) sid (TellsDead (dfa_built_as dfa) dead)
 dead-said dfa sid dead is = λ anchored text reads.
-    read-dead (built_as dfa) (IsNamingFor dfa anchored) (matches_at dfa) (is_start_at dfa) (is_special_at dfa) sid dead
+    read-dead (dfa_built_as dfa) (IsNamingFor dfa anchored) (dfa_matches_at dfa) (is_dfa_start_at dfa) (is_dfa_special_at dfa) sid dead
     (λ other names fits met. let zero = fits.1.dead other sid met in (λ none. is.1 (zero.0 none), λ yes. zero.1 (is.0 yes))) anchored text reads
 
 -- whether it is a start
-pub start-said : (dfa : DFA) (sid : ℕ) (start : Bool) → start ≡ is_start_at dfa sid → TellsStart (built_as dfa) (IsRead dfa) (matches_at dfa) sid start
+pub start-said : (dfa : DFA) (sid : ℕ) (start : Bool) → start ≡ is_dfa_start_at dfa sid → TellsStart (dfa_built_as dfa) (IsDfaRead dfa) (dfa_matches_at dfa) sid start
 start-said dfa sid start is =
-    subst (TellsStart (built_as dfa) (IsRead dfa) (matches_at dfa) sid) (sym is)
-    (λ anchored text reads. read-starts (built_as dfa) (IsNamingFor dfa anchored) (matches_at dfa) (is_start_at dfa) (is_special_at dfa) sid (all-names dfa anchored) anchored text reads)
+    subst (TellsStart (dfa_built_as dfa) (IsDfaRead dfa) (dfa_matches_at dfa) sid) (sym is)
+    (λ anchored text reads. read-starts (dfa_built_as dfa) (IsNamingFor dfa anchored) (dfa_matches_at dfa) (is_dfa_start_at dfa) (is_dfa_special_at dfa) sid (all-names dfa anchored) anchored text reads)
 
 -- ---- classes
 

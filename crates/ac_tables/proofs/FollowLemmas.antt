@@ -14,7 +14,7 @@ use Rattle.ac_automaton.proofs.NamedLemmas.{stands-for, begins-or-not}
 use Rattle.ac_tables.specs.declared.contiguous.NFA.{NFA}
 use Rattle.ac_tables.specs.declared.contiguous.table.Table.{Table}
 use Rattle.ac_tables.specs.ContiguousTable.{AreStates}
-use Rattle.ac_tables.specs.ContiguousReads.{dictionary, IsLaidOut, IsMet, LooksUp}
+use Rattle.ac_tables.specs.ContiguousReads.{contiguous_dictionary, IsLaidOut, IsMet, LooksUp}
 use Rattle.ac_tables.specs.WordReads.{IsStateAt, HoldsState, ByteLeadsTo, IsFailOf}
 use Rattle.ac_tables.specs.Words.{StateParts, next_by}
 
@@ -47,24 +47,24 @@ met-state m table names parts anchored sid a met = record {
 }
 
 pub met-place : (nfa : NFA) (anchored : Bool) (sid : ℕ) → IsMet nfa anchored sid → HoldsState nfa.table sid
-met-place nfa anchored sid h = ∥∥₁_map h (λ w. (w.1.0 sid, met-state (dictionary nfa) nfa.table w.0 w.1.0 anchored sid w.1.1 w.2))
+met-place nfa anchored sid h = ∥∥₁_map h (λ w. (w.1.0 sid, met-state (contiguous_dictionary nfa) nfa.table w.0 w.1.0 anchored sid w.1.1 w.2))
 
 -- ---- what look-ups say of names
 
-pub laid-numbers : (nfa : NFA) (names : Naming) → IsLaidOut nfa names → AreNumbers (dictionary nfa) names nfa.table.start
+pub laid-numbers : (nfa : NFA) (names : Naming) → IsLaidOut nfa names → AreNumbers (contiguous_dictionary nfa) names nfa.table.start
 laid-numbers nfa names fits = fits.1.linked.numbers
 
 -- a step of the words is an edge of the names,
-pub laid-edge : (nfa : NFA) (anchored : Bool) (sid byte next : ℕ) → byte < 256 → ByteLeadsTo nfa.table sid byte next → OfNames (IsLaidOut nfa) anchored sid (λ names. IsEdgeBy (dictionary nfa) names nfa.table.start sid byte next)
+pub laid-edge : (nfa : NFA) (anchored : Bool) (sid byte next : ℕ) → byte < 256 → ByteLeadsTo nfa.table sid byte next → OfNames (IsLaidOut nfa) anchored sid (λ names. IsEdgeBy (contiguous_dictionary nfa) names nfa.table.start sid byte next)
 laid-edge nfa anchored sid byte next small steps names fits met =
-    let s = met-state (dictionary nfa) nfa.table names fits.0 anchored sid fits.1 met in
-    subst (IsEdgeBy (dictionary nfa) names nfa.table.start sid byte) (sym (steps (fits.0 sid) s)) (fits.1.linked.edges anchored sid byte met small)
+    let s = met-state (contiguous_dictionary nfa) nfa.table names fits.0 anchored sid fits.1 met in
+    subst (IsEdgeBy (contiguous_dictionary nfa) names nfa.table.start sid byte) (sym (steps (fits.0 sid) s)) (fits.1.linked.edges anchored sid byte met small)
 
 -- and a failure is one of them
-pub laid-failure : (nfa : NFA) (sid fail : ℕ) → IsFailOf nfa.table sid fail → OfNames (IsLaidOut nfa) false sid (λ names. IsFailureBy (dictionary nfa) names sid fail)
+pub laid-failure : (nfa : NFA) (sid fail : ℕ) → IsFailOf nfa.table sid fail → OfNames (IsLaidOut nfa) false sid (λ names. IsFailureBy (contiguous_dictionary nfa) names sid fail)
 laid-failure nfa sid fail fails names fits met =
-    let s = met-state (dictionary nfa) nfa.table names fits.0 false sid fits.1 met in
-    subst (IsFailureBy (dictionary nfa) names sid) (sym (fails (fits.0 sid) s)) (fits.1.linked.failures sid met)
+    let s = met-state (contiguous_dictionary nfa) nfa.table names fits.0 false sid fits.1 met in
+    subst (IsFailureBy (contiguous_dictionary nfa) names sid) (sym (fails (fits.0 sid) s)) (fits.1.linked.failures sid met)
 
 -- unanchored searches may come to the failure of a state
 pub met-fail : (nfa : NFA) (sid fail : ℕ) → IsMet nfa false sid → IsFailOf nfa.table sid fail → IsMet nfa false fail
@@ -79,17 +79,17 @@ fail-small nfa sid fail h fails = ∥∥₁_elim h le_prop (λ w. w.1.1.small fa
 -- straight on
 pub leads-straight : (nfa : NFA) (anchored : Bool) (sid byte next : ℕ) (before after : Steps) → byte < 256 → ByteLeadsTo nfa.table sid byte next → next ≢ 1 → Done 1 0 0 before after → LooksUp nfa anchored 0 sid byte next before after
 leads-straight nfa anchored sid byte next before after small steps some one names fits met =
-    paid-straight (dictionary nfa) names nfa.table.start anchored sid byte next before after (laid-numbers nfa names fits) (laid-edge nfa anchored sid byte next small steps names fits met) met some one
+    paid-straight (contiguous_dictionary nfa) names nfa.table.start anchored sid byte next before after (laid-numbers nfa names fits) (laid-edge nfa anchored sid byte next small steps names fits met) met some one
 
 -- to the dead state, in an anchored search
 pub leads-to_dead : (nfa : NFA) (anchored : Bool) (sid byte next dead : ℕ) (before after : Steps) → anchored ≡ true → byte < 256 → ByteLeadsTo nfa.table sid byte next → next ≡ 1 → dead ≡ 0 → Done 1 0 0 before after → LooksUp nfa anchored 0 sid byte dead before after
 leads-to_dead nfa false sid byte next dead before after free small steps nothing zero_is one = absurd (cc)
 leads-to_dead nfa true sid byte next dead before after free small steps nothing zero_is one = λ names fits met.
     let met_zero : IsTrue (names.met true dead) = subst (λ (n : ℕ). IsTrue (names.met true n)) (sym zero_is) fits.1.dead_met in
-    paid-dead (dictionary nfa) names nfa.table.start sid byte next dead before after (laid-edge nfa true sid byte next small steps names fits met) nothing
+    paid-dead (contiguous_dictionary nfa) names nfa.table.start sid byte next dead before after (laid-edge nfa true sid byte next small steps names fits met) nothing
     met_zero ((fits.1.dead true dead met_zero).1 zero_is) one
 
 -- over the states to which it fails
 pub leads-followed : (nfa : NFA) (anchored : Bool) (sid byte next : ℕ) (before between after : Steps) → anchored ≡ false → Done 1 0 0 before between → LooksUp nfa false 1 sid byte next between after → LooksUp nfa anchored 0 sid byte next before after
 leads-followed nfa true sid byte next before between after free one h = absurd (cc)
-leads-followed nfa false sid byte next before between after free one h = λ names fits met. paid-followed (dictionary nfa) names sid byte next before between after one (h names fits met)
+leads-followed nfa false sid byte next before between after free one h = λ names fits met. paid-followed (contiguous_dictionary nfa) names sid byte next before between after one (h names fits met)

@@ -17,7 +17,7 @@ use Rattle.ac_automaton.proofs.NamedLemmas.{reached-met, state-met, read-start, 
 use Rattle.ac_tables.specs.declared.contiguous.NFA.{NFA}
 use Rattle.ac_tables.specs.declared.contiguous.table.Table.{Table}
 use Rattle.ac_tables.specs.ContiguousTable.{AreStates}
-use Rattle.ac_tables.specs.ContiguousReads.{dictionary, built_as, matches_at, is_start_at, is_special_at, IsLaidOut, IsRead, IsMet}
+use Rattle.ac_tables.specs.ContiguousReads.{contiguous_dictionary, contiguous_built_as, contiguous_matches_at, is_contiguous_start_at, is_contiguous_special_at, IsLaidOut, IsContiguousRead, IsMet}
 use Rattle.ac_tables.specs.WordReads.{HasWordList, list_place, listed_at, matches_by}
 use Rattle.ac_tables.specs.Words.{StateParts, one_pattern}
 use Rattle.ac_tables.proofs.MatchLemmas.{matches-read, list-placed}
@@ -119,10 +119,10 @@ module _ (m : Dictionary) (table : Table) (names : Naming) (parts : ℕ → Stat
 -- ---- the names
 
 -- the numbers up to the last special one are those at which a search has more to do
-names-stop : (nfa : NFA) (names : Naming) (fits : IsLaidOut nfa names) (anchored : Bool) (sid : ℕ) → IsTrue (names.met anchored sid) → IsTrue (is_special_at nfa sid) ↔ IsSpecialState (built_as nfa) (matches_at nfa sid) (is_start_at nfa sid) (names.text sid)
+names-stop : (nfa : NFA) (names : Naming) (fits : IsLaidOut nfa names) (anchored : Bool) (sid : ℕ) → IsTrue (names.met anchored sid) → IsTrue (is_contiguous_special_at nfa sid) ↔ IsSpecialState (contiguous_built_as nfa) (contiguous_matches_at nfa sid) (is_contiguous_start_at nfa sid) (names.text sid)
 names-stop nfa names fits anchored sid met =
     let a = fits.1 in
-    let m = dictionary nfa in
+    let m = contiguous_dictionary nfa in
     let dead = a.dead anchored sid met in
     let special = nfa.special in (
       λ is_true.
@@ -140,20 +140,20 @@ names-stop nfa names fits anchored sid met =
           let le : sid ≤ last_special_of nfa.prefilter nfa.table.start_anchored nfa.table.max_match =
           ⊎_elim
           (λ (none : names.text sid ≡ None). let zero = dead.0 none in omega (arith, zero))
-          (λ (more : (matches_at nfa sid ≢ []) ⊎ (IsTrue (is_start_at nfa sid) × (nfa.prefilter ≢ None))).
+          (λ (more : (contiguous_matches_at nfa sid ≢ []) ⊎ (IsTrue (is_contiguous_start_at nfa sid) × (nfa.prefilter ≢ None))).
           ⊎_elim
-          (λ (full : matches_at nfa sid ≢ []). let within = ((list-some m nfa.table names fits.0 a anchored sid met).0 full).1 in omega (arith, within, last))
-          (λ (start : IsTrue (is_start_at nfa sid) × (nfa.prefilter ≢ None)). last-starts m nfa.table names fits.0 a nfa.prefilter sid start.1 (start-is sid nfa.table.start nfa.table.start_anchored start.0))
+          (λ (full : contiguous_matches_at nfa sid ≢ []). let within = ((list-some m nfa.table names fits.0 a anchored sid met).0 full).1 in omega (arith, within, last))
+          (λ (start : IsTrue (is_contiguous_start_at nfa sid) × (nfa.prefilter ≢ None)). last-starts m nfa.table names fits.0 a nfa.prefilter sid start.1 (start-is sid nfa.table.start nfa.table.start_anchored start.0))
           more)
           is in
           subst (λ (n : ℕ). IsTrue (nat_le sid n)) (sym special) ((test-le sid (last_special_of nfa.prefilter nfa.table.start_anchored nfa.table.max_match)).1 le),
     )
 
 -- the lists and tests of the automaton are those of its names
-pub names-are : (nfa : NFA) → AllNames (built_as nfa) (IsLaidOut nfa) (matches_at nfa) (is_start_at nfa) (is_special_at nfa)
+pub names-are : (nfa : NFA) → AllNames (contiguous_built_as nfa) (IsLaidOut nfa) (contiguous_matches_at nfa) (is_contiguous_start_at nfa) (is_contiguous_special_at nfa)
 names-are nfa names fits =
     let a = fits.1 in
-    let m = dictionary nfa in
+    let m = contiguous_dictionary nfa in
     let past = a.past in
     record {
       inverse = a.linked.numbers.inverse;
@@ -171,31 +171,31 @@ names-are nfa names fits =
 -- ---- what is read
 
 -- to a state that is reached a search comes
-pub read-is_met : (nfa : NFA) (anchored : Anchored) (sid : ℕ) → IsReached (IsRead nfa anchored) sid → IsMet nfa (is_anchored anchored) sid
+pub read-is_met : (nfa : NFA) (anchored : Anchored) (sid : ℕ) → IsReached (IsContiguousRead nfa anchored) sid → IsMet nfa (is_anchored anchored) sid
 read-is_met nfa anchored sid h =
-    reached-met (IsMet nfa (is_anchored anchored) sid) (built_as nfa) (IsLaidOut nfa) (matches_at nfa) (is_start_at nfa) (is_special_at nfa) anchored sid ∥∥₁_prop (λ names fits met. ∣ (names, fits, met) ∣₁) h
+    reached-met (IsMet nfa (is_anchored anchored) sid) (contiguous_built_as nfa) (IsLaidOut nfa) (contiguous_matches_at nfa) (is_contiguous_start_at nfa) (is_contiguous_special_at nfa) anchored sid ∥∥₁_prop (λ names fits met. ∣ (names, fits, met) ∣₁) h
 
 -- what holds of each number that is met holds of any state
-of-state : (P : Type 0) (nfa : NFA) (sid : ℕ) → ((x y : P) → x ≡ y) → ((anchored : Bool) → OfNames (IsLaidOut nfa) anchored sid (λ names. P)) → IsState (IsRead nfa) sid → P
-of-state P nfa sid prop follows h = state-met P (built_as nfa) (IsLaidOut nfa) (matches_at nfa) (is_start_at nfa) (is_special_at nfa) sid prop follows h
+of-state : (P : Type 0) (nfa : NFA) (sid : ℕ) → ((x y : P) → x ≡ y) → ((anchored : Bool) → OfNames (IsLaidOut nfa) anchored sid (λ names. P)) → IsState (IsContiguousRead nfa) sid → P
+of-state P nfa sid prop follows h = state-met P (contiguous_built_as nfa) (IsLaidOut nfa) (contiguous_matches_at nfa) (is_contiguous_start_at nfa) (is_contiguous_special_at nfa) sid prop follows h
 
 -- no state is that of nowhere
-pub state-apart : (nfa : NFA) (sid : ℕ) → IsState (IsRead nfa) sid → sid ≢ 1
+pub state-apart : (nfa : NFA) (sid : ℕ) → IsState (IsContiguousRead nfa) sid → sid ≢ 1
 state-apart nfa sid h e = of-state ⊥ nfa sid (λ x y. absurd x) (λ anchored names fits met. fits.1.linked.numbers.apart anchored sid met e) h
 
 -- a state that matches is past 1 and at most the last that does,
-pub state-matches : (nfa : NFA) (sid : ℕ) → IsState (IsRead nfa) sid → matches_at nfa sid ≢ [] → (1 < sid) × (sid ≤ nfa.table.max_match)
+pub state-matches : (nfa : NFA) (sid : ℕ) → IsState (IsContiguousRead nfa) sid → contiguous_matches_at nfa sid ≢ [] → (1 < sid) × (sid ≤ nfa.table.max_match)
 state-matches nfa sid h some = (
-  of-state (1 < sid) nfa sid le_prop (λ anchored names fits met. ((list-some (dictionary nfa) nfa.table names fits.0 fits.1 anchored sid met).0 some).0) h,
-  of-state (sid ≤ nfa.table.max_match) nfa sid le_prop (λ anchored names fits met. ((list-some (dictionary nfa) nfa.table names fits.0 fits.1 anchored sid met).0 some).1) h,
+  of-state (1 < sid) nfa sid le_prop (λ anchored names fits met. ((list-some (contiguous_dictionary nfa) nfa.table names fits.0 fits.1 anchored sid met).0 some).0) h,
+  of-state (sid ≤ nfa.table.max_match) nfa sid le_prop (λ anchored names fits met. ((list-some (contiguous_dictionary nfa) nfa.table names fits.0 fits.1 anchored sid met).0 some).1) h,
 )
 
 -- and such a state matches
-pub state-many : (nfa : NFA) (sid : ℕ) → IsState (IsRead nfa) sid → 1 < sid → sid ≤ nfa.table.max_match → matches_at nfa sid ≢ []
-state-many nfa sid h past le none = of-state ⊥ nfa sid (λ x y. absurd x) (λ anchored names fits met. (list-some (dictionary nfa) nfa.table names fits.0 fits.1 anchored sid met).1 (past, le) none) h
+pub state-many : (nfa : NFA) (sid : ℕ) → IsState (IsContiguousRead nfa) sid → 1 < sid → sid ≤ nfa.table.max_match → contiguous_matches_at nfa sid ≢ []
+state-many nfa sid h past le none = of-state ⊥ nfa sid (λ x y. absurd x) (λ anchored names fits met. (list-some (contiguous_dictionary nfa) nfa.table names fits.0 fits.1 anchored sid met).1 (past, le) none) h
 
 -- its patterns stand among the words,
-pub state-list : (nfa : NFA) (sid : ℕ) → IsState (IsRead nfa) sid → matches_at nfa sid ≢ [] → HasWordList nfa.table sid
+pub state-list : (nfa : NFA) (sid : ℕ) → IsState (IsContiguousRead nfa) sid → contiguous_matches_at nfa sid ≢ [] → HasWordList nfa.table sid
 state-list nfa sid h some = record {
   first = of-state (sid < length nfa.table.words.items) nfa sid le_prop (λ anchored names fits met. (there names fits anchored met).0) h;
   list = of-state (list_place nfa.table sid < length nfa.table.words.items) nfa sid le_prop (λ anchored names fits met. (there names fits anchored met).1) h;
@@ -205,10 +205,10 @@ state-list nfa sid h some = record {
     there : (names : Naming) → (fits : IsLaidOut nfa names) → (anchored : Bool) → IsTrue (names.met anchored sid) → (sid < length nfa.table.words.items) × (list_place nfa.table sid < length nfa.table.words.items) × (slice_index nfa.table.words.items (list_place nfa.table sid) < one_pattern → list_place nfa.table sid + 1 + slice_index nfa.table.words.items (list_place nfa.table sid) ≤ length nfa.table.words.items)
     there names fits anchored met =
         list-placed nfa.table.words.items sid nfa.table.alphabet_len (fits.0 sid) (fits.1.stand anchored sid met)
-        (λ none. some (list-is (dictionary nfa) nfa.table names fits.0 fits.1 anchored sid met ∙ none))
+        (λ none. some (list-is (contiguous_dictionary nfa) nfa.table names fits.0 fits.1 anchored sid met ∙ none))
 
 -- as they are read
-pub state-listed : (nfa : NFA) (sid : ℕ) → IsState (IsRead nfa) sid → matches_at nfa sid ≢ [] → matches_at nfa sid ≡ listed_at nfa.table sid
+pub state-listed : (nfa : NFA) (sid : ℕ) → IsState (IsContiguousRead nfa) sid → contiguous_matches_at nfa sid ≢ [] → contiguous_matches_at nfa sid ≡ listed_at nfa.table sid
 state-listed nfa sid h some =
     let within = state-matches nfa sid h some in
     let past = within.0 in
@@ -221,15 +221,15 @@ abbrev pub nfa_start_of : Table → Bool → ℕ
 nfa_start_of table anchored = if anchored then table.start_anchored else table.start
 
 -- is read before the first byte
-pub start-read : (nfa : NFA) (anchored : Anchored) (sid : ℕ) → sid ≡ nfa_start_of nfa.table (is_anchored anchored) → IsRead nfa anchored [] sid
+pub start-read : (nfa : NFA) (anchored : Anchored) (sid : ℕ) → sid ≡ nfa_start_of nfa.table (is_anchored anchored) → IsContiguousRead nfa anchored [] sid
 start-read nfa anchored sid is =
-    read-start (built_as nfa) (IsLaidOut nfa) (matches_at nfa) (is_start_at nfa) (is_special_at nfa) anchored sid (names-are nfa)
+    read-start (contiguous_built_as nfa) (IsLaidOut nfa) (contiguous_matches_at nfa) (is_contiguous_start_at nfa) (is_contiguous_special_at nfa) anchored sid (names-are nfa)
     (∥∥₁_map nfa.stands (λ w. (w.0, (w.1, w.2), subst (IsFirst w.0 (is_anchored anchored)) (sym is) (w.2.first (is_anchored anchored)))))
 
 -- ---- the numbers of patterns
 
 -- each pattern of a state has a number that fits
-pub state-small : (nfa : NFA) (sid k n : ℕ) → IsState (IsRead nfa) sid → slice_get (matches_at nfa sid) k ≡ Some n → n ≤ GREATEST
+pub state-small : (nfa : NFA) (sid k n : ℕ) → IsState (IsContiguousRead nfa) sid → slice_get (contiguous_matches_at nfa sid) k ≡ Some n → n ≤ GREATEST
 state-small nfa sid k n h is =
-    let known = read-known (built_as nfa) (IsLaidOut nfa) (matches_at nfa) (is_start_at nfa) (is_special_at nfa) sid k n (names-are nfa) h is in
+    let known = read-known (contiguous_built_as nfa) (IsLaidOut nfa) (contiguous_matches_at nfa) (is_contiguous_start_at nfa) (is_contiguous_special_at nfa) sid k n (names-are nfa) h is in
     ∥∥₁_elim nfa.within le_prop (λ w. let few = w.patterns in omega (arith, few, known))

@@ -19,7 +19,7 @@ use Rattle.ac_automaton.proofs.ReadOnLemmas.{between}
 use Rattle.ac_tables.specs.declared.contiguous.NFA.{NFA}
 use Rattle.ac_tables.specs.declared.contiguous.table.Table.{Table}
 use Rattle.ac_tables.specs.ContiguousTable.{AreSomeStates}
-use Rattle.ac_tables.specs.ContiguousReads.{dictionary, built_as, matches_at, is_start_at, is_special_at, IsLaidOut, IsRead}
+use Rattle.ac_tables.specs.ContiguousReads.{contiguous_dictionary, contiguous_built_as, contiguous_matches_at, is_contiguous_start_at, is_contiguous_special_at, IsLaidOut, IsContiguousRead}
 use Rattle.ac_tables.specs.WordReads.{HoldsState, IsIdleAt}
 use Rattle.ac_tables.proofs.FollowLemmas.{met-state, laid-numbers, laid-edge}
 use Rattle.ac_tables.proofs.NameLemmas.{list-past, names-are, state-apart, state-matches, state-many}
@@ -30,44 +30,44 @@ pub start-place : (m : Dictionary) (table : Table) → AreSomeStates m table →
 start-place m table h = ∥∥₁_map h (λ w. (w.1 table.start, met-state m table w.0 w.1 false table.start w.2 (w.2.first false).met))
 
 -- an idle byte of the words is one by their names
-pub idle-by : (nfa : NFA) (byte : ℕ) → byte < 256 → IsIdleAt nfa.table byte → IsIdleBy (dictionary nfa) (IsLaidOut nfa) (matches_at nfa) nfa.table.start byte
+pub idle-by : (nfa : NFA) (byte : ℕ) → byte < 256 → IsIdleAt nfa.table byte → IsIdleBy (contiguous_dictionary nfa) (IsLaidOut nfa) (contiguous_matches_at nfa) nfa.table.start byte
 idle-by nfa byte small idle =
     record {
       plain = list-past nfa.table nfa.table.start idle.plain;
       stays = by;
     }
   where
-    by : (anchored : Bool) (names : Naming) → IsLaidOut nfa names → IsTrue (names.met anchored nfa.table.start) → IsStep (dictionary nfa) names anchored nfa.table.start byte nfa.table.start
+    by : (anchored : Bool) (names : Naming) → IsLaidOut nfa names → IsTrue (names.met anchored nfa.table.start) → IsStep (contiguous_dictionary nfa) names anchored nfa.table.start byte nfa.table.start
     by false names fits met =
         let past = fits.1.past in
-        (straight (dictionary nfa) names nfa.table.start false nfa.table.start byte nfa.table.start (laid-numbers nfa names fits) (laid-edge nfa false nfa.table.start byte nfa.table.start small idle.stays names fits met) met
+        (straight (contiguous_dictionary nfa) names nfa.table.start false nfa.table.start byte nfa.table.start (laid-numbers nfa names fits) (laid-edge nfa false nfa.table.start byte nfa.table.start small idle.stays names fits met) met
         (λ e. omega (arith, past, e))).step
     by true names fits met = absurd (false≢true (sym (laid-numbers nfa names fits).unanchored ∙ met))
 
 -- so what the starters pass over is idle
-pub skips-by : (nfa : NFA) → ∥ SkipsIdle (IsIdleBy (dictionary nfa) (IsLaidOut nfa) (matches_at nfa) nfa.table.start) nfa.skips.starters ∥₁
+pub skips-by : (nfa : NFA) → ∥ SkipsIdle (IsIdleBy (contiguous_dictionary nfa) (IsLaidOut nfa) (contiguous_matches_at nfa) nfa.table.start) nfa.skips.starters ∥₁
 skips-by nfa = ∥∥₁_map nfa.idle (λ skips byte small none. idle-by nfa byte small (skips byte small none))
 
 -- they lead from the start to itself
-pub stays-in-start : (nfa : NFA) (anchored : Anchored) → StaysBut (IsRead nfa anchored) nfa.skips.starters nfa.table.start
-stays-in-start nfa anchored = idle-stays (built_as nfa) (IsLaidOut nfa) (matches_at nfa) (is_start_at nfa) (is_special_at nfa) nfa.table.start nfa.skips.starters anchored (names-are nfa) (skips-by nfa)
+pub stays-in-start : (nfa : NFA) (anchored : Anchored) → StaysBut (IsContiguousRead nfa anchored) nfa.skips.starters nfa.table.start
+stays-in-start nfa anchored = idle-stays (contiguous_built_as nfa) (IsLaidOut nfa) (contiguous_matches_at nfa) (is_contiguous_start_at nfa) (is_contiguous_special_at nfa) nfa.table.start nfa.skips.starters anchored (names-are nfa) (skips-by nfa)
 
 -- ---- where it stops
 
 -- the states that match are those from 1 on, up to the greatest that matches;
-pub between-matching : (nfa : NFA) (two : Between) (anchored : Anchored) (sid : ℕ) (bytes : List ℕ) (stop : Advance) → two.first ≡ 1 → two.last ≡ nfa.table.max_match → IsReached (IsRead nfa anchored) sid → Advances (IsRead nfa anchored) (is_between two) sid bytes stop → Advances (IsRead nfa anchored) (is_matching (matches_at nfa)) sid bytes stop
+pub between-matching : (nfa : NFA) (two : Between) (anchored : Anchored) (sid : ℕ) (bytes : List ℕ) (stop : Advance) → two.first ≡ 1 → two.last ≡ nfa.table.max_match → IsReached (IsContiguousRead nfa anchored) sid → Advances (IsContiguousRead nfa anchored) (is_between two) sid bytes stop → Advances (IsContiguousRead nfa anchored) (is_matching (contiguous_matches_at nfa)) sid bytes stop
 between-matching nfa two anchored sid bytes stop from to reached =
-    advances-alike (IsRead nfa anchored) (is_between two) (is_matching (matches_at nfa)) sid bytes stop reached (λ i there.
-    let state = reached-state (IsRead nfa) anchored i there in
+    advances-alike (IsContiguousRead nfa anchored) (is_between two) (is_matching (contiguous_matches_at nfa)) sid bytes stop reached (λ i there.
+    let state = reached-state (IsContiguousRead nfa) anchored i there in
     let apart = state-apart nfa i state in (
-      (λ e. let w = (between two i).0 e in matching-some (matches_at nfa i) (state-many nfa i state (omega (arith, w.0, from, apart)) (omega (arith, w.1, to)))),
-      (λ e. let m = state-matches nfa i state (some-matching (matches_at nfa i) e) in let past = m.0 in (between two i).1 (omega (arith, past, from), omega (arith, m.1, to))),
+      (λ e. let w = (between two i).0 e in matching-some (contiguous_matches_at nfa i) (state-many nfa i state (omega (arith, w.0, from, apart)) (omega (arith, w.1, to)))),
+      (λ e. let m = state-matches nfa i state (some-matching (contiguous_matches_at nfa i) e) in let past = m.0 in (between two i).1 (omega (arith, past, from), omega (arith, m.1, to))),
     ))
 
 -- and those that are special are all up to the last special one
-pub between-special : (nfa : NFA) (two : Between) (anchored : Anchored) (sid : ℕ) (bytes : List ℕ) (stop : Advance) → two.first ≡ 0 → two.last ≡ nfa.max_special → IsReached (IsRead nfa anchored) sid → Advances (IsRead nfa anchored) (is_between two) sid bytes stop → Advances (IsRead nfa anchored) (is_special_at nfa) sid bytes stop
+pub between-special : (nfa : NFA) (two : Between) (anchored : Anchored) (sid : ℕ) (bytes : List ℕ) (stop : Advance) → two.first ≡ 0 → two.last ≡ nfa.max_special → IsReached (IsContiguousRead nfa anchored) sid → Advances (IsContiguousRead nfa anchored) (is_between two) sid bytes stop → Advances (IsContiguousRead nfa anchored) (is_contiguous_special_at nfa) sid bytes stop
 between-special nfa two anchored sid bytes stop from to reached =
-    advances-alike (IsRead nfa anchored) (is_between two) (is_special_at nfa) sid bytes stop reached (λ i there. (
+    advances-alike (IsContiguousRead nfa anchored) (is_between two) (is_contiguous_special_at nfa) sid bytes stop reached (λ i there. (
       (λ e. let w = (between two i).0 e in (test-le i nfa.max_special).1 (omega (arith, w.1, to))),
       (λ e. let le = (test-le i nfa.max_special).0 e in (between two i).1 (omega (arith, from), omega (arith, le, to))),
     ))

@@ -23,7 +23,7 @@ use Rattle.ac_tables.specs.declared.contiguous.NFA.{NFA}
 use Rattle.ac_tables.specs.declared.contiguous.table.Table.{Table}
 use Rattle.ac_tables.specs.Words.{StateParts, next_by}
 use Rattle.ac_tables.specs.WordReads.{unpacked, IsFirstPlace, IsStateAt, IsSparseAt, ByteLeadsTo, IsFailOf}
-use Rattle.ac_tables.specs.ContiguousReads.{dictionary, built_as, matches_at, is_start_at, is_special_at, IsLaidOut, IsRead}
+use Rattle.ac_tables.specs.ContiguousReads.{contiguous_dictionary, contiguous_built_as, contiguous_matches_at, is_contiguous_start_at, is_contiguous_special_at, IsLaidOut, IsContiguousRead}
 use Rattle.ac_automaton.specs.ReadOn.{is_between}
 use Rattle.ac_tables.proofs.DecodeLemmas.{state-fail}
 use Rattle.ac_tables.proofs.FollowLemmas.{laid-numbers, laid-edge, laid-failure}
@@ -158,7 +158,7 @@ fails-by : (table : Table) (sid : ℕ) → IsFailOf table sid (fail_by table sid
 fails-by table sid = λ s h. (state-fail table.words.items sid table.alphabet_len s h.stands).1
 
 -- by its words the automaton is one that follows failures
-pub linked-by : (nfa : NFA) (names : Naming) → IsLaidOut nfa names → AreLinked (dictionary nfa) names nfa.table.start (edge_by nfa.table) (fail_by nfa.table)
+pub linked-by : (nfa : NFA) (names : Naming) → IsLaidOut nfa names → AreLinked (contiguous_dictionary nfa) names nfa.table.start (edge_by nfa.table) (fail_by nfa.table)
 linked-by nfa names fits = record {
   numbers = laid-numbers nfa names fits;
   edges = λ anchored sid byte met small. laid-edge nfa anchored sid byte (edge_by nfa.table sid byte) small (byte-leads nfa.table sid byte) names fits met;
@@ -168,16 +168,16 @@ linked-by nfa names fits = record {
 -- ---- the start
 
 -- it passes places at which no pattern opens, where nothing matches in the start
-words-may-pass : (nfa : NFA) (len : ℕ) → 0 < len → NoneIsShorter (dictionary nfa) len → nfa.table.max_match < nfa.table.start → MayPass (dictionary nfa) len (IsRead nfa No) nfa.table.start
+words-may-pass : (nfa : NFA) (len : ℕ) → 0 < len → NoneIsShorter (contiguous_dictionary nfa) len → nfa.table.max_match < nfa.table.start → MayPass (contiguous_dictionary nfa) len (IsContiguousRead nfa No) nfa.table.start
 words-may-pass nfa len some long past =
     let start = nfa.table.start in
-    may-pass (built_as nfa) (IsLaidOut nfa) (matches_at nfa) (is_start_at nfa) (is_special_at nfa) len start (names-are nfa) some long
+    may-pass (contiguous_built_as nfa) (IsLaidOut nfa) (contiguous_matches_at nfa) (is_contiguous_start_at nfa) (is_contiguous_special_at nfa) len start (names-are nfa) some long
     (start-read nfa No start refl)
     (start-has start start nfa.table.start_anchored (inl refl)) (list-past nfa.table start past)
-    (λ bytes small. (_, run-leads (built_as nfa) (IsLaidOut nfa) (matches_at nfa) (is_start_at nfa) (is_special_at nfa) start (edge_by nfa.table) (fail_by nfa.table) (names-are nfa) (linked-by nfa) start bytes small))
+    (λ bytes small. (_, run-leads (contiguous_built_as nfa) (IsLaidOut nfa) (contiguous_matches_at nfa) (is_contiguous_start_at nfa) (is_contiguous_special_at nfa) start (edge_by nfa.table) (fail_by nfa.table) (names-are nfa) (linked-by nfa) start bytes small))
 
 -- a state at which nothing matches and that isn't dead is none between those at which a search stops
-words-quiet : (nfa : NFA) (two : Between) (sid : ℕ) (text : List ℕ) → two.last ≤ nfa.table.max_match → IsRead nfa No text sid → matches_at nfa sid ≡ [] → ¬ IsLive (dictionary nfa) false text None → ¬ IsTrue (is_between two sid)
+words-quiet : (nfa : NFA) (two : Between) (sid : ℕ) (text : List ℕ) → two.last ≤ nfa.table.max_match → IsContiguousRead nfa No text sid → contiguous_matches_at nfa sid ≡ [] → ¬ IsLive (contiguous_dictionary nfa) false text None → ¬ IsTrue (is_between two sid)
 words-quiet nfa two sid text below reads none alive e =
     let w = (between two sid).0 e in
     let state = ∣ (No, text, reads) ∣₁ in
@@ -186,7 +186,7 @@ words-quiet nfa two sid text below reads none alive e =
     (λ (more : 1 < sid). state-many nfa sid state more (omega (arith, w.1, below)) none)
     (λ (few : sid ≤ 1).
     let zero_is : sid ≡ 0 = omega (arith, few, apart) in
-    let dead = read-dead (built_as nfa) (IsLaidOut nfa) (matches_at nfa) (is_start_at nfa) (is_special_at nfa) sid true (λ anchored names fits met. (λ none. refl, λ yes. (fits.1.dead anchored sid met).1 zero_is)) in
+    let dead = read-dead (contiguous_built_as nfa) (IsLaidOut nfa) (contiguous_matches_at nfa) (is_contiguous_start_at nfa) (is_contiguous_special_at nfa) sid true (λ anchored names fits met. (λ none. refl, λ yes. (fits.1.dead anchored sid met).1 zero_is)) in
     alive ((dead No text reads).0 refl))
     (cases_lt 1 sid)
 
@@ -207,7 +207,7 @@ special-below nfa last is lt = by nfa.prefilter nfa.special
 
 -- what a search that skips asks of the automaton
 abbrev pub look_ups : Ghosts NFA
-look_ups = record { built = built_as; Reaches = IsRead; matches = matches_at }
+look_ups = record { built = contiguous_built_as; Reaches = IsContiguousRead; matches = contiguous_matches_at }
 
 -- it may read on by its skips to a state before the start, if that is the last that matches
 pub may-read-by : (nfa : NFA) (two : Between) → StopsBefore nfa.table.start two.last nfa.table.max_match → MayReadBy look_ups nfa nfa.skips two

@@ -8,19 +8,19 @@ use Rattle.ac_input.specs.Same.{IsUnpaired}
 use Rattle.ac_noncontiguous.specs.declared.error.BuildErrorKind.{BuildErrorKind}
 use Rattle.ac_noncontiguous.specs.declared.error.BuildErrorKind.TheVariants.{StateIDOverflow, PatternIDOverflow, PatternTooLong, Memory}
 use Rattle.ac_noncontiguous.specs.declared.nfa.NFA.{NFA as Noncontiguous}
-use Rattle.ac_noncontiguous.specs.Builder as noncontiguous
+use Rattle.ac_noncontiguous.specs.Builder.{Settings, IsBuiltOf, dictionary_by}
 use Rattle.ac_noncontiguous.specs.ReadCalls.{IsWithin}
-use Rattle.ac_noncontiguous.specs.Reads as reads
+use Rattle.ac_noncontiguous.specs.Reads.{built_as, dictionary}
 use Rattle.ac_noncontiguous.specs.Standing.{IsBuildRefused}
 use Rattle.ac_tables.specs.declared.contiguous.NFA.{NFA}
 use Rattle.ac_tables.specs.declared.contiguous.table.Table.{Table}
 use Rattle.ac_tables.specs.TableClasses.{AreClassesFor}
 use Rattle.ac_tables.specs.ContiguousTable.{AreWordsOf, ArePlacesTooGreat, AreSomeStates}
-use Rattle.ac_tables.specs.ContiguousReads.{built_as}
+use Rattle.ac_tables.specs.ContiguousReads.{contiguous_built_as}
 
 -- The kind, which bytes are paired, whether a prefilter is wanted, to which depth states are dense, and whether bytes are put into
 -- classes.
-pub record Settings : Type 0 where
+pub record ContiguousSettings : Type 0 where
   pub kind : MatchKind
   pub pairing : List ℕ
   pub prefilter : Bool
@@ -28,7 +28,7 @@ pub record Settings : Type 0 where
   pub byte_classes : Bool
 
 -- what they are at first
-pub record AreFirst (s : Settings) : Type 0 where
+pub record AreContiguousFirst (s : ContiguousSettings) : Type 0 where
   pub kind : s.kind ≡ Standard
   pub pairing : IsUnpaired s.pairing
   pub prefilter : s.prefilter ≡ true
@@ -36,7 +36,7 @@ pub record AreFirst (s : Settings) : Type 0 where
   pub byte_classes : s.byte_classes ≡ true
 
 -- the settings of the noncontiguous automaton, which keeps no rows
-abbrev pub noncontiguous_of : Settings → noncontiguous.Settings
+abbrev pub noncontiguous_of : ContiguousSettings → Settings
 noncontiguous_of s = record { kind = s.kind; pairing = s.pairing; dense_depth = 0; prefilter = s.prefilter }
 
 -- the words of an automaton
@@ -46,19 +46,19 @@ words_in nfa = nfa.table.words.items
 -- ---- from a noncontiguous automaton
 
 -- The words are those of the automaton's states, and none stands too far on.
-pub record IsLaidFrom (s : Settings) (from : Noncontiguous) (laid : List ℕ) : Type 0 where
+pub record IsLaidFrom (s : ContiguousSettings) (from : Noncontiguous) (laid : List ℕ) : Type 0 where
   pub classes : List ℕ
   pub serve : AreClassesFor from s.byte_classes classes
   pub words : AreWordsOf from s.dense_depth classes laid
   pub within : ¬ ArePlacesTooGreat from s.dense_depth classes
 
 -- An automaton was made from a noncontiguous one: it finds the same, holds the same prefilter, and has its states.
-pub record IsMadeFrom (s : Settings) (from : Noncontiguous) (made : NFA) : Type 0 where
-  pub built : built_as made ≡ reads.built_as from
+pub record IsMadeFrom (s : ContiguousSettings) (from : Noncontiguous) (made : NFA) : Type 0 where
+  pub built : contiguous_built_as made ≡ built_as from
   pub laid : IsLaidFrom s from (words_in made)
 
 -- Why none was made: the first word of a state would stand too far on, or memory ended.
-abbrev pub IsRefusedFrom : Settings → Noncontiguous → BuildErrorKind → Type 0
+abbrev pub IsRefusedFrom : ContiguousSettings → Noncontiguous → BuildErrorKind → Type 0
 IsRefusedFrom s from (StateIDOverflow max requested) = (max ≡ GREATEST) × (max < requested) × (classes : List ℕ) × AreClassesFor from s.byte_classes classes × ArePlacesTooGreat from s.dense_depth classes
 IsRefusedFrom s from (PatternIDOverflow max requested) = ⊥
 IsRefusedFrom s from (PatternTooLong pattern len) = ⊥
@@ -68,32 +68,32 @@ IsRefusedFrom s from Memory = Unit {0}
 pub record IsTableFrom (from : Noncontiguous) (dense_depth : ℕ) (classes : List ℕ) (table : Table) : Type 0 where
   pub words : AreWordsOf from dense_depth classes table.words.items
   pub small : ¬ ArePlacesTooGreat from dense_depth classes
-  pub stands : AreSomeStates (reads.dictionary from) table
+  pub stands : AreSomeStates (dictionary from) table
   pub within : IsWithin from
 
 -- ---- from patterns
 
 -- An automaton was built of the patterns: from a noncontiguous one that was built of them.
-pub record IsBuiltOf (s : Settings) (patterns : List (Bor (List ℕ))) (made : NFA) : Type 0 where
-  pub built : noncontiguous.IsBuiltOf (noncontiguous_of s) patterns (built_as made)
+pub record IsContiguousBuilt (s : ContiguousSettings) (patterns : List (Bor (List ℕ))) (made : NFA) : Type 0 where
+  pub built : IsBuiltOf (noncontiguous_of s) patterns (contiguous_built_as made)
   pub from : (from : Noncontiguous) × IsMadeFrom s from made
 
 -- why there is none
-abbrev pub IsRefusedOf : Settings → List (Bor (List ℕ)) → BuildErrorKind → Type 0
-IsRefusedOf s patterns error = IsBuildRefused (noncontiguous.dictionary_by (noncontiguous_of s) patterns) error ⊎ ((from : Noncontiguous) × (reads.dictionary from ≡ noncontiguous.dictionary_by (noncontiguous_of s) patterns) × IsRefusedFrom s from error)
+abbrev pub IsContiguousBuildRefused : ContiguousSettings → List (Bor (List ℕ)) → BuildErrorKind → Type 0
+IsContiguousBuildRefused s patterns error = IsBuildRefused (dictionary_by (noncontiguous_of s) patterns) error ⊎ ((from : Noncontiguous) × (dictionary from ≡ dictionary_by (noncontiguous_of s) patterns) × IsRefusedFrom s from error)
 
 -- so it is by the settings that a builder has at first
-abbrev pub IsBuiltAtFirst : List (Bor (List ℕ)) → NFA → Type 0
-IsBuiltAtFirst patterns made = (s : Settings) × AreFirst s × IsBuiltOf s patterns made
+abbrev pub IsContiguousBuiltAtFirst : List (Bor (List ℕ)) → NFA → Type 0
+IsContiguousBuiltAtFirst patterns made = (s : ContiguousSettings) × AreContiguousFirst s × IsContiguousBuilt s patterns made
 
-abbrev pub IsRefusedAtFirst : List (Bor (List ℕ)) → BuildErrorKind → Type 0
-IsRefusedAtFirst patterns error = (s : Settings) × AreFirst s × IsRefusedOf s patterns error
+abbrev pub IsContiguousRefusedAtFirst : List (Bor (List ℕ)) → BuildErrorKind → Type 0
+IsContiguousRefusedAtFirst patterns error = (s : ContiguousSettings) × AreContiguousFirst s × IsContiguousBuildRefused s patterns error
 
 -- ---- copies
 
 -- a copy of the automaton
-pub record IsCopy (old new : NFA) : Type 0 where
-  pub built : built_as new ≡ built_as old
+pub record IsContiguousCopy (old new : NFA) : Type 0 where
+  pub built : contiguous_built_as new ≡ contiguous_built_as old
   pub words : words_in new ≡ words_in old
   pub start : new.table.start ≡ old.table.start
   pub start_anchored : new.table.start_anchored ≡ old.table.start_anchored

@@ -13,32 +13,32 @@ use Rattle.ac_tables.specs.ContiguousTable.{AreStates}
 use Rattle.ac_tables.specs.WordReads.{matches_by}
 
 -- what it is made from
-abbrev pub dictionary : NFA → Dictionary
-dictionary nfa = dictionary_of nfa.lens nfa.pairing nfa.kind
+abbrev pub contiguous_dictionary : NFA → Dictionary
+contiguous_dictionary nfa = dictionary_of nfa.lens nfa.pairing nfa.kind
 
 -- what it is built as: more than one state may be looked at for a byte
-abbrev pub built_as : NFA → Built
-built_as nfa = record { dictionary = dictionary nfa; deterministic = false; prefilter = nfa.prefilter }
+abbrev pub contiguous_built_as : NFA → Built
+contiguous_built_as nfa = record { dictionary = contiguous_dictionary nfa; deterministic = false; prefilter = nfa.prefilter }
 
 -- the patterns that match at a state
-abbrev pub matches_at : NFA → ℕ → List ℕ
-matches_at nfa sid = matches_by nfa.table sid
+abbrev pub contiguous_matches_at : NFA → ℕ → List ℕ
+contiguous_matches_at nfa sid = matches_by nfa.table sid
 
 -- the two starts
-abbrev pub is_start_at : NFA → ℕ → Bool
-is_start_at nfa sid = (sid == nfa.table.start) || (sid == nfa.table.start_anchored)
+abbrev pub is_contiguous_start_at : NFA → ℕ → Bool
+is_contiguous_start_at nfa sid = (sid == nfa.table.start) || (sid == nfa.table.start_anchored)
 
 -- the states up to the last special one
-abbrev pub is_special_at : NFA → ℕ → Bool
-is_special_at nfa sid = nat_le sid nfa.max_special
+abbrev pub is_contiguous_special_at : NFA → ℕ → Bool
+is_contiguous_special_at nfa sid = nat_le sid nfa.max_special
 
 -- the words are laid out by these names
 abbrev pub IsLaidOut : NFA → Naming → Type 0
-IsLaidOut nfa names = (parts : ℕ → StateParts) × AreStates (dictionary nfa) nfa.table names parts
+IsLaidOut nfa names = (parts : ℕ → StateParts) × AreStates (contiguous_dictionary nfa) nfa.table names parts
 
 -- A state is read by a search.
-abbrev pub IsRead : NFA → Anchored → List ℕ → ℕ → Type 0
-IsRead nfa anchored text sid = IsReadBy (built_as nfa) (IsLaidOut nfa) (matches_at nfa) (is_start_at nfa) (is_special_at nfa) anchored text sid
+abbrev pub IsContiguousRead : NFA → Anchored → List ℕ → ℕ → Type 0
+IsContiguousRead nfa anchored text sid = IsReadBy (contiguous_built_as nfa) (IsLaidOut nfa) (contiguous_matches_at nfa) (is_contiguous_start_at nfa) (is_contiguous_special_at nfa) anchored text sid
 
 -- ---- look-ups
 
@@ -49,12 +49,12 @@ IsMet nfa anchored sid = ∥ ((names : Naming) × IsLaidOut nfa names × IsTrue 
 -- Whatever the places stand for: the state to which a byte leads in a search, and how many states were looked at to find it, after
 -- so many for the same byte.
 abbrev pub LooksUp : NFA → Bool → ℕ → ℕ → ℕ → ℕ → Steps → Steps → Type 0
-LooksUp nfa anchored done sid byte next before after = OfNames (IsLaidOut nfa) anchored sid (λ names. IsPaidStep (dictionary nfa) names anchored done sid byte next before after)
+LooksUp nfa anchored done sid byte next before after = OfNames (IsLaidOut nfa) anchored sid (λ names. IsPaidStep (contiguous_dictionary nfa) names anchored done sid byte next before after)
 
 -- ---- how it is made
 
 -- it is made for this dictionary, of this table, and holds this prefilter
-pub record IsMadeOf (m : Dictionary) (from : Table) (held : Option Filter) (nfa : NFA) : Type 0 where
-  pub dictionary : dictionary nfa ≡ m
+pub record IsContiguousMadeOf (m : Dictionary) (from : Table) (held : Option Filter) (nfa : NFA) : Type 0 where
+  pub dictionary : contiguous_dictionary nfa ≡ m
   pub table : nfa.table ≡ from
   pub prefilter : nfa.prefilter ≡ held

@@ -12,43 +12,43 @@ use Rattle.ac_tables.specs.declared.dfa.table.Table.{Table}
 use Rattle.ac_tables.specs.DfaTable.{AreDfaRows, dfa_matches_by}
 
 -- what the automaton is made from
-abbrev pub dictionary : DFA → Dictionary
-dictionary dfa = dictionary_of dfa.lens dfa.pairing dfa.kind
+abbrev pub dfa_dictionary : DFA → Dictionary
+dfa_dictionary dfa = dictionary_of dfa.lens dfa.pairing dfa.kind
 
 -- what it is built as: exactly one state is looked at for a byte
-abbrev pub built_as : DFA → Built
-built_as dfa = record { dictionary = dictionary dfa; deterministic = true; prefilter = dfa.prefilter }
+abbrev pub dfa_built_as : DFA → Built
+dfa_built_as dfa = record { dictionary = dfa_dictionary dfa; deterministic = true; prefilter = dfa.prefilter }
 
 -- for which searches it has a start
-abbrev pub supported_by : DFA → Anchored → Type 0
-supported_by dfa anchored = Serves dfa.table.kind anchored
+abbrev pub dfa_supported_by : DFA → Anchored → Type 0
+dfa_supported_by dfa anchored = Serves dfa.table.kind anchored
 
 -- the patterns that match at a number
-abbrev pub matches_at : DFA → ℕ → List ℕ
-matches_at dfa sid = dfa_matches_by dfa.table sid
+abbrev pub dfa_matches_at : DFA → ℕ → List ℕ
+dfa_matches_at dfa sid = dfa_matches_by dfa.table sid
 
 -- the two starts
-abbrev pub is_start_at : DFA → ℕ → Bool
-is_start_at dfa sid = (sid == dfa.table.start) || (sid == dfa.table.start_anchored)
+abbrev pub is_dfa_start_at : DFA → ℕ → Bool
+is_dfa_start_at dfa sid = (sid == dfa.table.start) || (sid == dfa.table.start_anchored)
 
 -- the numbers up to the last special one
-abbrev pub is_special_at : DFA → ℕ → Bool
-is_special_at dfa sid = nat_le sid dfa.max_special
+abbrev pub is_dfa_special_at : DFA → ℕ → Bool
+is_dfa_special_at dfa sid = nat_le sid dfa.max_special
 
 -- The numbers have these names, and the automaton has a start for searches of this anchoring.
 abbrev pub IsNamingFor : DFA → Anchored → Naming → Type 0
-IsNamingFor dfa anchored names = Serves dfa.table.kind anchored × AreDfaRows (dictionary dfa) dfa.table names
+IsNamingFor dfa anchored names = Serves dfa.table.kind anchored × AreDfaRows (dfa_dictionary dfa) dfa.table names
 
 -- a number is read by a search
-abbrev pub IsRead : DFA → Anchored → List ℕ → ℕ → Type 0
-IsRead dfa anchored text sid = IsReadBy (built_as dfa) (IsNamingFor dfa anchored) (matches_at dfa) (is_start_at dfa) (is_special_at dfa) anchored text sid
+abbrev pub IsDfaRead : DFA → Anchored → List ℕ → ℕ → Type 0
+IsDfaRead dfa anchored text sid = IsReadBy (dfa_built_as dfa) (IsNamingFor dfa anchored) (dfa_matches_at dfa) (is_dfa_start_at dfa) (is_dfa_special_at dfa) anchored text sid
 
 -- what it may cost to read bytes on from a number
 abbrev pub CostsReading : DFA → Anchored → ℕ → List ℕ → Steps → Steps → Type 0
-CostsReading dfa anchored sid bytes before after = IsReadCost (built_as dfa) (IsRead dfa) anchored sid bytes before after
+CostsReading dfa anchored sid bytes before after = IsReadCost (dfa_built_as dfa) (IsDfaRead dfa) anchored sid bytes before after
 
 -- the automaton is made of this table and this prefilter
-pub record IsMadeOf (m : Dictionary) (from : Table) (held : Option Filter) (dfa : DFA) : Type 0 where
-  pub dictionary : dictionary dfa ≡ m
+pub record IsDfaMadeOf (m : Dictionary) (from : Table) (held : Option Filter) (dfa : DFA) : Type 0 where
+  pub dictionary : dfa_dictionary dfa ≡ m
   pub table : dfa.table ≡ from
   pub prefilter : dfa.prefilter ≡ held

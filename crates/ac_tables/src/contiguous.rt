@@ -88,7 +88,7 @@ pub struct NFA {
 }
 
 impl NFA {
-    ghost use Rattle.ac_tables.specs.ContiguousReads.{IsMadeOf};
+    ghost use Rattle.ac_tables.specs.ContiguousReads.{IsContiguousMadeOf};
 
     /// The automaton of these words, patterns and settings.
     pub(crate) fn from_parts(
@@ -101,7 +101,7 @@ impl NFA {
     ) -> NFA
         requires parts { AreContiguousParts (dictionary_of lens pairing kind) table prefilter }
         requires opened { ∥ AreOpenedBy (dictionary_of lens pairing kind) openings ∥₁ }
-        ensures { IsMadeOf (dictionary_of lens pairing kind) table prefilter result }
+        ensures { IsContiguousMadeOf (dictionary_of lens pairing kind) table prefilter result }
     {
         let max_special = last_special(&prefilter, table.start_anchored, table.max_match);
         let skips = Skips {

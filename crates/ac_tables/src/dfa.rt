@@ -83,7 +83,7 @@ pub struct DFA {
 }
 
 impl DFA {
-    ghost use Rattle.ac_tables.specs.DfaReads.{IsMadeOf};
+    ghost use Rattle.ac_tables.specs.DfaReads.{IsDfaMadeOf};
 
     /// The automaton of this table, these patterns and settings.
     pub(crate) fn from_parts(
@@ -96,7 +96,7 @@ impl DFA {
     ) -> DFA
         requires parts { AreDfaParts (dictionary_of lens pairing kind) table prefilter }
         requires opened { ∥ AreOpenedBy (dictionary_of lens pairing kind) openings ∥₁ }
-        ensures { IsMadeOf (dictionary_of lens pairing kind) table prefilter result }
+        ensures { IsDfaMadeOf (dictionary_of lens pairing kind) table prefilter result }
     {
         let max_special = last_special(&prefilter, table.start_anchored, table.max_match);
         let skips = Skips {

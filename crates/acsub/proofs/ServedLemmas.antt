@@ -9,14 +9,15 @@ use Rattle.ac_input.specs.Rules.{Rule}
 use Rattle.ac_input.specs.declared.search.Anchored.TheVariants.{No}
 use Rattle.ac_input.specs.declared.search.StartKind.{StartKind}
 use Rattle.ac_literal.specs.Packed.{bytes_of}
-use Rattle.ac_noncontiguous.specs.Reads as reads
+use Rattle.ac_noncontiguous.specs.Reads.{dictionary}
 use Rattle.ac_noncontiguous.specs.declared.error.BuildErrorKind.{BuildErrorKind}
 use Rattle.ac_noncontiguous.specs.declared.error.BuildErrorKind.TheVariants as limits
 use Rattle.ac_noncontiguous.specs.declared.nfa.NFA.{NFA}
-use Rattle.aho_corasick.specs.AhoCorasick.{built_as, serving_engine, supported_by}
-use Rattle.aho_corasick.specs.Builder as front
+use Rattle.aho_corasick.specs.AhoCorasick.{front_built_as, serving_engine, supported_by}
+use Rattle.ac_noncontiguous.specs.Builder.{dictionary_by}
+use Rattle.aho_corasick.specs.Builder.{FrontSettings, noncontiguous_by}
 use Rattle.aho_corasick.specs.Engine.{kind_served}
-use Rattle.aho_corasick.specs.Served.{IsBuiltOf, IsDictionaryRefused, IsRefusedOf, IsServed, IsServedBy, ServesUnnamed, TakesDfa}
+use Rattle.aho_corasick.specs.Served.{IsFrontBuilt, IsDictionaryRefused, IsFrontBuildRefused, IsServed, IsServedBy, ServesUnnamed, TakesDfa}
 use Rattle.aho_corasick.specs.declared.ahocorasick.AhoCorasick.{AhoCorasick}
 use Rattle.aho_corasick.specs.declared.ahocorasick.AhoCorasickKind.{AhoCorasickKind}
 use Rattle.aho_corasick.specs.declared.ahocorasick.AhoCorasickKind.TheVariants as kinds
@@ -29,13 +30,13 @@ use Rattle.acsub.specs.declared.settings.Engine.TheVariants as engines
 use Rattle.acsub.specs.declared.settings.Settings.{Settings}
 
 -- where a DFA is taken, what is taken is a DFA
-taken-dfa : (s : front.Settings) (from : NFA) (kind : AhoCorasickKind) → TakesDfa s (reads.dictionary from) → ServesUnnamed s from kind → kind ≡ kinds.DFA
+taken-dfa : (s : FrontSettings) (from : NFA) (kind : AhoCorasickKind) → TakesDfa s (dictionary from) → ServesUnnamed s from kind → kind ≡ kinds.DFA
 taken-dfa s from kinds.DFA takes taken = refl
 taken-dfa s from kinds.ContiguousNFA takes taken = absurd (taken.0 takes)
 taken-dfa s from kinds.NoncontiguousNFA takes taken = absurd (taken.0 takes)
 
 -- where a DFA serves settings and rules, the automaton that serves is one
-served-dfa : (settings : Settings) (rules : List Rule) (from : NFA) (kind : AhoCorasickKind) → reads.dictionary from ≡ dictionary_for settings (patterns_of rules)
+served-dfa : (settings : Settings) (rules : List Rule) (from : NFA) (kind : AhoCorasickKind) → dictionary from ≡ dictionary_for settings (patterns_of rules)
     → IsServed (builder_settings settings) from kind → IsServedByDfa settings rules → kind ≡ kinds.DFA
 served-dfa settings rules from kind is served (inl named) =
     (subst (λ (e : Engine). IsServedBy (automaton_named e) (builder_settings settings) from kind) named served).0
@@ -46,18 +47,18 @@ served-dfa settings rules from kind is served (inr (auto, takes)) =
 
 module _ (settings : Settings) (rules : List Rule) (patterns : List (Bor (List ℕ))) (same : bytes_of patterns ≡ patterns_of rules) where
   -- the patterns that a builder is given are those of the rules
-  handed : front.dictionary_by (builder_settings settings) patterns ≡ dictionary_for settings (patterns_of rules)
+  handed : dictionary_by (noncontiguous_by (builder_settings settings)) patterns ≡ dictionary_for settings (patterns_of rules)
   handed = ap (dictionary_for settings) same
 
-  module _ (ac : AhoCorasick) (built : IsBuiltOf (builder_settings settings) patterns ac) where
+  module _ (ac : AhoCorasick) (built : IsFrontBuilt (builder_settings settings) patterns ac) where
     abbrev from : NFA
     from = built.served.0
 
-    made : reads.dictionary from ≡ dictionary_for settings (patterns_of rules)
+    made : dictionary from ≡ dictionary_for settings (patterns_of rules)
     made = built.served.1.dictionary ∙ handed
 
     -- what was built serves
-    pub built-serves : IsServing (record { settings = settings; rules = rules }) (built_as ac) (supported_by ac)
+    pub built-serves : IsServing (record { settings = settings; rules = rules }) (front_built_as ac) (supported_by ac)
     built-serves = record {
       dictionary = built.served.2.0.dictionary ∙ made;
       looks = λ by_dfa. dfa-deterministic (serving_engine ac) (served-dfa settings rules from (kind_served (serving_engine ac)) made built.served.2.1 by_dfa);
@@ -73,7 +74,7 @@ module _ (settings : Settings) (rules : List Rule) (patterns : List (Bor (List �
     built-buildable = λ named. (subst IsWithinLimits handed built.served.1.within, kind_served (serving_engine ac), built-kind)
 
   -- a build that failed passed a limit, or ran out of memory
-  pub refused-fails : (error : BuildErrorKind) → settings.engine ≢ engines.Packed → IsRefusedOf (builder_settings settings) patterns error → FailsToBuild settings rules (not_built error)
+  pub refused-fails : (error : BuildErrorKind) → settings.engine ≢ engines.Packed → IsFrontBuildRefused (builder_settings settings) patterns error → FailsToBuild settings rules (not_built error)
   refused-fails (limits.StateIDOverflow max requested) named refused = (named, λ e. cc, subst (λ (m : Dictionary). IsDictionaryRefused (builder_settings settings) m (limits.StateIDOverflow max requested)) handed refused)
   refused-fails (limits.PatternIDOverflow max requested) named refused = (named, λ e. cc, subst (λ (m : Dictionary). IsDictionaryRefused (builder_settings settings) m (limits.PatternIDOverflow max requested)) handed refused)
   refused-fails (limits.PatternTooLong pattern len) named refused = (named, λ e. cc, subst (λ (m : Dictionary). IsDictionaryRefused (builder_settings settings) m (limits.PatternTooLong pattern len)) handed refused)

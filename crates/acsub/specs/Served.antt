@@ -8,11 +8,11 @@ use Rattle.ac_input.specs.Steps.{looked_of}
 use Rattle.ac_input.specs.Work.{lookups_per_byte}
 use Rattle.ac_input.specs.declared.search.StartKind.TheVariants as starts
 use Rattle.ac_input.specs.declared.steps.Steps.{Steps}
-use Rattle.ac_noncontiguous.specs.Reads as reads
+use Rattle.ac_noncontiguous.specs.Reads.{dictionary}
 use Rattle.ac_noncontiguous.specs.declared.error.BuildErrorKind.{BuildErrorKind}
 use Rattle.ac_noncontiguous.specs.declared.error.BuildErrorKind.TheVariants as limits
 use Rattle.ac_noncontiguous.specs.declared.nfa.NFA.{NFA}
-use Rattle.aho_corasick.specs.Builder as front
+use Rattle.aho_corasick.specs.Builder.{FrontSettings}
 use Rattle.aho_corasick.specs.Served.{IsDictionaryRefused, IsServed, TakesDfa}
 use Rattle.aho_corasick.specs.declared.ahocorasick.AhoCorasickKind.{AhoCorasickKind}
 use Rattle.aho_corasick.specs.declared.ahocorasick.AhoCorasickKind.TheVariants as kinds
@@ -31,7 +31,7 @@ automaton_named engines.Dfa = Some kinds.DFA
 automaton_named engines.Packed = None
 
 -- the settings of the builder of the automaton, whose searches are unanchored
-abbrev pub builder_settings : Settings → front.Settings
+abbrev pub builder_settings : Settings → FrontSettings
 builder_settings s = record {
   match_kind = s.kind;
   start_kind = starts.Unanchored;
@@ -48,7 +48,7 @@ dictionary_for settings patterns = record { patterns = patterns; pairing = setti
 
 -- the automaton for settings and rules is of this kind
 abbrev pub IsAutomatonFor : Settings → List Rule → AhoCorasickKind → Type 0
-IsAutomatonFor settings rules kind = (from : NFA) × (reads.dictionary from ≡ dictionary_for settings (patterns_of rules)) × IsServed (builder_settings settings) from kind
+IsAutomatonFor settings rules kind = (from : NFA) × (dictionary from ≡ dictionary_for settings (patterns_of rules)) × IsServed (builder_settings settings) from kind
 
 -- ---- the limits
 

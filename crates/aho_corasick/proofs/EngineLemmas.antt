@@ -10,10 +10,10 @@ use Rattle.ac_automaton.specs.Automaton.{AnswersStart}
 use Rattle.aho_corasick.specs.declared.ahocorasick.AhoCorasickKind.TheVariants.{DFA}
 use Rattle.aho_corasick.specs.declared.engine.Engine.{Engine}
 use Rattle.aho_corasick.specs.declared.engine.Engine.TheVariants.{Noncontiguous, Contiguous, Dfa}
-use Rattle.aho_corasick.specs.Engine.{IsRead, built_as, kind_served, supported_by, HasStarts}
+use Rattle.aho_corasick.specs.Engine.{IsEngineRead, engine_built_as, kind_served, engine_supported_by, HasStarts}
 
 -- a DFA looks at one state for a byte
-pub dfa-deterministic : (engine : Engine) → kind_served engine ≡ DFA → IsTrue (built_as engine).deterministic
+pub dfa-deterministic : (engine : Engine) → kind_served engine ≡ DFA → IsTrue (engine_built_as engine).deterministic
 dfa-deterministic (Noncontiguous nfa) is = cc
 dfa-deterministic (Contiguous nfa) is = cc
 dfa-deterministic (Dfa dfa) is = refl
@@ -21,6 +21,6 @@ dfa-deterministic (Dfa dfa) is = refl
 -- if the start kind has this search, the automaton serves it
 pub start-served : (engine : Engine) (kind : StartKind) (anchored : Anchored) (r : Result ℕ MatchErrorKind)
     → HasStarts kind engine → Serves kind anchored
-    → AnswersStart (supported_by engine) (IsRead engine) anchored r → AnswersStart (Serves kind) (IsRead engine) anchored r
+    → AnswersStart (engine_supported_by engine) (IsEngineRead engine) anchored r → AnswersStart (Serves kind) (IsEngineRead engine) anchored r
 start-served engine kind anchored (Ok sid) starts serves answered = (serves, answered.1)
 start-served engine kind anchored (Err error) starts serves answered = (λ _. ∥∥₁_elim (starts anchored serves) (λ (x y : ⊥). absurd x) answered.0, answered.1)

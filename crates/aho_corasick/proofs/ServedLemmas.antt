@@ -6,25 +6,25 @@ use Rattle.ac_input.specs.declared.search.StartKind.{StartKind}
 use Rattle.ac_input.specs.declared.search.StartKind.TheVariants.{Both}
 use Rattle.ac_input.specs.Dfa.{Serves}
 use Rattle.ac_automaton.specs.Automaton.{Built}
-use Rattle.ac_noncontiguous.specs.Reads as reads
+use Rattle.ac_noncontiguous.specs.Reads.{dictionary}
 use Rattle.ac_noncontiguous.specs.declared.error.BuildErrorKind.{BuildErrorKind}
 use Rattle.ac_noncontiguous.specs.declared.error.BuildErrorKind.TheVariants.{StateIDOverflow, PatternIDOverflow, PatternTooLong, Memory}
 use Rattle.ac_noncontiguous.specs.declared.nfa.NFA.{NFA}
 use Rattle.ac_tables.specs.declared.contiguous.NFA.{NFA as ContiguousNFA}
 use Rattle.ac_tables.specs.declared.dfa.DFA.{DFA}
-use Rattle.ac_tables.specs.ContiguousBuilder as contiguous
-use Rattle.ac_tables.specs.DfaBuild as dfas
+use Rattle.ac_tables.specs.ContiguousBuilder.{IsMadeFrom, IsRefusedFrom, ContiguousSettings}
+use Rattle.ac_tables.specs.DfaBuild.{IsDfaOf, IsDfaRefused, DfaSettings}
 use Rattle.aho_corasick.specs.declared.ahocorasick.AhoCorasickKind.{AhoCorasickKind}
 use Rattle.aho_corasick.specs.declared.ahocorasick.AhoCorasickKind.TheVariants as kinds
 use Rattle.aho_corasick.specs.declared.ahocorasick.builder.TheConstants.{MOST_FOR_DFA}
 use Rattle.aho_corasick.specs.declared.engine.Engine.{Engine}
 use Rattle.aho_corasick.specs.declared.engine.Engine.TheVariants.{Contiguous, Dfa}
-use Rattle.aho_corasick.specs.Builder.{Settings}
-use Rattle.aho_corasick.specs.Engine.{supported_by, HasStarts}
+use Rattle.aho_corasick.specs.Builder.{FrontSettings}
+use Rattle.aho_corasick.specs.Engine.{engine_supported_by, HasStarts}
 use Rattle.aho_corasick.specs.Served.{contiguous_by, dfa_by, TakesDfa, IsContiguousTooLargeFor, IsContiguousWithinFor, IsTriedDfa, IsServedBy, IsTriedContiguous, IsEngineOf, IsNamedRefused, Follows, IsFitting}
 
 -- the contiguous NFA that is made of it
-pub follows-contiguous : (s : Settings) (from : NFA) (made : ContiguousNFA) → contiguous.IsMadeFrom (contiguous_by s) from made → Follows s from (Contiguous made)
+pub follows-contiguous : (s : FrontSettings) (from : NFA) (made : ContiguousNFA) → IsMadeFrom (contiguous_by s) from made → Follows s from (Contiguous made)
 follows-contiguous s from made is =
     record {
       dictionary = ap (λ (b : Built). b.dictionary) is.built;
@@ -33,11 +33,11 @@ follows-contiguous s from made is =
     }
 
 -- it is within its limit
-pub within-contiguous : (s : Settings) (from : NFA) (made : ContiguousNFA) → contiguous.IsMadeFrom (contiguous_by s) from made → IsContiguousWithinFor s from
+pub within-contiguous : (s : FrontSettings) (from : NFA) (made : ContiguousNFA) → IsMadeFrom (contiguous_by s) from made → IsContiguousWithinFor s from
 within-contiguous s from made is = (is.laid.classes, is.laid.serve, is.laid.within)
 
 -- the DFA that is made of it
-pub follows-dfa : (s : Settings) (from : NFA) (dfa : DFA) → dfas.IsDfaOf (dfa_by s) from dfa → Follows s from (Dfa dfa)
+pub follows-dfa : (s : FrontSettings) (from : NFA) (dfa : DFA) → IsDfaOf (dfa_by s) from dfa → Follows s from (Dfa dfa)
 follows-dfa s from dfa is =
     record {
       dictionary = ap (λ (b : Built). b.dictionary) is.built;
@@ -46,80 +46,80 @@ follows-dfa s from dfa is =
     }
 
 -- if the DFA is too large, none is taken
-pub refused-dfa : (s : Settings) (from : NFA) (max requested : ℕ) → dfas.IsDfaRefused (dfa_by s) from (StateIDOverflow max requested) → ¬ TakesDfa s (reads.dictionary from)
+pub refused-dfa : (s : FrontSettings) (from : NFA) (max requested : ℕ) → IsDfaRefused (dfa_by s) from (StateIDOverflow max requested) → ¬ TakesDfa s (dictionary from)
 refused-dfa s from max requested (inl large) takes = ∥∥₁_elim large.2 (λ (x y : ⊥). absurd x) takes.2
 refused-dfa s from max requested (inr other) takes = absurd other
 
 -- if it fails for another reason, that is memory
-pub memory-contiguous : (s : Settings) (from : NFA) (error : BuildErrorKind) → contiguous.IsRefusedFrom (contiguous_by s) from error → ((max requested : ℕ) → error ≢ StateIDOverflow max requested) → error ≡ Memory
+pub memory-contiguous : (s : FrontSettings) (from : NFA) (error : BuildErrorKind) → IsRefusedFrom (contiguous_by s) from error → ((max requested : ℕ) → error ≢ StateIDOverflow max requested) → error ≡ Memory
 memory-contiguous s from (StateIDOverflow max requested) refused other = absurd (other max requested refl)
 memory-contiguous s from (PatternIDOverflow max requested) refused other = absurd refused
 memory-contiguous s from (PatternTooLong pattern len) refused other = absurd refused
 memory-contiguous s from Memory refused other = refl
 
 -- if the contiguous NFA fails for its size, it is too large
-pub refused-contiguous : (s : Settings) (from : NFA) (max requested : ℕ) → contiguous.IsRefusedFrom (contiguous_by s) from (StateIDOverflow max requested) → IsContiguousTooLargeFor s from
+pub refused-contiguous : (s : FrontSettings) (from : NFA) (max requested : ℕ) → IsRefusedFrom (contiguous_by s) from (StateIDOverflow max requested) → IsContiguousTooLargeFor s from
 refused-contiguous s from max requested refused = (refused.2, refused.3, refused.4)
 
 -- ---- none named
 
 -- what a try of the DFA gives
-pub tried-dfa : (s : Settings) (from : NFA) (b : dfas.Settings) (made : Result DFA BuildErrorKind) (r : Option DFA) → b ≡ dfa_by s
-    → s.start_kind ≢ Both → length (reads.dictionary from).patterns ≤ MOST_FOR_DFA
-    → IfOk made (dfas.IsDfaOf b from) → IfErr made (dfas.IsDfaRefused b from) → IsFitting made (Ok r) → IsTriedDfa s from r
+pub tried-dfa : (s : FrontSettings) (from : NFA) (b : DfaSettings) (made : Result DFA BuildErrorKind) (r : Option DFA) → b ≡ dfa_by s
+    → s.start_kind ≢ Both → length (dictionary from).patterns ≤ MOST_FOR_DFA
+    → IfOk made (IsDfaOf b from) → IfErr made (IsDfaRefused b from) → IsFitting made (Ok r) → IsTriedDfa s from r
 tried-dfa s from b made (Some dfa) by one few built refused fits =
-    (one, few, subst (λ (t : dfas.Settings). dfas.IsDfaOf t from dfa) by (subst (λ (m : Result DFA BuildErrorKind). IfOk m (dfas.IsDfaOf b from)) fits built))
+    (one, few, subst (λ (t : DfaSettings). IsDfaOf t from dfa) by (subst (λ (m : Result DFA BuildErrorKind). IfOk m (IsDfaOf b from)) fits built))
 tried-dfa s from b made None by one few built refused fits =
-    refused-dfa s from fits.0 fits.1 (subst (λ (t : dfas.Settings). dfas.IsDfaRefused t from (StateIDOverflow fits.0 fits.1)) by (subst (λ (m : Result DFA BuildErrorKind). IfErr m (dfas.IsDfaRefused b from)) fits.2 refused))
+    refused-dfa s from fits.0 fits.1 (subst (λ (t : DfaSettings). IsDfaRefused t from (StateIDOverflow fits.0 fits.1)) by (subst (λ (m : Result DFA BuildErrorKind). IfErr m (IsDfaRefused b from)) fits.2 refused))
 
 -- so of each result of the try
-pub tries-dfa : (s : Settings) (from : NFA) (b : dfas.Settings) (made : Result DFA BuildErrorKind) (r : Result (Option DFA) BuildErrorKind) → b ≡ dfa_by s
-    → s.start_kind ≢ Both → length (reads.dictionary from).patterns ≤ MOST_FOR_DFA
-    → IfOk made (dfas.IsDfaOf b from) → IfErr made (dfas.IsDfaRefused b from) → IsFitting made r → IfOk r (IsTriedDfa s from)
+pub tries-dfa : (s : FrontSettings) (from : NFA) (b : DfaSettings) (made : Result DFA BuildErrorKind) (r : Result (Option DFA) BuildErrorKind) → b ≡ dfa_by s
+    → s.start_kind ≢ Both → length (dictionary from).patterns ≤ MOST_FOR_DFA
+    → IfOk made (IsDfaOf b from) → IfErr made (IsDfaRefused b from) → IsFitting made r → IfOk r (IsTriedDfa s from)
 tries-dfa s from b made (Ok tried) by one few built refused fits = tried-dfa s from b made tried by one few built refused fits
 tries-dfa s from b made (Err error) by one few built refused fits = tt
 
 -- what a try of the contiguous NFA gives
-pub tries-contiguous : (s : Settings) (from : NFA) (b : contiguous.Settings) (made : Result ContiguousNFA BuildErrorKind) (r : Result (Option ContiguousNFA) BuildErrorKind) → b ≡ contiguous_by s
-    → IfOk made (contiguous.IsMadeFrom b from) → IfErr made (contiguous.IsRefusedFrom b from) → IsFitting made r → IfOk r (IsTriedContiguous s from)
+pub tries-contiguous : (s : FrontSettings) (from : NFA) (b : ContiguousSettings) (made : Result ContiguousNFA BuildErrorKind) (r : Result (Option ContiguousNFA) BuildErrorKind) → b ≡ contiguous_by s
+    → IfOk made (IsMadeFrom b from) → IfErr made (IsRefusedFrom b from) → IsFitting made r → IfOk r (IsTriedContiguous s from)
 tries-contiguous s from b made (Ok (Some it)) by built refused fits =
-    subst (λ (t : contiguous.Settings). contiguous.IsMadeFrom t from it) by (subst (λ (m : Result ContiguousNFA BuildErrorKind). IfOk m (contiguous.IsMadeFrom b from)) fits built)
+    subst (λ (t : ContiguousSettings). IsMadeFrom t from it) by (subst (λ (m : Result ContiguousNFA BuildErrorKind). IfOk m (IsMadeFrom b from)) fits built)
 tries-contiguous s from b made (Ok None) by built refused fits =
-    refused-contiguous s from fits.0 fits.1 (subst (λ (t : contiguous.Settings). contiguous.IsRefusedFrom t from (StateIDOverflow fits.0 fits.1)) by (subst (λ (m : Result ContiguousNFA BuildErrorKind). IfErr m (contiguous.IsRefusedFrom b from)) fits.2 refused))
+    refused-contiguous s from fits.0 fits.1 (subst (λ (t : ContiguousSettings). IsRefusedFrom t from (StateIDOverflow fits.0 fits.1)) by (subst (λ (m : Result ContiguousNFA BuildErrorKind). IfErr m (IsRefusedFrom b from)) fits.2 refused))
 tries-contiguous s from b made (Err error) by built refused fits = tt
 
 -- the contiguous NFA can fail only for memory
-pub tries-contiguous_memory : (s : Settings) (from : NFA) (b : contiguous.Settings) (made : Result ContiguousNFA BuildErrorKind) (r : Result (Option ContiguousNFA) BuildErrorKind) → b ≡ contiguous_by s
-    → IfErr made (contiguous.IsRefusedFrom b from) → IsFitting made r → IfErr r (λ error. error ≡ Memory)
+pub tries-contiguous_memory : (s : FrontSettings) (from : NFA) (b : ContiguousSettings) (made : Result ContiguousNFA BuildErrorKind) (r : Result (Option ContiguousNFA) BuildErrorKind) → b ≡ contiguous_by s
+    → IfErr made (IsRefusedFrom b from) → IsFitting made r → IfErr r (λ error. error ≡ Memory)
 tries-contiguous_memory s from b made (Ok tried) by refused fits = tt
 tries-contiguous_memory s from b made (Err error) by refused fits =
-    memory-contiguous s from error (subst (λ (t : contiguous.Settings). contiguous.IsRefusedFrom t from error) by (subst (λ (m : Result ContiguousNFA BuildErrorKind). IfErr m (contiguous.IsRefusedFrom b from)) fits.0 refused)) fits.1
+    memory-contiguous s from error (subst (λ (t : ContiguousSettings). IsRefusedFrom t from error) by (subst (λ (m : Result ContiguousNFA BuildErrorKind). IfErr m (IsRefusedFrom b from)) fits.0 refused)) fits.1
 
 -- ---- named
 
 -- the contiguous NFA serves where it was named
-pub served-contiguous : (s : Settings) (from : NFA) (b : contiguous.Settings) (made : ContiguousNFA) → s.kind ≡ Some kinds.ContiguousNFA → b ≡ contiguous_by s
-    → contiguous.IsMadeFrom b from made → IsEngineOf s from (Contiguous made)
+pub served-contiguous : (s : FrontSettings) (from : NFA) (b : ContiguousSettings) (made : ContiguousNFA) → s.kind ≡ Some kinds.ContiguousNFA → b ≡ contiguous_by s
+    → IsMadeFrom b from made → IsEngineOf s from (Contiguous made)
 served-contiguous s from b made is by ok =
-    let of_s = subst (λ (t : contiguous.Settings). contiguous.IsMadeFrom t from made) by ok in
+    let of_s = subst (λ (t : ContiguousSettings). IsMadeFrom t from made) by ok in
     (follows-contiguous s from made of_s, subst (λ (k : Option AhoCorasickKind). IsServedBy k s from kinds.ContiguousNFA) (sym is) (refl, within-contiguous s from made of_s))
 
 -- the DFA serves where it was named
-pub served-dfa : (s : Settings) (from : NFA) (b : dfas.Settings) (dfa : DFA) → s.kind ≡ Some kinds.DFA → b ≡ dfa_by s
-    → dfas.IsDfaOf b from dfa → IsEngineOf s from (Dfa dfa)
+pub served-dfa : (s : FrontSettings) (from : NFA) (b : DfaSettings) (dfa : DFA) → s.kind ≡ Some kinds.DFA → b ≡ dfa_by s
+    → IsDfaOf b from dfa → IsEngineOf s from (Dfa dfa)
 served-dfa s from b dfa is by ok =
-    let of_s = subst (λ (t : dfas.Settings). dfas.IsDfaOf t from dfa) by ok in
+    let of_s = subst (λ (t : DfaSettings). IsDfaOf t from dfa) by ok in
     (follows-dfa s from dfa of_s, subst (λ (k : Option AhoCorasickKind). IsServedBy k s from kinds.DFA) (sym is) (refl, of_s.within))
 
 -- ---- built
 
 -- over it there are the starts that the settings ask for
-pub starts-shared : (s : Settings) (from : NFA) (kind : StartKind) (engine shared : Engine) → kind ≡ s.start_kind → Follows s from engine → shared ≡ engine → HasStarts kind shared
+pub starts-shared : (s : FrontSettings) (from : NFA) (kind : StartKind) (engine shared : Engine) → kind ≡ s.start_kind → Follows s from engine → shared ≡ engine → HasStarts kind shared
 starts-shared s from kind engine shared is follows same =
-    λ anchored serves. subst (λ (e : Engine). ∥ supported_by e anchored ∥₁) (sym same) (follows.starts anchored (subst (λ (k : StartKind). Serves k anchored) is serves))
+    λ anchored serves. subst (λ (e : Engine). ∥ engine_supported_by e anchored ∥₁) (sym same) (follows.starts anchored (subst (λ (k : StartKind). Serves k anchored) is serves))
 
 -- out of memory is an error whichever was named
-pub named-memory : (kind : Option AhoCorasickKind) (s : Settings) (from : NFA) → IsNamedRefused kind s from Memory
+pub named-memory : (kind : Option AhoCorasickKind) (s : FrontSettings) (from : NFA) → IsNamedRefused kind s from Memory
 named-memory (Some kinds.DFA) s from = tt
 named-memory (Some kinds.ContiguousNFA) s from = tt
 named-memory (Some kinds.NoncontiguousNFA) s from = refl

@@ -11,43 +11,43 @@ use Rattle.ac_automaton.specs.declared.overlapping.OverlappingState.{Overlapping
 use Rattle.ac_automaton.specs.OverlappingIter.{Run, fresh_run, rest_of}
 use Rattle.aho_corasick.specs.declared.ahocorasick.AhoCorasick.{AhoCorasick}
 use Rattle.aho_corasick.specs.declared.engine.Engine.{Engine}
-use Rattle.aho_corasick.specs.Engine as engines
+use Rattle.aho_corasick.specs.Engine.{engine_built_as, IsEngineRead, engine_matches_at, is_engine_start_at, is_engine_special_at}
 
 -- the automaton that serves
 abbrev pub serving_engine : AhoCorasick → Engine
 serving_engine ac = ac.engine.value
 
 -- what it was built as
-abbrev pub built_as : AhoCorasick → Built
-built_as ac = engines.built_as (serving_engine ac)
+abbrev pub front_built_as : AhoCorasick → Built
+front_built_as ac = engine_built_as (serving_engine ac)
 
 -- for which searches it has a start: those of the start kind that was set, whichever automaton serves
 abbrev pub supported_by : AhoCorasick → Anchored → Type 0
 supported_by ac anchored = Serves ac.start_kind anchored
 
 -- a number is read by a search
-abbrev pub IsRead : AhoCorasick → Anchored → List ℕ → ℕ → Type 0
-IsRead ac anchored text sid = engines.IsRead (serving_engine ac) anchored text sid
+abbrev pub IsFrontRead : AhoCorasick → Anchored → List ℕ → ℕ → Type 0
+IsFrontRead ac anchored text sid = IsEngineRead (serving_engine ac) anchored text sid
 
 -- the patterns that match at a number
-abbrev pub matches_at : AhoCorasick → ℕ → List ℕ
-matches_at ac sid = engines.matches_at (serving_engine ac) sid
+abbrev pub front_matches_at : AhoCorasick → ℕ → List ℕ
+front_matches_at ac sid = engine_matches_at (serving_engine ac) sid
 
 -- the starts
-abbrev pub is_start_at : AhoCorasick → ℕ → Bool
-is_start_at ac sid = engines.is_start_at (serving_engine ac) sid
+abbrev pub is_front_start_at : AhoCorasick → ℕ → Bool
+is_front_start_at ac sid = is_engine_start_at (serving_engine ac) sid
 
 -- the states at which a search has more to do than to read on
-abbrev pub is_special_at : AhoCorasick → ℕ → Bool
-is_special_at ac sid = engines.is_special_at (serving_engine ac) sid
+abbrev pub is_front_special_at : AhoCorasick → ℕ → Bool
+is_front_special_at ac sid = is_engine_special_at (serving_engine ac) sid
 
 -- how many patterns it was made from
 abbrev pub pattern_count : AhoCorasick → ℕ
-pattern_count ac = length (built_as ac).dictionary.patterns
+pattern_count ac = length (front_built_as ac).dictionary.patterns
 
 -- an overlapping state is fresh, or came from earlier calls with this automaton and input alone
 abbrev pub CameFromCalls : AhoCorasick → Asked → OverlappingState → Type 0
-CameFromCalls ac asked state = overlapping.CameFrom (built_as ac) (IsRead ac) (matches_at ac) asked state
+CameFromCalls ac asked state = overlapping.CameFrom (front_built_as ac) (IsFrontRead ac) (front_matches_at ac) asked state
 
 -- one means the same as another: the same automaton serves both, for the same searches
 pub record MeansSame (ac other : AhoCorasick) : Type 0 where

@@ -1,19 +1,17 @@
 -- The settings of a builder of the front.
 use Rattle.std.specs.Prelude.{◌≡◌, ℕ, Bool, true, List, Option, None, Some}
-use Rattle.std.specs.Borrow.{Bor}
 use Rattle.ac_input.specs.declared.search.MatchKind.{MatchKind}
 use Rattle.ac_input.specs.declared.search.MatchKind.TheVariants.{Standard}
 use Rattle.ac_input.specs.declared.search.StartKind.{StartKind}
 use Rattle.ac_input.specs.declared.search.StartKind.TheVariants.{Unanchored}
-use Rattle.ac_input.specs.Dictionary.{Dictionary}
 use Rattle.ac_input.specs.Same.{IsUnpaired}
-use Rattle.ac_noncontiguous.specs.Builder as noncontiguous
+use Rattle.ac_noncontiguous.specs.Builder.{Settings}
 use Rattle.aho_corasick.specs.declared.ahocorasick.AhoCorasickKind.{AhoCorasickKind}
 
 -- Which of several overlapping occurrences is the match, which searches are served, which bytes are paired, which automaton serves
 -- where one was named, whether a prefilter is wanted, up to which depth the states of an NFA keep a row where that was set, and
 -- whether bytes that lead alike are one class.
-pub record Settings : Type 0 where
+pub record FrontSettings : Type 0 where
   pub match_kind : MatchKind
   pub start_kind : StartKind
   pub pairing : List ℕ
@@ -23,7 +21,7 @@ pub record Settings : Type 0 where
   pub byte_classes : Bool
 
 -- what they are at first
-pub record AreFirst (s : Settings) : Type 0 where
+pub record AreFrontFirst (s : FrontSettings) : Type 0 where
   pub match_kind : s.match_kind ≡ Standard
   pub start_kind : s.start_kind ≡ Unanchored
   pub pairing : IsUnpaired s.pairing
@@ -38,9 +36,5 @@ depth_or None other = other
 depth_or (Some depth) other = depth
 
 -- the settings of the noncontiguous NFA, from which the others are made
-abbrev pub noncontiguous_by : Settings → noncontiguous.Settings
+abbrev pub noncontiguous_by : FrontSettings → Settings
 noncontiguous_by s = record { kind = s.match_kind; pairing = s.pairing; dense_depth = depth_or s.dense_depth 3; prefilter = s.prefilter }
-
--- the dictionary of these patterns under the settings
-abbrev pub dictionary_by : Settings → List (Bor (List ℕ)) → Dictionary
-dictionary_by s patterns = noncontiguous.dictionary_by (noncontiguous_by s) patterns

@@ -4,16 +4,15 @@ use Rattle.std.specs.Borrow.{Bor}
 use Rattle.ac_input.specs.declared.search.StartKind.TheVariants.{Both}
 use Rattle.ac_input.specs.Dfa.{IsDfaTooLarge}
 use Rattle.ac_input.specs.Dictionary.{Dictionary}
-use Rattle.ac_noncontiguous.specs.Builder as noncontiguous
-use Rattle.ac_noncontiguous.specs.Builder.{IsHeld}
-use Rattle.ac_noncontiguous.specs.Reads as reads
+use Rattle.ac_noncontiguous.specs.Builder.{IsHeld, IsBuiltOf, dictionary_by}
+use Rattle.ac_noncontiguous.specs.Reads.{dictionary, built_as}
 use Rattle.ac_noncontiguous.specs.Standing.{IsBuildRefused}
 use Rattle.ac_noncontiguous.specs.declared.error.BuildErrorKind.{BuildErrorKind}
 use Rattle.ac_noncontiguous.specs.declared.error.BuildErrorKind.TheVariants.{StateIDOverflow, Memory}
 use Rattle.ac_noncontiguous.specs.declared.nfa.NFA.{NFA}
-use Rattle.ac_tables.specs.ContiguousBuilder as contiguous
+use Rattle.ac_tables.specs.ContiguousBuilder.{ContiguousSettings, IsMadeFrom, IsRefusedFrom}
 use Rattle.ac_tables.specs.ContiguousTable.{ArePlacesTooGreat}
-use Rattle.ac_tables.specs.DfaBuild as dfas
+use Rattle.ac_tables.specs.DfaBuild.{DfaSettings, IsDfaOf, IsDfaRefused}
 use Rattle.ac_tables.specs.TableClasses.{AreClassesFor}
 use Rattle.ac_tables.specs.declared.contiguous.NFA.{NFA as Contiguous}
 use Rattle.ac_tables.specs.declared.dfa.DFA.{DFA as Deterministic}
@@ -23,117 +22,117 @@ use Rattle.aho_corasick.specs.declared.ahocorasick.AhoCorasickKind.TheVariants.{
 use Rattle.aho_corasick.specs.declared.ahocorasick.builder.TheConstants.{MOST_FOR_DFA}
 use Rattle.aho_corasick.specs.declared.engine.Engine.{Engine}
 use Rattle.aho_corasick.specs.AhoCorasick.{serving_engine}
-use Rattle.aho_corasick.specs.Builder.{Settings, AreFirst, dictionary_by, noncontiguous_by, depth_or}
-use Rattle.aho_corasick.specs.Engine.{built_as, kind_served, HasStarts}
+use Rattle.aho_corasick.specs.Builder.{FrontSettings, AreFrontFirst, noncontiguous_by, depth_or}
+use Rattle.aho_corasick.specs.Engine.{engine_built_as, kind_served, HasStarts}
 
 -- ---- the settings of each automaton
 
-abbrev pub contiguous_by : Settings → contiguous.Settings
+abbrev pub contiguous_by : FrontSettings → ContiguousSettings
 contiguous_by s = record { kind = s.match_kind; pairing = s.pairing; prefilter = s.prefilter; dense_depth = depth_or s.dense_depth 2; byte_classes = s.byte_classes }
 
-abbrev pub dfa_by : Settings → dfas.Settings
+abbrev pub dfa_by : FrontSettings → DfaSettings
 dfa_by s = record { kind = s.match_kind; pairing = s.pairing; prefilter = s.prefilter; start_kind = s.start_kind; byte_classes = s.byte_classes }
 
 -- ---- which one serves
 
 -- the DFA of a dictionary is too large for the settings
-abbrev pub IsDfaTooLargeFor : Settings → Dictionary → Type 0
+abbrev pub IsDfaTooLargeFor : FrontSettings → Dictionary → Type 0
 IsDfaTooLargeFor s m = IsDfaTooLarge m s.start_kind s.byte_classes
 
 -- the contiguous NFA of an automaton is too large for the settings, or isn't
-abbrev pub IsContiguousTooLargeFor : Settings → NFA → Type 0
+abbrev pub IsContiguousTooLargeFor : FrontSettings → NFA → Type 0
 IsContiguousTooLargeFor s from = (classes : List ℕ) × AreClassesFor from s.byte_classes classes × ArePlacesTooGreat from (contiguous_by s).dense_depth classes
 
-abbrev pub IsContiguousWithinFor : Settings → NFA → Type 0
+abbrev pub IsContiguousWithinFor : FrontSettings → NFA → Type 0
 IsContiguousWithinFor s from = (classes : List ℕ) × AreClassesFor from s.byte_classes classes × ¬ ArePlacesTooGreat from (contiguous_by s).dense_depth classes
 
 -- a DFA is taken where none is named: for one start kind and few patterns, where it isn't too large
-abbrev pub TakesDfa : Settings → Dictionary → Type 0
+abbrev pub TakesDfa : FrontSettings → Dictionary → Type 0
 TakesDfa s m = (s.start_kind ≢ Both) × (length m.patterns ≤ MOST_FOR_DFA) × ¬ IsDfaTooLargeFor s m
 
 -- which automaton serves where none is named: the DFA where one is taken, else the contiguous NFA where it isn't too large, else the
 -- noncontiguous one
-abbrev pub ServesUnnamed : Settings → NFA → AhoCorasickKind → Type 0
-ServesUnnamed s from DFA = TakesDfa s (reads.dictionary from)
-ServesUnnamed s from ContiguousNFA = (¬ TakesDfa s (reads.dictionary from)) × IsContiguousWithinFor s from
-ServesUnnamed s from NoncontiguousNFA = (¬ TakesDfa s (reads.dictionary from)) × IsContiguousTooLargeFor s from
+abbrev pub ServesUnnamed : FrontSettings → NFA → AhoCorasickKind → Type 0
+ServesUnnamed s from DFA = TakesDfa s (dictionary from)
+ServesUnnamed s from ContiguousNFA = (¬ TakesDfa s (dictionary from)) × IsContiguousWithinFor s from
+ServesUnnamed s from NoncontiguousNFA = (¬ TakesDfa s (dictionary from)) × IsContiguousTooLargeFor s from
 
 -- what a try of the DFA gives: one is taken, or none is
-abbrev pub IsTriedDfa : Settings → NFA → Option Deterministic → Type 0
-IsTriedDfa s from (Some dfa) = (s.start_kind ≢ Both) × (length (reads.dictionary from).patterns ≤ MOST_FOR_DFA) × dfas.IsDfaOf (dfa_by s) from dfa
-IsTriedDfa s from None = ¬ TakesDfa s (reads.dictionary from)
+abbrev pub IsTriedDfa : FrontSettings → NFA → Option Deterministic → Type 0
+IsTriedDfa s from (Some dfa) = (s.start_kind ≢ Both) × (length (dictionary from).patterns ≤ MOST_FOR_DFA) × IsDfaOf (dfa_by s) from dfa
+IsTriedDfa s from None = ¬ TakesDfa s (dictionary from)
 
 -- what a try of the contiguous NFA gives: one that is made of the automaton, or none where it is too large
-abbrev pub IsTriedContiguous : Settings → NFA → Option Contiguous → Type 0
-IsTriedContiguous s from (Some made) = contiguous.IsMadeFrom (contiguous_by s) from made
+abbrev pub IsTriedContiguous : FrontSettings → NFA → Option Contiguous → Type 0
+IsTriedContiguous s from (Some made) = IsMadeFrom (contiguous_by s) from made
 IsTriedContiguous s from None = IsContiguousTooLargeFor s from
 
 -- the automaton is within its own limit
-abbrev pub IsWithinFor : Settings → NFA → AhoCorasickKind → Type 0
-IsWithinFor s from DFA = ¬ IsDfaTooLargeFor s (reads.dictionary from)
+abbrev pub IsWithinFor : FrontSettings → NFA → AhoCorasickKind → Type 0
+IsWithinFor s from DFA = ¬ IsDfaTooLargeFor s (dictionary from)
 IsWithinFor s from ContiguousNFA = IsContiguousWithinFor s from
 IsWithinFor s from NoncontiguousNFA = Unit {0}
 
 -- which automaton serves where this one is named, or none is
-abbrev pub IsServedBy : Option AhoCorasickKind → Settings → NFA → AhoCorasickKind → Type 0
+abbrev pub IsServedBy : Option AhoCorasickKind → FrontSettings → NFA → AhoCorasickKind → Type 0
 IsServedBy None s from kind = ServesUnnamed s from kind
 IsServedBy (Some named) s from kind = (kind ≡ named) × IsWithinFor s from kind
 
 -- which automaton serves by the settings
-abbrev pub IsServed : Settings → NFA → AhoCorasickKind → Type 0
+abbrev pub IsServed : FrontSettings → NFA → AhoCorasickKind → Type 0
 IsServed s from kind = IsServedBy s.kind s from kind
 
 -- ---- what is built
 
 -- an automaton finds what another does, and has the starts that the settings ask for
-pub record Follows (s : Settings) (from : NFA) (engine : Engine) : Type 0 where
-  pub dictionary : (built_as engine).dictionary ≡ reads.dictionary from
-  pub prefilter : (built_as engine).prefilter ≡ (reads.built_as from).prefilter
+pub record Follows (s : FrontSettings) (from : NFA) (engine : Engine) : Type 0 where
+  pub dictionary : (engine_built_as engine).dictionary ≡ dictionary from
+  pub prefilter : (engine_built_as engine).prefilter ≡ (built_as from).prefilter
   pub starts : HasStarts s.start_kind engine
 
 -- it is the one that serves, made of the noncontiguous NFA
-abbrev pub IsEngineOf : Settings → NFA → Engine → Type 0
+abbrev pub IsEngineOf : FrontSettings → NFA → Engine → Type 0
 IsEngineOf s from engine = Follows s from engine × IsServed s from (kind_served engine)
 
 -- it is the one that is taken where none is named
-abbrev pub IsEngineTaken : Settings → NFA → Engine → Type 0
+abbrev pub IsEngineTaken : FrontSettings → NFA → Engine → Type 0
 IsEngineTaken s from engine = Follows s from engine × ServesUnnamed s from (kind_served engine)
 
 -- the automaton is made over the one that serves
-abbrev pub IsMadeOf : Settings → NFA → AhoCorasick → Type 0
-IsMadeOf s from ac = (ac.start_kind ≡ s.start_kind) × IsEngineOf s from (serving_engine ac)
+abbrev pub IsFrontMadeOf : FrontSettings → NFA → AhoCorasick → Type 0
+IsFrontMadeOf s from ac = (ac.start_kind ≡ s.start_kind) × IsEngineOf s from (serving_engine ac)
 
 -- The automaton is built of the patterns: it has their dictionary, a prefilter as one is wanted, and the start kind; and one serves
 -- that is made of a noncontiguous NFA that was built of them.
-pub record IsBuiltOf (s : Settings) (patterns : List (Bor (List ℕ))) (ac : AhoCorasick) : Type 0 where
-  pub dictionary : (built_as (serving_engine ac)).dictionary ≡ dictionary_by s patterns
-  pub prefilter : IsHeld s.prefilter (dictionary_by s patterns) (built_as (serving_engine ac)).prefilter
+pub record IsFrontBuilt (s : FrontSettings) (patterns : List (Bor (List ℕ))) (ac : AhoCorasick) : Type 0 where
+  pub dictionary : (engine_built_as (serving_engine ac)).dictionary ≡ dictionary_by (noncontiguous_by s) patterns
+  pub prefilter : IsHeld s.prefilter (dictionary_by (noncontiguous_by s) patterns) (engine_built_as (serving_engine ac)).prefilter
   pub start_kind : ac.start_kind ≡ s.start_kind
-  pub served : (from : NFA) × noncontiguous.IsBuiltOf (noncontiguous_by s) patterns (reads.built_as from) × IsEngineOf s from (serving_engine ac)
+  pub served : (from : NFA) × IsBuiltOf (noncontiguous_by s) patterns (built_as from) × IsEngineOf s from (serving_engine ac)
 
 -- ---- errors
 
 -- why the automaton that was named can't be made from a noncontiguous NFA; without a name only memory can fail
-abbrev pub IsNamedRefused : Option AhoCorasickKind → Settings → NFA → BuildErrorKind → Type 0
-IsNamedRefused (Some DFA) s from error = dfas.IsDfaRefused (dfa_by s) from error
-IsNamedRefused (Some ContiguousNFA) s from error = contiguous.IsRefusedFrom (contiguous_by s) from error
+abbrev pub IsNamedRefused : Option AhoCorasickKind → FrontSettings → NFA → BuildErrorKind → Type 0
+IsNamedRefused (Some DFA) s from error = IsDfaRefused (dfa_by s) from error
+IsNamedRefused (Some ContiguousNFA) s from error = IsRefusedFrom (contiguous_by s) from error
 IsNamedRefused (Some NoncontiguousNFA) s from error = error ≡ Memory
 IsNamedRefused None s from error = error ≡ Memory
 
 -- why none is built for a dictionary: it passes a limit, or the automaton that was named can't be made, or memory ended
-abbrev pub IsDictionaryRefused : Settings → Dictionary → BuildErrorKind → Type 0
-IsDictionaryRefused s m error = IsBuildRefused m error ⊎ ((from : NFA) × (reads.dictionary from ≡ m) × IsNamedRefused s.kind s from error)
+abbrev pub IsDictionaryRefused : FrontSettings → Dictionary → BuildErrorKind → Type 0
+IsDictionaryRefused s m error = IsBuildRefused m error ⊎ ((from : NFA) × (dictionary from ≡ m) × IsNamedRefused s.kind s from error)
 
 -- why none is built of these patterns
-abbrev pub IsRefusedOf : Settings → List (Bor (List ℕ)) → BuildErrorKind → Type 0
-IsRefusedOf s patterns error = IsDictionaryRefused s (dictionary_by s patterns) error
+abbrev pub IsFrontBuildRefused : FrontSettings → List (Bor (List ℕ)) → BuildErrorKind → Type 0
+IsFrontBuildRefused s patterns error = IsDictionaryRefused s (dictionary_by (noncontiguous_by s) patterns) error
 
 -- so it is by the settings that a builder has at first
-abbrev pub IsBuiltAtFirst : List (Bor (List ℕ)) → AhoCorasick → Type 0
-IsBuiltAtFirst patterns ac = (s : Settings) × AreFirst s × IsBuiltOf s patterns ac
+abbrev pub IsFrontBuiltAtFirst : List (Bor (List ℕ)) → AhoCorasick → Type 0
+IsFrontBuiltAtFirst patterns ac = (s : FrontSettings) × AreFrontFirst s × IsFrontBuilt s patterns ac
 
-abbrev pub IsRefusedAtFirst : List (Bor (List ℕ)) → BuildErrorKind → Type 0
-IsRefusedAtFirst patterns error = (s : Settings) × AreFirst s × IsRefusedOf s patterns error
+abbrev pub IsFrontRefusedAtFirst : List (Bor (List ℕ)) → BuildErrorKind → Type 0
+IsFrontRefusedAtFirst patterns error = (s : FrontSettings) × AreFrontFirst s × IsFrontBuildRefused s patterns error
 
 -- ---- trying the next
 

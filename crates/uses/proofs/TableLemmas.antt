@@ -5,12 +5,12 @@ use Rattle.ac_input.specs.Dictionary.{Dictionary}
 use Rattle.ac_input.specs.Same.{IsUnpaired}
 use Rattle.ac_automaton.specs.Automaton.{Built}
 use Rattle.ac_tables.specs.declared.dfa.DFA.{DFA}
-use Rattle.ac_tables.specs.DfaBuild as dfas
-use Rattle.ac_tables.specs.DfaReads.{built_as}
+use Rattle.ac_tables.specs.DfaBuild.{IsDfaBuiltAtFirst}
+use Rattle.ac_tables.specs.DfaReads.{dfa_built_as}
 use Rattle.uses.specs.Callers.{FindsBytes}
 
 -- by the first settings the patterns are found byte for byte
-pub first-dfa : (patterns : List (Bor (List ℕ))) (dfa : DFA) → dfas.IsBuiltAtFirst patterns dfa → FindsBytes (map (λ p. p.now) patterns) (built_as dfa).dictionary
+pub first-dfa : (patterns : List (Bor (List ℕ))) (dfa : DFA) → IsDfaBuiltAtFirst patterns dfa → FindsBytes (map (λ p. p.now) patterns) (dfa_built_as dfa).dictionary
 first-dfa patterns dfa (s, first, (nfa, of, made)) =
     let same = ap (λ (b : Built). b.dictionary) made.built ∙ of.dictionary in
     (ap (λ (m : Dictionary). m.patterns) same, ap (λ (m : Dictionary). m.kind) same ∙ first.kind, subst IsUnpaired (sym (ap (λ (m : Dictionary). m.pairing) same)) first.pairing)

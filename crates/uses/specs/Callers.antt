@@ -61,9 +61,9 @@ AppendsOne b text replacement old new = string_bytes new ≡ string_bytes old ++
 abbrev pub KeepsUnmatched : Built → List ℕ → List ℕ → Type 0
 KeepsUnmatched b text made = ¬ OccursIn b.dictionary text → made ≡ text
 
--- the writer has taken the text, with each match exchanged for its pattern's replacement
-abbrev pub IsWritten : Built → List (Bor (List ℕ)) → List ℕ → Watched (Vec ℕ) → Watched (Vec ℕ) → Type 0
-IsWritten b replacements text old new = (inner_of new).items ≡ (inner_of old).items ++ replaced_in b (map (λ r. r.now) replacements) text
+-- the writer has taken the text, with each match replaced
+abbrev pub WritesReplaced : Built → List (Bor (List ℕ)) → List ℕ → Watched (Vec ℕ) → Watched (Vec ℕ) → Type 0
+WritesReplaced b replacements text old new = (inner_of new).items ≡ (inner_of old).items ++ replaced_in b (map (λ r. r.now) replacements) text
 
 -- no occurrence begins before the place, and there is none where there is no place
 abbrev pub IsSkip : Search → Option ℕ → Type 0

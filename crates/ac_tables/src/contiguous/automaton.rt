@@ -7,7 +7,7 @@
 ghost use Rattle.std.specs.Prelude.{false};
 ghost use Rattle.ac_automaton.specs.Automaton.{IsReached};
 ghost use Rattle.ac_input.specs.Input.{is_anchored};
-ghost use Rattle.ac_tables.specs.ContiguousReads.{built_as, IsRead, IsMet, LooksUp};
+ghost use Rattle.ac_tables.specs.ContiguousReads.{contiguous_built_as, IsContiguousRead, IsMet, LooksUp};
 ghost use Rattle.ac_tables.specs.WordReads.{ByteLeadsTo, IsFailOf};
 
 use crate::contiguous::NFA;
@@ -69,13 +69,13 @@ impl NFA {
 }
 
 impl LookUp for NFA {
-    ghost use Rattle.ac_tables.specs.ContiguousReads.{built_as, IsRead, matches_at};
+    ghost use Rattle.ac_tables.specs.ContiguousReads.{contiguous_built_as, IsContiguousRead, contiguous_matches_at};
 
-    ghost built = { built_as };
+    ghost built = { contiguous_built_as };
 
-    ghost Reaches = { IsRead };
+    ghost Reaches = { IsContiguousRead };
 
-    ghost matches = { matches_at };
+    ghost matches = { contiguous_matches_at };
 
     ghost tells = { λ nfa anchored text sid reads. reads.tells };
 
@@ -90,19 +90,19 @@ impl LookUp for NFA {
 }
 
 impl Automaton for NFA {
-    ghost use Rattle.ac_tables.specs.ContiguousReads.{built_as, IsRead, matches_at, is_start_at, is_special_at};
+    ghost use Rattle.ac_tables.specs.ContiguousReads.{contiguous_built_as, IsContiguousRead, contiguous_matches_at, is_contiguous_start_at, is_contiguous_special_at};
 
-    ghost built = { built_as };
+    ghost built = { contiguous_built_as };
 
     ghost supports = { λ nfa anchored. Unit {0} };
 
-    ghost Reaches = { IsRead };
+    ghost Reaches = { IsContiguousRead };
 
-    ghost matches = { matches_at };
+    ghost matches = { contiguous_matches_at };
 
-    ghost starts = { is_start_at };
+    ghost starts = { is_contiguous_start_at };
 
-    ghost special = { is_special_at };
+    ghost special = { is_contiguous_special_at };
 
     ghost tells = { λ nfa anchored text sid reads. reads.tells };
 

@@ -7,7 +7,7 @@ ghost use Rattle.std.specs.Prelude.{◌≡◌, IfOk, IfErr};
 ghost use Rattle.ac_input.specs.Pairing.{IsFolded};
 ghost use Rattle.ac_noncontiguous.specs.Reads.{dictionary};
 ghost use Rattle.ac_tables.specs.ContiguousBuild.{IsRefusedFor};
-ghost use Rattle.ac_tables.specs.ContiguousBuilder.{AreFirst, IsTableFrom, IsMadeFrom, IsRefusedFrom, IsBuiltOf, IsRefusedOf, IsBuiltAtFirst, IsRefusedAtFirst, noncontiguous_of, words_in};
+ghost use Rattle.ac_tables.specs.ContiguousBuilder.{AreContiguousFirst, IsTableFrom, IsMadeFrom, IsRefusedFrom, IsContiguousBuilt, IsContiguousBuildRefused, IsContiguousBuiltAtFirst, IsContiguousRefusedAtFirst, noncontiguous_of, words_in};
 ghost use Rattle.ac_tables.specs.TableClasses.{AreServing};
 
 use crate::contiguous::NFA;
@@ -76,9 +76,9 @@ pub struct Builder {
 }
 
 impl Model for Builder {
-    ghost use Rattle.ac_tables.specs.ContiguousBuilder.{Settings};
+    ghost use Rattle.ac_tables.specs.ContiguousBuilder.{ContiguousSettings};
 
-    ghost Value = { Settings };
+    ghost Value = { ContiguousSettings };
 
     ghost view = { λ b. record {
       kind = b.kind;
@@ -98,9 +98,9 @@ impl Model for Builder {
 }
 
 impl Default for Builder {
-    ghost use Rattle.ac_tables.specs.ContiguousBuilder.{AreFirst};
+    ghost use Rattle.ac_tables.specs.ContiguousBuilder.{AreContiguousFirst};
 
-    ghost is_default = { AreFirst };
+    ghost is_default = { AreContiguousFirst };
 
     fn default() -> Builder {
         Builder::new()
@@ -111,7 +111,7 @@ impl Builder {
     /// Standard matches, no byte paired, a prefilter wanted, dense states of less than two bytes, and bytes put into classes.
     /// A caller: `uses::callers::tables::contiguous_plain`.
     pub fn new() -> Builder
-        ensures { AreFirst result }
+        ensures { AreContiguousFirst result }
     {
         Builder {
             kind: MatchKind::Standard,
@@ -226,8 +226,8 @@ impl Builder {
     /// the greatest number.
     /// A caller: `uses::callers::tables::contiguous_plain`.
     pub fn build(&self, alloc: Global, patterns: &[&[u8]]) -> Result<NFA, BuildError>
-        ensures built { IfOk result (IsBuiltOf self.now patterns.now) }
-        ensures refused { IfErr result (IsRefusedOf self.now patterns.now) }
+        ensures built { IfOk result (IsContiguousBuilt self.now patterns.now) }
+        ensures refused { IfErr result (IsContiguousBuildRefused self.now patterns.now) }
     {
         let nfa = self.noncontiguous().build(alloc, patterns)?;
         self.build_from_noncontiguous(alloc, &nfa)
@@ -238,8 +238,8 @@ impl NFA {
     /// The automaton of the patterns by the settings that a builder has at first: standard matches, no byte paired.
     /// A caller: `uses::callers::tables::contiguous_of_bytes`.
     pub fn new(alloc: Global, patterns: &[&[u8]]) -> Result<NFA, BuildError>
-        ensures built { IfOk result (IsBuiltAtFirst patterns.now) }
-        ensures refused { IfErr result (IsRefusedAtFirst patterns.now) }
+        ensures built { IfOk result (IsContiguousBuiltAtFirst patterns.now) }
+        ensures refused { IfErr result (IsContiguousRefusedAtFirst patterns.now) }
     {
         Builder::new().build(alloc, patterns)
     }
@@ -247,7 +247,7 @@ impl NFA {
     /// A builder with the settings that it has at first.
     /// A caller: `uses::callers::tables::contiguous_folded`.
     pub fn builder() -> Builder
-        ensures { AreFirst result }
+        ensures { AreContiguousFirst result }
     {
         Builder::new()
     }

@@ -1,7 +1,7 @@
 //! Copies of a contiguous automaton.
 ghost use Rattle.std.specs.Prelude.{◌≡◌, IfOk};
 ghost use Rattle.ac_tables.specs.ContiguousBuild.{IsCopiedTable};
-ghost use Rattle.ac_tables.specs.ContiguousBuilder.{IsCopy};
+ghost use Rattle.ac_tables.specs.ContiguousBuilder.{IsContiguousCopy};
 
 use crate::contiguous::NFA;
 use crate::contiguous::table::Table;
@@ -26,7 +26,7 @@ impl NFA {
     /// A copy of the automaton, in memory from `alloc`.
     /// A caller: `uses::callers::tables::contiguous_copy`.
     pub fn clone(&self, alloc: Global) -> Result<NFA, AllocError>
-        ensures { IfOk result (IsCopy self.now) }
+        ensures { IfOk result (IsContiguousCopy self.now) }
     {
         let prefilter = clone_held(alloc, self.prefilter.as_ref())?;
         let lens = self.lens.clone(alloc)?;

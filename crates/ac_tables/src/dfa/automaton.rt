@@ -7,7 +7,7 @@
 ghost use Rattle.std.specs.Prelude.{[], ◌∷◌, IsTrue};
 ghost use Rattle.ac_automaton.specs.Automaton.{IsReached, Leads};
 ghost use Rattle.ac_tables.specs.DfaLookups.{ArePlain};
-ghost use Rattle.ac_tables.specs.DfaReads.{built_as, IsRead, CostsReading};
+ghost use Rattle.ac_tables.specs.DfaReads.{dfa_built_as, IsDfaRead, CostsReading};
 
 use crate::dfa::DFA;
 use ac_automaton::automaton::{Advance, Automaton};
@@ -29,9 +29,9 @@ impl DFA {
         byte: u8,
         steps: &mut Steps,
     ) -> StateID
-        requires reached { IsReached (IsRead self.now anchored) sid }
+        requires reached { IsReached (IsDfaRead self.now anchored) sid }
         requires plain { IsTrue plain → ArePlain self.now.table.classes }
-        ensures next { Leads (IsRead self.now anchored) sid (byte ∷ []) result }
+        ensures next { Leads (IsDfaRead self.now anchored) sid (byte ∷ []) result }
         ensures cost { CostsReading self.now anchored sid (byte ∷ []) steps.old steps.new }
     {
         steps.look();
@@ -40,13 +40,13 @@ impl DFA {
 }
 
 impl LookUp for DFA {
-    ghost use Rattle.ac_tables.specs.DfaReads.{built_as, IsRead, matches_at};
+    ghost use Rattle.ac_tables.specs.DfaReads.{dfa_built_as, IsDfaRead, dfa_matches_at};
 
-    ghost built = { built_as };
+    ghost built = { dfa_built_as };
 
-    ghost Reaches = { IsRead };
+    ghost Reaches = { IsDfaRead };
 
-    ghost matches = { matches_at };
+    ghost matches = { dfa_matches_at };
 
     ghost tells = { λ dfa anchored text sid reads. reads.tells };
 
@@ -87,19 +87,19 @@ impl LookUp for DFA {
 }
 
 impl Automaton for DFA {
-    ghost use Rattle.ac_tables.specs.DfaReads.{built_as, supported_by, IsRead, matches_at, is_start_at, is_special_at};
+    ghost use Rattle.ac_tables.specs.DfaReads.{dfa_built_as, dfa_supported_by, IsDfaRead, dfa_matches_at, is_dfa_start_at, is_dfa_special_at};
 
-    ghost built = { built_as };
+    ghost built = { dfa_built_as };
 
-    ghost supports = { supported_by };
+    ghost supports = { dfa_supported_by };
 
-    ghost Reaches = { IsRead };
+    ghost Reaches = { IsDfaRead };
 
-    ghost matches = { matches_at };
+    ghost matches = { dfa_matches_at };
 
-    ghost starts = { is_start_at };
+    ghost starts = { is_dfa_start_at };
 
-    ghost special = { is_special_at };
+    ghost special = { is_dfa_special_at };
 
     ghost tells = { λ dfa anchored text sid reads. reads.tells };
 

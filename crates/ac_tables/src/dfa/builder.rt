@@ -5,7 +5,7 @@
 //! the table: the number of states times the stride, twice that with both starts.
 ghost use Rattle.std.specs.Prelude.{◌≡◌, Some, IfOk, IfErr, IfSome};
 ghost use Rattle.ac_input.specs.Pairing.{IsFolded};
-ghost use Rattle.ac_tables.specs.DfaBuild.{AreFirst, IsDfaOf, IsDfaRefused, IsBuiltOf, IsRefusedOf, IsBuiltAtFirst, IsRefusedAtFirst, parts_by};
+ghost use Rattle.ac_tables.specs.DfaBuild.{AreDfaFirst, IsDfaOf, IsDfaRefused, IsDfaBuilt, IsDfaBuildRefused, IsDfaBuiltAtFirst, IsDfaRefusedAtFirst, parts_by};
 ghost use Rattle.ac_tables.specs.DfaMade.{IsTableFor, IsTableRefused};
 
 use crate::dfa::DFA;
@@ -41,9 +41,9 @@ pub struct Builder {
 }
 
 impl Model for Builder {
-    ghost use Rattle.ac_tables.specs.DfaBuild.{Settings};
+    ghost use Rattle.ac_tables.specs.DfaBuild.{DfaSettings};
 
-    ghost Value = { Settings };
+    ghost Value = { DfaSettings };
 
     ghost view = { λ b. record {
       kind = b.kind;
@@ -63,9 +63,9 @@ impl Model for Builder {
 }
 
 impl Default for Builder {
-    ghost use Rattle.ac_tables.specs.DfaBuild.{AreFirst};
+    ghost use Rattle.ac_tables.specs.DfaBuild.{AreDfaFirst};
 
-    ghost is_default = { AreFirst };
+    ghost is_default = { AreDfaFirst };
 
     fn default() -> Builder {
         Builder::new()
@@ -112,7 +112,7 @@ impl Builder {
     /// Standard matches, no byte paired, a prefilter wanted, a start for unanchored searches alone, and bytes in classes.
     /// A caller: `uses::callers::tables::dfa_plain`.
     pub fn new() -> Builder
-        ensures { AreFirst result }
+        ensures { AreDfaFirst result }
     {
         Builder {
             kind: MatchKind::Standard,
@@ -232,8 +232,8 @@ impl Builder {
     /// Returns an error if the noncontiguous automaton can't be built, or if the table would be too large.
     /// A caller: `uses::callers::tables::dfa_plain`.
     pub fn build(&self, alloc: Global, patterns: &[&[u8]]) -> Result<DFA, BuildError>
-        ensures built { IfOk result (IsBuiltOf self.now patterns.now) }
-        ensures refused { IfErr result (IsRefusedOf self.now patterns.now) }
+        ensures built { IfOk result (IsDfaBuilt self.now patterns.now) }
+        ensures refused { IfErr result (IsDfaBuildRefused self.now patterns.now) }
     {
         let nfa = self.noncontiguous().build(alloc, patterns)?;
         self.build_from_noncontiguous(alloc, &nfa)
@@ -244,8 +244,8 @@ impl DFA {
     /// The DFA of the patterns by the settings that a builder has at first: standard matches, no byte paired, unanchored searches.
     /// A caller: `uses::callers::tables::dfa_of_bytes`.
     pub fn new(alloc: Global, patterns: &[&[u8]]) -> Result<DFA, BuildError>
-        ensures built { IfOk result (IsBuiltAtFirst patterns.now) }
-        ensures refused { IfErr result (IsRefusedAtFirst patterns.now) }
+        ensures built { IfOk result (IsDfaBuiltAtFirst patterns.now) }
+        ensures refused { IfErr result (IsDfaRefusedAtFirst patterns.now) }
     {
         Builder::new().build(alloc, patterns)
     }
@@ -253,7 +253,7 @@ impl DFA {
     /// A builder with the settings that it has at first.
     /// A caller: `uses::callers::tables::dfa_folded`.
     pub fn builder() -> Builder
-        ensures { AreFirst result }
+        ensures { AreDfaFirst result }
     {
         Builder::new()
     }

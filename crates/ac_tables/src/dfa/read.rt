@@ -1,6 +1,6 @@
 //! Reading a DFA: its table, entry by entry, and a copy of it.
 ghost use Rattle.std.specs.Prelude.{◌≡◌, IfOk};
-ghost use Rattle.ac_tables.specs.DfaBuild.{transitions_in, stride_in, states_in, start_kind_in, IsCopy};
+ghost use Rattle.ac_tables.specs.DfaBuild.{transitions_in, stride_in, states_in, start_kind_in, IsDfaCopy};
 ghost use Rattle.ac_tables.specs.DfaCopy.{AreSameLists, IsSameDfaTable};
 
 use crate::dfa::DFA;
@@ -77,7 +77,7 @@ impl DFA {
     /// A copy of the automaton, in memory from `alloc`.
     /// A caller: `uses::callers::tables::dfa_copy`.
     pub fn clone(&self, alloc: Global) -> Result<DFA, AllocError>
-        ensures { IfOk result (IsCopy self.now) }
+        ensures { IfOk result (IsDfaCopy self.now) }
     {
         let table = self.table.clone(alloc)?;
         let lens = self.lens.clone(alloc)?;

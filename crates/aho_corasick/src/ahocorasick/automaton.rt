@@ -25,20 +25,20 @@ fn enforce_anchored_consistency(have: StartKind, want: Anchored) -> Result<(), M
 }
 
 impl Automaton for AhoCorasick {
-    ghost use Rattle.aho_corasick.specs.AhoCorasick.{serving_engine, built_as, supported_by, IsRead, matches_at, is_start_at, is_special_at};
+    ghost use Rattle.aho_corasick.specs.AhoCorasick.{serving_engine, front_built_as, supported_by, IsFrontRead, front_matches_at, is_front_start_at, is_front_special_at};
     ghost use Rattle.aho_corasick.specs.EngineLaws.{read-tells, read-lives, read-pairs, read-stops};
 
-    ghost built = { built_as };
+    ghost built = { front_built_as };
 
     ghost supports = { supported_by };
 
-    ghost Reaches = { IsRead };
+    ghost Reaches = { IsFrontRead };
 
-    ghost matches = { matches_at };
+    ghost matches = { front_matches_at };
 
-    ghost starts = { is_start_at };
+    ghost starts = { is_front_start_at };
 
-    ghost special = { is_special_at };
+    ghost special = { is_front_special_at };
 
     fn start_state(&self, anchored: Anchored) -> Result<StateID, MatchError> {
         enforce_anchored_consistency(self.start_kind, anchored)?;

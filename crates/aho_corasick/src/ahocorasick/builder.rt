@@ -8,8 +8,8 @@
 ghost use Rattle.std.specs.Prelude.{◌≡◌, Some, IfOk, IfErr};
 ghost use Rattle.ac_input.specs.Pairing.{IsFolded};
 ghost use Rattle.ac_noncontiguous.specs.declared.error.BuildErrorKind.TheVariants.{Memory};
-ghost use Rattle.aho_corasick.specs.Builder.{AreFirst, noncontiguous_by};
-ghost use Rattle.aho_corasick.specs.Served.{IsFitting, contiguous_by, dfa_by, IsTriedDfa, IsTriedContiguous, IsEngineTaken, IsEngineOf, IsMadeOf, IsNamedRefused, IsBuiltOf, IsRefusedOf, IsBuiltAtFirst, IsRefusedAtFirst};
+ghost use Rattle.aho_corasick.specs.Builder.{AreFrontFirst, noncontiguous_by};
+ghost use Rattle.aho_corasick.specs.Served.{IsFitting, contiguous_by, dfa_by, IsTriedDfa, IsTriedContiguous, IsEngineTaken, IsEngineOf, IsFrontMadeOf, IsNamedRefused, IsFrontBuilt, IsFrontBuildRefused, IsFrontBuiltAtFirst, IsFrontRefusedAtFirst};
 
 use super::{AhoCorasick, AhoCorasickKind};
 use crate::engine::Engine;
@@ -60,9 +60,9 @@ pub struct AhoCorasickBuilder {
 }
 
 impl Model for AhoCorasickBuilder {
-    ghost use Rattle.aho_corasick.specs.Builder.{Settings};
+    ghost use Rattle.aho_corasick.specs.Builder.{FrontSettings};
 
-    ghost Value = { Settings };
+    ghost Value = { FrontSettings };
 
     ghost view = { λ b. record {
       match_kind = b.match_kind;
@@ -86,7 +86,7 @@ impl Model for AhoCorasickBuilder {
 }
 
 impl Default for AhoCorasickBuilder {
-    ghost is_default = { AreFirst };
+    ghost is_default = { AreFrontFirst };
 
     fn default() -> AhoCorasickBuilder {
         AhoCorasickBuilder::new()
@@ -99,7 +99,7 @@ impl AhoCorasickBuilder {
     ///
     /// A caller: `uses::callers::front::thrifty`.
     pub fn new() -> AhoCorasickBuilder
-        ensures { AreFirst result }
+        ensures { AreFrontFirst result }
     {
         AhoCorasickBuilder {
             match_kind: MatchKind::Standard,
@@ -311,7 +311,7 @@ impl AhoCorasickBuilder {
 
     /// The automaton over the one that serves.
     fn share(&self, alloc: Global, nfa: NFA) -> Result<AhoCorasick, BuildError>
-        ensures made { IfOk result (IsMadeOf self.now nfa) }
+        ensures made { IfOk result (IsFrontMadeOf self.now nfa) }
         ensures refused { IfErr result (IsNamedRefused self.now.kind self.now nfa) }
     {
         let engine = self.serve(alloc, nfa)?;
@@ -331,8 +331,8 @@ impl AhoCorasickBuilder {
     ///
     /// A caller: `uses::callers::front::folded`.
     pub fn build(&self, alloc: Global, patterns: &[&[u8]]) -> Result<AhoCorasick, BuildError>
-        ensures built { IfOk result (IsBuiltOf self.now patterns.now) }
-        ensures refused { IfErr result (IsRefusedOf self.now patterns.now) }
+        ensures built { IfOk result (IsFrontBuilt self.now patterns.now) }
+        ensures refused { IfErr result (IsFrontBuildRefused self.now patterns.now) }
     {
         let nfa = self.noncontiguous().build(alloc, patterns)?;
         self.share(alloc, nfa)
@@ -345,8 +345,8 @@ impl AhoCorasick {
     ///
     /// A caller: `uses::callers::front::of_bytes`.
     pub fn new(alloc: Global, patterns: &[&[u8]]) -> Result<AhoCorasick, BuildError>
-        ensures built { IfOk result (IsBuiltAtFirst patterns.now) }
-        ensures refused { IfErr result (IsRefusedAtFirst patterns.now) }
+        ensures built { IfOk result (IsFrontBuiltAtFirst patterns.now) }
+        ensures refused { IfErr result (IsFrontRefusedAtFirst patterns.now) }
     {
         AhoCorasickBuilder::new().build(alloc, patterns)
     }
@@ -355,7 +355,7 @@ impl AhoCorasick {
     ///
     /// A caller: `uses::callers::front::folded`.
     pub fn builder() -> AhoCorasickBuilder
-        ensures { AreFirst result }
+        ensures { AreFrontFirst result }
     {
         AhoCorasickBuilder::new()
     }

@@ -6,7 +6,7 @@ ghost use Rattle.ac_automaton.specs.Replace.{matches_in};
 ghost use Rattle.ac_automaton.specs.Stream.{AreAllGiven, CanBeCounted, read_by};
 ghost use Rattle.ac_automaton.specs.StreamIter.{progress_of, reader_name, reader_of};
 ghost use Rattle.ac_automaton.specs.Watched.{failures_of, has_ended, inner_of};
-ghost use Rattle.uses.specs.Callers.{IsWritten};
+ghost use Rattle.uses.specs.Callers.{WritesReplaced};
 
 use ac_automaton::automaton::Automaton;
 use ac_automaton::error::StreamError;
@@ -77,7 +77,7 @@ pub fn pass_held<A: Automaton, R: Read>(matches: &mut StreamFindIter<'_, A, R>, 
     while let Some(_) = matches.next_held_counted(steps) {}
 }
 
-/// Reads the text and writes it with each match exchanged for its pattern's replacement.
+/// Reads the text and writes it with each match replaced.
 pub fn replaced<A: Automaton>(
     automaton: &A,
     alloc: Global,
@@ -87,7 +87,7 @@ pub fn replaced<A: Automaton>(
 ) -> Result<(), StreamError>
     requires { length replacements.now ≡ length (A.built automaton.now).dictionary.patterns }
     ensures { OnOk result
-        (IsWritten (A.built automaton.now) replacements.now text.now writer.old writer.new) }
+        (WritesReplaced (A.built automaton.now) replacements.now text.now writer.old writer.new) }
 {
     let mut reader = Watched::new(text);
     automaton.try_stream_replace_all(alloc, &mut reader, writer, replacements)

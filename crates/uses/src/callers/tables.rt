@@ -4,12 +4,12 @@ ghost use Rattle.ac_input.specs.declared.search.Anchored.TheVariants.{Yes};
 ghost use Rattle.ac_input.specs.Dfa.{dfa_states};
 ghost use Rattle.ac_literal.specs.Packed.{bytes_of};
 ghost use Rattle.ac_noncontiguous.specs.ReadCalls.{classes_in, state_len};
-ghost use Rattle.ac_noncontiguous.specs.Reads as sources;
+ghost use Rattle.ac_noncontiguous.specs.Reads.{built_as};
 ghost use Rattle.ac_tables.specs.ContiguousBuilder.{words_in};
-ghost use Rattle.ac_tables.specs.ContiguousReads as nfas;
+ghost use Rattle.ac_tables.specs.ContiguousReads.{contiguous_dictionary, contiguous_built_as};
 ghost use Rattle.ac_tables.specs.ContiguousTable.{AreWordsOf};
 ghost use Rattle.ac_tables.specs.DfaBuild.{determined, start_kind_in, states_in, transitions_in};
-ghost use Rattle.ac_tables.specs.DfaReads as dfas;
+ghost use Rattle.ac_tables.specs.DfaReads.{dfa_dictionary, dfa_built_as, dfa_supported_by};
 ghost use Rattle.uses.specs.Callers.{FindsBytes, FindsFolded, IsPlain};
 
 use ac_input::pairing::Pairing;
@@ -25,7 +25,7 @@ use std::alloc::{AllocError, Global};
 /// A contiguous NFA of the patterns under the settings that a builder has at first: standard matches, byte for byte.
 pub fn contiguous_of_bytes(alloc: Global, patterns: &[&[u8]]) -> Result<contiguous::NFA, BuildError>
     ensures { IfOk result
-        (λ nfa. FindsBytes (bytes_of patterns.now) (nfas.built_as nfa).dictionary) }
+        (λ nfa. FindsBytes (bytes_of patterns.now) (contiguous_dictionary nfa)) }
 {
     contiguous::NFA::new(alloc, patterns)
 }
@@ -33,7 +33,7 @@ pub fn contiguous_of_bytes(alloc: Global, patterns: &[&[u8]]) -> Result<contiguo
 /// One that prefers the pattern that was given first, and takes the two cases of an ASCII letter for the same.
 pub fn contiguous_folded(alloc: Global, patterns: &[&[u8]]) -> Result<contiguous::NFA, BuildError>
     ensures { IfOk result
-        (λ nfa. FindsFolded (bytes_of patterns.now) (nfas.built_as nfa).dictionary) }
+        (λ nfa. FindsFolded (bytes_of patterns.now) (contiguous_dictionary nfa)) }
 {
     let mut builder = contiguous::NFA::builder();
     builder
@@ -50,7 +50,7 @@ pub fn contiguous_plain(
     pairing: Pairing,
 ) -> Result<contiguous::NFA, BuildError>
     ensures { IfOk result
-        (λ nfa. IsPlain (bytes_of patterns.now) pairing kind (nfas.built_as nfa)) }
+        (λ nfa. IsPlain (bytes_of patterns.now) pairing kind (contiguous_built_as nfa)) }
 {
     let mut builder = contiguous::Builder::new();
     builder.match_kind(kind).pairing(pairing).prefilter(false);
@@ -65,7 +65,7 @@ pub fn contiguous_form(
     byte_classes: bool,
 ) -> Result<contiguous::NFA, BuildError>
     ensures { IfOk result
-        (λ made. nfas.built_as made ≡ sources.built_as nfa.now) }
+        (λ made. contiguous_built_as made ≡ built_as nfa.now) }
 {
     let mut builder = contiguous::Builder::new();
     builder.dense_depth(dense_depth).byte_classes(byte_classes);
@@ -85,7 +85,7 @@ pub fn contiguous_len(alloc: Global, nfa: &NFA, dense_depth: usize) -> Result<us
 
 /// The contiguous NFA once more. It finds the same, and has the same words.
 pub fn contiguous_copy(nfa: &contiguous::NFA, alloc: Global) -> Result<contiguous::NFA, AllocError>
-    ensures same { IfOk result (λ copy. nfas.built_as copy ≡ nfas.built_as nfa.now) }
+    ensures same { IfOk result (λ copy. contiguous_built_as copy ≡ contiguous_built_as nfa.now) }
     ensures words { IfOk result (λ copy. words_in copy ≡ words_in nfa.now) }
 {
     nfa.clone(alloc)
@@ -96,7 +96,7 @@ pub fn contiguous_copy(nfa: &contiguous::NFA, alloc: Global) -> Result<contiguou
 /// A DFA of the patterns under the settings that a builder has at first: standard matches, byte for byte.
 pub fn dfa_of_bytes(alloc: Global, patterns: &[&[u8]]) -> Result<DFA, BuildError>
     ensures { IfOk result
-        (λ dfa. FindsBytes (bytes_of patterns.now) (dfas.built_as dfa).dictionary) }
+        (λ dfa. FindsBytes (bytes_of patterns.now) (dfa_dictionary dfa)) }
 {
     DFA::new(alloc, patterns)
 }
@@ -104,7 +104,7 @@ pub fn dfa_of_bytes(alloc: Global, patterns: &[&[u8]]) -> Result<DFA, BuildError
 /// One that prefers the pattern that was given first, and takes the two cases of an ASCII letter for the same.
 pub fn dfa_folded(alloc: Global, patterns: &[&[u8]]) -> Result<DFA, BuildError>
     ensures { IfOk result
-        (λ dfa. FindsFolded (bytes_of patterns.now) (dfas.built_as dfa).dictionary) }
+        (λ dfa. FindsFolded (bytes_of patterns.now) (dfa_dictionary dfa)) }
 {
     let mut builder = DFA::builder();
     builder
@@ -122,7 +122,7 @@ pub fn dfa_plain(
     starts: StartKind,
 ) -> Result<DFA, BuildError>
     ensures plain { IfOk result
-        (λ dfa. IsPlain (bytes_of patterns.now) pairing kind (dfas.built_as dfa)) }
+        (λ dfa. IsPlain (bytes_of patterns.now) pairing kind (dfa_built_as dfa)) }
     ensures starts { IfOk result (λ dfa. start_kind_in dfa ≡ starts) }
 {
     let mut builder = dfa::Builder::new();
@@ -143,7 +143,7 @@ pub fn dfa_form(
     byte_classes: bool,
 ) -> Result<DFA, BuildError>
     ensures same { IfOk result
-        (λ dfa. dfas.built_as dfa ≡ determined (sources.built_as nfa.now)) }
+        (λ dfa. dfa_built_as dfa ≡ determined (built_as nfa.now)) }
     ensures rows { IfOk result (λ dfa. states_in dfa ≡ dfa_states starts (state_len nfa.now)) }
 {
     let mut builder = dfa::Builder::default();
@@ -153,7 +153,7 @@ pub fn dfa_form(
 
 /// Whether the DFA has a start for anchored searches.
 pub fn serves_anchored(dfa: &DFA) -> bool
-    ensures { IsTrue result ↔ dfas.supported_by dfa.now Yes }
+    ensures { IsTrue result ↔ dfa_supported_by dfa.now Yes }
 {
     dfa.start_kind() != StartKind::Unanchored
 }
@@ -174,7 +174,7 @@ pub fn rows_by_entries(dfa: &DFA) -> usize
 
 /// The DFA once more. It finds the same, and has the same transitions.
 pub fn dfa_copy(dfa: &DFA, alloc: Global) -> Result<DFA, AllocError>
-    ensures same { IfOk result (λ copy. dfas.built_as copy ≡ dfas.built_as dfa.now) }
+    ensures same { IfOk result (λ copy. dfa_built_as copy ≡ dfa_built_as dfa.now) }
     ensures transitions { IfOk result (λ copy. transitions_in copy ≡ transitions_in dfa.now) }
 {
     dfa.clone(alloc)

@@ -2,8 +2,8 @@
 use Rattle.std.proofs.Common.{ap, ◌∙◌, subst}
 use Rattle.std.proofs.lemmas.Result.{err_from_is_err_and}
 use Rattle.ac_literal.specs.Packed.{bytes_of}
-use Rattle.aho_corasick.specs.Builder as front
-use Rattle.aho_corasick.specs.Served.{IsBuiltOf, IsRefusedOf}
+use Rattle.aho_corasick.specs.Builder.{FrontSettings}
+use Rattle.aho_corasick.specs.Served.{IsFrontBuilt, IsFrontBuildRefused}
 use Rattle.acsub.proofs.ServedLemmas.{built-buildable, built-kind, built-serves, refused-fails}
 use Rattle.acsub.proofs.prepared.automaton_for.Goals as goal
 
@@ -12,7 +12,7 @@ returns-in_err-build c =
     let p = err_from_is_err_and c.from_residual-in_err-build.result c.from_residual-in_err-build.ensures.1 in
     let patterns = c.as_slice.result.now in
     let same = ap bytes_of c.as_slice.ensures.value ∙ c.in_ok-patterns.ensures in
-    let refused = subst (λ (s : front.Settings). IsRefusedOf s patterns c.in_err-build.field-0.0) c.builder_for.ensures c.in_err-build.ensures.refused in
+    let refused = subst (λ (s : FrontSettings). IsFrontBuildRefused s patterns c.in_err-build.field-0.0) c.builder_for.ensures c.in_err-build.ensures.refused in
     rw (p.1, p.2) (refused-fails c.args.settings.now c.args.rules.now patterns same c.in_err-build.field-0.0 c.requires refused)
 
 pub returns : goal.returns
@@ -22,5 +22,5 @@ returns c =
     let patterns = c.as_slice.result.now in
     let same = ap bytes_of c.as_slice.ensures.value ∙ c.in_ok-patterns.ensures in
     let ac = c.in_ok-build.field-0 in
-    let built = subst (λ (s : front.Settings). IsBuiltOf s patterns ac) c.builder_for.ensures c.in_ok-build.ensures.built in
+    let built = subst (λ (s : FrontSettings). IsFrontBuilt s patterns ac) c.builder_for.ensures c.in_ok-build.ensures.built in
     (built-serves settings rules patterns same ac built, built-kind settings rules patterns same ac built, built-buildable settings rules patterns same ac built)

@@ -1,12 +1,12 @@
 -- What is passed has no mark.
 use Rattle.std.proofs.Common.{ℕ, ◌-◌, ◌<◌, ◌≤◌}
-use Rattle.ac_literal.specs.Openings.{IsMarked}
+use Rattle.ac_literal.specs.Openings.{MayOpen}
 use Rattle.ac_literal.proofs.openings.Openings.pass.Given as goal
 
 abbrev pub invariant-loop-at : goal.invariant-loop-at
 invariant-loop-at l = record {
   within : l.at ≤ l.to;
-  passed : (place : ℕ) → place < l.at → ¬ IsMarked l.self l.bytes place;
+  passed : (place : ℕ) → place < l.at → ¬ MayOpen l.self l.bytes place;
 }
 
 abbrev pub decreases-loop-at : goal.decreases-loop-at

@@ -4,7 +4,7 @@ use Rattle.ac_input.specs.Dictionary.{dictionary_of}
 use Rattle.ac_input.specs.Limits.{IsWithinLimits}
 use Rattle.ac_automaton.specs.Passing.{AreOpenedBy}
 use Rattle.ac_tables.specs.ContiguousTable.{AreSomeStates}
-use Rattle.ac_tables.specs.ContiguousReads.{dictionary}
+use Rattle.ac_tables.specs.ContiguousReads.{contiguous_dictionary}
 use Rattle.ac_tables.proofs.WordTableLemmas.{states-copied}
 use Rattle.ac_tables.proofs.contiguous.NFA.clone.Goals as goal
 
@@ -14,7 +14,7 @@ from_parts-requires-clause-parts c =
     let same = sym c.in_ok-lens.ensures in
     record {
       within = subst (λ (patterns : List (List ℕ)). ∥ IsWithinLimits (dictionary_of patterns a.pairing a.kind) ∥₁) same a.within;
-      stands = subst (λ (patterns : List (List ℕ)). AreSomeStates (dictionary_of patterns a.pairing a.kind) c.in_ok-table.table) same (states-copied (dictionary a) a.table c.in_ok-table.table c.in_ok-table.ensures a.stands);
+      stands = subst (λ (patterns : List (List ℕ)). AreSomeStates (dictionary_of patterns a.pairing a.kind) c.in_ok-table.table) same (states-copied (contiguous_dictionary a) a.table c.in_ok-table.table c.in_ok-table.ensures a.stands);
       held = λ f is. a.held f (sym (c.in_ok-prefilter.ensures ∙ c.as_ref.ensures.value) ∙ is) ∙ ap (λ (patterns : List (List ℕ)). dictionary_of patterns a.pairing a.kind) same;
       paired = a.paired;
     }

@@ -4,7 +4,7 @@ use Rattle.ac_input.specs.Candidate.{Filter}
 use Rattle.ac_input.specs.Dictionary.{Dictionary, dictionary_of}
 use Rattle.ac_automaton.specs.Passing.{AreOpenedBy}
 use Rattle.ac_tables.specs.declared.dfa.table.Table.{Table}
-use Rattle.ac_tables.specs.DfaReads.{dictionary}
+use Rattle.ac_tables.specs.DfaReads.{dfa_dictionary}
 use Rattle.ac_tables.specs.DfaTable.{AreDfaParts}
 use Rattle.ac_tables.proofs.DfaCopyLemmas.{copy-rows}
 use Rattle.ac_tables.proofs.dfa.DFA.clone.Goals as goal
@@ -12,10 +12,10 @@ use Rattle.ac_tables.proofs.dfa.DFA.clone.Goals as goal
 pub from_parts-requires-clause-parts : goal.from_parts-requires-clause-parts
 from_parts-requires-clause-parts c =
     let a = c.args.self.now in
-    let same : dictionary_of c.in_ok-lens.lens a.pairing a.kind ≡ dictionary a = ap (λ (patterns : List (List ℕ)). dictionary_of patterns a.pairing a.kind) c.in_ok-lens.ensures in
+    let same : dictionary_of c.in_ok-lens.lens a.pairing a.kind ≡ dfa_dictionary a = ap (λ (patterns : List (List ℕ)). dictionary_of patterns a.pairing a.kind) c.in_ok-lens.ensures in
     subst (λ (m : Dictionary). AreDfaParts m c.in_ok-table.table c.in_ok-prefilter.prefilter) (sym same)
     (record {
-      stands = copy-rows (dictionary a) a.table c.in_ok-table.table c.in_ok-table.ensures a.stands;
+      stands = copy-rows (dfa_dictionary a) a.table c.in_ok-table.table c.in_ok-table.ensures a.stands;
       held = λ f is. a.held f (sym (c.in_ok-prefilter.ensures ∙ c.as_ref.ensures.value) ∙ is);
       paired = a.paired;
     })
@@ -30,7 +30,7 @@ returns c =
     let a = c.args.self.now in
     let made = c.from_parts.ensures in
     let table = c.in_ok-table.ensures in
-    let same : dictionary_of c.in_ok-lens.lens a.pairing a.kind ≡ dictionary a = ap (λ (patterns : List (List ℕ)). dictionary_of patterns a.pairing a.kind) c.in_ok-lens.ensures in
+    let same : dictionary_of c.in_ok-lens.lens a.pairing a.kind ≡ dfa_dictionary a = ap (λ (patterns : List (List ℕ)). dictionary_of patterns a.pairing a.kind) c.in_ok-lens.ensures in
     record {
       built = ap₂ (λ (m : Dictionary) (f : Option Filter). record { dictionary = m; deterministic = true; prefilter = f }) (made.dictionary ∙ same) (made.prefilter ∙ (c.in_ok-prefilter.ensures ∙ c.as_ref.ensures.value));
       starts = ap (λ (t : Table). t.kind) made.table ∙ table.kind;

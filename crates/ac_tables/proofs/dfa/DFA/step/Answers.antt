@@ -1,4 +1,4 @@
-use Rattle.ac_tables.specs.DfaReads.{built_as, matches_at, is_start_at, is_special_at, IsNamingFor}
+use Rattle.ac_tables.specs.DfaReads.{dfa_built_as, dfa_matches_at, is_dfa_start_at, is_dfa_special_at, IsNamingFor}
 use Rattle.ac_automaton.proofs.NamedLemmas.{read-cost-one}
 use Rattle.ac_tables.proofs.DfaReadLemmas.{read-row, row-leads}
 use Rattle.ac_tables.proofs.dfa.DFA.step.Goals as goal
@@ -12,4 +12,4 @@ returns-clause-next c = row-leads c.args.self.now c.args.anchored c.args.sid c.a
 pub returns-clause-cost : goal.returns-clause-cost
 returns-clause-cost c = λ text before after reads g h.
     let a = c.args.self.now in
-    read-cost-one (built_as a) (IsNamingFor a c.args.anchored) (matches_at a) (is_start_at a) (is_special_at a) c.args.anchored c.args.sid c.args.byte _ _ c.look.ensures text before after reads g h
+    read-cost-one (dfa_built_as a) (IsNamingFor a c.args.anchored) (dfa_matches_at a) (is_dfa_start_at a) (is_dfa_special_at a) c.args.anchored c.args.sid c.args.byte _ _ c.look.ensures text before after reads g h

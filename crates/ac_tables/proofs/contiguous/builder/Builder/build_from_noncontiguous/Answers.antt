@@ -4,10 +4,10 @@ use Rattle.ac_input.specs.Candidate.{Filter}
 use Rattle.ac_input.specs.Dictionary.{Dictionary}
 use Rattle.ac_input.specs.Limits.{IsWithinLimits}
 use Rattle.ac_automaton.specs.Passing.{AreOpenedBy}
-use Rattle.ac_noncontiguous.specs.Reads as reads
+use Rattle.ac_noncontiguous.specs.Reads.{dictionary}
 use Rattle.ac_tables.specs.declared.contiguous.table.Table.{Table}
 use Rattle.ac_tables.specs.ContiguousTable.{AreWordsOf, AreSomeStates}
-use Rattle.ac_tables.specs.ContiguousBuilder.{Settings, IsMadeFrom}
+use Rattle.ac_tables.specs.ContiguousBuilder.{ContiguousSettings, IsMadeFrom}
 use Rattle.ac_tables.proofs.WordTableLemmas.{same-dictionary}
 use Rattle.ac_tables.proofs.contiguous.builder.Builder.build_from_noncontiguous.Goals as goal
 
@@ -15,7 +15,7 @@ pub from_parts-requires-clause-parts : goal.from_parts-requires-clause-parts
 from_parts-requires-clause-parts c =
     let nfa = c.args.nfa.now in
     let made = c.in_ok-table.ensures.made in
-    let e = same-dictionary (reads.dictionary nfa) c.in_ok-lens.lens c.pairing-pairing.result.now c.match_kind.result (c.in_ok-lens.ensures ∙ c.pattern_lens.ensures) c.pairing-pairing.ensures.value c.match_kind.ensures in
+    let e = same-dictionary (dictionary nfa) c.in_ok-lens.lens c.pairing-pairing.result.now c.match_kind.result (c.in_ok-lens.ensures ∙ c.pattern_lens.ensures) c.pairing-pairing.ensures.value c.match_kind.ensures in
     record {
       within = subst (λ (d : Dictionary). ∥ IsWithinLimits d ∥₁) (sym e) made.within;
       stands = subst (λ (d : Dictionary). AreSomeStates d c.in_ok-table.table) (sym e) made.stands;
@@ -26,20 +26,20 @@ from_parts-requires-clause-parts c =
 pub from_parts-requires-clause-opened : goal.from_parts-requires-clause-opened
 from_parts-requires-clause-opened c =
     let nfa = c.args.nfa.now in
-    let e = same-dictionary (reads.dictionary nfa) c.in_ok-lens.lens c.pairing-pairing.result.now c.match_kind.result (c.in_ok-lens.ensures ∙ c.pattern_lens.ensures) c.pairing-pairing.ensures.value c.match_kind.ensures in
+    let e = same-dictionary (dictionary nfa) c.in_ok-lens.lens c.pairing-pairing.result.now c.match_kind.result (c.in_ok-lens.ensures ∙ c.pattern_lens.ensures) c.pairing-pairing.ensures.value c.match_kind.ensures in
     subst (λ (d : Dictionary). ∥ AreOpenedBy d c.openings-openings.result ∥₁) (sym e) c.openings-openings.ensures
 
 pub returns-clause-made : goal.returns-clause-made
 returns-clause-made c =
     let nfa = c.args.nfa.now in
     let made = c.in_ok-table.ensures.made in
-    let e = same-dictionary (reads.dictionary nfa) c.in_ok-lens.lens c.pairing-pairing.result.now c.match_kind.result (c.in_ok-lens.ensures ∙ c.pattern_lens.ensures) c.pairing-pairing.ensures.value c.match_kind.ensures in
+    let e = same-dictionary (dictionary nfa) c.in_ok-lens.lens c.pairing-pairing.result.now c.match_kind.result (c.in_ok-lens.ensures ∙ c.pattern_lens.ensures) c.pairing-pairing.ensures.value c.match_kind.ensures in
     let words : c.from_parts.result.table.words.items ≡ c.in_ok-table.table.words.items = ap (λ (t : Table). t.words.items) c.from_parts.ensures.table in
-    subst (λ (s : Settings). IsMadeFrom s nfa c.from_parts.result) c.self.view_is
+    subst (λ (s : ContiguousSettings). IsMadeFrom s nfa c.from_parts.result) c.self.view_is
     (record {
       built =
           ap (λ (d : Dictionary). record { dictionary = d; deterministic = false; prefilter = c.from_parts.result.prefilter }) (c.from_parts.ensures.dictionary ∙ e)
-          ∙ ap (λ (f : Option Filter). record { dictionary = reads.dictionary nfa; deterministic = false; prefilter = f }) (c.from_parts.ensures.prefilter ∙ (c.in_ok-prefilter.ensures ∙ c.prefilter.ensures.value));
+          ∙ ap (λ (f : Option Filter). record { dictionary = dictionary nfa; deterministic = false; prefilter = f }) (c.from_parts.ensures.prefilter ∙ (c.in_ok-prefilter.ensures ∙ c.prefilter.ensures.value));
       laid = record {
         classes = c.in_ok-classes.classes;
         serve = c.in_ok-classes.ensures.classes;

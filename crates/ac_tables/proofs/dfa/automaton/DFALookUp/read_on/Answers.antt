@@ -2,27 +2,27 @@ use Rattle.std.proofs.Common.{arith}
 use Rattle.ac_automaton.proofs.CursorLemmas.{advanced-none, reached-on}
 use Rattle.ac_automaton.proofs.ReadOnLemmas.{after-byte, reads-all}
 use Rattle.ac_automaton.specs.ReadOn.{is_between}
-use Rattle.ac_tables.specs.DfaReads.{built_as, IsRead}
+use Rattle.ac_tables.specs.DfaReads.{dfa_built_as, IsDfaRead}
 use Rattle.ac_tables.proofs.dfa.automaton.DFALookUp.read_on.Goals as goal
 
 pub loop-read-init : goal.loop-read-init
-loop-read-init c = let a = c.args.self.now in advanced-none (built_as a) (IsRead a) c.args.anchored (is_between c.args.to) c.args.sid c.args.bytes.now c.args.steps.now
+loop-read-init c = let a = c.args.self.now in advanced-none (dfa_built_as a) (IsDfaRead a) c.args.anchored (is_between c.args.to) c.args.sid c.args.bytes.now c.args.steps.now
 
 pub step-current-requires-clause-reached : goal.step-current-requires-clause-reached
-step-current-requires-clause-reached c = reached-on (IsRead c.args.self.now c.args.anchored) c.args.sid _ c.loop-read.current c.requires c.loop-read.invariant.reads
+step-current-requires-clause-reached c = reached-on (IsDfaRead c.args.self.now c.args.anchored) c.args.sid _ c.loop-read.current c.requires c.loop-read.invariant.reads
 
 pub returns-then-has : goal.returns-then-has
 returns-then-has c =
     let a = c.args.self.now in
-    (after-byte (built_as a) (IsRead a) c.args.anchored c.args.to c.args.sid c.args.bytes.now c.loop-read.read c.loop-read.current c.step-current.result c.has.result _ _ _ c.loop-read-test.true c.loop-read.invariant (λ text reads. reads.lives) c.step-current.ensures.next c.step-current.ensures.cost c.has.ensures).0 c.if-has.true
+    (after-byte (dfa_built_as a) (IsDfaRead a) c.args.anchored c.args.to c.args.sid c.args.bytes.now c.loop-read.read c.loop-read.current c.step-current.result c.has.result _ _ _ c.loop-read-test.true c.loop-read.invariant (λ text reads. reads.lives) c.step-current.ensures.next c.step-current.ensures.cost c.has.ensures).0 c.if-has.true
 
 pub loop-read-preserved : goal.loop-read-preserved
 loop-read-preserved c =
     let a = c.args.self.now in
-    (after-byte (built_as a) (IsRead a) c.args.anchored c.args.to c.args.sid c.args.bytes.now c.loop-read.read c.loop-read.current c.step-current.result c.has.result _ _ _ c.loop-read-test.true c.loop-read.invariant (λ text reads. reads.lives) c.step-current.ensures.next c.step-current.ensures.cost c.has.ensures).1 c.if-has.false
+    (after-byte (dfa_built_as a) (IsDfaRead a) c.args.anchored c.args.to c.args.sid c.args.bytes.now c.loop-read.read c.loop-read.current c.step-current.result c.has.result _ _ _ c.loop-read-test.true c.loop-read.invariant (λ text reads. reads.lives) c.step-current.ensures.next c.step-current.ensures.cost c.has.ensures).1 c.if-has.false
 
 pub returns : goal.returns
 returns c =
     let a = c.args.self.now in
     let done = c.loop-read-test.false in
-    reads-all (built_as a) (IsRead a) c.args.anchored c.args.to c.args.sid c.args.bytes.now c.loop-read.read _ c.loop-read.current _ _ (omega arith) (omega arith) c.loop-read.invariant
+    reads-all (dfa_built_as a) (IsDfaRead a) c.args.anchored c.args.to c.args.sid c.args.bytes.now c.loop-read.read _ c.loop-read.current _ _ (omega arith) (omega arith) c.loop-read.invariant

@@ -1,10 +1,10 @@
 -- The noncontiguous automaton first, then its table.
 use Rattle.std.proofs.Common.{subst}
 use Rattle.std.proofs.lemmas.Result.{IfOk-weaker, IfErr-weaker}
-use Rattle.ac_noncontiguous.specs.Builder as noncontiguous
-use Rattle.ac_noncontiguous.specs.Reads as reads
+use Rattle.ac_noncontiguous.specs.Builder.{Settings, IsBuiltOf, dictionary_by}
+use Rattle.ac_noncontiguous.specs.Reads.{built_as}
 use Rattle.ac_noncontiguous.specs.Standing.{IsBuildRefused}
-use Rattle.ac_tables.specs.DfaBuild.{IsDfaOf, IsDfaRefused, IsBuiltOf, IsRefusedOf, parts_by}
+use Rattle.ac_tables.specs.DfaBuild.{IsDfaOf, IsDfaRefused, IsDfaBuilt, IsDfaBuildRefused, parts_by}
 use Rattle.ac_tables.proofs.DfaBuildLemmas.{refused-from}
 use Rattle.ac_tables.proofs.dfa.builder.Builder.build.Goals as goal
 
@@ -12,13 +12,13 @@ pub returns-clause-built : goal.returns-clause-built
 returns-clause-built c =
     let s = c.args.self.now in
     let nfa = c.in_ok-nfa.nfa in
-    let built = subst (λ (parts : noncontiguous.Settings). noncontiguous.IsBuiltOf parts c.args.patterns.now (reads.built_as nfa)) c.noncontiguous.ensures c.in_ok-nfa.ensures.built in
-    IfOk-weaker c.build_from_noncontiguous.result (IsDfaOf s nfa) (IsBuiltOf s c.args.patterns.now) (λ dfa h. (nfa, built, h)) c.build_from_noncontiguous.ensures.built
+    let built = subst (λ (parts : Settings). IsBuiltOf parts c.args.patterns.now (built_as nfa)) c.noncontiguous.ensures c.in_ok-nfa.ensures.built in
+    IfOk-weaker c.build_from_noncontiguous.result (IsDfaOf s nfa) (IsDfaBuilt s c.args.patterns.now) (λ dfa h. (nfa, built, h)) c.build_from_noncontiguous.ensures.built
 
 pub returns-clause-refused : goal.returns-clause-refused
 returns-clause-refused c =
     let s = c.args.self.now in
     let nfa = c.in_ok-nfa.nfa in
-    let m = noncontiguous.dictionary_by (parts_by s) c.args.patterns.now in
-    let built = subst (λ (parts : noncontiguous.Settings). noncontiguous.IsBuiltOf parts c.args.patterns.now (reads.built_as nfa)) c.noncontiguous.ensures c.in_ok-nfa.ensures.built in
-    IfErr-weaker c.build_from_noncontiguous.result (IsDfaRefused s nfa) (IsRefusedOf s c.args.patterns.now) (λ error h. refused-from s m nfa error (IsBuildRefused m) built.dictionary h) c.build_from_noncontiguous.ensures.refused
+    let m = dictionary_by (parts_by s) c.args.patterns.now in
+    let built = subst (λ (parts : Settings). IsBuiltOf parts c.args.patterns.now (built_as nfa)) c.noncontiguous.ensures c.in_ok-nfa.ensures.built in
+    IfErr-weaker c.build_from_noncontiguous.result (IsDfaRefused s nfa) (IsDfaBuildRefused s c.args.patterns.now) (λ error h. refused-from s m nfa error (IsBuildRefused m) built.dictionary h) c.build_from_noncontiguous.ensures.refused

@@ -1,23 +1,23 @@
 use Rattle.std.proofs.Common.{subst, sym, ◌∙◌}
 use Rattle.ac_automaton.specs.Automaton.{IsReached, Advances}
 use Rattle.aho_corasick.specs.declared.engine.Engine.{Engine}
-use Rattle.aho_corasick.specs.Engine.{IsRead, is_special_at}
+use Rattle.aho_corasick.specs.Engine.{IsEngineRead, is_engine_special_at}
 use Rattle.aho_corasick.proofs.ahocorasick.automaton.AhoCorasickAutomaton.advance.Goals as goal
 
 pub advance-requires : goal.advance-requires
-advance-requires c = subst (λ (e : Engine). IsReached (IsRead e c.args.anchored) c.args.sid) (sym c.deref.ensures ∙ c.in-Noncontiguous.is) c.requires
+advance-requires c = subst (λ (e : Engine). IsReached (IsEngineRead e c.args.anchored) c.args.sid) (sym c.deref.ensures ∙ c.in-Noncontiguous.is) c.requires
 
 pub advance-requires-in-Contiguous : goal.advance-requires-in-Contiguous
-advance-requires-in-Contiguous c = subst (λ (e : Engine). IsReached (IsRead e c.args.anchored) c.args.sid) (sym c.deref.ensures ∙ c.in-Contiguous.is) c.requires
+advance-requires-in-Contiguous c = subst (λ (e : Engine). IsReached (IsEngineRead e c.args.anchored) c.args.sid) (sym c.deref.ensures ∙ c.in-Contiguous.is) c.requires
 
 pub advance-requires-in-Dfa : goal.advance-requires-in-Dfa
-advance-requires-in-Dfa c = subst (λ (e : Engine). IsReached (IsRead e c.args.anchored) c.args.sid) (sym c.deref.ensures ∙ c.in-Dfa.is) c.requires
+advance-requires-in-Dfa c = subst (λ (e : Engine). IsReached (IsEngineRead e c.args.anchored) c.args.sid) (sym c.deref.ensures ∙ c.in-Dfa.is) c.requires
 
 pub returns-in-Noncontiguous-clause-goes : goal.returns-in-Noncontiguous-clause-goes
-returns-in-Noncontiguous-clause-goes c = subst (λ (e : Engine). Advances (IsRead e c.args.anchored) (is_special_at e) c.args.sid c.args.bytes.now c.advance.result) (sym (sym c.deref.ensures ∙ c.in-Noncontiguous.is)) c.advance.ensures.goes
+returns-in-Noncontiguous-clause-goes c = subst (λ (e : Engine). Advances (IsEngineRead e c.args.anchored) (is_engine_special_at e) c.args.sid c.args.bytes.now c.advance.result) (sym (sym c.deref.ensures ∙ c.in-Noncontiguous.is)) c.advance.ensures.goes
 
 pub returns-in-Contiguous-clause-goes : goal.returns-in-Contiguous-clause-goes
-returns-in-Contiguous-clause-goes c = subst (λ (e : Engine). Advances (IsRead e c.args.anchored) (is_special_at e) c.args.sid c.args.bytes.now c.advance-in-Contiguous.result) (sym (sym c.deref.ensures ∙ c.in-Contiguous.is)) c.advance-in-Contiguous.ensures.goes
+returns-in-Contiguous-clause-goes c = subst (λ (e : Engine). Advances (IsEngineRead e c.args.anchored) (is_engine_special_at e) c.args.sid c.args.bytes.now c.advance-in-Contiguous.result) (sym (sym c.deref.ensures ∙ c.in-Contiguous.is)) c.advance-in-Contiguous.ensures.goes
 
 pub returns-in-Dfa-clause-goes : goal.returns-in-Dfa-clause-goes
-returns-in-Dfa-clause-goes c = subst (λ (e : Engine). Advances (IsRead e c.args.anchored) (is_special_at e) c.args.sid c.args.bytes.now c.advance-in-Dfa.result) (sym (sym c.deref.ensures ∙ c.in-Dfa.is)) c.advance-in-Dfa.ensures.goes
+returns-in-Dfa-clause-goes c = subst (λ (e : Engine). Advances (IsEngineRead e c.args.anchored) (is_engine_special_at e) c.args.sid c.args.bytes.now c.advance-in-Dfa.result) (sym (sym c.deref.ensures ∙ c.in-Dfa.is)) c.advance-in-Dfa.ensures.goes

@@ -13,7 +13,7 @@ use Rattle.ac_noncontiguous.specs.Reads.{dictionary}
 use Rattle.ac_noncontiguous.specs.declared.error.BuildErrorKind.{BuildErrorKind}
 use Rattle.ac_noncontiguous.specs.declared.error.BuildErrorKind.TheVariants as limits
 use Rattle.ac_noncontiguous.specs.declared.nfa.NFA.{NFA}
-use Rattle.aho_corasick.specs.AhoCorasick.{front_built_as, serving_engine, supported_by}
+use Rattle.aho_corasick.specs.AhoCorasick.{as_built, serving_engine, supported_by}
 use Rattle.ac_noncontiguous.specs.Builder.{dictionary_by}
 use Rattle.aho_corasick.specs.Builder.{FrontSettings, noncontiguous_by}
 use Rattle.aho_corasick.specs.Engine.{kind_served}
@@ -58,7 +58,7 @@ module _ (settings : Settings) (rules : List Rule) (patterns : List (Bor (List �
     made = built.served.1.dictionary ∙ handed
 
     -- what was built serves
-    pub built-serves : IsServing (record { settings = settings; rules = rules }) (front_built_as ac) (supported_by ac)
+    pub built-serves : IsServing (record { settings = settings; rules = rules }) (as_built ac) (supported_by ac)
     built-serves = record {
       dictionary = built.served.2.0.dictionary ∙ made;
       looks = λ by_dfa. dfa-deterministic (serving_engine ac) (served-dfa settings rules from (kind_served (serving_engine ac)) made built.served.2.1 by_dfa);

@@ -11,7 +11,7 @@ use Rattle.ac_literal.specs.Packed.{Packed, search_kind}
 use Rattle.ac_automaton.specs.Automaton.{Built}
 use Rattle.ac_noncontiguous.specs.declared.error.BuildErrorKind.{BuildErrorKind}
 use Rattle.ac_noncontiguous.specs.declared.error.BuildErrorKind.TheVariants as limits
-use Rattle.aho_corasick.specs.AhoCorasick.{front_built_as, serving_engine, supported_by}
+use Rattle.aho_corasick.specs.AhoCorasick.{as_built, serving_engine, supported_by}
 use Rattle.aho_corasick.specs.Engine.{kind_served}
 use Rattle.aho_corasick.specs.declared.ahocorasick.AhoCorasick.{AhoCorasick}
 use Rattle.acsub.specs.declared.error.RunError.{RunError}
@@ -77,7 +77,7 @@ FailsToBuild settings rules errors.Position = ⊥
 -- an automaton that serves settings and rules, of the kind that they ask for, where their patterns pass no limit; or why there is none
 abbrev pub BuildsAutomaton : Settings → List Rule → Result AhoCorasick RunError → Type 0
 BuildsAutomaton settings rules (Ok automaton) =
-    IsServing (record { settings = settings; rules = rules }) (front_built_as automaton) (supported_by automaton)
+    IsServing (record { settings = settings; rules = rules }) (as_built automaton) (supported_by automaton)
     × IsAutomatonFor settings rules (kind_served (serving_engine automaton))
     × IsBuildable settings rules
 BuildsAutomaton settings rules (Err error) = FailsToBuild settings rules error

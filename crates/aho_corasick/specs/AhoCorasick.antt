@@ -18,8 +18,8 @@ abbrev pub serving_engine : AhoCorasick → Engine
 serving_engine ac = ac.engine.value
 
 -- what it was built as
-abbrev pub front_built_as : AhoCorasick → Built
-front_built_as ac = engine_built_as (serving_engine ac)
+abbrev pub as_built : AhoCorasick → Built
+as_built ac = engine_built_as (serving_engine ac)
 
 -- for which searches it has a start: those of the start kind that was set, whichever automaton serves
 abbrev pub supported_by : AhoCorasick → Anchored → Type 0
@@ -43,11 +43,11 @@ is_front_special_at ac sid = is_engine_special_at (serving_engine ac) sid
 
 -- how many patterns it was made from
 abbrev pub pattern_count : AhoCorasick → ℕ
-pattern_count ac = length (front_built_as ac).dictionary.patterns
+pattern_count ac = length (as_built ac).dictionary.patterns
 
 -- an overlapping state is fresh, or came from earlier calls with this automaton and input alone
 abbrev pub CameFromCalls : AhoCorasick → Asked → OverlappingState → Type 0
-CameFromCalls ac asked state = overlapping.CameFrom (front_built_as ac) (IsFrontRead ac) (front_matches_at ac) asked state
+CameFromCalls ac asked state = overlapping.CameFrom (as_built ac) (IsFrontRead ac) (front_matches_at ac) asked state
 
 -- one means the same as another: the same automaton serves both, for the same searches
 pub record MeansSame (ac other : AhoCorasick) : Type 0 where

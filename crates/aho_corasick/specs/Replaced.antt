@@ -7,15 +7,15 @@ use denote.Ref.{Bor}
 use Rattle.ac_input.specs.Occurrence.{Occurrence}
 use Rattle.ac_automaton.specs.Replace.{MemoryReplacer, IsReplacedWith, IsBrokenOff, matches_in, text_matches_in, with_replaced}
 use Rattle.aho_corasick.specs.declared.ahocorasick.AhoCorasick.{AhoCorasick}
-use Rattle.aho_corasick.specs.AhoCorasick.{front_built_as}
+use Rattle.aho_corasick.specs.AhoCorasick.{as_built}
 
 -- a text with each of its matches that cut no character exchanged for its pattern's replacement
 abbrev pub IsReplacedText : AhoCorasick → List ℕ → List (Bor (List ℕ)) → String Global → Type 0
-IsReplacedText ac haystack replacements text = string_bytes text ≡ with_replaced haystack (map (λ r. r.now) replacements) (text_matches_in (front_built_as ac) haystack)
+IsReplacedText ac haystack replacements text = string_bytes text ≡ with_replaced haystack (map (λ r. r.now) replacements) (text_matches_in (as_built ac) haystack)
 
 -- bytes with each of their matches exchanged so
 abbrev pub AreReplacedBytes : AhoCorasick → List ℕ → List (Bor (List ℕ)) → Vec ℕ → Type 0
-AreReplacedBytes ac haystack replacements bytes = bytes.items ≡ with_replaced haystack (map (λ r. r.now) replacements) (matches_in (front_built_as ac) haystack)
+AreReplacedBytes ac haystack replacements bytes = bytes.items ≡ with_replaced haystack (map (λ r. r.now) replacements) (matches_in (as_built ac) haystack)
 
 -- The destination holds what the closure makes of these matches of the haystack, or what it has made of them when memory ran out.
 abbrev pub Appends : {F D : Type 0} → (D → List ℕ) → MemoryReplacer F D → List ℕ → List Occurrence → F → D → D → Result (Unit {0}) AllocError → Type 0
@@ -24,7 +24,7 @@ Appends held g haystack os f old new (Err error) = IsBrokenOff held g haystack o
 
 -- the same of the matches of a text that cut no character, and of all matches of bytes
 abbrev pub AppendsText : {F : Type 0} → MemoryReplacer F (String Global) → AhoCorasick → List ℕ → F → String Global → String Global → Result (Unit {0}) AllocError → Type 0
-AppendsText g ac haystack f old new r = Appends string_bytes g haystack (text_matches_in (front_built_as ac) haystack) f old new r
+AppendsText g ac haystack f old new r = Appends string_bytes g haystack (text_matches_in (as_built ac) haystack) f old new r
 
 abbrev pub AppendsBytes : {F : Type 0} → MemoryReplacer F (Vec ℕ) → AhoCorasick → List ℕ → F → Vec ℕ → Vec ℕ → Result (Unit {0}) AllocError → Type 0
-AppendsBytes g ac haystack f old new r = Appends (λ v. v.items) g haystack (matches_in (front_built_as ac) haystack) f old new r
+AppendsBytes g ac haystack f old new r = Appends (λ v. v.items) g haystack (matches_in (as_built ac) haystack) f old new r

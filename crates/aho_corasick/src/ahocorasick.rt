@@ -64,7 +64,7 @@ pub type FindOverlappingIter<'a, 'h> = overlapping::FindOverlappingIter<'a, 'h, 
 pub type StreamFindIter<'a, R> = streams::StreamFindIter<'a, AhoCorasick, R>;
 
 impl AhoCorasick {
-    ghost use Rattle.aho_corasick.specs.AhoCorasick.{MeansSame, serving_engine, front_built_as, pattern_count};
+    ghost use Rattle.aho_corasick.specs.AhoCorasick.{MeansSame, serving_engine, as_built, pattern_count};
 
     /// Another that means the same. They share one automaton.
     ///
@@ -83,7 +83,7 @@ impl AhoCorasick {
     /// A caller: `uses::callers::front::named`.
     pub fn kind(&self) -> AhoCorasickKind
         ensures kind { result ≡ kind_served (serving_engine self.now) }
-        ensures looks { IsTrue (front_built_as self.now).deterministic ↔ (result ≡ AhoCorasickKind.DFA) }
+        ensures looks { IsTrue (as_built self.now).deterministic ↔ (result ≡ AhoCorasickKind.DFA) }
     {
         match &*self.engine {
             Engine::Noncontiguous(_) => AhoCorasickKind::NoncontiguousNFA,
@@ -105,7 +105,7 @@ impl AhoCorasick {
     ///
     /// A caller: `uses::callers::front::can_list`.
     pub fn match_kind(&self) -> MatchKind
-        ensures { result ≡ (front_built_as self.now).dictionary.kind }
+        ensures { result ≡ (as_built self.now).dictionary.kind }
     {
         Automaton::match_kind(self)
     }
@@ -114,7 +114,7 @@ impl AhoCorasick {
     ///
     /// A caller: `uses::callers::front::may_match`.
     pub fn min_pattern_len(&self) -> usize
-        ensures { result ≡ shortest (front_built_as self.now).dictionary.patterns }
+        ensures { result ≡ shortest (as_built self.now).dictionary.patterns }
     {
         Automaton::min_pattern_len(self)
     }
@@ -123,7 +123,7 @@ impl AhoCorasick {
     ///
     /// A caller: `uses::callers::front::most_bytes`.
     pub fn max_pattern_len(&self) -> usize
-        ensures { result ≡ longest (front_built_as self.now).dictionary.patterns }
+        ensures { result ≡ longest (as_built self.now).dictionary.patterns }
     {
         Automaton::max_pattern_len(self)
     }

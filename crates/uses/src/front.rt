@@ -4,7 +4,7 @@
 //! calls, which take an input by value, and require a configuration or return an error; and rows that check which automaton
 //! serves.
 ghost use Rattle.ac_automaton.specs.Overlapping.{CanOverlap};
-ghost use Rattle.aho_corasick.specs.AhoCorasick.{front_built_as, supported_by};
+ghost use Rattle.aho_corasick.specs.AhoCorasick.{as_built, supported_by};
 
 mod memory;
 mod streams;
@@ -126,7 +126,7 @@ fn turns_hold<T: Abort>(
     asked: &Input<'_>,
     row: &Row<'_>,
 ) -> Result<(), Fail>
-    requires { CanOverlap (front_built_as ac.now) (supported_by ac.now) asked.now }
+    requires { CanOverlap (as_built ac.now) (supported_by ac.now) asked.now }
 {
     let mut state = OverlappingState::start();
     let mut tried = OverlappingState::start();
@@ -148,7 +148,7 @@ fn list_holds<T: Abort>(
     asked: &Input<'_>,
     row: &Row<'_>,
 ) -> Result<(), Fail>
-    requires { CanOverlap (front_built_as ac.now) (supported_by ac.now) asked.now }
+    requires { CanOverlap (as_built ac.now) (supported_by ac.now) asked.now }
 {
     turns_hold(rt, ac, asked, row)?;
     if !asked.get_anchored().is_anchored() {

@@ -25,10 +25,10 @@ fn enforce_anchored_consistency(have: StartKind, want: Anchored) -> Result<(), M
 }
 
 impl Automaton for AhoCorasick {
-    ghost use Rattle.aho_corasick.specs.AhoCorasick.{serving_engine, front_built_as, supported_by, IsFrontRead, front_matches_at, is_front_start_at, is_front_special_at};
+    ghost use Rattle.aho_corasick.specs.AhoCorasick.{serving_engine, as_built, supported_by, IsFrontRead, front_matches_at, is_front_start_at, is_front_special_at};
     ghost use Rattle.aho_corasick.specs.EngineLaws.{read-tells, read-lives, read-pairs, read-stops};
 
-    ghost built = { front_built_as };
+    ghost built = { as_built };
 
     ghost supports = { supported_by };
 

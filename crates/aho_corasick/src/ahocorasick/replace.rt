@@ -5,7 +5,7 @@
 ghost use Rattle.std.specs.Prelude.{◌≡◌, length, IfOk};
 ghost use Rattle.ac_automaton.specs.declared.error.ReplaceError.TheVariants.{Memory};
 ghost use Rattle.ac_automaton.specs.Replace.{IsForMatches, ReplacesText, ReplacesBytes, ReplacesTextWith, ReplacesBytesWith};
-ghost use Rattle.aho_corasick.specs.AhoCorasick.{front_built_as, supported_by, pattern_count};
+ghost use Rattle.aho_corasick.specs.AhoCorasick.{as_built, supported_by, pattern_count};
 ghost use Rattle.aho_corasick.specs.Replaced.{IsReplacedText, AreReplacedBytes, AppendsText, AppendsBytes};
 
 use super::AhoCorasick;
@@ -129,7 +129,7 @@ impl AhoCorasick {
         replacements: &[&str],
     ) -> Result<String, ReplaceError>
         requires { length replacements.now ≡ pattern_count self.now }
-        ensures { ReplacesText (front_built_as self.now) (supported_by self.now) haystack.now
+        ensures { ReplacesText (as_built self.now) (supported_by self.now) haystack.now
             replacements.now result }
     {
         Automaton::try_replace_all(self, alloc, haystack, replacements)
@@ -145,7 +145,7 @@ impl AhoCorasick {
         replacements: &[&[u8]],
     ) -> Result<Vec<u8>, ReplaceError>
         requires { length replacements.now ≡ pattern_count self.now }
-        ensures { ReplacesBytes (front_built_as self.now) (supported_by self.now) haystack.now
+        ensures { ReplacesBytes (as_built self.now) (supported_by self.now) haystack.now
             replacements.now result }
     {
         Automaton::try_replace_all_bytes(self, alloc, haystack, replacements)
@@ -168,7 +168,7 @@ impl AhoCorasick {
     where
         F: FnMut(&Match, &str, &mut String) -> Result<bool, AllocError>,
         requires { IsForMatches F.FnMut (pattern_count self.now) replace_with }
-        ensures { ReplacesTextWith F.FnMut (front_built_as self.now) (supported_by self.now) haystack.now
+        ensures { ReplacesTextWith F.FnMut (as_built self.now) (supported_by self.now) haystack.now
             replace_with dst.old dst.new result }
     {
         Automaton::try_replace_all_with(self, alloc, haystack, dst, replace_with)
@@ -187,7 +187,7 @@ impl AhoCorasick {
     where
         F: FnMut(&Match, &[u8], &mut Vec<u8>) -> Result<bool, AllocError>,
         requires { IsForMatches F.FnMut (pattern_count self.now) replace_with }
-        ensures { ReplacesBytesWith F.FnMut (front_built_as self.now) (supported_by self.now) haystack.now
+        ensures { ReplacesBytesWith F.FnMut (as_built self.now) (supported_by self.now) haystack.now
             replace_with dst.old dst.new result }
     {
         Automaton::try_replace_all_with_bytes(self, alloc, haystack, dst, replace_with)

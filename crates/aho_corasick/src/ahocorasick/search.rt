@@ -7,7 +7,7 @@ ghost use Rattle.ac_automaton.specs.Automaton.{AnswersFind, CostsFind, IsFound, 
 ghost use Rattle.ac_automaton.specs.Iter.{AnswersFindIter};
 ghost use Rattle.ac_automaton.specs.Overlapping.{CanOverlap, ShowsNext, AnswersOverlapping, IsOverlappingCost, sums_of};
 ghost use Rattle.ac_automaton.specs.OverlappingIter.{CanRun, AnswersOverlappingIter};
-ghost use Rattle.aho_corasick.specs.AhoCorasick.{front_built_as, supported_by, CameFromCalls, HasOccurrence, IsWalkOver, IsRunOver};
+ghost use Rattle.aho_corasick.specs.AhoCorasick.{as_built, supported_by, CameFromCalls, HasOccurrence, IsWalkOver, IsRunOver};
 
 use super::{AhoCorasick, FindIter, FindOverlappingIter};
 use ac_automaton::automaton::Automaton;
@@ -29,7 +29,7 @@ impl AhoCorasick {
     /// A caller: `uses::callers::front_find::contains_any`.
     pub fn is_match(&self, input: Input<'_>) -> bool
         requires { supported_by self.now input.anchored }
-        ensures { IsTrue result ↔ HasOccurrence (searched (front_built_as self.now) input.entry) }
+        ensures { IsTrue result ↔ HasOccurrence (searched (as_built self.now) input.entry) }
     {
         self.find(input.earliest(true)).is_some()
     }
@@ -39,7 +39,7 @@ impl AhoCorasick {
     /// A caller: `uses::callers::front_find::first_match`.
     pub fn find(&self, input: Input<'_>) -> Option<Match>
         requires { supported_by self.now input.anchored }
-        ensures { IsFound (front_built_as self.now) input.entry result }
+        ensures { IsFound (as_built self.now) input.entry result }
     {
         self.try_find(input).unwrap()
     }
@@ -48,12 +48,12 @@ impl AhoCorasick {
     ///
     /// A caller: `uses::callers::front_find::occurrence`.
     pub fn find_overlapping(&self, input: Input<'_>, state: &mut OverlappingState)
-        requires can { CanOverlap (front_built_as self.now) (supported_by self.now) input }
+        requires can { CanOverlap (as_built self.now) (supported_by self.now) input }
         requires came { CameFromCalls self.now input
             state.old }
         ensures came { CameFromCalls self.now input.entry state.new }
-        ensures shows { ShowsNext (front_built_as self.now) input.entry state.old state.new }
-        ensures cost { IsOverlappingCost (front_built_as self.now) input.entry (sums_of state.new) }
+        ensures shows { ShowsNext (as_built self.now) input.entry state.old state.new }
+        ensures cost { IsOverlappingCost (as_built self.now) input.entry (sums_of state.new) }
     {
         self.try_find_overlapping(input, state).unwrap()
     }
@@ -63,7 +63,7 @@ impl AhoCorasick {
     /// A caller: `uses::callers::front_find::all_matches`.
     pub fn find_iter<'a, 'h>(&'a self, input: Input<'h>) -> FindIter<'a, 'h>
         requires { supported_by self.now input.anchored }
-        ensures { IsWalkOver (front_built_as self.now) input.entry result }
+        ensures { IsWalkOver (as_built self.now) input.entry result }
     {
         self.try_find_iter(input).unwrap()
     }
@@ -72,8 +72,8 @@ impl AhoCorasick {
     ///
     /// A caller: `uses::callers::front_find::all_occurrences`.
     pub fn find_overlapping_iter<'a, 'h>(&'a self, input: Input<'h>) -> FindOverlappingIter<'a, 'h>
-        requires { CanRun (front_built_as self.now) (supported_by self.now) input }
-        ensures { IsRunOver (front_built_as self.now) input.entry result }
+        requires { CanRun (as_built self.now) (supported_by self.now) input }
+        ensures { IsRunOver (as_built self.now) input.entry result }
     {
         self.try_find_overlapping_iter(input).unwrap()
     }
@@ -82,7 +82,7 @@ impl AhoCorasick {
     ///
     /// A caller: `uses::callers::front_find::begins_with_any`.
     pub fn try_find(&self, input: Input<'_>) -> Result<Option<Match>, MatchError>
-        ensures { AnswersFind (front_built_as self.now) (supported_by self.now) input.entry result }
+        ensures { AnswersFind (as_built self.now) (supported_by self.now) input.entry result }
     {
         Automaton::try_find(self, &input)
     }
@@ -95,8 +95,8 @@ impl AhoCorasick {
         input: Input<'_>,
         steps: &mut Steps,
     ) -> Result<Option<Match>, MatchError>
-        ensures answer { AnswersFind (front_built_as self.now) (supported_by self.now) input.entry result }
-        ensures cost { CostsFind (front_built_as self.now) input.entry steps.old steps.new result }
+        ensures answer { AnswersFind (as_built self.now) (supported_by self.now) input.entry result }
+        ensures cost { CostsFind (as_built self.now) input.entry steps.old steps.new result }
     {
         Automaton::try_find_counted(self, &input, steps)
     }
@@ -120,9 +120,9 @@ impl AhoCorasick {
         requires { CameFromCalls self.now input
             state.old }
         ensures came { CameFromCalls self.now input.entry state.new }
-        ensures answer { AnswersOverlapping (front_built_as self.now) (supported_by self.now) input.entry
+        ensures answer { AnswersOverlapping (as_built self.now) (supported_by self.now) input.entry
             state.old state.new result }
-        ensures cost { IsOverlappingCost (front_built_as self.now) input.entry (sums_of state.new) }
+        ensures cost { IsOverlappingCost (as_built self.now) input.entry (sums_of state.new) }
     {
         Automaton::try_find_overlapping(self, &input, state)
     }
@@ -131,7 +131,7 @@ impl AhoCorasick {
     ///
     /// A caller: `uses::callers::front_find::count_matches`.
     pub fn try_find_iter<'a, 'h>(&'a self, input: Input<'h>) -> Result<FindIter<'a, 'h>, MatchError>
-        ensures { AnswersFindIter (front_built_as self.now) (supported_by self.now) input.entry result }
+        ensures { AnswersFindIter (as_built self.now) (supported_by self.now) input.entry result }
     {
         Automaton::try_find_iter(self, input)
     }
@@ -143,7 +143,7 @@ impl AhoCorasick {
         &'a self,
         input: Input<'h>,
     ) -> Result<FindOverlappingIter<'a, 'h>, MatchError>
-        ensures { AnswersOverlappingIter (front_built_as self.now) (supported_by self.now) input.entry
+        ensures { AnswersOverlappingIter (as_built self.now) (supported_by self.now) input.entry
             result }
     {
         Automaton::try_find_overlapping_iter(self, input)

@@ -11,7 +11,7 @@ ghost use Rattle.ac_automaton.specs.StreamIter.{AnswersStreamIter};
 ghost use Rattle.ac_automaton.specs.StreamReplace.{AcceptsReplacing, CostsStream, ReplacesStream};
 ghost use Rattle.ac_automaton.specs.StreamReplaceWith.{ReplacesStreamWith};
 ghost use Rattle.ac_automaton.specs.Watched.{has_ended};
-ghost use Rattle.aho_corasick.specs.AhoCorasick.{front_built_as, supported_by, pattern_count};
+ghost use Rattle.aho_corasick.specs.AhoCorasick.{as_built, supported_by, pattern_count};
 ghost use Rattle.aho_corasick.specs.Streamed.{IsStreamOver};
 
 use super::{AhoCorasick, StreamFindIter};
@@ -43,8 +43,8 @@ impl AhoCorasick {
         reader: &'a mut Watched<R>,
     ) -> Result<StreamFindIter<'a, R>, AllocError>
         requires open { has_ended reader.old ≡ false }
-        requires can { CanStream (front_built_as self.now) (supported_by self.now) }
-        ensures { IfOk result (IsStreamOver (front_built_as self.now) reader.entry) }
+        requires can { CanStream (as_built self.now) (supported_by self.now) }
+        ensures { IfOk result (IsStreamOver (as_built self.now) reader.entry) }
     {
         match self.try_stream_find_iter(alloc, reader) {
             Ok(matches) => Ok(matches),
@@ -65,7 +65,7 @@ impl AhoCorasick {
         reader: &'a mut Watched<R>,
     ) -> Result<StreamFindIter<'a, R>, StreamError>
         requires { has_ended reader.old ≡ false }
-        ensures { AnswersStreamIter (front_built_as self.now) (supported_by self.now) reader.entry
+        ensures { AnswersStreamIter (as_built self.now) (supported_by self.now) reader.entry
             result }
     {
         Automaton::try_stream_find_iter(self, alloc, reader)
@@ -88,9 +88,9 @@ impl AhoCorasick {
     ) -> Result<(), StreamError>
         requires open { has_ended reader.old ≡ false }
         requires one_each { length replacements.now ≡ pattern_count self.now }
-        ensures replaced { ReplacesStream R.remaining W.contents (front_built_as self.now)
+        ensures replaced { ReplacesStream R.remaining W.contents (as_built self.now)
             (map (λ r. r.now) replacements.now) reader.old reader.new writer.old writer.new result }
-        ensures accepted { AcceptsReplacing (front_built_as self.now) (supported_by self.now)
+        ensures accepted { AcceptsReplacing (as_built self.now) (supported_by self.now)
             reader.old reader.new writer.old writer.new result }
     {
         Automaton::try_stream_replace_all(self, alloc, reader, writer, replacements)
@@ -109,11 +109,11 @@ impl AhoCorasick {
     ) -> Result<(), StreamError>
         requires open { has_ended reader.old ≡ false }
         requires one_each { length replacements.now ≡ pattern_count self.now }
-        ensures replaced { ReplacesStream R.remaining W.contents (front_built_as self.now)
+        ensures replaced { ReplacesStream R.remaining W.contents (as_built self.now)
             (map (λ r. r.now) replacements.now) reader.old reader.new writer.old writer.new result }
-        ensures accepted { AcceptsReplacing (front_built_as self.now) (supported_by self.now)
+        ensures accepted { AcceptsReplacing (as_built self.now) (supported_by self.now)
             reader.old reader.new writer.old writer.new result }
-        ensures cost { CostsStream (front_built_as self.now) reader.old reader.new
+        ensures cost { CostsStream (as_built self.now) reader.old reader.new
             steps.old steps.new result }
     {
         Automaton::try_stream_replace_all_counted(self, alloc, reader, writer, replacements, steps)
@@ -138,7 +138,7 @@ impl AhoCorasick {
         F: FnMut(&Match, &[u8], &mut Watched<W>) -> Result<(), StreamError>,
         requires open { has_ended reader.old ≡ false }
         requires ready { IsForMatches F.FnMut (pattern_count self.now) replace_with }
-        ensures { ReplacesStreamWith W.contents F.FnMut R.remaining (front_built_as self.now)
+        ensures { ReplacesStreamWith W.contents F.FnMut R.remaining (as_built self.now)
             (supported_by self.now) replace_with reader.old reader.new writer.old writer.new result }
     {
         Automaton::try_stream_replace_all_with(self, alloc, reader, writer, replace_with)

@@ -3,7 +3,7 @@ ghost use Rattle.std.specs.Prelude.{◌≡◌, ◌≢◌, ◌↔◌, ◌<◌, So
 ghost use Rattle.ac_literal.specs.Packed.{bytes_of};
 ghost use Rattle.ac_input.specs.declared.search.MatchKind.TheVariants.{Standard};
 ghost use Rattle.ac_input.specs.declared.search.StartKind.TheVariants.{Unanchored};
-ghost use Rattle.aho_corasick.specs.AhoCorasick.{MeansSame, front_built_as, supported_by, pattern_count};
+ghost use Rattle.aho_corasick.specs.AhoCorasick.{MeansSame, as_built, supported_by, pattern_count};
 ghost use Rattle.uses.specs.Callers.{FindsBytes, FindsFolded, IsMostBytes, IsPlain, OccursIn};
 
 use ac_input::pairing::Pairing;
@@ -15,7 +15,7 @@ use std::alloc::{AllocError, Global};
 /// The automaton of the patterns by the settings that a builder has at first: standard matches, byte for byte, from any place.
 pub fn of_bytes(alloc: Global, patterns: &[&[u8]]) -> Result<AhoCorasick, BuildError>
     ensures dictionary { IfOk result
-        (λ ac. FindsBytes (bytes_of patterns.now) (front_built_as ac).dictionary) }
+        (λ ac. FindsBytes (bytes_of patterns.now) (as_built ac).dictionary) }
     ensures starts { IfOk result (λ ac. ac.start_kind ≡ Unanchored) }
 {
     AhoCorasick::new(alloc, patterns)
@@ -24,7 +24,7 @@ pub fn of_bytes(alloc: Global, patterns: &[&[u8]]) -> Result<AhoCorasick, BuildE
 /// One that prefers the pattern that was given first, and takes the two cases of an ASCII letter for the same.
 pub fn folded(alloc: Global, patterns: &[&[u8]]) -> Result<AhoCorasick, BuildError>
     ensures { IfOk result
-        (λ ac. FindsFolded (bytes_of patterns.now) (front_built_as ac).dictionary) }
+        (λ ac. FindsFolded (bytes_of patterns.now) (as_built ac).dictionary) }
 {
     let mut builder = AhoCorasick::builder();
     builder
@@ -41,7 +41,7 @@ pub fn thrifty(
     starts: StartKind,
 ) -> Result<AhoCorasick, BuildError>
     ensures plain { IfOk result
-        (λ ac. IsPlain (bytes_of patterns.now) pairing Standard (front_built_as ac)) }
+        (λ ac. IsPlain (bytes_of patterns.now) pairing Standard (as_built ac)) }
     ensures starts { IfOk result (λ ac. ac.start_kind ≡ starts) }
 {
     let mut builder = AhoCorasickBuilder::new();
@@ -96,21 +96,21 @@ pub fn serves(ac: &AhoCorasick, anchored: Anchored) -> bool
 
 /// Whether the automaton is of the kind that can show all occurrences.
 pub fn can_list(ac: &AhoCorasick) -> bool
-    ensures { IsTrue result ↔ ((front_built_as ac.now).dictionary.kind ≡ Standard) }
+    ensures { IsTrue result ↔ ((as_built ac.now).dictionary.kind ≡ Standard) }
 {
     matches!(ac.match_kind(), MatchKind::Standard)
 }
 
 /// Whether the text is long enough for a match: no pattern occurs in a text that is shorter than the shortest one.
 pub fn may_match(ac: &AhoCorasick, text: &[u8]) -> bool
-    ensures { OccursIn (front_built_as ac.now).dictionary text.now → IsTrue result }
+    ensures { OccursIn (as_built ac.now).dictionary text.now → IsTrue result }
 {
     text.len() >= ac.min_pattern_len()
 }
 
 /// How many bytes an occurrence has at most.
 pub fn most_bytes(ac: &AhoCorasick) -> usize
-    ensures { IsMostBytes (front_built_as ac.now).dictionary result }
+    ensures { IsMostBytes (as_built ac.now).dictionary result }
 {
     ac.max_pattern_len()
 }

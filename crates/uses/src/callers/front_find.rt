@@ -9,7 +9,7 @@ ghost use Rattle.ac_input.specs.Steps.{looked_of};
 ghost use Rattle.ac_literal.specs.Packed.{search_kind};
 ghost use Rattle.ac_automaton.specs.Automaton.{listing_in};
 ghost use Rattle.ac_automaton.specs.Replace.{matches_in};
-ghost use Rattle.aho_corasick.specs.AhoCorasick.{front_built_as, supported_by};
+ghost use Rattle.aho_corasick.specs.AhoCorasick.{as_built, supported_by};
 ghost use Rattle.uses.specs.Callers.{BeginsWithPattern, OccursIn, first_in};
 
 use ac_input::search::{Anchored, Input, Match};
@@ -22,7 +22,7 @@ use std::alloc::{AllocError, Global};
 /// Whether any of the patterns occurs in the text.
 pub fn contains_any(ac: &AhoCorasick, text: &[u8]) -> bool
     requires { supported_by ac.now Anchored.No }
-    ensures { IsTrue result ↔ OccursIn (front_built_as ac.now).dictionary text.now }
+    ensures { IsTrue result ↔ OccursIn (as_built ac.now).dictionary text.now }
 {
     ac.is_match(Input::new(text))
 }
@@ -30,7 +30,7 @@ pub fn contains_any(ac: &AhoCorasick, text: &[u8]) -> bool
 /// The match of the text.
 pub fn first_match(ac: &AhoCorasick, text: &[u8]) -> Option<Match>
     requires { supported_by ac.now Anchored.No }
-    ensures { result ≡ first_in (front_built_as ac.now).dictionary text.now }
+    ensures { result ≡ first_in (as_built ac.now).dictionary text.now }
 {
     ac.find(Input::new(text))
 }
@@ -38,7 +38,7 @@ pub fn first_match(ac: &AhoCorasick, text: &[u8]) -> Option<Match>
 /// Whether one of the patterns begins the text, where the automaton serves anchored searches.
 pub fn begins_with_any(ac: &AhoCorasick, text: &[u8]) -> Result<bool, MatchError>
     ensures { IfOk result (λ it. IsTrue it
-        ↔ BeginsWithPattern (front_built_as ac.now).dictionary text.now) }
+        ↔ BeginsWithPattern (as_built ac.now).dictionary text.now) }
 {
     let found = ac.try_find(Input::new(text).anchored(Anchored::Yes))?;
     Ok(found.is_some())
@@ -58,14 +58,14 @@ pub fn first_match_counted(
 /// All matches of the text, one after another.
 pub fn all_matches(ac: &AhoCorasick, alloc: Global, text: &[u8]) -> Result<Vec<Match>, AllocError>
     requires { supported_by ac.now Anchored.No }
-    ensures { IfOk result (λ v. v.items ≡ matches_in (front_built_as ac.now) text.now) }
+    ensures { IfOk result (λ v. v.items ≡ matches_in (as_built ac.now) text.now) }
 {
     ac.find_iter(Input::new(text)).collect(alloc)
 }
 
 /// How many matches the text has.
 pub fn count_matches(ac: &AhoCorasick, text: &[u8]) -> Result<usize, MatchError>
-    ensures { IfOk result (λ count. count ≡ length (matches_in (front_built_as ac.now) text.now)) }
+    ensures { IfOk result (λ count. count ≡ length (matches_in (as_built ac.now) text.now)) }
 {
     Ok(ac.try_find_iter(Input::new(text))?.count())
 }
@@ -73,9 +73,9 @@ pub fn count_matches(ac: &AhoCorasick, text: &[u8]) -> Result<usize, MatchError>
 /// How many matches the text has, by packed search and by the automaton of the same patterns and kind: as many.
 pub fn count_by_both(ac: &AhoCorasick, searcher: &Searcher, text: &[u8]) -> (usize, usize)
     requires supports { supported_by ac.now Anchored.No }
-    requires same { searcher.now.patterns ≡ (front_built_as ac.now).dictionary.patterns }
-    requires kind { search_kind searcher.now.kind ≡ (front_built_as ac.now).dictionary.kind }
-    requires unpaired { IsUnpaired (front_built_as ac.now).dictionary.pairing }
+    requires same { searcher.now.patterns ≡ (as_built ac.now).dictionary.patterns }
+    requires kind { search_kind searcher.now.kind ≡ (as_built ac.now).dictionary.kind }
+    requires unpaired { IsUnpaired (as_built ac.now).dictionary.pairing }
     ensures { result.0 ≡ result.1 }
 {
     packed_walks_alike();
@@ -90,9 +90,9 @@ pub fn all_occurrences(
     text: &[u8],
 ) -> Result<Vec<Match>, AllocError>
     requires supports { supported_by ac.now Anchored.No }
-    requires standard { (front_built_as ac.now).dictionary.kind ≡ Standard }
+    requires standard { (as_built ac.now).dictionary.kind ≡ Standard }
     ensures { IfOk result
-        (λ v. IsListing (whole (front_built_as ac.now).dictionary text.now false) v.items) }
+        (λ v. IsListing (whole (as_built ac.now).dictionary text.now false) v.items) }
 {
     ac.find_overlapping_iter(Input::new(text)).collect(alloc)
 }
@@ -100,7 +100,7 @@ pub fn all_occurrences(
 /// Whether the occurrences in the text can be listed: that needs the standard kind, and a start for unanchored searches.
 pub fn has_listing(ac: &AhoCorasick, text: &[u8]) -> bool
     ensures { IsTrue result
-        ↔ supported_by ac.now Anchored.No × ((front_built_as ac.now).dictionary.kind ≡ Standard) }
+        ↔ supported_by ac.now Anchored.No × ((as_built ac.now).dictionary.kind ≡ Standard) }
 {
     ac.try_find_overlapping_iter(Input::new(text)).is_ok()
 }
@@ -108,8 +108,8 @@ pub fn has_listing(ac: &AhoCorasick, text: &[u8]) -> bool
 /// The occurrence of this index, counted from 0, by calls that go on from where the last one stood.
 pub fn occurrence(ac: &AhoCorasick, text: &[u8], index: usize) -> Option<Match>
     requires supports { supported_by ac.now Anchored.No }
-    requires standard { (front_built_as ac.now).dictionary.kind ≡ Standard }
-    ensures { result ≡ slice_get (listing_in (front_built_as ac.now) (whole_of text.now)) index }
+    requires standard { (as_built ac.now).dictionary.kind ≡ Standard }
+    ensures { result ≡ slice_get (listing_in (as_built ac.now) (whole_of text.now)) index }
 {
     let mut state = OverlappingState::start();
     for _ in 0..index {
@@ -122,7 +122,7 @@ pub fn occurrence(ac: &AhoCorasick, text: &[u8], index: usize) -> Option<Match>
 /// The first occurrence in the text: of those that end first the one that starts first.
 pub fn first_occurrence(ac: &AhoCorasick, text: &[u8]) -> Result<Option<Match>, MatchError>
     ensures { IfOk result
-        (λ it. it ≡ slice_get (listing_in (front_built_as ac.now) (whole_of text.now)) 0) }
+        (λ it. it ≡ slice_get (listing_in (as_built ac.now) (whole_of text.now)) 0) }
 {
     let mut state = OverlappingState::start();
     ac.try_find_overlapping(Input::new(text), &mut state)?;

@@ -2,7 +2,7 @@
 ghost use Rattle.std.specs.Prelude.{◌≡◌, ◌++◌, length, map, IfOk, OnOk};
 ghost use Rattle.std.specs.String.{string_bytes};
 ghost use Rattle.ac_input.specs.Same.{IsUnpaired};
-ghost use Rattle.aho_corasick.specs.AhoCorasick.{front_built_as, supported_by, pattern_count};
+ghost use Rattle.aho_corasick.specs.AhoCorasick.{as_built, supported_by, pattern_count};
 ghost use Rattle.uses.specs.Callers.{AppendsOne, KeepsUnmatched};
 
 use ac_input::search::Anchored;
@@ -19,7 +19,7 @@ pub fn replaced_text(
     requires supports { supported_by ac.now Anchored.No }
     requires one_each { length replacements.now ≡ pattern_count ac.now }
     ensures { IfOk result
-        (λ it. KeepsUnmatched (front_built_as ac.now) text.now (string_bytes it)) }
+        (λ it. KeepsUnmatched (as_built ac.now) text.now (string_bytes it)) }
 {
     ac.replace_all(alloc, text, replacements)
 }
@@ -33,7 +33,7 @@ pub fn try_replaced_text(
 ) -> Result<String, ReplaceError>
     requires { length replacements.now ≡ pattern_count ac.now }
     ensures { IfOk result
-        (λ it. KeepsUnmatched (front_built_as ac.now) text.now (string_bytes it)) }
+        (λ it. KeepsUnmatched (as_built ac.now) text.now (string_bytes it)) }
 {
     ac.try_replace_all(alloc, text, replacements)
 }
@@ -46,8 +46,8 @@ pub fn replaced_by_itself(
     patterns: &[&[u8]],
 ) -> Result<Vec<u8>, AllocError>
     requires supports { supported_by ac.now Anchored.No }
-    requires same { map (λ p. p.now) patterns.now ≡ (front_built_as ac.now).dictionary.patterns }
-    requires unpaired { IsUnpaired (front_built_as ac.now).dictionary.pairing }
+    requires same { map (λ p. p.now) patterns.now ≡ (as_built ac.now).dictionary.patterns }
+    requires unpaired { IsUnpaired (as_built ac.now).dictionary.pairing }
     ensures { IfOk result (λ replaced. replaced.items ≡ bytes.now) }
 {
     ac.replace_all_bytes(alloc, bytes, patterns)
@@ -60,8 +60,8 @@ pub fn try_replaced_by_itself(
     bytes: &[u8],
     patterns: &[&[u8]],
 ) -> Result<Vec<u8>, ReplaceError>
-    requires same { map (λ p. p.now) patterns.now ≡ (front_built_as ac.now).dictionary.patterns }
-    requires unpaired { IsUnpaired (front_built_as ac.now).dictionary.pairing }
+    requires same { map (λ p. p.now) patterns.now ≡ (as_built ac.now).dictionary.patterns }
+    requires unpaired { IsUnpaired (as_built ac.now).dictionary.pairing }
     ensures { IfOk result (λ replaced. replaced.items ≡ bytes.now) }
 {
     ac.try_replace_all_bytes(alloc, bytes, patterns)
@@ -77,7 +77,7 @@ pub fn append_first_replaced(
 ) -> Result<(), AllocError>
     requires { supported_by ac.now Anchored.No }
     ensures { OnOk result
-        (AppendsOne (front_built_as ac.now) text.now replacement.now dst.old dst.new) }
+        (AppendsOne (as_built ac.now) text.now replacement.now dst.old dst.new) }
 {
     ac.replace_all_with(alloc, text, dst, |_, _, dst| {
         dst.push_str(replacement)?;
@@ -94,7 +94,7 @@ pub fn try_append_first_replaced(
     dst: &mut String,
 ) -> Result<(), ReplaceError>
     ensures { OnOk result
-        (AppendsOne (front_built_as ac.now) text.now replacement.now dst.old dst.new) }
+        (AppendsOne (as_built ac.now) text.now replacement.now dst.old dst.new) }
 {
     ac.try_replace_all_with(alloc, text, dst, |_, _, dst| {
         dst.push_str(replacement)?;

@@ -5,7 +5,7 @@ ghost use Rattle.ac_automaton.specs.Replace.{matches_in};
 ghost use Rattle.ac_automaton.specs.Stream.{CanStream, read_by};
 ghost use Rattle.ac_automaton.specs.StreamIter.{progress_of};
 ghost use Rattle.ac_automaton.specs.Watched.{has_ended, inner_of};
-ghost use Rattle.aho_corasick.specs.AhoCorasick.{front_built_as, supported_by, pattern_count};
+ghost use Rattle.aho_corasick.specs.AhoCorasick.{as_built, supported_by, pattern_count};
 ghost use Rattle.uses.specs.Callers.{WritesReplaced};
 
 use ac_input::search::Match;
@@ -20,7 +20,7 @@ pub fn search_of<'a, R>(
     reader: &'a mut Watched<R>,
 ) -> Result<StreamFindIter<'a, R>, AllocError>
     requires open { has_ended reader.old ≡ false }
-    requires can { CanStream (front_built_as ac.now) (supported_by ac.now) }
+    requires can { CanStream (as_built ac.now) (supported_by ac.now) }
     ensures { IfOk result (λ matches. read_by (progress_of matches) ≡ []) }
 {
     ac.stream_find_iter(alloc, reader)
@@ -28,7 +28,7 @@ pub fn search_of<'a, R>(
 
 /// All matches of what a reader gives, one after another.
 pub fn all_matches(ac: &AhoCorasick, alloc: Global, text: &[u8]) -> Result<Vec<Match>, StreamError>
-    ensures { IfOk result (λ v. v.items ≡ matches_in (front_built_as ac.now) text.now) }
+    ensures { IfOk result (λ v. v.items ≡ matches_in (as_built ac.now) text.now) }
 {
     let mut reader = Watched::new(text);
     let mut found = Vec::new(alloc);
@@ -50,7 +50,7 @@ pub fn replaced(
 ) -> Result<(), StreamError>
     requires { length replacements.now ≡ pattern_count ac.now }
     ensures { OnOk result
-        (WritesReplaced (front_built_as ac.now) replacements.now text.now writer.old writer.new) }
+        (WritesReplaced (as_built ac.now) replacements.now text.now writer.old writer.new) }
 {
     let mut reader = Watched::new(text);
     ac.try_stream_replace_all(alloc, &mut reader, writer, replacements)

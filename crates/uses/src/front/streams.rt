@@ -2,7 +2,7 @@
 ghost use Rattle.std.specs.Prelude.{◌≡◌, false};
 ghost use Rattle.ac_automaton.specs.Stream.{CanStream};
 ghost use Rattle.ac_automaton.specs.Watched.{has_ended};
-ghost use Rattle.aho_corasick.specs.AhoCorasick.{front_built_as, supported_by};
+ghost use Rattle.aho_corasick.specs.AhoCorasick.{as_built, supported_by};
 
 use super::{OwnCase, each_own};
 use crate::callers::front::{can_list, serves};
@@ -104,7 +104,7 @@ fn is_found<T: Abort>(
     row: &Row,
     most: usize,
 ) -> Result<(), Fail>
-    requires { CanStream (front_built_as ac.now) (supported_by ac.now) }
+    requires { CanStream (as_built ac.now) (supported_by ac.now) }
 {
     let tally = Tally::new();
     let given = Given::Whole(row.text);

@@ -5,20 +5,20 @@ use Rattle.ac_input.specs.Input.{whole_of}
 use Rattle.ac_literal.specs.Packed.{matches_of}
 use Rattle.ac_automaton.specs.Automaton.{walk_in}
 use Rattle.ac_automaton.specs.Iter.{left_of}
-use Rattle.aho_corasick.specs.AhoCorasick.{front_built_as}
+use Rattle.aho_corasick.specs.AhoCorasick.{as_built}
 use Rattle.uses.proofs.WalkLemmas.{matches-few}
 use Rattle.uses.proofs.callers.front_find.count_by_both.Goals as goal
 
 pub count-found-requires-clause-fits : goal.count-found-requires-clause-fits
 count-found-requires-clause-fits c =
-    let b = front_built_as c.args.ac.now in
+    let b = as_built c.args.ac.now in
     let left = ap length (c.find_iter.ensures.1 ∙ ap (walk_in b) c.new.ensures) in
     let few = matches-few b c.args.text.now in
     inl (omega arith)
 
 pub count-requires-clause-fits : goal.count-requires-clause-fits
 count-requires-clause-fits c =
-    let b = front_built_as c.args.ac.now in
+    let b = as_built c.args.ac.now in
     let alike = c.packed_walks_alike.ensures c.args.searcher.now b c.args.text.now (sym c.requires.same) (sym c.requires.kind) c.requires.unpaired in
     let left = ap length (c.find_iter-2.ensures ∙ alike) in
     let few = matches-few b c.args.text.now in
@@ -26,7 +26,7 @@ count-requires-clause-fits c =
 
 pub returns : goal.returns
 returns c =
-    let b = front_built_as c.args.ac.now in
+    let b = as_built c.args.ac.now in
     let alike = c.packed_walks_alike.ensures c.args.searcher.now b c.args.text.now (sym c.requires.same) (sym c.requires.kind) c.requires.unpaired in
     let left = c.find_iter.ensures.1 ∙ ap (walk_in b) c.new.ensures in
     let walked = count_from_yields_List c.find_iter.result c.count-found.result c.count-found.ensures.ran (YieldsList-from_first (λ y. y) left_of (walk_in b (whole_of c.args.text.now)) left) in

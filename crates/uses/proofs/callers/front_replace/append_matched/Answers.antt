@@ -1,14 +1,14 @@
 -- The closure appends what matched.
 use Rattle.std.proofs.Common.{rules}
 use Rattle.std.proofs.lemmas.Result.{on_ok_weaker}
-use Rattle.aho_corasick.specs.AhoCorasick.{front_built_as}
+use Rattle.aho_corasick.specs.AhoCorasick.{as_built}
 use Rattle.uses.proofs.FrontLemmas.{if-appended}
 use Rattle.uses.proofs.ReplaceLemmas.{replaced-copies}
 use Rattle.uses.proofs.callers.front_replace.append_matched.Goals as goal
 
 pub returns : goal.returns
 returns c =
-    let b = front_built_as c.args.ac.now in
+    let b = as_built c.args.ac.now in
     on_ok_weaker c.replace_all_with_bytes.result
     (λ is. replaced-copies (λ v. v.items) _ b c.args.bytes.now _ c.args.dst.now c.replace_all_with_bytes.new.dst (λ f after found text dst left more called. search rules) is)
     (if-appended _ c.args.ac.now c.args.bytes.now _ c.args.dst.now c.replace_all_with_bytes.new.dst c.replace_all_with_bytes.result c.replace_all_with_bytes.ensures)

@@ -1,10 +1,10 @@
 use Rattle.std.proofs.Common.{map, ◌∙◌}
 use Rattle.std.proofs.lemmas.Result.{IfOk-weaker}
-use Rattle.aho_corasick.specs.AhoCorasick.{front_built_as}
+use Rattle.aho_corasick.specs.AhoCorasick.{as_built}
 use Rattle.uses.proofs.ReplaceLemmas.{replaced-none}
 use Rattle.uses.proofs.callers.front_replace.replaced_text.Goals as goal
 
 pub returns : goal.returns
 returns c =
-    let same = replaced-none (front_built_as c.args.ac.now) c.args.text.now (map (λ p. p.now) c.args.replacements.now) in
+    let same = replaced-none (as_built c.args.ac.now) c.args.text.now (map (λ p. p.now) c.args.replacements.now) in
     IfOk-weaker c.replace_all.result _ _ (λ t is none. is ∙ same none) c.replace_all.ensures

@@ -2,12 +2,12 @@ use Rattle.std.proofs.Common.{map, ◌∙◌}
 use Rattle.std.proofs.lemmas.Result.{IfOk-weaker}
 use Rattle.std.specs.String.{string_bytes}
 use Rattle.ac_automaton.specs.Replace.{text_matches_in}
-use Rattle.aho_corasick.specs.AhoCorasick.{front_built_as, supported_by}
+use Rattle.aho_corasick.specs.AhoCorasick.{as_built, supported_by}
 use Rattle.uses.proofs.ReplaceLemmas.{if-replaced, replaced-none}
 use Rattle.uses.proofs.callers.front_replace.try_replaced_text.Goals as goal
 
 pub returns : goal.returns
 returns c =
-    let b = front_built_as c.args.ac.now in
+    let b = as_built c.args.ac.now in
     let same = replaced-none b c.args.text.now (map (λ p. p.now) c.args.replacements.now) in
     IfOk-weaker c.try_replace_all.result _ _ (λ t is none. is ∙ same none) (if-replaced string_bytes text_matches_in b (supported_by c.args.ac.now) c.args.text.now c.args.replacements.now c.try_replace_all.result c.try_replace_all.ensures)

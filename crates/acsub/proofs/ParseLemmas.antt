@@ -29,7 +29,7 @@ use Rattle.clap.specs.declared.error.Error.{Error}
 use Rattle.clap.specs.declared.error.kind.ErrorKind.TheVariants as kind
 use Rattle.acsub.specs.declared.words.WordsFault.{WordsFault}
 use Rattle.acsub.specs.declared.words.WordsFault.TheVariants.{Help, Bad, Memory, Pairing}
-use Rattle.ac_input.specs.declared.primitives.number.TheConstants.{GREATEST}
+use Rattle.acsub.specs.declared.words.TheConstants.{MOST_DEPTH}
 use Rattle.acsub.specs.Words.{IsWordsFault, IsTyped, Parses, engine_named, engine_of, kind_named, match_kind_of, mode_named, mode_of, rules_path}
 use Rattle.std.proofs.Common.{lit<}
 use Rattle.acsub.proofs.PlaceLemmas.{same_fault, same_matches}
@@ -221,11 +221,11 @@ module _ (old : Command) (lists : Lists) (names : HasNames lists) (is : app_of o
       choice engine_named 5 an_arg (codes "engine") lists.engines engine_names own (ap (λ (x : Rule). x.id) r) (ap (λ (x : Rule). x.parser) r) (ap (λ (x : Rule). x.ignore_case) r) names.engines refl
       (default_value 5 an_arg (codes "auto") (lit< tt) own (ap (λ (x : Rule). x.action) r) (ap (λ (x : Rule). x.range) r) (ap (λ (x : Rule). x.defaults) r))
 
-  depth_typed : (t : Text) → one_of (codes "dense-depth") (rows_of (found_of m)) ≡ Some t → IsUnsignedIn 0 GREATEST t
+  depth_typed : (t : Text) → one_of (codes "dense-depth") (rows_of (found_of m)) ≡ Some t → IsUnsignedIn 0 MOST_DEPTH t
   depth_typed t e =
       let r : rule_of (slice_index_or (args_of old) 7 an_arg) ≡ depth_rule = rule_at old lists is 7 an_arg (lit< tt) in
       let own = own_at old lists is 7 an_arg (lit< tt) refl refl in
-      let q = parser.Unsigned 0 GREATEST in
+      let q = parser.Unsigned 0 MOST_DEPTH in
       let id : (slice_index_or (args_of old) 7 an_arg).id.now ≡ codes "dense-depth" = ap (λ (x : Rule). x.id) r in
       let same = same_reading old m p plain local 7 (slice_index_or (args_of old) 7 an_arg) own q (ap (λ (x : Rule). x.parser) r) refl in
       let here : one_text (found_of m) (slice_index_or (args_of old) 7 an_arg).id.now ≡ Some t = subst (λ (i : Text). one_text (found_of m) i ≡ Some t) (sym id) (one_text-rows (found_of m) (codes "dense-depth") ∙ e) in

@@ -32,11 +32,11 @@ use Rattle.acsub.specs.declared.settings.Mode.TheVariants as modes
 use Rattle.acsub.specs.declared.settings.Settings.{Settings}
 use Rattle.acsub.specs.Finder.{whole_search}
 use Rattle.acsub.specs.Served.{dictionary_for}
-use Rattle.acsub.specs.Run.{AnswersRun, IsReadByBuffer, IsRefusal, RanRules, RanToFailedWrite, ReadsWithin}
+use Rattle.acsub.specs.Run.{IsReadByBuffer, RanRules, RanToFailedWrite, ReadsWithin}
 use Rattle.acsub.specs.Plan.{Plan}
 use Rattle.acsub.specs.Settings.{HasEmptyPattern, IsAccepted}
 use Rattle.acsub.specs.Sides.{patterns_of, replacements_of}
-use Rattle.acsub.specs.Stream.{IsToldAs, Streams}
+use Rattle.acsub.specs.Stream.{AnswersStream, IsToldAs, Streams}
 use Rattle.acsub.proofs.RunLemmas.{HasMoved-nothing, nothing}
 use Rattle.acsub.specs.Transformed.{IsOutputFront, IsStreamed, output_of, stream_room, text_in}
 
@@ -51,7 +51,7 @@ filled-shortest (rule ∷ rules) filled =
     omega (arith, rest, some)
 
 -- none of the reasons stands against the search of a stream
-config-none : (b : Built) (supports : Anchored → Type 0) (settings : Settings) (rules : List Rule) (refusal : MatchErrorKind) → b.dictionary ≡ dictionary_for settings rules → supports No → IsStreamed settings rules → ¬ IsConfigRefusal b supports refusal
+config-none : (b : Built) (supports : Anchored → Type 0) (settings : Settings) (rules : List Rule) (refusal : MatchErrorKind) → b.dictionary ≡ dictionary_for settings (patterns_of rules) → supports No → IsStreamed settings rules → ¬ IsConfigRefusal b supports refusal
 config-none b supports settings rules refusal is can streamed (inl none) = none.0 can
 config-none b supports settings rules refusal is can streamed (inr (inl other)) = other.1 (ap (λ (m : Dictionary). m.kind) is ∙ streamed.0)
 config-none b supports settings rules refusal is can streamed (inr (inr empty)) =
@@ -61,7 +61,7 @@ config-none b supports settings rules refusal is can streamed (inr (inr empty)) 
     omega (arith, none, some, same)
 
 -- the search of the stream is supported
-pub not-refused : {R W : Type 0} (b : Built) (supports : Anchored → Type 0) (settings : Settings) (rules : List Rule) (r r' : Watched R) (w w' : Watched W) (error : StreamError) (refusal : MatchErrorKind) → b.dictionary ≡ dictionary_for settings rules → supports No → IsStreamed settings rules
+pub not-refused : {R W : Type 0} (b : Built) (supports : Anchored → Type 0) (settings : Settings) (rules : List Rule) (r r' : Watched R) (w w' : Watched W) (error : StreamError) (refusal : MatchErrorKind) → b.dictionary ≡ dictionary_for settings (patterns_of rules) → supports No → IsStreamed settings rules
     → AcceptsReplacing b supports r r' w w' (Err error) → error ≢ stream.Config refusal
 not-refused b supports settings rules r r' w w' error refusal is can streamed refused e =
     let g = subst (λ (other : StreamError). AcceptsReplacing b supports r r' w w' (Err other)) e refused in
@@ -70,13 +70,13 @@ not-refused b supports settings rules r r' w w' error refusal is can streamed re
 -- ---- the text
 
 -- the text that a run makes is that of the automaton, where matches are replaced
-replaced-output : (b : Built) (settings : Settings) (rules : List Rule) (x : List ℕ) → b.dictionary ≡ dictionary_for settings rules → settings.mode ≡ modes.Replace → replaced_in b (replacements_of rules) x ≡ output_of settings rules x
+replaced-output : (b : Built) (settings : Settings) (rules : List Rule) (x : List ℕ) → b.dictionary ≡ dictionary_for settings (patterns_of rules) → settings.mode ≡ modes.Replace → replaced_in b (replacements_of rules) x ≡ output_of settings rules x
 replaced-output b settings rules x is mode =
     ap (λ (m : Dictionary). replaced_from 0 x (replacements_of rules) (walk_of m.kind (search_in m (whole_of x)))) is
     ∙ ap (λ (k : Mode). text_in k settings.kind (replacements_of rules) (whole_search settings (patterns_of rules) x)) (sym mode)
 
 -- the front of it too
-replaced-front : (b : Built) (settings : Settings) (rules : List Rule) (x text : List ℕ) → b.dictionary ≡ dictionary_for settings rules → settings.mode ≡ modes.Replace → IsReplacedFront b (replacements_of rules) x text → IsOutputFront settings rules x text
+replaced-front : (b : Built) (settings : Settings) (rules : List Rule) (x text : List ℕ) → b.dictionary ≡ dictionary_for settings (patterns_of rules) → settings.mode ≡ modes.Replace → IsReplacedFront b (replacements_of rules) x text → IsOutputFront settings rules x text
 replaced-front b settings rules x text is mode f =
     record {
       front = record {
@@ -91,57 +91,47 @@ replaced-front b settings rules x text is mode f =
 -- the front of a text is a beginning of it, whichever mode makes it
 front-begins : (settings : Settings) (rules : List Rule) (x text : List ℕ) (mode : Mode) → settings.mode ≡ mode → IsStreamed settings rules → IsOutputFront settings rules x text → IsBeginning text (output_of settings rules x)
 front-begins settings rules x text modes.Replace is streamed f =
-    let final = cut-final (dictionary_for settings rules) x f.front.cut (replacements_of rules) streamed.0 f.front.is_cut in
+    let final = cut-final (dictionary_for settings (patterns_of rules)) x f.front.cut (replacements_of rules) streamed.0 f.front.is_cut in
     subst (λ (t : List ℕ). IsBeginning t (output_of settings rules x)) (sym f.front.front)
     (subst (λ (k : Mode). IsBeginning (text_in k settings.kind (replacements_of rules) (whole_search settings (patterns_of rules) (take f.front.cut x))) (text_in k settings.kind (replacements_of rules) (whole_search settings (patterns_of rules) x))) (sym is) final.0)
 front-begins settings rules x text modes.List is streamed f =
-    let final = cut-final (dictionary_for settings rules) x f.front.cut (replacements_of rules) streamed.0 f.front.is_cut in
+    let final = cut-final (dictionary_for settings (patterns_of rules)) x f.front.cut (replacements_of rules) streamed.0 f.front.is_cut in
     subst (λ (t : List ℕ). IsBeginning t (output_of settings rules x)) (sym f.front.front)
     (subst (λ (k : Mode). IsBeginning (text_in k settings.kind (replacements_of rules) (whole_search settings (patterns_of rules) (take f.front.cut x))) (text_in k settings.kind (replacements_of rules) (whole_search settings (patterns_of rules) x))) (sym is) final.1)
 front-begins settings rules x text modes.Overlap is streamed f = absurd (streamed.1 is)
 
 -- ---- what the results say
 
--- a result says the same of another text, where both texts are equal, and what of the one can be written can be of the other
-module _ (output other : List ℕ → List ℕ) (front other_front : List ℕ → List ℕ → Type 0) (same : (x : List ℕ) → output x ≡ other x) (fronts : (x text : List ℕ) → front x text → other_front x text) where
-  -- a write that stopped
-  stopped-alike : (m : Moved) (stalls : ℕ) → WroteToFailedWrite output front m stalls → WroteToFailedWrite other other_front m stalls
-  stopped-alike m stalls h =
-      record {
-        at_least = (h.at_least.0, fronts _ h.at_least.0 h.at_least.1, h.at_least.2);
-        at_most = subst (IsBeginning m.taken) (same (concat m.pieces)) h.at_most;
-        failed = h.failed;
-      }
+-- a write that stopped
+replaced-stopped : (b : Built) (settings : Settings) (rules : List Rule) (m : Moved) (stalls : ℕ) → b.dictionary ≡ dictionary_for settings (patterns_of rules) → settings.mode ≡ modes.Replace → WroteToFailedWrite (replaced_in b (replacements_of rules)) (IsReplacedFront b (replacements_of rules)) m stalls → WroteToFailedWrite (output_of settings rules) (IsOutputFront settings rules) m stalls
+replaced-stopped b settings rules m stalls is mode h =
+    record {
+      at_least = (h.at_least.0, replaced-front b settings rules _ h.at_least.0 is mode h.at_least.1, h.at_least.2);
+      at_most = subst (IsBeginning m.taken) (replaced-output b settings rules (concat m.pieces) is mode) h.at_most;
+      failed = h.failed;
+    }
 
-  pub answers-alike : (m : Moved) (result : Result (Unit {0}) StreamError) → AnswersWriting output front m result → AnswersWriting other other_front m result
-  answers-alike m (Ok done) a = record { whole = a.whole; written = a.written ∙ same (concat m.pieces); failed = a.failed }
-  answers-alike m (Err (stream.Config error)) a = a
-  answers-alike m (Err (stream.Read error)) a = record { written = fronts (concat m.pieces) m.taken a.written; failed = a.failed }
-  answers-alike m (Err (stream.Write error)) a = stopped-alike m 0 a
-  answers-alike m (Err stream.WriteZero) a = stopped-alike m 1 a
-  answers-alike m (Err stream.Memory) a = a
-  answers-alike m (Err stream.Position) a = record { long = a.long; written = subst (IsBeginning m.taken) (same (concat m.pieces)) a.written; failed = a.failed }
+-- where the replacement stopped
+replaced-told : (b : Built) (settings : Settings) (rules : List Rule) (m : Moved) (error : StreamError) (told : RunError) → b.dictionary ≡ dictionary_for settings (patterns_of rules) → settings.mode ≡ modes.Replace → IsToldAs error told → AnswersWriting (replaced_in b (replacements_of rules)) (IsReplacedFront b (replacements_of rules)) m (Err error) → AnswersStream settings rules m (Err told)
+replaced-told b settings rules m (stream.Config error) told is mode t a = absurd t
+replaced-told b settings rules m (stream.Read error) told is mode t a = subst (λ (e : RunError). AnswersStream settings rules m (Err e)) (sym t) (record { written = replaced-front b settings rules (concat m.pieces) m.taken is mode a.written; failed = a.failed })
+replaced-told b settings rules m (stream.Write error) told is mode t a = subst (λ (e : RunError). AnswersStream settings rules m (Err e)) (sym t) (replaced-stopped b settings rules m 0 is mode a)
+replaced-told b settings rules m stream.WriteZero told is mode t a = subst (λ (e : RunError). AnswersStream settings rules m (Err e)) (sym t) (replaced-stopped b settings rules m 1 is mode a)
+replaced-told b settings rules m stream.Memory told is mode t a = subst (λ (e : RunError). AnswersStream settings rules m (Err e)) (sym t) a
+replaced-told b settings rules m stream.Position told is mode t a = subst (λ (e : RunError). AnswersStream settings rules m (Err e)) (sym t) (record { long = a.long; written = subst (IsBeginning m.taken) (replaced-output b settings rules (concat m.pieces) is mode) a.written; failed = a.failed })
 
 -- the room goes by the longest of the rules' patterns
-pub pieces-within : (b : Built) (settings : Settings) (rules : List Rule) (m : Moved) → b.dictionary ≡ dictionary_for settings rules → AllFit (room_of b) m.pieces → AllFit (stream_room rules) m.pieces
+pub pieces-within : (b : Built) (settings : Settings) (rules : List Rule) (m : Moved) → b.dictionary ≡ dictionary_for settings (patterns_of rules) → AllFit (room_of b) m.pieces → AllFit (stream_room rules) m.pieces
 pieces-within b settings rules m is short = subst (λ (d : Dictionary). AllFit (room_for (kept_for (longest d.patterns))) m.pieces) is short
 
 -- what was replaced over a stream, where that stopped
-pub streams-told : {R W : Type 0} (remaining : R → Option (List ℕ)) (contents : W → Option (List ℕ)) (b : Built) (settings : Settings) (rules : List Rule) (texts : List (List ℕ)) (r r' : Watched R) (w w' : Watched W) (error : StreamError) (told : RunError) → b.dictionary ≡ dictionary_for settings rules → settings.mode ≡ modes.Replace → texts ≡ replacements_of rules → IsToldAs error told
+pub streams-told : {R W : Type 0} (remaining : R → Option (List ℕ)) (contents : W → Option (List ℕ)) (b : Built) (settings : Settings) (rules : List Rule) (texts : List (List ℕ)) (r r' : Watched R) (w w' : Watched W) (error : StreamError) (told : RunError) → b.dictionary ≡ dictionary_for settings (patterns_of rules) → settings.mode ≡ modes.Replace → texts ≡ replacements_of rules → IsToldAs error told
     → ReplacesStream remaining contents b texts r r' w w' (Err error) → Streams remaining contents r r' w w' (record { settings = settings; rules = rules }) (Err told)
-streams-told remaining contents b settings rules texts r r' w w' error told is mode same t (m, moved, short, a) = (
-  m,
-  moved,
-  pieces-within b settings rules m is short,
-  error,
-  t,
-  answers-alike (replaced_in b (replacements_of rules)) (output_of settings rules) (IsReplacedFront b (replacements_of rules)) (IsOutputFront settings rules) (λ x. replaced-output b settings rules x is mode) (λ x text. replaced-front b settings rules x text is mode) m (Err error)
-      (subst (λ (ts : List (List ℕ)). AnswersWriting (replaced_in b ts) (IsReplacedFront b ts) m (Err error)) same a),
-)
+streams-told remaining contents b settings rules texts r r' w w' error told is mode same t (m, moved, short, a) = (m, moved, pieces-within b settings rules m is short, replaced-told b settings rules m error told is mode t (subst (λ (ts : List (List ℕ)). AnswersWriting (replaced_in b ts) (IsReplacedFront b ts) m (Err error)) same a))
 
 -- there was no memory before anything was read
 pub streams-nothing : {R W : Type 0} (remaining : R → Option (List ℕ)) (contents : W → Option (List ℕ)) (settings : Settings) (rules : List Rule) (r : Watched R) (w : Watched W) → Streams remaining contents r r w w (record { settings = settings; rules = rules }) (Err errors.Memory)
-streams-nothing remaining contents settings rules r w = (nothing, HasMoved-nothing remaining contents r w, λ k d lt. absurd (omega arith), stream.Memory, refl, record { pieces = refl; taken = refl; failed = (refl, refl, refl) })
+streams-nothing remaining contents settings rules r w = (nothing, HasMoved-nothing remaining contents r w, λ k d lt. absurd (omega arith), record { pieces = refl; taken = refl; failed = (refl, refl, refl) })
 
 -- ---- what a run says of it
 
@@ -150,24 +140,18 @@ streamed_failed : (settings : Settings) (rules : List Rule) (m : Moved) (stalls 
 streamed_failed settings rules m stalls accepted streamed h file grammar =
     record { rules = rules; grammar = grammar; accepted = accepted; streamed = λ _. h.at_least; whole_input = λ held. absurd (held streamed); written = h.at_most; failed = h.failed }
 
--- what an error of a run says of what was moved, and that it is no refusal
-abbrev AnswersError : Settings → List Rule → Moved → RunError → Type 0
-AnswersError settings rules m told = (¬ IsRefusal (Err told)) × ((file : List ℕ) → IsRuleFile file rules → AnswersRun settings file m (Err told))
-
--- an error of the search of the stream
-streamed_error : (settings : Settings) (rules : List Rule) (m : Moved) (error : StreamError) (told : RunError) → IsAccepted settings rules → IsStreamed settings rules → IsToldAs error told → AnswersWriting (output_of settings rules) (IsOutputFront settings rules) m (Err error) → AnswersError settings rules m told
-streamed_error settings rules m (stream.Config error) told accepted streamed t a = absurd t
-streamed_error settings rules m (stream.Read error) told accepted streamed t a = subst (AnswersError settings rules m) (sym t) (λ refusal. refusal, λ file grammar. record { rules = rules; grammar = grammar; accepted = accepted; streamed = λ _. a.written; whole_input = λ held. absurd (held streamed); written = front-begins settings rules (concat m.pieces) m.taken settings.mode refl streamed a.written; failed = a.failed })
-streamed_error settings rules m (stream.Write error) told accepted streamed t a = subst (AnswersError settings rules m) (sym t) (λ refusal. refusal, streamed_failed settings rules m 0 accepted streamed a)
-streamed_error settings rules m stream.WriteZero told accepted streamed t a = subst (AnswersError settings rules m) (sym t) (λ refusal. refusal, streamed_failed settings rules m 1 accepted streamed a)
-streamed_error settings rules m stream.Memory told accepted streamed t a = subst (AnswersError settings rules m) (sym t) (λ refusal. refusal, λ file grammar. record { rules = rules; grammar = grammar; accepted = λ some. absurd (some a.pieces); streamed = λ _. a.pieces; filled = subst AreFilled (sym a.pieces) tt; written = a.taken; failed = a.failed })
-streamed_error settings rules m stream.Position told accepted streamed t a = subst (AnswersError settings rules m) (sym t) (λ refusal. refusal, λ file grammar. record { rules = rules; grammar = grammar; accepted = accepted; long = a.long; written = a.written; failed = a.failed })
-
 -- the result of a run that writes while it reads
 pub streamed_answer : {R W : Type 0} (remaining : R → Option (List ℕ)) (contents : W → Option (List ℕ)) (settings : Settings) (rules : List Rule) (r r' : Watched R) (w w' : Watched W) (result : Result (Unit {0}) RunError) → IsAccepted settings rules → IsStreamed settings rules
     → Streams remaining contents r r' w w' (record { settings = settings; rules = rules }) result → RanRules remaining contents r r' w w' (record { settings = settings; rules = rules }) result
 streamed_answer remaining contents settings rules r r' w w' (Ok done) accepted streamed (m, moved, short, a) = (m, moved, λ refusal. refusal, λ file grammar. record { rules = rules; grammar = grammar; accepted = accepted; whole = a.whole; written = a.written; failed = a.failed })
-streamed_answer remaining contents settings rules r r' w w' (Err told) accepted streamed (m, moved, short, error, t, a) = (m, moved, streamed_error settings rules m error told accepted streamed t a)
+streamed_answer remaining contents settings rules r r' w w' (Err (errors.Rule e)) accepted streamed (m, moved, short, a) = absurd a
+streamed_answer remaining contents settings rules r r' w w' (Err (errors.Setting e)) accepted streamed (m, moved, short, a) = absurd a
+streamed_answer remaining contents settings rules r r' w w' (Err (errors.Build kind)) accepted streamed (m, moved, short, a) = absurd a
+streamed_answer remaining contents settings rules r r' w w' (Err (errors.Read e)) accepted streamed (m, moved, short, a) = (m, moved, λ refusal. refusal, λ file grammar. record { rules = rules; grammar = grammar; accepted = accepted; streamed = λ _. a.written; whole_input = λ held. absurd (held streamed); written = front-begins settings rules (concat m.pieces) m.taken settings.mode refl streamed a.written; failed = a.failed })
+streamed_answer remaining contents settings rules r r' w w' (Err (errors.Write e)) accepted streamed (m, moved, short, a) = (m, moved, λ refusal. refusal, streamed_failed settings rules m 0 accepted streamed a)
+streamed_answer remaining contents settings rules r r' w w' (Err errors.WriteZero) accepted streamed (m, moved, short, a) = (m, moved, λ refusal. refusal, streamed_failed settings rules m 1 accepted streamed a)
+streamed_answer remaining contents settings rules r r' w w' (Err errors.Memory) accepted streamed (m, moved, short, a) = (m, moved, λ refusal. refusal, λ file grammar. record { rules = rules; grammar = grammar; accepted = λ some. absurd (some a.pieces); streamed = λ _. a.pieces; filled = subst AreFilled (sym a.pieces) tt; written = a.taken; failed = a.failed })
+streamed_answer remaining contents settings rules r r' w w' (Err errors.Position) accepted streamed (m, moved, short, a) = (m, moved, λ refusal. refusal, λ file grammar. record { rules = rules; grammar = grammar; accepted = accepted; long = a.long; written = a.written; failed = a.failed })
 
 -- no read gave more than the buffer has room for
 pub streamed_short : {R W : Type 0} (remaining : R → Option (List ℕ)) (contents : W → Option (List ℕ)) (settings : Settings) (rules : List Rule) (r r' : Watched R) (w w' : Watched W) (result : Result (Unit {0}) RunError)

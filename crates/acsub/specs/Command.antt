@@ -7,7 +7,7 @@ use Rattle.clap.specs.declared.builder.action.ArgAction.TheVariants.{Set, SetTru
 use Rattle.clap.specs.declared.builder.arg.Arg.{Arg}
 use Rattle.clap.specs.declared.builder.command.Command.{Command}
 use Rattle.clap.specs.declared.builder.value_parser.ValueParser.TheVariants as parser
-use Rattle.ac_input.specs.declared.primitives.number.TheConstants.{GREATEST}
+use Rattle.acsub.specs.declared.words.TheConstants.{MOST_DEPTH}
 
 -- the values that three of the arguments take
 abbrev pub mode_names : List Text
@@ -65,7 +65,7 @@ abbrev pub engine_rule : Names → Rule
 engine_rule names = choice (codes "engine") names (codes "auto")
 
 abbrev pub depth_rule : Rule
-depth_rule = record (option (codes "dense-depth")) { parser = Some (parser.Unsigned 0 GREATEST) }
+depth_rule = record (option (codes "dense-depth")) { parser = Some (parser.Unsigned 0 MOST_DEPTH) }
 
 -- an application, with the options that say what a match is
 abbrev pub with_matching : Names → App → App

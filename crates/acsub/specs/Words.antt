@@ -17,12 +17,12 @@ use Rattle.ac_input.specs.declared.pairing.PairingError.{PairingError}
 use Rattle.ac_input.specs.declared.pairing.PairingError.TheVariants.{Twice}
 use Rattle.ac_input.specs.declared.search.MatchKind.{MatchKind}
 use Rattle.ac_input.specs.declared.search.MatchKind.TheVariants.{Standard, LeftmostFirst, LeftmostLongest}
-use Rattle.ac_input.specs.declared.primitives.number.TheConstants.{GREATEST}
 use Rattle.acsub.specs.Command.{command}
 use Rattle.acsub.specs.declared.settings.Mode.{Mode}
 use Rattle.acsub.specs.declared.settings.Mode.TheVariants as mode
 use Rattle.acsub.specs.declared.settings.Engine.{Engine}
 use Rattle.acsub.specs.declared.settings.Engine.TheVariants as engine
+use Rattle.acsub.specs.declared.words.TheConstants.{MOST_DEPTH}
 use Rattle.acsub.specs.declared.words.Words.{Words}
 use Rattle.acsub.specs.declared.words.WordsFault.{WordsFault}
 use Rattle.acsub.specs.declared.words.WordsFault.TheVariants.{Help, Bad, Memory, Pairing}
@@ -153,7 +153,7 @@ pub record IsTyped (rows : List Row) : Type 0 where
   pub rules : is_some (rules_path rows) ≡ true
   pub kind : is_some (match_kind_of rows) ≡ true
   pub engine : is_some (engine_of rows) ≡ true
-  pub dense_depth : (text : Text) → one_of (codes "dense-depth") rows ≡ Some text → IsUnsignedIn 0 GREATEST text
+  pub dense_depth : (text : Text) → one_of (codes "dense-depth") rows ≡ Some text → IsUnsignedIn 0 MOST_DEPTH text
 
 -- the result where these are the matches
 abbrev pub ReadsMatches : List Row → Result Words WordsFault → Type 0

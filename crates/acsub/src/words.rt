@@ -13,7 +13,6 @@ ghost use Rattle.acsub.specs.Words.{engine_named, engine_of, hex_fault, is_given
 
 use crate::settings::{Engine, Mode, Settings};
 use ac_input::pairing::{Pairing, PairingError};
-use ac_input::primitives::GREATEST;
 use ac_input::search::MatchKind;
 use clap::builder::ValueParser;
 use clap::error::ErrorKind;
@@ -27,10 +26,13 @@ static KINDS: [&str; 3] = ["standard", "leftmost-first", "leftmost-longest"];
 
 static ENGINES: [&str; 5] = ["auto", "noncontiguous", "contiguous", "dfa", "packed"];
 
+/// The greatest number that `--dense-depth` takes.
+const MOST_DEPTH: u64 = 2147483646;
+
 /// The end of the help: what each mode writes, which match each kind takes, the form of a rule file, an example, and the statuses.
 static AFTER_HELP: &str = "\
 Modes:
-  replace  The input, with each match replaced
+  replace  The input, with each match exchanged for its replacement
   list     A line 'number start end' for each match: pattern and places from 0, in bytes
   overlap  Such a line for each occurrence, overlapping ones too; needs the standard kind
 
@@ -224,7 +226,7 @@ fn with_engine<'a>(alloc: Global, command: Command<'a>) -> Result<Command<'a>, A
             "N",
             "Give states less than N bytes deep a row of transitions [default: 3 noncontiguous, 2 contiguous]",
         )
-        .value_parser(ValueParser::unsigned(0, GREATEST as u64)))?
+        .value_parser(ValueParser::unsigned(0, MOST_DEPTH)))?
         .arg(flag(
             alloc,
             "no-byte-classes",

@@ -28,7 +28,7 @@ const REPLACED: &[Table] = &[
         told: PLAIN,
         by: &[STANDARD],
         rows: &[
-            // Each match is replaced, by its own rule.
+            // Each match is exchanged for the replacement of its own rule.
             Row(
                 Swap(&[(b"fox", b"sloth"), (b"brown", b"grey"), (b"quick", b"slow")]),
                 b"The quick brown fox.",
@@ -239,7 +239,7 @@ const PAIRED: &[Table] = &[
         },
         by: &[STANDARD],
         rows: &[
-            // Both spellings are replaced.
+            // Both spellings are exchanged.
             Row(Swap(&[(b"FOO", b"x")]), b"foo Foo", b"x x"),
             // The brace is kept unchanged.
             Row(Swap(&[(b"[", b"-")]), b"{[", b"{-"),

@@ -1,13 +1,12 @@
 -- A place has at most 20 digits, and a pattern's number at most 10.
 use Rattle.std.proofs.Common.{ℕ, ◌<◌, ◌≤◌, length, decimal, arith, rules}
 use Rattle.std.proofs.lemmas.Fmt.{length-decimal-le}
-use Rattle.ac_input.specs.declared.primitives.number.TheConstants.{GREATEST}
 use Rattle.acsub.proofs.line.Line.new.Goals as goal
 
 place : (n : ℕ) → n < 18446744073709551616 → length (decimal n) ≤ 20
 place n small = search (rules, length-decimal-le 20)
 
-number : (n : ℕ) → n ≤ GREATEST → length (decimal n) ≤ 10
+number : (n : ℕ) → n ≤ 2147483646 → length (decimal n) ≤ 10
 number n small = search (rules, length-decimal-le 10)
 
 pub put_number-end-requires-clause-room : goal.put_number-end-requires-clause-room

@@ -2,7 +2,7 @@
 --
 -- So a search that stands in the start may pass such a text, but for as many bytes at its end as can still be live, and read those
 -- from the start: it comes to the state to which the whole text leads.
-use Rattle.std.proofs.Common.{◌≡◌, ◌↔◌, ⊎_elim, ℕ, ◌+◌, ◌-◌, ◌<◌, ◌≤◌, Bool, false, List, [], ◌∷◌, ◌++◌, length, take, drop, map, Option, Some, None, IsTrue, slice_range, sym, ap, subst, refl, ◌∙◌, arith, length-append, length-drop}
+use Rattle.std.proofs.Common.{◌≡◌, ◌↔◌, ⊎_elim, ℕ, ◌+◌, ◌-◌, ◌<◌, ◌≤◌, false, List, [], ◌∷◌, ◌++◌, length, take, drop, map, Option, Some, None, IsTrue, slice_range, sym, ap, subst, refl, ◌∙◌, arith, length-append, length-drop}
 use Rattle.std.proofs.lemmas.Bool.{cases_lt}
 use Rattle.std.proofs.lemmas.List.{take-take, drop-take, length-take-le, drop_at, drop_all, take_all}
 use Rattle.ac_input.specs.declared.search.MatchKind.{MatchKind}

@@ -1,36 +1,28 @@
--- A fingerprint of the bytes so far, and the bits of a set.
-use Rattle.std.proofs.Common.{◌≡◌, ℕ, ◌+◌, ◌*◌, ◌/◌, ◌%◌, ◌<◌, List, [], ◌∷◌, ◌++◌, length, map, take, get_or, refl, sym, ap, ◌∙◌, IsTrue, arith}
+-- The fingerprint of some bytes, by the canonical ones, and the bits of a set.
+use Rattle.std.proofs.Common.{◌≡◌, ℕ, ◌-◌, ◌/◌, ◌%◌, ◌<◌, ◌≤◌, List, length, map, get_or, ap, ap₂, sym, ◌∙◌, IsTrue, arith}
 use Rattle.std.specs.Int.{bit_at}
-use Rattle.std.proofs.lemmas.List.{map-append, take_more}
+use Rattle.std.proofs.lemmas.List.{get_or-map, length-map}
 use Rattle.ac_input.specs.LiveLaws.{IsOwnInverse, canonical}
 use Rattle.ac_input.specs.Same.{same_text}
 use Rattle.ac_input.proofs.SameLemmas.{canonical-same_text}
-use Rattle.ac_literal.specs.Fingerprints.{print_after, print_of}
+use Rattle.ac_literal.specs.Fingerprints.{print_at, print, print_of}
 use Rattle.ac_literal.proofs.BucketLemmas.{with_bucket, own-there, kept-there}
 
--- one more byte
-print_after-push : (print : ℕ) (bytes : List ℕ) (byte : ℕ) → print_after print (bytes ++ byte ∷ []) ≡ (print_after print bytes * 31 + byte) % 8192
-unfolding print_after
-print_after-push print [] byte = refl
-print_after-push print (b ∷ bytes) byte = print_after-push ((print * 31 + b) % 8192) bytes byte
-
--- no byte
-pub print_of-nil : (pairing : List ℕ) → 0 ≡ print_of pairing []
-unfolding print_after
-print_of-nil pairing = refl
-
--- the bytes so far, and one more
-pub print_of-more : (pairing bytes : List ℕ) (i print : ℕ) → i < length bytes → print ≡ print_of pairing (take i bytes) → (print * 31 + canonical pairing (get_or bytes i 0)) % 8192 ≡ print_of pairing (take (i + 1) bytes)
-print_of-more pairing bytes i print within is =
-    let byte = get_or bytes i 0 in
-    ap (λ p. (p * 31 + canonical pairing byte) % 8192) is
-    ∙ sym (print_after-push 0 (map (canonical pairing) (take i bytes)) (canonical pairing byte))
-    ∙ ap (print_after 0) (sym (map-append (canonical pairing) (take i bytes) (byte ∷ [])))
-    ∙ ap (print_of pairing) (sym (take_more bytes i 0 within))
+-- of two bytes or more, by the bytes themselves
+pub print-canonical : (pairing bytes : List ℕ) → 2 ≤ length bytes
+    → print_at (canonical pairing (get_or bytes 0 0)) (canonical pairing (get_or bytes 1 0)) (canonical pairing (get_or bytes (length bytes - 2) 0)) (canonical pairing (get_or bytes (length bytes - 1) 0)) ≡ print_of pairing bytes
+print-canonical pairing bytes two =
+    let f = canonical pairing in
+    let all = map f bytes in
+    let at = λ (k : ℕ) (within : k < length bytes). get_or-map f bytes k 0 0 within in
+    let len : length all ≡ length bytes = length-map bytes f in
+    ap₂ (λ (a b : ℕ). print_at a b (f (get_or bytes (length bytes - 2) 0)) (f (get_or bytes (length bytes - 1) 0))) (sym (at 0 (omega (arith, two)))) (sym (at 1 (omega (arith, two))))
+    ∙ ap₂ (λ (c d : ℕ). print_at (get_or all 0 0) (get_or all 1 0) c d) (sym (at (length bytes - 2) (omega (arith, two)))) (sym (at (length bytes - 1) (omega (arith, two))))
+    ∙ ap (λ (n : ℕ). print_at (get_or all 0 0) (get_or all 1 0) (get_or all (n - 2) 0) (get_or all (n - 1) 0)) (sym len)
 
 -- texts that are the same have one fingerprint
 pub same-print : (pairing xs ys : List ℕ) → IsOwnInverse pairing → IsTrue (same_text pairing xs ys) → print_of pairing xs ≡ print_of pairing ys
-same-print pairing xs ys inverse h = ap (print_after 0) (canonical-same_text pairing xs ys inverse h)
+same-print pairing xs ys inverse h = ap print (canonical-same_text pairing xs ys inverse h)
 
 -- ---- a set
 

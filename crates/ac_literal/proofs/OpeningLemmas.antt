@@ -4,7 +4,7 @@ use Rattle.std.specs.Int.{bit_at}
 use Rattle.std.specs.Prelude.{◌==◌}
 use Rattle.std.specs.Borrow.{Bor}
 use Rattle.std.proofs.lemmas.Bool.{cases_eq, cases_lt, and_parts, or_cases, eqb-true}
-use Rattle.std.proofs.lemmas.List.{get_or-drop}
+use Rattle.std.proofs.lemmas.List.{get_or-drop, get_or-map}
 use Rattle.std.proofs.lemmas.Option.{get_or_from_slice_get, slice_get_within}
 use Rattle.ac_input.specs.declared.search.MatchKind.{MatchKind}
 use Rattle.ac_input.specs.Dictionary.{Dictionary, dictionary_of}
@@ -36,12 +36,6 @@ same_text-byte pairing (x ∷ xs) (y ∷ ys) (suc k) within h = same_text-byte p
 same-cases : (pairing : List ℕ) (a b : ℕ) → IsTrue (same pairing a b) → (a ≡ b) ⊎ (other pairing a ≡ b)
 same-cases pairing a b h = ⊎_elim (λ e. inl (eqb-true a b e)) (λ e. inr (eqb-true (other pairing a) b e)) (or_cases (a == b) (other pairing a == b) h)
 
--- a byte of a list to each of whose bytes another stands
-get_or-map_within : (f : ℕ → ℕ) (xs : List ℕ) (k : ℕ) → k < length xs → get_or (map f xs) k 0 ≡ f (get_or xs k 0)
-get_or-map_within f [] k within = absurd (omega (arith, within))
-get_or-map_within f (x ∷ xs) zero within = refl
-get_or-map_within f (x ∷ xs) (suc k) within = get_or-map_within f xs k (omega (arith, within))
-
 -- ---- what a bucket has
 
 -- a bucket that has a pattern keeps it, and its partners
@@ -72,7 +66,7 @@ opened-left pairing len p text at bucket probe near long own paired h =
     let byte : IsTrue (same pairing (get_or (take len p) k 0) (get_or (take len (drop at text)) k 0)) = same_text-byte pairing (take len p) (take len (drop at text)) k (omega (arith, size, near)) h in
     let mine : get_or (take len p) k 0 ≡ get_or p k 0 = get_or-take len p k 0 near in
     let there : get_or (take len (drop at text)) k 0 ≡ get_or text (at + k) 0 = get_or-take len (drop at text) k 0 near ∙ get_or-drop at text k 0 in
-    let partner : get_or (map (other pairing) (take len p)) k 0 ≡ other pairing (get_or (take len p) k 0) = get_or-map_within (other pairing) (take len p) k (omega (arith, size, near)) in
+    let partner : get_or (map (other pairing) (take len p)) k 0 ≡ other pairing (get_or (take len p) k 0) = get_or-map (other pairing) (take len p) k 0 0 (omega (arith, size, near)) in
     ⊎_elim
     (λ (e : get_or (take len p) k 0 ≡ get_or (take len (drop at text)) k 0). subst (λ b. HasBucket probe b bucket) (sym mine ∙ e ∙ there) own)
     (λ (e : other pairing (get_or (take len p) k 0) ≡ get_or (take len (drop at text)) k 0). subst (λ b. HasBucket probe b bucket) (partner ∙ e ∙ there) paired)
@@ -195,7 +189,7 @@ partners-had pairing len t pattern bytes bucket near long are has = record {
     same_at : (k : ℕ) → k < len → get_or bytes k 0 ≡ get_or partners k 0
     same_at k within =
         let size : length (take len pattern) ≡ len = length-take-le len pattern long in
-        are k within ∙ ap (other pairing) (sym (get_or-take len pattern k 0 within)) ∙ sym (get_or-map_within (other pairing) (take len pattern) k (omega (arith, size, within)))
+        are k within ∙ ap (other pairing) (sym (get_or-take len pattern k 0 within)) ∙ sym (get_or-map (other pairing) (take len pattern) k 0 0 (omega (arith, size, within)))
 
 -- a pattern was put into a bucket, and then its partners
 pub has-both : (pairing : List ℕ) (len : ℕ) (once new : Teddy) (named pattern bytes : List ℕ) (bucket : ℕ) → named ≡ pattern → LooksBefore len new → len ≤ length pattern → ((k : ℕ) → k < len → get_or bytes k 0 ≡ other pairing (get_or pattern k 0)) → HasPattern once pattern bucket → KeepsPatterns once new → HasPattern new bytes bucket → HasPartners pairing len new named bucket

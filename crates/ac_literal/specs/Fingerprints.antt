@@ -1,18 +1,21 @@
 -- Fingerprints of the first bytes of patterns.
-use Rattle.std.specs.Prelude.{◌≡◌, ℕ, ◌+◌, ◌*◌, ◌/◌, ◌%◌, ◌<◌, List, [], ◌∷◌, slice_index, map, take}
+use Rattle.std.specs.Prelude.{◌≡◌, ℕ, ◌+◌, ◌-◌, ◌*◌, ◌/◌, ◌%◌, ◌<◌, List, length, slice_index, map, take}
 use Rattle.std.specs.Int.{bit_at}
 use Rattle.ac_input.specs.LiveLaws.{canonical}
 use Rattle.ac_literal.specs.declared.openings.fingerprints.Fingerprints.{Fingerprints}
 use Rattle.ac_literal.specs.Packed.{pattern_at}
 
--- a fingerprint with more bytes after it
-unfoldable pub print_after : ℕ → List ℕ → ℕ
-print_after print [] = print
-print_after print (byte ∷ bytes) = print_after ((print * 31 + byte) % 8192) bytes
+-- four bytes, as a number below 8192
+abbrev pub print_at : ℕ → ℕ → ℕ → ℕ → ℕ
+print_at a b c d = ((a * 31 + b) * 961 + (c * 31 + d)) % 8192
 
--- the fingerprint of some bytes, by their canonical ones
+-- the fingerprint of some bytes: of the first two and the last two
+abbrev pub print : List ℕ → ℕ
+print bytes = print_at (slice_index bytes 0) (slice_index bytes 1) (slice_index bytes (length bytes - 2)) (slice_index bytes (length bytes - 1))
+
+-- by their canonical ones
 abbrev pub print_of : List ℕ → List ℕ → ℕ
-print_of pairing bytes = print_after 0 (map (canonical pairing) bytes)
+print_of pairing bytes = print (map (canonical pairing) bytes)
 
 -- the set has the fingerprint of some bytes
 abbrev pub IsPrinted : Fingerprints → List ℕ → Type 0

@@ -41,7 +41,7 @@ pub struct Openings {
     teddy: Teddy,
     prints: Fingerprints,
     len: usize,
-    ghost some: { 0 < len },
+    ghost wide: { 2 ≤ len },
     ghost near: { LooksBefore len teddy },
 }
 
@@ -134,6 +134,7 @@ fn buckets_of(patterns: &[&[u8]], pairing: &Pairing, len: usize) -> Teddy
 
 /// The fingerprints of their first `len` bytes.
 fn prints_of(patterns: &[&[u8]], pairing: &Pairing, len: usize) -> Fingerprints
+    requires wide { 2 ≤ len }
     requires short { AreAsLong len (bytes_of patterns.now) }
     ensures { ArePrinted pairing.now len (bytes_of patterns.now) (length patterns.now) result }
 {

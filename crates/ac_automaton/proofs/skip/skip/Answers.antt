@@ -33,7 +33,7 @@ loop-read-preserved g c =
     let a = c.args.automaton.now in
     let more = (after-some g.A.LookUp a No c.args.to c.args.sid c.args.bytes.now c.loop-read.current _ c.loop-read.read c.read_some-stop.result c.has.result _ _ _ (take_rest c.args.bytes.now c.loop-read.read) c.loop-read.invariant.0 (λ text reads. g.met.A.LookUp.lives a No text c.loop-read.current reads) c.read_some-stop.ensures c.loop-read.invariant.1 c.has.ensures).1 c.if-has.false in
     let at : c.read_some-stop.result.sid ≡ c.args.start = eqb-true c.read_some-stop.result.sid c.args.start (not-false _ (sym c.ne.ensures ∙ c.if-ne.false)) in
-    advanced-on g.A.LookUp a c.args.openings.now c.args.start c.args.to c.args.sid c.read_some-stop.result.sid c.args.bytes.now _ (c.loop-read.read + c.read_some-stop.result.taken) c.pass-stop.result _ _ _ c.requires.may (g.met.A.LookUp.pairs a No [] c.args.start c.requires.may.may.begins) c.args.openings.now.some
+    advanced-on g.A.LookUp a c.args.openings.now c.args.start c.args.to c.args.sid c.read_some-stop.result.sid c.args.bytes.now _ (c.loop-read.read + c.read_some-stop.result.taken) c.pass-stop.result _ _ _ c.requires.may (g.met.A.LookUp.pairs a No [] c.args.start c.requires.may.may.begins) (let wide = c.args.openings.now.wide in omega (arith, wide))
     (λ text i reads. g.met.A.LookUp.tells a No text i reads) (λ k. (c.type_inv.bytes k).fits) more.0 (take_rest c.args.bytes.now (c.loop-read.read + c.read_some-stop.result.taken)) at c.pass-stop.ensures more.1
 
 pub returns : goal.returns

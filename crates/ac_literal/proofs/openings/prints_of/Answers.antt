@@ -17,6 +17,19 @@ slice_bounds-add-end c =
     let same = ap length (pattern-lent patterns d i within) in
     sym (length-take-le c.args.len (get_or patterns i d).now (omega (arith, short, same)))
 
+pub add-requires : goal.add-requires
+add-requires c =
+    let patterns = c.args.patterns.now in
+    let d : Bor (List ℕ) = record { ref_ptr = (0, 0); now = [] } in
+    let i = c.loop-pattern.pattern-index in
+    let within = c.loop-pattern-test.true in
+    let count = length-map patterns (λ (p : Bor (List ℕ)). p.now) in
+    let short = c.requires.short i (omega (arith, count, within)) in
+    let same = ap length (pattern-lent patterns d i within) in
+    let all = length-take-le c.args.len (get_or patterns i d).now (omega (arith, short, same)) in
+    let wide = c.requires.wide in
+    omega (arith, wide, all)
+
 pub loop-pattern-preserved : goal.loop-pattern-preserved
 loop-pattern-preserved c =
     let patterns = c.args.patterns.now in

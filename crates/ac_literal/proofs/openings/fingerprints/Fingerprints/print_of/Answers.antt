@@ -1,24 +1,16 @@
--- One byte more.
-use Rattle.std.proofs.Common.{◌≡◌, ◌+◌, ◌*◌, ◌%◌, min, ap, sym, ◌∙◌, get_or, arith}
-use Rattle.std.proofs.lemmas.Grind.{get_or_default_zero}
+-- The first two bytes and the last two.
+use Rattle.std.proofs.Common.{◌≡◌, ℕ, ◌-◌, length, get_or, ap, ap₂, ◌∙◌, arith}
 use Rattle.ac_input.specs.LiveLaws.{canonical}
-use Rattle.ac_literal.proofs.FingerprintLemmas.{print_of-nil, print_of-more}
+use Rattle.ac_literal.specs.Fingerprints.{print_at}
+use Rattle.ac_literal.proofs.FingerprintLemmas.{print-canonical}
 use Rattle.ac_literal.proofs.openings.fingerprints.Fingerprints.print_of.Goals as goal
 
-pub loop-byte-init : goal.loop-byte-init
-loop-byte-init c = record { value = print_of-nil c.args.self.now.pairing; fits = omega arith }
-
-pub loop-byte-preserved : goal.loop-byte-preserved
-loop-byte-preserved c =
-    let pairing = c.args.self.now.pairing in
-    let i = c.loop-byte.byte-index in
-    let byte = get_or c.args.bytes.now i 0 in
-    let fits = (c.type_inv.bytes i).fits in
-    let long = c.args.self.now.paired.len in
-    let partner = get_or_default_zero pairing byte byte (omega (arith, fits, long)) in
-    let lesser : c.min.result ≡ canonical pairing byte = c.min.ensures ∙ ap (min byte) (sym partner) in
-    let next = ap (λ b. (c.loop-byte.print * 31 + b) % 8192) lesser in
-    record {
-      value = c.after-print.ensures ∙ next ∙ print_of-more pairing c.args.bytes.now i c.loop-byte.print c.loop-byte-test.true c.loop-byte.invariant.value;
-      fits = let is = c.after-print.ensures in omega (arith, is);
-    }
+pub returns-clause-value : goal.returns-clause-value
+returns-clause-value c =
+    let bytes = c.args.bytes.now in
+    let at = λ (k : ℕ). canonical c.args.self.now.pairing (get_or bytes k 0) in
+    let two = c.requires in
+    let place : length bytes - 1 - 1 ≡ length bytes - 2 = omega arith in
+    ap₂ (λ a b. print_at a b c.lesser-3.result c.lesser-4.result) c.lesser.ensures.value c.lesser-2.ensures.value
+    ∙ ap₂ (print_at (at 0) (at 1)) (c.lesser-3.ensures.value ∙ ap at place) c.lesser-4.ensures.value
+    ∙ print-canonical c.args.self.now.pairing bytes two

@@ -231,7 +231,7 @@ may-read A automaton skips two start greatest begins made stays passes quiet bef
           subst (λ (at : StateID). MaySkipBy A automaton openings at two) (sym begins)
           (record {
             open_ = open_;
-            may = passes openings.len sid openings.some open_.short reached (omega (arith, lt, last));
+            may = passes openings.len sid (let wide = openings.wide in omega (arith, wide)) open_.short reached (omega (arith, lt, last));
             before = omega (arith, lt);
             quiet = λ text i reads none alive. quiet i text (omega (arith, last)) reads none alive;
           });

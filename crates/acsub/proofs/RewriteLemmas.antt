@@ -1,19 +1,13 @@
 -- How the text of an input grows by one pick, or by one occurrence.
-use Rattle.std.proofs.Common.{◌≡◌, ℕ, ◌<◌, List, [], ◌∷◌, ◌++◌, length, Option, Some, drop, get_or, sym, ap, ◌∙◌, subst, append_assoc}
+use Rattle.std.proofs.Common.{◌≡◌, ℕ, ◌<◌, List, [], ◌∷◌, ◌++◌, length, Option, drop, get_or, sym, ap, ◌∙◌, subst, append_assoc}
 use Rattle.std.specs.Prelude.{slice_range}
 use Rattle.std.proofs.lemmas.List.{append-nil, get_or-map}
-use Rattle.std.proofs.lemmas.Option.{slice_get_within}
-use Rattle.ac_input.specs.declared.search.MatchKind.{MatchKind}
-use Rattle.ac_input.specs.Occurrence.{Search, Occurrence}
-use Rattle.ac_input.specs.Walk.{IsWalk}
+use Rattle.ac_input.specs.Occurrence.{Occurrence}
 use Rattle.ac_input.specs.Rules.{Rule}
 use Rattle.ac_input.specs.Text.{replaced_from, line, listed}
-use Rattle.ac_input.proofs.WalkLemmas.{pick-within}
-use Rattle.ac_input.proofs.TextLemmas.{pick-occurs}
 use Rattle.ac_automaton.specs.declared.watched.Watched.{Watched}
 use Rattle.acsub.specs.Lines.{rule_at}
 use Rattle.ac_automaton.specs.Output.{Sent, Stopped}
-use Rattle.ac_automaton.specs.Replace.{LieInOrder}
 use Rattle.acsub.specs.Sides.{replacements_of}
 use Rattle.ac_automaton.proofs.OutputLemmas.{Sent-then, Stopped-then, Stopped-more}
 

@@ -1,7 +1,6 @@
 -- Why runs that ask for the same text write the same.
 use Rattle.std.proofs.Common.{◌≡◌, List, ℕ, sym, ap, ◌∙◌}
 use Rattle.std.specs.List.{concat}
-use Rattle.ac_input.specs.Occurrence.{Search}
 use Rattle.ac_input.specs.Rules.{Rule}
 use Rattle.ac_input.specs.declared.search.MatchKind.{MatchKind}
 use Rattle.ac_input.proofs.RuleLemmas.{IsRuleFile-one}

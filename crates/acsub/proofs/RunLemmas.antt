@@ -19,7 +19,7 @@ use Rattle.acsub.specs.declared.error.RunError.TheVariants as errors
 use Rattle.acsub.specs.declared.settings.Settings.{Settings}
 use Rattle.acsub.specs.Input.{ReadsWhole}
 use Rattle.acsub.specs.Settings.{IsAccepted}
-use Rattle.acsub.specs.Stream.{IsToldAs}
+use Rattle.acsub.specs.Stream.{IsReturnedAs}
 use Rattle.acsub.specs.Transformed.{IsStreamed, output_of}
 use Rattle.acsub.specs.Run.{AnswersRun, HasBegun, IsFileBuildable, Ran, RanRules, RanToFailedWrite, Accepts, Prepares}
 use Rattle.acsub.specs.Finder.{Builds, FailsToBuild}
@@ -76,23 +76,23 @@ module _ {R W : Type 0} (remaining : R → Option (List ℕ)) (contents : W → 
   )
 
   -- the same, where a write stopped
-  pub write_answer : (error : StreamError) (told : RunError) → IsToldAs error told → Stopped contents w w' [] (output_of settings rules input) → IsOfWrite w w' error → RanRules remaining contents r r' w w' (record { settings = settings; rules = rules }) (Err told)
-  write_answer (stream.Config error) told t stopped kind = absurd kind
-  write_answer (stream.Read error) told t stopped kind = absurd kind
-  write_answer (stream.Write error) told t stopped kind = subst (λ (e : RunError). RanRules remaining contents r r' w w' (record { settings = settings; rules = rules }) (Err e)) (sym t) (
+  pub write_answer : (error : StreamError) (result : Result (Unit {0}) RunError) → IsReturnedAs (Err error) result → Stopped contents w w' [] (output_of settings rules input) → IsOfWrite w w' error → RanRules remaining contents r r' w w' (record { settings = settings; rules = rules }) result
+  write_answer (stream.Config error) result t stopped kind = absurd kind
+  write_answer (stream.Read error) result t stopped kind = absurd kind
+  write_answer (stream.Write error) result t stopped kind = subst (RanRules remaining contents r r' w w' (record { settings = settings; rules = rules })) (sym t) (
     record { pieces = pieces; failed_reads = 0; taken = stopped.gained; failed_writes = 1; stalled_writes = 0 },
     record { reader = gave; writer = HasTaken-from_stopped contents w w' [] _ 0 stopped (kind ∙ sym (add-zero _)) },
     λ refusal. refusal,
     write_failed contents settings rules w w' pieces input 0 stopped accepted held whole is,
   )
-  write_answer stream.WriteZero told t stopped kind = subst (λ (e : RunError). RanRules remaining contents r r' w w' (record { settings = settings; rules = rules }) (Err e)) (sym t) (
+  write_answer stream.WriteZero result t stopped kind = subst (RanRules remaining contents r r' w w' (record { settings = settings; rules = rules })) (sym t) (
     record { pieces = pieces; failed_reads = 0; taken = stopped.gained; failed_writes = 1; stalled_writes = 1 },
     record { reader = gave; writer = HasTaken-from_stopped contents w w' [] _ 1 stopped kind },
     λ refusal. refusal,
     write_failed contents settings rules w w' pieces input 1 stopped accepted held whole is,
   )
-  write_answer stream.Memory told t stopped kind = absurd kind
-  write_answer stream.Position told t stopped kind = absurd kind
+  write_answer stream.Memory result t stopped kind = absurd kind
+  write_answer stream.Position result t stopped kind = absurd kind
 
 -- the error of a write is never a search error
 pub write-config : {W : Type 0} (old new : Watched W) (error : StreamError) (refusal : MatchErrorKind) → IsOfWrite old new error → error ≢ stream.Config refusal

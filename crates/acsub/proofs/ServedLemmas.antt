@@ -1,6 +1,5 @@
 -- What the front builds for settings and rules, or why not.
-use Rattle.std.proofs.Common.{◌≡◌, ◌≢◌, ℕ, List, None, Some, inl, inr, refl, sym, ap, ◌∙◌, subst}
-use Rattle.std.specs.Prelude.{IsTrue, Option}
+use Rattle.std.proofs.Common.{◌≡◌, ◌≢◌, ℕ, List, inl, inr, refl, sym, ap, ◌∙◌, subst}
 use Rattle.std.specs.Borrow.{Bor}
 use Rattle.ac_input.specs.Dfa.{Serves}
 use Rattle.ac_input.specs.Dictionary.{Dictionary}
@@ -36,7 +35,7 @@ taken-dfa s from kinds.ContiguousNFA takes taken = absurd (taken.0 takes)
 taken-dfa s from kinds.NoncontiguousNFA takes taken = absurd (taken.0 takes)
 
 -- where a DFA serves settings and rules, the automaton that serves is one
-served-dfa : (settings : Settings) (rules : List Rule) (from : NFA) (kind : AhoCorasickKind) → dictionary from ≡ dictionary_for settings (patterns_of rules)
+served-dfa : (settings : Settings) (rules : List Rule) (from : NFA) (kind : AhoCorasickKind) → dictionary from ≡ dictionary_for settings rules
     → IsServed (builder_settings settings) from kind → IsServedByDfa settings rules → kind ≡ kinds.DFA
 served-dfa settings rules from kind is served (inl named) =
     (subst (λ (e : Engine). IsServedBy (automaton_named e) (builder_settings settings) from kind) named served).0
@@ -47,14 +46,14 @@ served-dfa settings rules from kind is served (inr (auto, takes)) =
 
 module _ (settings : Settings) (rules : List Rule) (patterns : List (Bor (List ℕ))) (same : bytes_of patterns ≡ patterns_of rules) where
   -- the patterns that a builder is given are those of the rules
-  handed : dictionary_by (noncontiguous_by (builder_settings settings)) patterns ≡ dictionary_for settings (patterns_of rules)
-  handed = ap (dictionary_for settings) same
+  handed : dictionary_by (noncontiguous_by (builder_settings settings)) patterns ≡ dictionary_for settings rules
+  handed = ap (λ (ps : List (List ℕ)). record (dictionary_for settings rules) { patterns = ps }) same
 
   module _ (ac : AhoCorasick) (built : IsFrontBuilt (builder_settings settings) patterns ac) where
     abbrev from : NFA
     from = built.served.0
 
-    made : dictionary from ≡ dictionary_for settings (patterns_of rules)
+    made : dictionary from ≡ dictionary_for settings rules
     made = built.served.1.dictionary ∙ handed
 
     -- what was built serves

@@ -24,7 +24,7 @@ use Rattle.ac_automaton.specs.Moved.{AllFit, AreFilled, HasGiven, HasMoved, HasT
 use Rattle.ac_automaton.specs.Output.{Sent, Stopped}
 use Rattle.ac_automaton.specs.Replace.{LieInOrder, matches_in}
 use Rattle.ac_automaton.specs.Stream.{AreAllGiven, CanBeCounted, CanStream, FindsHeld, IsConfigRefusal, IsOnCourse, IsSearched, IsStreamRefusal, ReadsNothing, StreamProgress, fresh_progress, matches_read, read_by, room_of}
-use Rattle.ac_automaton.specs.StreamAnswer.{AnswersWriting, WroteToFailedWrite}
+use Rattle.ac_automaton.specs.StreamAnswer.{WroteToFailedWrite}
 use Rattle.ac_automaton.specs.StreamIter.{HasGained, NextGives}
 use Rattle.ac_automaton.specs.Watched.{IsOfWrite, has_ended, pieces_of, stalls_of}
 use Rattle.ac_automaton.specs.declared.watched.Watched.{Watched}
@@ -41,12 +41,12 @@ use Rattle.ac_automaton.specs.declared.error.StreamError.TheVariants as reads
 use Rattle.acsub.specs.Finder.{whole_search}
 use Rattle.acsub.specs.Served.{dictionary_for}
 use Rattle.acsub.specs.Sides.{patterns_of, replacements_of}
-use Rattle.acsub.specs.Stream.{AnswersStream, IsToldAs, Streams}
+use Rattle.acsub.specs.Stream.{IsReturnedAs, Streams}
 use Rattle.acsub.specs.Transformed.{IsOutputFront, IsStreamed, output_of, text_in}
 use Rattle.acsub.specs.declared.settings.Mode.{Mode}
 use Rattle.acsub.specs.declared.settings.Mode.TheVariants as modes
 use Rattle.acsub.specs.declared.settings.Settings.{Settings}
-use Rattle.acsub.proofs.StreamedLemmas.{filled-shortest, pieces-within}
+use Rattle.acsub.proofs.StreamedLemmas.{answers-alike, filled-shortest, pieces-within}
 use Rattle.acsub.specs.StreamList.{HasListed, IsListedFront, ListsStream, SendsLines, StopsLines, StopsWriting, WritesLines, listed_in}
 use Rattle.acsub.specs.declared.error.RunError.{RunError}
 
@@ -433,7 +433,7 @@ module _ {R W : Type 0} (remaining : R → Option (List ℕ)) (contents : W → 
 end-cut : (b : Built) (x : List ℕ) → IsCut b.dictionary x (length x)
 end-cut b x = matches-cut b x (length x) (length b.dictionary.patterns) (matches_in b x) [] (omega arith) (sym (append-nil _)) (matches-lie b x) (λ k d lt. absurd (omega arith))
 
-module _ (settings : Settings) (rules : List Rule) (b : Built) (built : b.dictionary ≡ dictionary_for settings (patterns_of rules)) (mode : settings.mode ≡ modes.List) where
+module _ (settings : Settings) (rules : List Rule) (b : Built) (built : b.dictionary ≡ dictionary_for settings rules) (mode : settings.mode ≡ modes.List) where
   -- the lines of an input are its text
   lines-output : (x : List ℕ) → listed_in b x ≡ output_of settings rules x
   lines-output x =
@@ -453,27 +453,10 @@ module _ (settings : Settings) (rules : List Rule) (b : Built) (built : b.dictio
   }
 
   -- the result of a list is that of a run that writes while it reads
-  failed-streams : (m : Moved) (stalls : ℕ) → WroteToFailedWrite (listed_in b) (IsListedFront b) m stalls → WroteToFailedWrite (output_of settings rules) (IsOutputFront settings rules) m stalls
-  failed-streams m stalls h = record {
-    at_least = (h.at_least.0, lines-front (concat (but_last m.pieces)) h.at_least.0 h.at_least.1, h.at_least.2);
-    at_most = subst (IsBeginning m.taken) (lines-output (concat m.pieces)) h.at_most;
-    failed = h.failed;
-  }
-
-  answers-told : (m : Moved) (error : StreamError) (told : RunError) → IsToldAs error told → AnswersWriting (listed_in b) (IsListedFront b) m (Err error) → AnswersStream settings rules m (Err told)
-  answers-told m (reads.Config error) told t h = absurd t
-  answers-told m (reads.Read error) told t h = subst (λ (e : RunError). AnswersStream settings rules m (Err e)) (sym t) (record { written = lines-front (concat m.pieces) m.taken h.written; failed = h.failed })
-  answers-told m (reads.Write error) told t h = subst (λ (e : RunError). AnswersStream settings rules m (Err e)) (sym t) (failed-streams m 0 h)
-  answers-told m reads.WriteZero told t h = subst (λ (e : RunError). AnswersStream settings rules m (Err e)) (sym t) (failed-streams m 1 h)
-  answers-told m reads.Memory told t h = subst (λ (e : RunError). AnswersStream settings rules m (Err e)) (sym t) h
-  answers-told m reads.Position told t h = subst (λ (e : RunError). AnswersStream settings rules m (Err e)) (sym t) (record { long = h.long; written = subst (IsBeginning m.taken) (lines-output (concat m.pieces)) h.written; failed = h.failed })
-
-  module _ {R W : Type 0} (remaining : R → Option (List ℕ)) (contents : W → Option (List ℕ)) (r0 r1 : Watched R) (w0 w1 : Watched W) where
-    pub lists-streams : ListsStream remaining contents b r0 r1 w0 w1 (Ok tt) → Streams remaining contents r0 r1 w0 w1 (record { settings = settings; rules = rules }) (Ok tt)
-    lists-streams h = (h.0, h.1, pieces-within b settings rules h.0 built h.2, record { whole = h.3.whole; written = h.3.written ∙ lines-output (concat h.0.pieces); failed = h.3.failed })
-
-    pub lists-told : (error : StreamError) (told : RunError) → IsToldAs error told → ListsStream remaining contents b r0 r1 w0 w1 (Err error) → Streams remaining contents r0 r1 w0 w1 (record { settings = settings; rules = rules }) (Err told)
-    lists-told error told t h = (h.0, h.1, pieces-within b settings rules h.0 built h.2, answers-told h.0 error told t h.3)
+  pub streams-listed : {R W : Type 0} (remaining : R → Option (List ℕ)) (contents : W → Option (List ℕ)) (r0 r1 : Watched R) (w0 w1 : Watched W) (searched : Result (Unit {0}) StreamError) (result : Result (Unit {0}) RunError) → IsReturnedAs searched result
+      → ListsStream remaining contents b r0 r1 w0 w1 searched → Streams remaining contents r0 r1 w0 w1 (record { settings = settings; rules = rules }) result
+  streams-listed remaining contents r0 r1 w0 w1 searched result returned (m, moved, short, a) =
+      (m, moved, pieces-within b settings rules m built short, searched, returned, answers-alike (listed_in b) (output_of settings rules) (IsListedFront b) (IsOutputFront settings rules) lines-output lines-front m searched a)
 
 -- nothing was moved, where there was no memory
 pub nothing-listed : {R W : Type 0} (remaining : R → Option (List ℕ)) (contents : W → Option (List ℕ)) (b : Built) (reader : Watched R) (writer : Watched W) → ListsStream remaining contents b reader reader writer writer (Err reads.Memory)
@@ -525,7 +508,7 @@ never-memory P (Ok done) begun = tt
 never-memory P (Err error) begun = λ e. absurd (subst IsBegun e begun)
 
 -- where the text is written while the input is read, the search can be made
-pub streamed-can : (b : Built) (supports : Anchored → Type 0) (settings : Settings) (rules : List Rule) → b.dictionary ≡ dictionary_for settings (patterns_of rules) → supports No → IsStreamed settings rules → CanStream b supports
+pub streamed-can : (b : Built) (supports : Anchored → Type 0) (settings : Settings) (rules : List Rule) → b.dictionary ≡ dictionary_for settings rules → supports No → IsStreamed settings rules → CanStream b supports
 streamed-can b supports settings rules is can streamed = (
   can,
   ap (λ (m : Dictionary). m.kind) is ∙ streamed.0,

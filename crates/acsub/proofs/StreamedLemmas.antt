@@ -16,7 +16,7 @@ use Rattle.ac_input.proofs.CutLemmas.{cut-final}
 use Rattle.ac_input.proofs.RuleLemmas.{IsRuleFile-one}
 use Rattle.ac_automaton.specs.Automaton.{Built}
 use Rattle.ac_automaton.specs.Buffer.{kept_for, room_for}
-use Rattle.ac_automaton.specs.Moved.{AllFit, AreFilled, Moved}
+use Rattle.ac_automaton.specs.Moved.{AllFit, AreFilled, Moved, but_last}
 use Rattle.ac_automaton.specs.Stream.{IsConfigRefusal, IsNear, room_of}
 use Rattle.ac_automaton.specs.StreamAnswer.{AnswersWriting, WroteToFailedWrite}
 use Rattle.ac_automaton.specs.StreamReplace.{AcceptsReplacing, IsReplacedFront, ReplacesStream, replaced_in}
@@ -32,11 +32,11 @@ use Rattle.acsub.specs.declared.settings.Mode.TheVariants as modes
 use Rattle.acsub.specs.declared.settings.Settings.{Settings}
 use Rattle.acsub.specs.Finder.{whole_search}
 use Rattle.acsub.specs.Served.{dictionary_for}
-use Rattle.acsub.specs.Run.{IsReadByBuffer, RanRules, RanToFailedWrite, ReadsWithin}
+use Rattle.acsub.specs.Run.{AnswersRun, IsReadByBuffer, IsRefusal, RanRules, RanToFailedWrite, ReadsWithin}
 use Rattle.acsub.specs.Plan.{Plan}
 use Rattle.acsub.specs.Settings.{HasEmptyPattern, IsAccepted}
 use Rattle.acsub.specs.Sides.{patterns_of, replacements_of}
-use Rattle.acsub.specs.Stream.{AnswersStream, IsToldAs, Streams}
+use Rattle.acsub.specs.Stream.{IsReturnedAs, Streams}
 use Rattle.acsub.proofs.RunLemmas.{HasMoved-nothing, nothing}
 use Rattle.acsub.specs.Transformed.{IsOutputFront, IsStreamed, output_of, stream_room, text_in}
 
@@ -51,7 +51,7 @@ filled-shortest (rule ∷ rules) filled =
     omega (arith, rest, some)
 
 -- none of the reasons stands against the search of a stream
-config-none : (b : Built) (supports : Anchored → Type 0) (settings : Settings) (rules : List Rule) (refusal : MatchErrorKind) → b.dictionary ≡ dictionary_for settings (patterns_of rules) → supports No → IsStreamed settings rules → ¬ IsConfigRefusal b supports refusal
+config-none : (b : Built) (supports : Anchored → Type 0) (settings : Settings) (rules : List Rule) (refusal : MatchErrorKind) → b.dictionary ≡ dictionary_for settings rules → supports No → IsStreamed settings rules → ¬ IsConfigRefusal b supports refusal
 config-none b supports settings rules refusal is can streamed (inl none) = none.0 can
 config-none b supports settings rules refusal is can streamed (inr (inl other)) = other.1 (ap (λ (m : Dictionary). m.kind) is ∙ streamed.0)
 config-none b supports settings rules refusal is can streamed (inr (inr empty)) =
@@ -61,7 +61,7 @@ config-none b supports settings rules refusal is can streamed (inr (inr empty)) 
     omega (arith, none, some, same)
 
 -- the search of the stream is supported
-pub not-refused : {R W : Type 0} (b : Built) (supports : Anchored → Type 0) (settings : Settings) (rules : List Rule) (r r' : Watched R) (w w' : Watched W) (error : StreamError) (refusal : MatchErrorKind) → b.dictionary ≡ dictionary_for settings (patterns_of rules) → supports No → IsStreamed settings rules
+pub not-refused : {R W : Type 0} (b : Built) (supports : Anchored → Type 0) (settings : Settings) (rules : List Rule) (r r' : Watched R) (w w' : Watched W) (error : StreamError) (refusal : MatchErrorKind) → b.dictionary ≡ dictionary_for settings rules → supports No → IsStreamed settings rules
     → AcceptsReplacing b supports r r' w w' (Err error) → error ≢ stream.Config refusal
 not-refused b supports settings rules r r' w w' error refusal is can streamed refused e =
     let g = subst (λ (other : StreamError). AcceptsReplacing b supports r r' w w' (Err other)) e refused in
@@ -70,13 +70,13 @@ not-refused b supports settings rules r r' w w' error refusal is can streamed re
 -- ---- the text
 
 -- the text that a run makes is that of the automaton, where matches are replaced
-replaced-output : (b : Built) (settings : Settings) (rules : List Rule) (x : List ℕ) → b.dictionary ≡ dictionary_for settings (patterns_of rules) → settings.mode ≡ modes.Replace → replaced_in b (replacements_of rules) x ≡ output_of settings rules x
+replaced-output : (b : Built) (settings : Settings) (rules : List Rule) (x : List ℕ) → b.dictionary ≡ dictionary_for settings rules → settings.mode ≡ modes.Replace → replaced_in b (replacements_of rules) x ≡ output_of settings rules x
 replaced-output b settings rules x is mode =
     ap (λ (m : Dictionary). replaced_from 0 x (replacements_of rules) (walk_of m.kind (search_in m (whole_of x)))) is
     ∙ ap (λ (k : Mode). text_in k settings.kind (replacements_of rules) (whole_search settings (patterns_of rules) x)) (sym mode)
 
 -- the front of it too
-replaced-front : (b : Built) (settings : Settings) (rules : List Rule) (x text : List ℕ) → b.dictionary ≡ dictionary_for settings (patterns_of rules) → settings.mode ≡ modes.Replace → IsReplacedFront b (replacements_of rules) x text → IsOutputFront settings rules x text
+replaced-front : (b : Built) (settings : Settings) (rules : List Rule) (x text : List ℕ) → b.dictionary ≡ dictionary_for settings rules → settings.mode ≡ modes.Replace → IsReplacedFront b (replacements_of rules) x text → IsOutputFront settings rules x text
 replaced-front b settings rules x text is mode f =
     record {
       front = record {
@@ -91,72 +91,84 @@ replaced-front b settings rules x text is mode f =
 -- the front of a text is a beginning of it, whichever mode makes it
 front-begins : (settings : Settings) (rules : List Rule) (x text : List ℕ) (mode : Mode) → settings.mode ≡ mode → IsStreamed settings rules → IsOutputFront settings rules x text → IsBeginning text (output_of settings rules x)
 front-begins settings rules x text modes.Replace is streamed f =
-    let final = cut-final (dictionary_for settings (patterns_of rules)) x f.front.cut (replacements_of rules) streamed.0 f.front.is_cut in
+    let final = cut-final (dictionary_for settings rules) x f.front.cut (replacements_of rules) streamed.0 f.front.is_cut in
     subst (λ (t : List ℕ). IsBeginning t (output_of settings rules x)) (sym f.front.front)
     (subst (λ (k : Mode). IsBeginning (text_in k settings.kind (replacements_of rules) (whole_search settings (patterns_of rules) (take f.front.cut x))) (text_in k settings.kind (replacements_of rules) (whole_search settings (patterns_of rules) x))) (sym is) final.0)
 front-begins settings rules x text modes.List is streamed f =
-    let final = cut-final (dictionary_for settings (patterns_of rules)) x f.front.cut (replacements_of rules) streamed.0 f.front.is_cut in
+    let final = cut-final (dictionary_for settings rules) x f.front.cut (replacements_of rules) streamed.0 f.front.is_cut in
     subst (λ (t : List ℕ). IsBeginning t (output_of settings rules x)) (sym f.front.front)
     (subst (λ (k : Mode). IsBeginning (text_in k settings.kind (replacements_of rules) (whole_search settings (patterns_of rules) (take f.front.cut x))) (text_in k settings.kind (replacements_of rules) (whole_search settings (patterns_of rules) x))) (sym is) final.1)
 front-begins settings rules x text modes.Overlap is streamed f = absurd (streamed.1 is)
 
 -- ---- what the results say
 
--- a write that stopped
-replaced-stopped : (b : Built) (settings : Settings) (rules : List Rule) (m : Moved) (stalls : ℕ) → b.dictionary ≡ dictionary_for settings (patterns_of rules) → settings.mode ≡ modes.Replace → WroteToFailedWrite (replaced_in b (replacements_of rules)) (IsReplacedFront b (replacements_of rules)) m stalls → WroteToFailedWrite (output_of settings rules) (IsOutputFront settings rules) m stalls
-replaced-stopped b settings rules m stalls is mode h =
-    record {
-      at_least = (h.at_least.0, replaced-front b settings rules _ h.at_least.0 is mode h.at_least.1, h.at_least.2);
-      at_most = subst (IsBeginning m.taken) (replaced-output b settings rules (concat m.pieces) is mode) h.at_most;
-      failed = h.failed;
-    }
+-- texts that are the same, and fronts of which the first are the second
+module _ (made text_of : List ℕ → List ℕ) (begun front : List ℕ → List ℕ → Type 0) (same : (x : List ℕ) → made x ≡ text_of x) (fronts : (x text : List ℕ) → begun x text → front x text) where
+  -- a write that stopped
+  failed-alike : (m : Moved) (stalls : ℕ) → WroteToFailedWrite made begun m stalls → WroteToFailedWrite text_of front m stalls
+  failed-alike m stalls h = record {
+    at_least = (h.at_least.0, fronts (concat (but_last m.pieces)) h.at_least.0 h.at_least.1, h.at_least.2);
+    at_most = subst (IsBeginning m.taken) (same (concat m.pieces)) h.at_most;
+    failed = h.failed;
+  }
 
--- where the replacement stopped
-replaced-told : (b : Built) (settings : Settings) (rules : List Rule) (m : Moved) (error : StreamError) (told : RunError) → b.dictionary ≡ dictionary_for settings (patterns_of rules) → settings.mode ≡ modes.Replace → IsToldAs error told → AnswersWriting (replaced_in b (replacements_of rules)) (IsReplacedFront b (replacements_of rules)) m (Err error) → AnswersStream settings rules m (Err told)
-replaced-told b settings rules m (stream.Config error) told is mode t a = absurd t
-replaced-told b settings rules m (stream.Read error) told is mode t a = subst (λ (e : RunError). AnswersStream settings rules m (Err e)) (sym t) (record { written = replaced-front b settings rules (concat m.pieces) m.taken is mode a.written; failed = a.failed })
-replaced-told b settings rules m (stream.Write error) told is mode t a = subst (λ (e : RunError). AnswersStream settings rules m (Err e)) (sym t) (replaced-stopped b settings rules m 0 is mode a)
-replaced-told b settings rules m stream.WriteZero told is mode t a = subst (λ (e : RunError). AnswersStream settings rules m (Err e)) (sym t) (replaced-stopped b settings rules m 1 is mode a)
-replaced-told b settings rules m stream.Memory told is mode t a = subst (λ (e : RunError). AnswersStream settings rules m (Err e)) (sym t) a
-replaced-told b settings rules m stream.Position told is mode t a = subst (λ (e : RunError). AnswersStream settings rules m (Err e)) (sym t) (record { long = a.long; written = subst (IsBeginning m.taken) (replaced-output b settings rules (concat m.pieces) is mode) a.written; failed = a.failed })
+  -- a result says the same of both
+  pub answers-alike : (m : Moved) (result : Result (Unit {0}) StreamError) → AnswersWriting made begun m result → AnswersWriting text_of front m result
+  answers-alike m (Ok done) h = record { whole = h.whole; written = h.written ∙ same (concat m.pieces); failed = h.failed }
+  answers-alike m (Err (stream.Config error)) h = h
+  answers-alike m (Err (stream.Read error)) h = record { written = fronts (concat m.pieces) m.taken h.written; failed = h.failed }
+  answers-alike m (Err (stream.Write error)) h = failed-alike m 0 h
+  answers-alike m (Err stream.WriteZero) h = failed-alike m 1 h
+  answers-alike m (Err stream.Memory) h = h
+  answers-alike m (Err stream.Position) h = record { long = h.long; written = subst (IsBeginning m.taken) (same (concat m.pieces)) h.written; failed = h.failed }
 
 -- the room goes by the longest of the rules' patterns
-pub pieces-within : (b : Built) (settings : Settings) (rules : List Rule) (m : Moved) → b.dictionary ≡ dictionary_for settings (patterns_of rules) → AllFit (room_of b) m.pieces → AllFit (stream_room rules) m.pieces
+pub pieces-within : (b : Built) (settings : Settings) (rules : List Rule) (m : Moved) → b.dictionary ≡ dictionary_for settings rules → AllFit (room_of b) m.pieces → AllFit (stream_room rules) m.pieces
 pieces-within b settings rules m is short = subst (λ (d : Dictionary). AllFit (room_for (kept_for (longest d.patterns))) m.pieces) is short
 
--- what was replaced over a stream, where that stopped
-pub streams-told : {R W : Type 0} (remaining : R → Option (List ℕ)) (contents : W → Option (List ℕ)) (b : Built) (settings : Settings) (rules : List Rule) (texts : List (List ℕ)) (r r' : Watched R) (w w' : Watched W) (error : StreamError) (told : RunError) → b.dictionary ≡ dictionary_for settings (patterns_of rules) → settings.mode ≡ modes.Replace → texts ≡ replacements_of rules → IsToldAs error told
-    → ReplacesStream remaining contents b texts r r' w w' (Err error) → Streams remaining contents r r' w w' (record { settings = settings; rules = rules }) (Err told)
-streams-told remaining contents b settings rules texts r r' w w' error told is mode same t (m, moved, short, a) = (m, moved, pieces-within b settings rules m is short, replaced-told b settings rules m error told is mode t (subst (λ (ts : List (List ℕ)). AnswersWriting (replaced_in b ts) (IsReplacedFront b ts) m (Err error)) same a))
+-- what was replaced over a stream
+pub streams-replaced : {R W : Type 0} (remaining : R → Option (List ℕ)) (contents : W → Option (List ℕ)) (b : Built) (settings : Settings) (rules : List Rule) (texts : List (List ℕ)) (r r' : Watched R) (w w' : Watched W) (searched : Result (Unit {0}) StreamError) (result : Result (Unit {0}) RunError) → b.dictionary ≡ dictionary_for settings rules → settings.mode ≡ modes.Replace → texts ≡ replacements_of rules → IsReturnedAs searched result
+    → ReplacesStream remaining contents b texts r r' w w' searched → Streams remaining contents r r' w w' (record { settings = settings; rules = rules }) result
+streams-replaced remaining contents b settings rules texts r r' w w' searched result is mode same returned (m, moved, short, a) =
+    let alike = answers-alike (replaced_in b (replacements_of rules)) (output_of settings rules) (IsReplacedFront b (replacements_of rules)) (IsOutputFront settings rules) (λ x. replaced-output b settings rules x is mode) (λ x text. replaced-front b settings rules x text is mode) in
+    (m, moved, pieces-within b settings rules m is short, searched, returned, alike m searched (subst (λ (ts : List (List ℕ)). AnswersWriting (replaced_in b ts) (IsReplacedFront b ts) m searched) same a))
 
 -- there was no memory before anything was read
 pub streams-nothing : {R W : Type 0} (remaining : R → Option (List ℕ)) (contents : W → Option (List ℕ)) (settings : Settings) (rules : List Rule) (r : Watched R) (w : Watched W) → Streams remaining contents r r w w (record { settings = settings; rules = rules }) (Err errors.Memory)
-streams-nothing remaining contents settings rules r w = (nothing, HasMoved-nothing remaining contents r w, λ k d lt. absurd (omega arith), record { pieces = refl; taken = refl; failed = (refl, refl, refl) })
+streams-nothing remaining contents settings rules r w = (nothing, HasMoved-nothing remaining contents r w, λ k d lt. absurd (omega arith), Err stream.Memory, refl, record { pieces = refl; taken = refl; failed = (refl, refl, refl) })
 
 -- ---- what a run says of it
 
--- a write that stopped
-streamed_failed : (settings : Settings) (rules : List Rule) (m : Moved) (stalls : ℕ) → IsAccepted settings rules → IsStreamed settings rules → WroteToFailedWrite (output_of settings rules) (IsOutputFront settings rules) m stalls → (file : List ℕ) → IsRuleFile file rules → RanToFailedWrite settings file m stalls
-streamed_failed settings rules m stalls accepted streamed h file grammar =
-    record { rules = rules; grammar = grammar; accepted = accepted; streamed = λ _. h.at_least; whole_input = λ held. absurd (held streamed); written = h.at_most; failed = h.failed }
+module _ (settings : Settings) (rules : List Rule) (m : Moved) (accepted : IsAccepted settings rules) (streamed : IsStreamed settings rules) where
+  -- a write that stopped
+  streamed_failed : (stalls : ℕ) → WroteToFailedWrite (output_of settings rules) (IsOutputFront settings rules) m stalls → (file : List ℕ) → IsRuleFile file rules → RanToFailedWrite settings file m stalls
+  streamed_failed stalls h file grammar =
+      record { rules = rules; grammar = grammar; accepted = accepted; streamed = λ _. h.at_least; whole_input = λ held. absurd (held streamed); written = h.at_most; failed = h.failed }
+
+  -- a run says this where it returns the result of its search
+  abbrev Says : Result (Unit {0}) RunError → Type 0
+  Says result = ¬ IsRefusal result × ((file : List ℕ) → IsRuleFile file rules → AnswersRun settings file m result)
+
+  pub streamed-says : (searched : Result (Unit {0}) StreamError) (result : Result (Unit {0}) RunError) → IsReturnedAs searched result → AnswersWriting (output_of settings rules) (IsOutputFront settings rules) m searched → Says result
+  streamed-says (Ok done) result is a = subst Says (sym is) (λ refusal. refusal, λ file grammar. record { rules = rules; grammar = grammar; accepted = accepted; whole = a.whole; written = a.written; failed = a.failed })
+  streamed-says (Err (stream.Config error)) result is a = absurd is
+  streamed-says (Err (stream.Read error)) result is a = subst Says (sym is) (λ refusal. refusal, λ file grammar. record { rules = rules; grammar = grammar; accepted = accepted; streamed = λ _. a.written; whole_input = λ held. absurd (held streamed); written = front-begins settings rules (concat m.pieces) m.taken settings.mode refl streamed a.written; failed = a.failed })
+  streamed-says (Err (stream.Write error)) result is a = subst Says (sym is) (λ refusal. refusal, streamed_failed 0 a)
+  streamed-says (Err stream.WriteZero) result is a = subst Says (sym is) (λ refusal. refusal, streamed_failed 1 a)
+  streamed-says (Err stream.Memory) result is a = subst Says (sym is) (λ refusal. refusal, λ file grammar. record { rules = rules; grammar = grammar; accepted = λ some. absurd (some a.pieces); streamed = λ _. a.pieces; filled = subst AreFilled (sym a.pieces) tt; written = a.taken; failed = a.failed })
+  streamed-says (Err stream.Position) result is a = subst Says (sym is) (λ refusal. refusal, λ file grammar. record { rules = rules; grammar = grammar; accepted = accepted; long = a.long; written = a.written; failed = a.failed })
 
 -- the result of a run that writes while it reads
 pub streamed_answer : {R W : Type 0} (remaining : R → Option (List ℕ)) (contents : W → Option (List ℕ)) (settings : Settings) (rules : List Rule) (r r' : Watched R) (w w' : Watched W) (result : Result (Unit {0}) RunError) → IsAccepted settings rules → IsStreamed settings rules
     → Streams remaining contents r r' w w' (record { settings = settings; rules = rules }) result → RanRules remaining contents r r' w w' (record { settings = settings; rules = rules }) result
-streamed_answer remaining contents settings rules r r' w w' (Ok done) accepted streamed (m, moved, short, a) = (m, moved, λ refusal. refusal, λ file grammar. record { rules = rules; grammar = grammar; accepted = accepted; whole = a.whole; written = a.written; failed = a.failed })
-streamed_answer remaining contents settings rules r r' w w' (Err (errors.Rule e)) accepted streamed (m, moved, short, a) = absurd a
-streamed_answer remaining contents settings rules r r' w w' (Err (errors.Setting e)) accepted streamed (m, moved, short, a) = absurd a
-streamed_answer remaining contents settings rules r r' w w' (Err (errors.Build kind)) accepted streamed (m, moved, short, a) = absurd a
-streamed_answer remaining contents settings rules r r' w w' (Err (errors.Read e)) accepted streamed (m, moved, short, a) = (m, moved, λ refusal. refusal, λ file grammar. record { rules = rules; grammar = grammar; accepted = accepted; streamed = λ _. a.written; whole_input = λ held. absurd (held streamed); written = front-begins settings rules (concat m.pieces) m.taken settings.mode refl streamed a.written; failed = a.failed })
-streamed_answer remaining contents settings rules r r' w w' (Err (errors.Write e)) accepted streamed (m, moved, short, a) = (m, moved, λ refusal. refusal, streamed_failed settings rules m 0 accepted streamed a)
-streamed_answer remaining contents settings rules r r' w w' (Err errors.WriteZero) accepted streamed (m, moved, short, a) = (m, moved, λ refusal. refusal, streamed_failed settings rules m 1 accepted streamed a)
-streamed_answer remaining contents settings rules r r' w w' (Err errors.Memory) accepted streamed (m, moved, short, a) = (m, moved, λ refusal. refusal, λ file grammar. record { rules = rules; grammar = grammar; accepted = λ some. absurd (some a.pieces); streamed = λ _. a.pieces; filled = subst AreFilled (sym a.pieces) tt; written = a.taken; failed = a.failed })
-streamed_answer remaining contents settings rules r r' w w' (Err errors.Position) accepted streamed (m, moved, short, a) = (m, moved, λ refusal. refusal, λ file grammar. record { rules = rules; grammar = grammar; accepted = accepted; long = a.long; written = a.written; failed = a.failed })
+streamed_answer remaining contents settings rules r r' w w' result accepted streamed (m, moved, short, searched, returned, a) =
+    let says = streamed-says settings rules m accepted streamed searched result returned a in
+    (m, moved, says.0, says.1)
 
 -- no read gave more than the buffer has room for
 pub streamed_short : {R W : Type 0} (remaining : R → Option (List ℕ)) (contents : W → Option (List ℕ)) (settings : Settings) (rules : List Rule) (r r' : Watched R) (w w' : Watched W) (result : Result (Unit {0}) RunError)
     → Streams remaining contents r r' w w' (record { settings = settings; rules = rules }) result → ReadsWithin (stream_room rules) r r'
-streamed_short remaining contents settings rules r r' w w' result (m, moved, short, a) = (m.pieces, moved.reader.pieces, short)
+streamed_short remaining contents settings rules r r' w w' result (m, moved, short, searched, returned, a) = (m.pieces, moved.reader.pieces, short)
 
 -- the same, where the rules are those of a file of which that was prepared
 pub short_prepared : {R : Type 0} (settings : Settings) (file : List ℕ) (plan : Plan) (r r' : Watched R) → plan.settings ≡ settings → IsRuleFile file plan.rules → (IsStreamed plan.settings plan.rules → ReadsWithin (stream_room plan.rules) r r') → IsReadByBuffer settings file r r'

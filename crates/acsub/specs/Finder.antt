@@ -41,7 +41,7 @@ IsPackedFor kind patterns searcher = (search_kind searcher.kind ≡ kind) × (se
 
 -- an automaton is built of just the plan's patterns, pairing and kind
 abbrev pub IsBuiltFor : Plan → Built → Type 0
-IsBuiltFor plan b = b.dictionary ≡ dictionary_for plan.settings (patterns_of plan.rules)
+IsBuiltFor plan b = b.dictionary ≡ dictionary_for plan.settings plan.rules
 
 -- An automaton serves a plan: it is built for it, looks at one state for a byte where a DFA serves, and has a start for searches
 -- that may match anywhere.

@@ -19,7 +19,7 @@ use Rattle.acsub.specs.declared.words.Words.{Words}
 use Rattle.acsub.specs.declared.words.WordsFault.{WordsFault}
 use Rattle.acsub.specs.declared.words.WordsFault.TheVariants.{Help, Bad, Memory, Pairing}
 use Rattle.acsub.specs.Run.{Ran, Refuses}
-use Rattle.acsub.specs.Stream.{IsToldAs}
+use Rattle.acsub.specs.Stream.{IsReturnedAs}
 use Rattle.acsub.specs.Tool.{IsFaultOf, exit_of, status_of}
 use Rattle.acsub.specs.Words.{Reads}
 
@@ -49,7 +49,7 @@ module _ {W : Type 0} (contents : W → Option (List ℕ)) where
   -- A text was written whole; or a write failed or took no byte, and a beginning of the text was written.
   abbrev pub WritesText : List ℕ → Watched W → Watched W → Result (Unit {0}) RunError → Type 0
   WritesText text before after (Ok done) = HasTaken contents before after text 0 0
-  WritesText text before after (Err e) = TookFront contents before after text × ((error : StreamError) × IsOfWrite before after error × IsToldAs error e)
+  WritesText text before after (Err e) = TookFront contents before after text × ((error : StreamError) × IsOfWrite before after error × IsReturnedAs (Err error) (Err e))
 
   -- the outcome of a run with this result, and of the flush after it
   abbrev pub Finishes : Result (Unit {0}) RunError → Watched W → Watched W → Result (Unit {0}) Fault → Type 0

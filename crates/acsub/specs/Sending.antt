@@ -17,7 +17,7 @@ module _ {W : Type 0} (contents : W → Option (List ℕ)) where
   abbrev pub SendsList : {A : Type 0} → Matches A → Watched W → Watched W → List ℕ → List ℕ → Result (Unit {0}) StreamError → Type 0
   SendsList matches = Sends contents (listed (left_in matches))
 
-  -- the input, each of these matches exchanged for its replacement
+  -- the input, with each of these matches replaced
   abbrev pub SendsReplaced : {A : Type 0} → List ℕ → List Rule → Matches A → Watched W → Watched W → List ℕ → List ℕ → Result (Unit {0}) StreamError → Type 0
   SendsReplaced input rules picks = Sends contents (replaced_from 0 input (replacements_of rules) (left_in picks))
 

@@ -43,29 +43,29 @@ builder_settings s = record {
 }
 
 -- what an automaton is built from
-abbrev pub dictionary_for : Settings → List (List ℕ) → Dictionary
-dictionary_for settings patterns = record { patterns = patterns; pairing = settings.pairing; kind = settings.kind }
+abbrev pub dictionary_for : Settings → List Rule → Dictionary
+dictionary_for settings rules = record { patterns = patterns_of rules; pairing = settings.pairing; kind = settings.kind }
 
 -- the automaton for settings and rules is of this kind
 abbrev pub IsAutomatonFor : Settings → List Rule → AhoCorasickKind → Type 0
-IsAutomatonFor settings rules kind = (from : NFA) × (dictionary from ≡ dictionary_for settings (patterns_of rules)) × IsServed (builder_settings settings) from kind
+IsAutomatonFor settings rules kind = (from : NFA) × (dictionary from ≡ dictionary_for settings rules) × IsServed (builder_settings settings) from kind
 
 -- ---- the limits
 
 -- the limit that the rules' patterns pass, where the settings ask for an automaton: one of every build, or that of the automaton
 -- that is named; out of memory is none
 abbrev pub IsNotBuilt : Settings → List Rule → BuildErrorKind → Type 0
-IsNotBuilt settings rules error = (settings.engine ≢ engines.Packed) × (error ≢ limits.Memory) × IsDictionaryRefused (builder_settings settings) (dictionary_for settings (patterns_of rules)) error
+IsNotBuilt settings rules error = (settings.engine ≢ engines.Packed) × (error ≢ limits.Memory) × IsDictionaryRefused (builder_settings settings) (dictionary_for settings rules) error
 
 -- the rules' patterns pass no limit, where the settings ask for an automaton: one serves
 abbrev pub IsBuildable : Settings → List Rule → Type 0
-IsBuildable settings rules = settings.engine ≢ engines.Packed → IsWithinLimits (dictionary_for settings (patterns_of rules)) × (kind : AhoCorasickKind) × IsAutomatonFor settings rules kind
+IsBuildable settings rules = settings.engine ≢ engines.Packed → IsWithinLimits (dictionary_for settings rules) × (kind : AhoCorasickKind) × IsAutomatonFor settings rules kind
 
 -- ---- the looks
 
 -- a DFA serves: the engine's word names it, or leaves the automaton to the front, which takes one
 abbrev pub IsServedByDfa : Settings → List Rule → Type 0
-IsServedByDfa settings rules = (settings.engine ≡ engines.Dfa) ⊎ ((settings.engine ≡ engines.Auto) × TakesDfa (builder_settings settings) (dictionary_for settings (patterns_of rules)))
+IsServedByDfa settings rules = (settings.engine ≡ engines.Dfa) ⊎ ((settings.engine ≡ engines.Auto) × TakesDfa (builder_settings settings) (dictionary_for settings rules))
 
 -- The looks for so many bytes: at most two for each, and at most one where a DFA serves.
 pub record AreLooksFor (plan : Plan) (n : ℕ) (before after : Steps) : Type 0 where

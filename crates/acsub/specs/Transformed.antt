@@ -41,7 +41,7 @@ stream_room rules = room_for (kept_for (longest (patterns_of rules)))
 -- The text of the front of an input, as far as it can be written. Where matches are listed nothing is left: the text is the list of
 -- all matches that end within the input.
 pub record IsOutputFront (settings : Settings) (rules : List Rule) (x text : List ℕ) : Type 0 where
-  pub front : IsFront (dictionary_for settings (patterns_of rules)) (output_of settings rules) x text
+  pub front : IsFront (dictionary_for settings rules) (output_of settings rules) x text
   pub listed : settings.mode ≡ modes.List → front.cut ≡ length x
 
 -- at least that was written of an input which could be written before the last of its pieces was read

@@ -9,7 +9,7 @@ ghost use Rattle.ac_automaton.specs.Moved.{NoneTouched};
 ghost use Rattle.ac_automaton.specs.StreamReplace.{CostsStream};
 ghost use Rattle.ac_automaton.specs.Watched.{has_ended};
 ghost use Rattle.acsub.specs.Finder.{IsBuiltFor};
-ghost use Rattle.acsub.specs.Stream.{IfMemory, IsNoRefusal, IsToldAs, Streams};
+ghost use Rattle.acsub.specs.Stream.{IfMemory, IsNoRefusal, IsReturnedAs, Streams};
 ghost use Rattle.acsub.specs.Transformed.{IsStreamed};
 ghost use Rattle.acsub.specs.declared.settings.Mode.TheVariants.{Replace};
 
@@ -84,7 +84,7 @@ pub(crate) fn stream_replaced<A: Automaton, R: Read, W: Write>(
 /// The error of a run whose search of a stream stopped, and was not refused.
 pub(crate) fn told(error: StreamError) -> RunError
     requires { IsNoRefusal error }
-    ensures { IsToldAs error result }
+    ensures { IsReturnedAs (Err error) (Err result) }
 {
     match error {
         StreamError::Config(_) => unreachable!(),

@@ -13,6 +13,7 @@ ghost use Rattle.acsub.specs.Words.{engine_named, engine_of, hex_fault, is_given
 
 use crate::settings::{Engine, Mode, Settings};
 use ac_input::pairing::{Pairing, PairingError};
+use ac_input::primitives::GREATEST;
 use ac_input::search::MatchKind;
 use clap::builder::ValueParser;
 use clap::error::ErrorKind;
@@ -27,12 +28,12 @@ static KINDS: [&str; 3] = ["standard", "leftmost-first", "leftmost-longest"];
 static ENGINES: [&str; 5] = ["auto", "noncontiguous", "contiguous", "dfa", "packed"];
 
 /// The greatest number that `--dense-depth` takes.
-const MOST_DEPTH: u64 = 2147483646;
+const MOST_DEPTH: u64 = GREATEST as u64;
 
 /// The end of the help: what each mode writes, which match each kind takes, the form of a rule file, an example, and the statuses.
 static AFTER_HELP: &str = "\
 Modes:
-  replace  The input, with each match exchanged for its replacement
+  replace  The input, with each match replaced
   list     A line 'number start end' for each match: pattern and places from 0, in bytes
   overlap  Such a line for each occurrence, overlapping ones too; needs the standard kind
 

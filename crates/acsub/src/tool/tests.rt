@@ -41,7 +41,7 @@ Options:
   -h, --help             Print help
 
 Modes:
-  replace  The input, with each match exchanged for its replacement
+  replace  The input, with each match replaced
   list     A line 'number start end' for each match: pattern and places from 0, in bytes
   overlap  Such a line for each occurrence, overlapping ones too; needs the standard kind
 

@@ -45,7 +45,7 @@ pub returns-clause-ran : goal.returns-clause-ran
 returns-clause-ran g c =
     let read = c.in_ok-input.ensures in
     let plan = c.args.prepared.now in
-    write_answer g.R.Read.remaining g.W.Write.contents plan.settings plan.rules c.args.reader.now c.read_whole.new.reader c.args.writer.now c.write_text.new.writer read.0 _ c.requires.accepted c.requires.held read.1 read.2 (c.as_slice.ensures.value ∙ read.3) c.in-Err.error c.told.result c.told.ensures c.in-Err.ensures.sent.0 c.in-Err.ensures.sent.1
+    write_answer g.R.Read.remaining g.W.Write.contents plan.settings plan.rules c.args.reader.now c.read_whole.new.reader c.args.writer.now c.write_text.new.writer read.0 _ c.requires.accepted c.requires.held read.1 read.2 (c.as_slice.ensures.value ∙ read.3) c.in-Err.error (Err c.told.result) c.told.ensures c.in-Err.ensures.sent.0 c.in-Err.ensures.sent.1
 
 pub returns-clause-cost : goal.returns-clause-cost
 returns-clause-cost g c =

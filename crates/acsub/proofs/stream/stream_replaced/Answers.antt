@@ -1,9 +1,9 @@
 -- The text is that of the automaton's replacement, which is supported.
-use Rattle.std.proofs.Common.{ap, ◌∙◌}
+use Rattle.std.proofs.Common.{Err, ap, ◌∙◌}
 use Rattle.std.proofs.lemmas.Result.{err_from_is_err_and}
 use Rattle.ac_literal.specs.Packed.{bytes_of}
 use Rattle.acsub.specs.Sides.{replacements_of}
-use Rattle.acsub.proofs.StreamedLemmas.{not-refused, streams-nothing, streams-told}
+use Rattle.acsub.proofs.StreamedLemmas.{not-refused, streams-nothing, streams-replaced}
 use Rattle.acsub.proofs.stream.stream_replaced.Goals as goal
 
 pub returns-in_err-replacements-clause-streams : goal.returns-in_err-replacements-clause-streams
@@ -21,4 +21,4 @@ pub returns-clause-streams : goal.returns-clause-streams
 returns-clause-streams g c =
     let plan = c.args.prepared.now in
     let same = ap bytes_of c.as_slice-texts.ensures.value ∙ c.in_ok-replacements.ensures ∙ ap replacements_of c.rules.ensures in
-    streams-told g.R.Read.remaining g.W.Write.contents (g.A.Automaton.built c.args.engine.now) plan.settings plan.rules _ c.args.reader.now c.try_stream_replace_all_counted.new.reader c.args.writer.now c.try_stream_replace_all_counted.new.writer c.in-Err.error c.told.result c.requires.built c.requires.mode same c.told.ensures c.in-Err.ensures.replaced
+    streams-replaced g.R.Read.remaining g.W.Write.contents (g.A.Automaton.built c.args.engine.now) plan.settings plan.rules _ c.args.reader.now c.try_stream_replace_all_counted.new.reader c.args.writer.now c.try_stream_replace_all_counted.new.writer (Err c.in-Err.error) (Err c.told.result) c.requires.built c.requires.mode same c.told.ensures c.in-Err.ensures.replaced

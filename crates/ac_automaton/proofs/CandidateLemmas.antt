@@ -1,42 +1,47 @@
 -- Overlapping search by candidates: what is left where the walk is back at the start, and where a prefilter points.
 use Rattle.std.proofs.Common.{◌≡◌, ℕ, ◌+◌, ◌-◌, ◌*◌, ◌<◌, ◌≤◌, Bool, false, true, List, [], ◌∷◌, ◌++◌, length, map, Option, Some, None, ⊎_elim, slice_range, inl, inr, sym, ap, subst, refl, ◌∙◌, arith}
-use Rattle.std.specs.List.{filter}
+use Rattle.std.specs.List.{Contains, filter}
+use Rattle.std.specs.Option.{is_some}
+use denote.Ref.{Bor}
 use Rattle.std.proofs.lemmas.Bool.{false≢true, cases_lt}
 use Rattle.std.proofs.lemmas.Option.{same_Some, none-some}
+use Rattle.ac_input.specs.declared.search.Anchored.{Anchored}
 use Rattle.ac_input.specs.declared.search.Anchored.TheVariants.{No}
-use Rattle.ac_input.specs.declared.search.MatchKind.TheVariants.{Standard, LeftmostFirst}
+use Rattle.ac_input.specs.declared.search.MatchKind.{MatchKind}
+use Rattle.ac_input.specs.declared.search.MatchKind.TheVariants.{Standard}
 use Rattle.ac_input.specs.declared.search.candidate.Candidate.{Candidate}
 use Rattle.ac_input.specs.declared.search.candidate.Candidate.TheVariants as candidates
 use Rattle.ac_input.specs.Number.{StateID}
 use Rattle.ac_input.specs.declared.steps.Steps.{Steps}
-use Rattle.ac_input.specs.Candidate.{IsCandidate, IsScan, IsScanned, IsNearFound, IsFirstOf, scan_len, start_of}
+use Rattle.ac_input.specs.Candidate.{Filter, IsCandidate, IsScan, IsScanned, IsNearFound, IsFirstOf, scan_len, start_of}
 use Rattle.ac_input.specs.Computed.{listing_of}
 use Rattle.ac_input.specs.Input.{Asked, is_anchored, search_in, search_of}
 use Rattle.ac_input.specs.LiveLaws.{IsOwnInverse, shifted}
 use Rattle.ac_input.specs.Dictionary.{Dictionary, IsLive, whole}
 use Rattle.ac_input.specs.Occurrence.{Search, Occurrence, Occurs, starting_at}
-use Rattle.ac_input.specs.Steps.{Done, looked_of, scanned_of, moved_of}
+use Rattle.ac_input.specs.Steps.{looked_of, scanned_of, moved_of}
 use Rattle.ac_input.specs.Tells.{Tells, ending}
-use Rattle.ac_input.proofs.ContainsLemmas.{Contains-nil}
+use Rattle.ac_input.proofs.ContainsLemmas.{Contains-head, Contains-nil}
 use Rattle.ac_input.proofs.ListingLemmas.{ListsAll-unique, listing_of-lists}
 use Rattle.ac_input.proofs.LiveLemmas.{entered-begins}
 use Rattle.ac_input.proofs.ShiftLemmas.{back_by}
 use Rattle.ac_input.proofs.SpanLemmas.{occurs-in_whole_of_span}
 use Rattle.ac_input.proofs.StateLemmas.{standard-entered}
-use Rattle.ac_automaton.specs.Find.{MayGoOnFrom}
+use Rattle.ac_automaton.specs.Automaton.{Built}
+use Rattle.ac_automaton.specs.Find.{IsUsable, MayGoOnFrom}
 use Rattle.ac_automaton.specs.declared.overlapping.Position.{Position}
 use Rattle.ac_automaton.specs.declared.overlapping.Position.TheVariants.{At, Over}
-use Rattle.ac_automaton.specs.declared.cursor.Cursor.{Cursor}
 use Rattle.ac_automaton.specs.declared.cursor.End.{End}
 use Rattle.ac_automaton.specs.declared.cursor.End.TheVariants.{Found, Idle}
 use Rattle.ac_automaton.specs.declared.overlapping.Shown.{Shown}
-use Rattle.ac_automaton.specs.Overlapping.{ending_from, told_from, TellsFirst, ShowsFirst, ReadsOn, IsBehind, IsPaidTo, IsPaidAt, IsPaidBy, IsSkipCost, KeepsBudget, OnlyLooked, come_to, read_on_to}
-use Rattle.ac_automaton.specs.Cursor.{read_to, walked, IsCursor, counts}
-use Rattle.ac_automaton.proofs.FindLemmas.{occurs_before, occurs_behind, leftmost-goes_on}
+use Rattle.ac_automaton.specs.Overlapping.{ending_from, told_from, ShowsFirst, ReadsOn, IsBehind, IsPaidTo, IsPaidAt, IsPaidBy, IsSkipCost, KeepsBudget, OnlyLooked, come_to, read_on_to}
+use Rattle.ac_automaton.specs.OverlappingSearch.{BeginsAt, IsScanFor}
+use Rattle.ac_automaton.specs.Cursor.{read_to, counts}
+use Rattle.ac_automaton.proofs.FindLemmas.{occurs_before, occurs_behind, match-goes_on}
 use Rattle.ac_automaton.proofs.CursorLemmas.{slice_range-split}
-use Rattle.ac_automaton.proofs.OverlappingLemmas.{IsPlace, ListsAll-like, ending_from-lists, ending_from-start, ending_from-split, read_to-length}
+use Rattle.ac_automaton.proofs.OverlappingLemmas.{IsPlace, ListsAll-like, ending_from-lists, ending_from-start, ending_from-split, read_to-length, told-lists}
 use Rattle.ac_automaton.proofs.OverlappingStateLemmas.{read_to-start}
-use Rattle.ac_automaton.proofs.OverlappingReadLemmas.{paid-start, paid-to, shows-none, shows-some, told_from-empty}
+use Rattle.ac_automaton.proofs.OverlappingReadLemmas.{paid-start, paid-to, shows-none, told_from-empty}
 
 -- ---- where the walk is back at the start
 
@@ -83,6 +88,11 @@ ending_from-back m s at is inverse live =
     ))
     (listing_of-lists (starting_at s at) is.inside))
 
+-- a list that contains nothing is empty
+nil-none : {X : Type 0} (xs : List X) → ((x : X) → Contains xs x → ⊥) → xs ≡ []
+nil-none [] h = refl
+nil-none (x ∷ xs) h = absurd (h x (Contains-head x xs))
+
 -- where the state has no occurrence and every entry counts, there is no entry
 pub told_from-nil : (m : Dictionary) (s : Search) (at : ℕ) (ns : List ℕ) → s.anchored ≡ false → told_from m s at ns 0 ≡ [] → ns ≡ []
 told_from-nil m s at [] free none = refl
@@ -91,24 +101,30 @@ told_from-nil m s at (n ∷ ns) free none =
     let told : map (shifted s.start) (map (ending m (read_to s at)) (filter (counts m false (at - s.start)) (n ∷ ns))) ≡ [] = sym (ap (λ (xs : List ℕ). map (shifted s.start) (map (ending m (read_to s at)) xs)) kept) ∙ none in
     cc
 
+-- where the state of a walk that isn't anchored has no occurrence, nothing matches at a start
+pub start-empty : (m : Dictionary) (s : Search) (at : ℕ) (here ns : List ℕ) → IsPlace m No s at → Tells m No (read_to s at) here → told_from m s at here 0 ≡ [] → Tells m No [] ns → ns ≡ []
+start-empty m s at here ns is tells none begins =
+    let t = starting_at s at in
+    let free : s.anchored ≡ false = is.anchor in
+    let g = is.from in
+    let place : IsPlace m No t at = record { by = is.by; anchor = is.anchor; standard = is.standard; from = omega arith; to = is.to; inside = is.inside } in
+    let ends = told-lists m No s at here is tells in
+    let all = told-lists m No t at ns place (subst (λ (text : List ℕ). Tells m No text ns) (sym (read_to-start t)) begins) in
+    let nothing : (o : Occurrence) → Contains (told_from m t at ns 0) o → ⊥ = λ o c.
+    let h = (all.1 o).0 c in
+    Contains-nil o (subst (λ (os : List Occurrence). Contains os o) none ((ends.1 o).1 (occurs_before s at o free g h.0, h.1))) in
+    told_from-nil m t at ns free (nil-none (told_from m t at ns 0) nothing)
+
 -- ---- where reading on ends
 
 -- where nothing is left, the search is over
 pub over-reads : (Reaches : List ℕ → StateID → Type 0) (matches : StateID → List ℕ) (m : Dictionary) (s : Search) (at : ℕ) (left : List Occurrence) (r : Shown) → left ≡ [] → r.found ≡ None → r.place ≡ Over → ReadsOn Reaches matches m s at left (Found r)
 over-reads Reaches matches m s at left r none found place = (shows-none Reaches matches m s left r none found place, subst (IsBehind at) (sym place) tt)
 
--- where a state that was reached further on has an occurrence, that is shown
-pub some-reads : (Reaches : List ℕ → StateID → Type 0) (matches : StateID → List ℕ) (m : Dictionary) (s : Search) (at : ℕ) (left : List Occurrence) (cursor : Cursor) (index : ℕ) (r : Shown)
-    → at < cursor.at → IsCursor Reaches s cursor
-    → left ≡ told_from m (walked s cursor) cursor.at (matches cursor.sid) index ++ ending_from (walked s cursor) (cursor.at + 1)
-    → TellsFirst matches m s cursor index (Some r) → ReadsOn Reaches matches m s at left (Found r)
-some-reads Reaches matches m s at left cursor index r lt is e (o, next, found, place, told) =
-    (shows-some Reaches matches m s left cursor index r is e (o, next, found, place, told), subst (IsBehind at) (sym place) lt)
-
 -- ---- where a prefilter points
 
 -- where nothing begins before a place, the listing is the one from there on
-pub listing-skip : (s : Search) (at : ℕ) → s.anchored ≡ false → s.end ≤ length s.haystack → MayGoOnFrom s at → listing_of s ≡ listing_of (starting_at s at)
+listing-skip : (s : Search) (at : ℕ) → s.anchored ≡ false → s.end ≤ length s.haystack → MayGoOnFrom s at → listing_of s ≡ listing_of (starting_at s at)
 listing-skip s at free inside here =
     ListsAll-unique (Occurs s) (listing_of s) (listing_of (starting_at s at)) (listing_of-lists s inside)
     (ListsAll-like (Occurs (starting_at s at)) (Occurs s) (listing_of (starting_at s at))
@@ -129,18 +145,22 @@ ahead-same m n asked haystack at end made hays ends free =
     ∙ ap (λ (b : Bool). let r : Search = record { patterns = m.patterns; pairing = m.pairing; haystack = asked.haystack; start = at; end = asked.span.end; anchored = b } in r) (sym (ap is_anchored free))
 
 -- no candidate, no occurrence
-pub candidate-none : (s : Search) (c : Candidate) → IsCandidate Standard s c → start_of c ≡ None → (o : Occurrence) → Occurs s o → ⊥
-candidate-none s candidates.None h e o occurs = h o occurs
-candidate-none s (candidates.Match b) h e o occurs = cc
-candidate-none s (candidates.PossibleStartOfMatch at) h e o occurs = cc
+candidate-none : (kind : MatchKind) (s : Search) (c : Candidate) → IsCandidate kind s c → start_of c ≡ None → (o : Occurrence) → ¬ Occurs s o
+candidate-none kind s candidates.None h e = h
+candidate-none kind s (candidates.Match b) h e = cc
+candidate-none kind s (candidates.PossibleStartOfMatch at) h e = cc
 
 -- nothing begins before a candidate
-pub candidate-before : (s : Search) (c : Candidate) (at : ℕ) → IsCandidate Standard s c → start_of c ≡ Some at → MayGoOnFrom s at
-candidate-before s candidates.None at h e = cc
-candidate-before s (candidates.Match b) at h e =
-    subst (MayGoOnFrom s) (same_Some b.start at e) (leftmost-goes_on LeftmostFirst s b (λ same. cc) (h.2 (h.1 refl) LeftmostFirst))
-candidate-before s (candidates.PossibleStartOfMatch place) at h e =
+pub candidate-before : (kind : MatchKind) (s : Search) (c : Candidate) (at : ℕ) → IsCandidate kind s c → start_of c ≡ Some at → MayGoOnFrom s at
+candidate-before kind s candidates.None at h e = cc
+candidate-before kind s (candidates.Match b) at h e = subst (MayGoOnFrom s) (same_Some b.start at e) (match-goes_on kind s b h)
+candidate-before kind s (candidates.PossibleStartOfMatch place) at h e =
     subst (MayGoOnFrom s) (same_Some place at e) (record { behind = h.0; within = h.1; none = h.2 })
+
+-- so an occurrence may begin there
+pub candidate-begins : (kind : MatchKind) (s : Search) (c : Candidate) (r : Option ℕ) → IsCandidate kind s c → r ≡ start_of c → BeginsAt s r
+candidate-begins kind s c None h e = candidate-none kind s c h (sym e)
+candidate-begins kind s c (Some at) h e = candidate-before kind s c at h (sym e)
 
 -- what a scan covers lies in the span
 scan-within : (bytes : List ℕ) (s : Search) (places : ℕ) (c : Candidate) → s.start ≤ s.end → IsScan bytes s places c → s.start + places ≤ s.end
@@ -166,11 +186,6 @@ pub scanned-in_span : (needles : List ℕ) (s : Search) (places : ℕ) (c : Cand
 scanned-in_span [] s places c ordered none = omega arith
 scanned-in_span (b ∷ bs) s places c ordered scan = scan-within (b ∷ bs) s places c ordered scan
 
--- and are over where the search is over
-pub scanned-before_ends : (needles : List ℕ) (s : Search) (places : ℕ) (c : Candidate) (o : Occurrence) → IsScanned needles s places c → Occurs s o → s.start + places ≤ o.end
-scanned-before_ends [] s places c o none h = let w = h.within in omega arith
-scanned-before_ends (b ∷ bs) s places c o scan h = scan.before_ends o h
-
 -- the last of them is at most 254 after the candidate
 pub scanned-near : (needles : List ℕ) (s : Search) (places : ℕ) (c : Candidate) (at : ℕ) → IsScanned needles s places c → MayGoOnFrom s at → start_of c ≡ Some at → s.start + places ≤ at + 255
 scanned-near [] s places c at none here e = let g = here.behind in omega arith
@@ -179,12 +194,12 @@ scanned-near (b ∷ bs) s places c at scan here e = scan-near (b ∷ bs) s place
 -- ---- what is paid
 
 -- what is paid for up to a place is paid for up to a further one
-pub paid-further : (deterministic : Bool) (s : Search) (at to looks : ℕ) → at ≤ to → IsPaidTo deterministic s at looks → IsPaidTo deterministic s to looks
+paid-further : (deterministic : Bool) (s : Search) (at to looks : ℕ) → at ≤ to → IsPaidTo deterministic s at looks → IsPaidTo deterministic s to looks
 paid-further true s at to looks le h = omega arith
 paid-further false s at to looks le h = omega arith
 
 -- and so it is by a search that stands after it
-pub come-behind : (s : Search) (at : ℕ) (place : Position) → at ≤ s.end → IsBehind at place → at ≤ come_to s place
+come-behind : (s : Search) (at : ℕ) (place : Position) → at ≤ s.end → IsBehind at place → at ≤ come_to s place
 come-behind s at (At sid from place index) le h = omega arith
 come-behind s at Over le h = le
 
@@ -198,7 +213,7 @@ behind-earlier at from Over le h = h
 -- what is read on from a place is read on from an earlier one, where what is left is the same
 pub reads_on-earlier : (Reaches : List ℕ → StateID → Type 0) (matches : StateID → List ℕ) (m : Dictionary) (s : Search) (at from : ℕ) (one other : List Occurrence) (reading : End Shown) → at ≤ from → other ≡ one → ReadsOn Reaches matches m s from other reading → ReadsOn Reaches matches m s at one reading
 reads_on-earlier Reaches matches m s at from one other (Found shown) le same h = (subst (λ (left : List Occurrence). ShowsFirst Reaches matches m s left shown) same h.0, behind-earlier at from shown.place le h.1)
-reads_on-earlier Reaches matches m s at from one other (Idle to) le same h = (omega (arith, h.0), h.1, sym same ∙ h.2)
+reads_on-earlier Reaches matches m s at from one other (Idle to) le same h = (omega (arith, h.0), h.1, sym same ∙ h.2, h.3)
 
 -- what was scanned for a candidate, where a search shows something after it
 scans-shown : (s : Search) (at from places : ℕ) (place : Position) → at ≤ from → at + places ≤ s.end → at + places ≤ from + 255 → IsBehind from place → places ≤ 256 * (come_to s place - at)
@@ -211,27 +226,29 @@ scans-paid Reaches matches m s at from places left (Found shown) le within near 
 scans-paid Reaches matches m s at from places left (Idle to) le within near h = let lt = h.0 in omega arith
 
 -- a search costs the scans for the candidate, and the walk from there on
-pub candidate-read : (Reaches : List ℕ → StateID → Type 0) (matches : StateID → List ℕ) (m : Dictionary) (deterministic : Bool) (s : Search) (at from places : ℕ) (left : List Occurrence) (reading : End Shown) (x y z : Steps)
-    → s.start ≤ at → at ≤ from → from ≤ s.end → s.end ≤ length s.haystack
-    → Done 0 places 0 x y → at + places ≤ s.end → at + places ≤ from + 255
+pub candidate-read : (Reaches : List ℕ → StateID → Type 0) (matches : StateID → List ℕ) (m : Dictionary) (deterministic : Bool) (s : Search) (at from : ℕ) (left : List Occurrence) (reading : End Shown) (x y z : Steps)
+    → s.start ≤ at → s.end ≤ length s.haystack → MayGoOnFrom (starting_at s at) from → IsScanFor at s.end (Some from) x y
     → ReadsOn Reaches matches m s from left reading
     → ((looks more : ℕ) → IsPaidAt m deterministic s from from looks → looks + looked_of z ≡ more + looked_of y → IsPaidBy m deterministic s reading more)
     → OnlyLooked y z → IsSkipCost m deterministic s at reading x z
-candidate-read Reaches matches m deterministic s at from places left reading x y z g le inside fits done scan near reads pays only =
-    let looked = done.looked in
-    let scanned = done.scanned in
-    let moved = done.moved in
+candidate-read Reaches matches m deterministic s at from left reading x y z g fits before scan reads pays only =
+    let le = before.behind in
+    let inside = before.within in
+    let looked = scan.looked in
+    let within = scan.within in
+    let near = scan.near from refl in
+    let moved = scan.moved in
     let rose = only.rose in
     let same_scans = only.scanned in
     let same_moved = only.moved in
     record {
       rose = omega arith;
       looks = λ looks more paid e. pays looks more (paid-start m deterministic s from looks (omega arith) inside fits (paid-further deterministic s at from looks le paid)) (omega arith);
-      scans = let bound = scans-paid Reaches matches m s at from places left reading le scan near reads in omega arith;
+      scans = let bound = scans-paid Reaches matches m s at from (scanned_of y - scanned_of x) left reading le (omega arith) (omega arith) reads in omega arith;
       moved = omega arith;
     }
 
--- A search has searcht from one place to another: what is left is the same, and what it cost is paid for.
+-- A search has searched from one place to another: what is left is the same, and what it cost is paid for.
 pub record HasSearched (deterministic : Bool) (s : Search) (at place : ℕ) (before after : Steps) : Type 0 where
   pub behind : at ≤ place
   pub within : place ≤ s.end
@@ -340,9 +357,24 @@ pays-both m deterministic s sid from at to r x y z g lt le behind pays only cost
 -- ---- what is left at the start
 
 -- where nothing was read, and the start shows nothing, what ends later is what occurs from there on
-pub ending_from-fresh : (m : Dictionary) (s : Search) (at : ℕ) (ns : List ℕ) → IsPlace m No (starting_at s at) at → Tells m No [] ns → ns ≡ [] → ending_from (starting_at s at) (at + 1) ≡ listing_of (starting_at s at)
+ending_from-fresh : (m : Dictionary) (s : Search) (at : ℕ) (ns : List ℕ) → IsPlace m No (starting_at s at) at → Tells m No [] ns → ns ≡ [] → ending_from (starting_at s at) (at + 1) ≡ listing_of (starting_at s at)
 ending_from-fresh m s at ns is tells none =
     let t = starting_at s at in
     let here : Tells m No (read_to t at) ns = subst (λ (text : List ℕ). Tells m No text ns) (sym (read_to-start t)) tells in
     sym (ending_from-split m No t at ns is here ∙ ap (λ (xs : List Occurrence). xs ++ ending_from t (at + 1)) (told_from-empty m t at ns none))
     ∙ ending_from-start t is.inside
+
+-- where nothing begins before a place, and nothing matches at the start, what is left is what ends after that place
+pub listing-begins : (m : Dictionary) (asked : Asked) (at from : ℕ) (ns : List ℕ)
+    → m.kind ≡ Standard → asked.anchored ≡ No → asked.span.end ≤ length asked.haystack → MayGoOnFrom (starting_at (search_in m asked) at) from → Tells m asked.anchored [] ns → ns ≡ []
+    → ending_from (starting_at (search_in m asked) from) (from + 1) ≡ listing_of (starting_at (search_in m asked) at)
+listing-begins m asked at from ns standard unanchored inside before tells none =
+    let s = search_in m asked in
+    let free : s.anchored ≡ false = ap is_anchored unanchored in
+    let place : IsPlace m No (starting_at s from) from = record { by = (refl, refl); anchor = free; standard = standard; from = omega arith; to = before.within; inside = inside } in
+    ending_from-fresh m s from ns place (subst (λ (a : Anchored). Tells m a [] ns) unanchored tells) none ∙ sym (listing-skip (starting_at s at) from free inside before)
+
+-- where there is a prefilter to use, the search isn't anchored, and nothing matches at the start
+pub usable-some : (b : Built) (matches : StateID → List ℕ) (anchored : Anchored) (start : StateID) (prefilter : Option (Bor Filter)) → IsUsable b matches anchored start prefilter → is_some prefilter ≡ true → (anchored ≡ No) × (matches start ≡ [])
+usable-some b matches anchored start None usable some = absurd (false≢true some)
+usable-some b matches anchored start (Some p) usable some = (usable.1, usable.2)

@@ -90,7 +90,7 @@ find_work-from kind deterministic s at r x y z here best one two =
     looks-from kind deterministic s at r x y z here best one.looked one.moved (scans-from kind s at r x y z here best one.scanned two.scanned) two
 
 -- a leftmost best is a place before which nothing begins
-pub leftmost-goes_on : (kind : MatchKind) (s : Search) (b : Occurrence) → kind ≢ Standard → IsBest kind s (Some b) → MayGoOnFrom s b.start
+leftmost-goes_on : (kind : MatchKind) (s : Search) (b : Occurrence) → kind ≢ Standard → IsBest kind s (Some b) → MayGoOnFrom s b.start
 leftmost-goes_on kind s b leftmost h = record {
   behind = h.0.within.0;
   within = omega (arith, h.0.within.1, h.0.within.2);
@@ -103,12 +103,11 @@ match-asked_best Standard earliest s b h asked = h.2 (h.1 refl) (asked_kind Stan
 match-asked_best LeftmostFirst earliest s b h asked = subst (λ (k : MatchKind). IsBest k s (Some b)) (sym asked) (h.0 (λ e. cc))
 match-asked_best LeftmostLongest earliest s b h asked = subst (λ (k : MatchKind). IsBest k s (Some b)) (sym asked) (h.0 (λ e. cc))
 
--- and if the search uses another kind, nothing begins before it
-pub match-goes_on : (kind : MatchKind) (earliest : Bool) (s : Search) (b : Occurrence) → IsCandidate kind s (candidates.Match b) → asked_kind kind earliest ≢ kind → MayGoOnFrom s b.start
-match-goes_on Standard true s b h other = absurd (other refl)
-match-goes_on Standard false s b h other = absurd (other refl)
-match-goes_on LeftmostFirst earliest s b h other = let leftmost : LeftmostFirst ≢ Standard = λ e. cc in leftmost-goes_on LeftmostFirst s b leftmost (h.0 leftmost)
-match-goes_on LeftmostLongest earliest s b h other = let leftmost : LeftmostLongest ≢ Standard = λ e. cc in leftmost-goes_on LeftmostLongest s b leftmost (h.0 leftmost)
+-- and nothing begins before it
+pub match-goes_on : (kind : MatchKind) (s : Search) (b : Occurrence) → IsCandidate kind s (candidates.Match b) → MayGoOnFrom s b.start
+match-goes_on Standard s b h = leftmost-goes_on LeftmostFirst s b (λ e. cc) (h.2 (h.1 refl) LeftmostFirst)
+match-goes_on LeftmostFirst s b h = leftmost-goes_on LeftmostFirst s b (λ e. cc) (h.0 (λ e. cc))
+match-goes_on LeftmostLongest s b h = leftmost-goes_on LeftmostLongest s b (λ e. cc) (h.0 (λ e. cc))
 
 -- what a prefilter scans never passes the best of the search
 told_work-scanned : (kind : MatchKind) (s : Search) (told : End (Option Occurrence)) (r : Option Occurrence) (x y : Steps) → s.start ≤ s.end → IsBest kind s r → IsCandidateWork s told x y → scanned_of y ≤ scanned_of x + 256 * (over_at s r - s.start)

@@ -1,8 +1,8 @@
 -- A search over the held bytes: where it stands after it, and what it found.
-use Rattle.std.proofs.Common.{◌≡◌, ◌≢◌, ⊎_elim, ℕ, ◌+◌, ◌-◌, ◌*◌, ◌<◌, ◌≤◌, Bool, true, false, IsTrue, List, [], ◌∷◌, ◌++◌, length, take, drop, Option, None, Some, slice_get, slice_range, sym, ap, subst, refl, ◌∙◌, arith, append-nil, length-drop}
+use Rattle.std.proofs.Common.{◌≡◌, ◌≢◌, ⊎_elim, ℕ, ◌+◌, ◌-◌, ◌*◌, ◌<◌, ◌≤◌, Bool, true, false, IsTrue, List, [], ◌∷◌, ◌++◌, length, take, drop, Option, None, Some, slice_get, slice_range, sym, ap, subst, refl, ◌↔◌, ◌∙◌, arith, append-nil, length-drop}
 use Rattle.std.proofs.lemmas.List.{length-take-le}
 use Rattle.std.specs.Option.{option_map}
-use Rattle.std.proofs.lemmas.Bool.{cases_lt}
+use Rattle.std.proofs.lemmas.Bool.{cases_lt, false≢true}
 use Rattle.std.proofs.lemmas.List.{drop-drop, take_rest}
 use Rattle.std.proofs.lemmas.Option.{same_Some, slice_get_within}
 use Rattle.ac_input.specs.Number.{StateID}
@@ -20,16 +20,17 @@ use Rattle.ac_input.specs.Walk.{IsPick}
 use Rattle.ac_input.specs.Work.{IsLookups, lookups_per_byte, shortest}
 use Rattle.ac_input.proofs.OrderLemmas.{occurrence_from_parts, slice_range-length}
 use Rattle.ac_input.specs.declared.search.MatchKind.{MatchKind}
-use Rattle.ac_automaton.specs.Automaton.{Built}
+use Rattle.ac_automaton.specs.Automaton.{Advances, Built, IsReadCost, IsState, is_matching}
 use Rattle.ac_automaton.specs.Moved.{AllFit}
 use Rattle.ac_automaton.specs.Replace.{matches_in}
 use Rattle.ac_automaton.specs.StreamSearch.{ContinuesWalk, IsHeldAt, IsSearchPaid, SearchesOn, StandsInState, after_search, since_last}
 use Rattle.ac_automaton.specs.Stream.{AllIsDecided, CanBeCounted, FindsHeld, IsHeldMatch, IsOnCourse, NothingIsLive, StreamProgress, cut_of, end_of, read_by, room_of}
 use Rattle.ac_automaton.specs.declared.automaton.Advance.{Advance}
+use Rattle.ac_automaton.specs.declared.automaton.Automaton.{Ghosts}
 use Rattle.ac_automaton.specs.declared.stream.search.Progress.{Progress}
-use Rattle.ac_automaton.proofs.CursorLemmas.{part-empty, part-front}
+use Rattle.ac_automaton.proofs.CursorLemmas.{list-none, part-empty, part-front}
 use Rattle.ac_automaton.proofs.IterLemmas.{occurs-not_empty}
-use Rattle.ac_automaton.proofs.PassLemmas.{StopsAtMatch, matching-none}
+use Rattle.ac_automaton.proofs.PassLemmas.{StopsAtMatch, matching-none, stops-none, stops-there}
 use Rattle.ac_automaton.proofs.StreamLemmas.{all-given, decided-from, end_of-push, goes-anew, goes-match, none-ends_before, nothing-ends, nothing-later, pick-since}
 use Rattle.ac_automaton.proofs.ToldLemmas.{IsEarlier, ending-fits, told-standard}
 use Rattle.ac_automaton.proofs.WalkLemmas.{occurs-bound}
@@ -448,22 +449,31 @@ module _ (b : Built) (s : StreamProgress) (Reaches : Anchored → List ℕ → S
       subst (λ (d : Built). StopsAtMatch d Reaches matches p.sid (drop s.at (read_by s)) stop false y z) (sym is.built) (subst (λ (l : List ℕ). StopsAtMatch b Reaches matches p.sid l stop false y z) rest stops)
 
   -- the bytes since the search last began
-  abbrev pub searched-text : List ℕ
+  abbrev searched-text : List ℕ
   searched-text = slice_range (read_by s) s.last (s.at + stop.taken)
 
   -- they lead to the state
-  pub searched-reads : Reaches No searched-text stop.sid
+  searched-reads : Reaches No searched-text stop.sid
   searched-reads = reads-on s Reaches matches p.sid stop false y z is.stands.course.ordered.0 is.stands.reads stops-here
 
+  -- so the search reached it
+  pub searched-state : IsState Reaches stop.sid
+  searched-state = ∣ (No, searched-text, searched-reads) ∣₁
+
   -- and something is still live
-  pub searches-none : ¬ NothingIsLive b.dictionary searched-text → SearchesOn (Reaches No) s start (record { progress = record { sid = stop.sid; from = p.from; at = p.at + stop.taken; last = p.last }; found = None }) y z
-  searches-none live =
+  pub searches-none : ((text : List ℕ) → Reaches No text stop.sid → ¬ NothingIsLive b.dictionary text)
+      → SearchesOn (Reaches No) s start (record { progress = record { sid = stop.sid; from = p.from; at = p.at + stop.taken; last = p.last }; found = None }) y z
+  searches-none some =
+      let live = some searched-text searched-reads in
       subst (λ (q : Progress). SearchesOn (Reaches No) s start (record { progress = record { sid = stop.sid; from = q.from; at = q.at + stop.taken; last = q.last }; found = None }) y z) (progress-same s p is.from is.at is.last)
       (search-none s Reaches matches start p.sid stop y z tells-here lives-here is.stands stops-here (subst (λ (d : Built). ¬ NothingIsLive d.dictionary searched-text) (sym is.built) live))
 
   -- and nothing is live
-  pub searches-anew : IsOwnInverse b.dictionary.pairing → NothingIsLive b.dictionary searched-text → SearchesOn (Reaches No) s start (record { progress = record { sid = start; from = p.from; at = p.at + stop.taken; last = p.at + stop.taken }; found = None }) y z
-  searches-anew inverse live =
+  pub searches-anew : ((text : List ℕ) (state : StateID) → Reaches No text state → IsOwnInverse b.dictionary.pairing) → ((text : List ℕ) → Reaches No text stop.sid → NothingIsLive b.dictionary text)
+      → SearchesOn (Reaches No) s start (record { progress = record { sid = start; from = p.from; at = p.at + stop.taken; last = p.at + stop.taken }; found = None }) y z
+  searches-anew pairs none =
+      let inverse = pairs searched-text stop.sid searched-reads in
+      let live = none searched-text searched-reads in
       subst (λ (q : Progress). SearchesOn (Reaches No) s start (record { progress = record { sid = start; from = q.from; at = q.at + stop.taken; last = q.at + stop.taken }; found = None }) y z) (progress-same s p is.from is.at is.last)
       (search-anew s Reaches matches start p.sid stop y z tells-here lives-here is.stands stops-here (subst (λ (d : Built). IsOwnInverse d.dictionary.pairing) (sym is.built) inverse) (subst (λ (d : Built). NothingIsLive d.dictionary searched-text) (sym is.built) live))
 
@@ -502,3 +512,15 @@ reached-text b s Reaches matches start p held stop y z is stops =
     let left = length-drop s.at (read_by s) in
     let long = slice_range-length (read_by s) s.last (s.at + stop.taken) (omega (arith, ordered.0)) (omega (arith, ordered.1)) in
     (slice_range (read_by s) s.last (s.at + stop.taken), subst (λ (l : List ℕ). Reaches No l stop.sid) (text-on (read_by s) s.last s.at stop.taken ordered.0 (omega arith)) (here.reads (since_last s) is.stands.reads), omega arith)
+
+-- where the automaton stopped in what is held, by whether the state there matches
+pub stopped-at : {S : Type 0} (A : Ghosts S) (a : S) (p : Progress) (held : List ℕ) (stop : Advance) (asked matched : Bool) (y z : Steps)
+    → let given : List ℕ = take (length held - (p.at - p.from)) (drop (p.at - p.from) held) in
+    Advances (A.Reaches a No) (is_matching (A.matches a)) p.sid given stop → IsReadCost (A.built a) (A.Reaches a) No p.sid (take stop.taken given) y z
+    → (IsTrue asked ↔ (A.matches a stop.sid ≢ [])) → asked ≡ matched → StopsAtMatch (A.built a) (A.Reaches a) (A.matches a) p.sid (drop (p.at - p.from) held) stop matched y z
+stopped-at A a p held stop asked true y z goes cost is e =
+    subst (λ (bytes : List ℕ). StopsAtMatch (A.built a) (A.Reaches a) (A.matches a) p.sid bytes stop true y z) (take_rest held (p.at - p.from))
+    (stops-there (A.built a) (A.Reaches a) (A.matches a) p.sid _ stop y z goes.taken goes.reads goes.plain cost (is.0 e))
+stopped-at A a p held stop asked false y z goes cost is e =
+    subst (λ (bytes : List ℕ). StopsAtMatch (A.built a) (A.Reaches a) (A.matches a) p.sid bytes stop false y z) (take_rest held (p.at - p.from))
+    (stops-none (A.built a) (A.Reaches a) (A.matches a) p.sid _ stop y z goes.taken goes.reads goes.plain goes.stops cost (list-none (A.matches a stop.sid) (λ some. false≢true (sym e ∙ is.1 some))))

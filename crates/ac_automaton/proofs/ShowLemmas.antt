@@ -1,29 +1,28 @@
 -- What an overlapping search shows where its walk stands, and what reading on to there comes to.
-use Rattle.std.proofs.Common.{◌≡◌, ◌⊎◌, ⊎_elim, ℕ, ◌+◌, ◌<◌, ◌≤◌, List, [], Option, Some, None, inl, inr, sym, ap, subst, ◌∙◌, arith}
+use Rattle.std.proofs.Common.{◌≡◌, ◌⊎◌, ⊎_elim, ℕ, ◌+◌, ◌<◌, List, [], Option, Some, None, inl, inr, sym, ap, subst, refl, ◌∙◌, arith}
 use Rattle.ac_input.specs.Number.{StateID}
-use Rattle.ac_input.specs.declared.search.Anchored.{Anchored}
 use Rattle.ac_input.specs.declared.search.MatchKind.TheVariants.{Standard}
 use Rattle.ac_input.specs.declared.steps.Steps.{Steps}
 use Rattle.ac_input.specs.Computed.{listing_of}
 use Rattle.ac_input.specs.Dictionary.{IsLive}
 use Rattle.ac_input.specs.Input.{Asked, is_anchored}
 use Rattle.ac_input.specs.LiveLaws.{IsOwnInverse}
-use Rattle.ac_input.specs.Occurrence.{Search, Occurrence, starting_at}
-use Rattle.ac_input.specs.Steps.{looked_of}
+use Rattle.ac_input.specs.Occurrence.{Occurrence, starting_at}
 use Rattle.ac_input.specs.Tells.{Tells}
-use Rattle.ac_automaton.specs.Automaton.{Built, searched}
-use Rattle.ac_automaton.specs.Cursor.{IsCursor, read_to, walked}
+use Rattle.ac_automaton.specs.Automaton.{searched}
+use Rattle.ac_automaton.specs.Cursor.{IsCursor, ReadsFurther, StandsIn, read_to, walked}
 use Rattle.ac_automaton.specs.declared.cursor.Cursor.{Cursor}
 use Rattle.ac_automaton.specs.declared.cursor.End.{End}
 use Rattle.ac_automaton.specs.declared.cursor.End.TheVariants.{Found, Idle}
 use Rattle.ac_automaton.specs.declared.overlapping.Position.{Position}
 use Rattle.ac_automaton.specs.declared.overlapping.Position.TheVariants.{At, Over}
 use Rattle.ac_automaton.specs.declared.overlapping.Shown.{Shown}
-use Rattle.ac_automaton.specs.OverlappingSearch.{ShowsHere, EndsHere}
+use Rattle.ac_automaton.specs.OverlappingSearch.{EndsHere, MayShow, PaysOn, ShowsHere, ShowsLater, told_at}
 use Rattle.ac_automaton.specs.declared.automaton.Automaton.{Ghosts}
-use Rattle.ac_automaton.specs.Overlapping.{ending_from, told_from, TellsFirst, ShowsFirst, ReadsOn, IsBehind, IsPaidAt, IsPaidBy}
-use Rattle.ac_automaton.proofs.OverlappingLemmas.{IsPlace, ending_from-dead, ending_from-split, place_of-cursor}
-use Rattle.ac_automaton.proofs.OverlappingReadLemmas.{HasWalkedOn, shows-none, shows-some, pays-over, pays-at, pays-back, read_on-settled}
+use Rattle.ac_automaton.specs.Overlapping.{ending_from, told_from, TellsFirst, ShowsFirst, IsBehind, IsPaidBy, OnlyLooked}
+use Rattle.ac_automaton.proofs.OverlappingLemmas.{IsPlace, ending_from-dead, ending_from-end, ending_from-split, place_of-cursor}
+use Rattle.ac_automaton.proofs.CandidateLemmas.{over-reads}
+use Rattle.ac_automaton.proofs.OverlappingReadLemmas.{HasWalkedOn, shows-none, shows-some, pays-over, pays-at, pays-back, read_on-settled, read_on-start, walked_on-further}
 
 -- where the state is dead, nothing more is shown
 pub shows-dead : {S : Type 0} (A : Ghosts S) (a : S) (asked : Asked) (cursor : Cursor) (r : Shown)
@@ -56,69 +55,113 @@ shown-behind at cursor place lt where_ =
     (λ (here : (index : ℕ) × (place ≡ At cursor.sid cursor.from cursor.at index)). subst (IsBehind at) (sym here.1) lt)
     where_
 
--- what is shown where reading on came to
-pub reads-shown : {S : Type 0} (A : Ghosts S) (a : S) (asked : Asked) (from at : ℕ) (cursor : Cursor) (r : Shown) (x y : Steps)
-    → at < cursor.at → cursor.from ≡ from
-    → HasWalkedOn (A.Reaches a asked.anchored) (A.built a).dictionary (A.built a).deterministic (searched (A.built a) asked) from at cursor.at cursor.at cursor.sid x y
-    → ShowsHere A a asked cursor (Some r)
-    → ReadsOn (A.Reaches a asked.anchored) (A.matches a) (A.built a).dictionary (searched (A.built a) asked) at (ending_from (starting_at (searched (A.built a) asked) from) (at + 1)) (Found r)
-reads-shown A a asked from at cursor r x y lt begun had shows =
-    let s = searched (A.built a) asked in
-    let same : ending_from (walked s cursor) cursor.at ≡ ending_from (starting_at s from) cursor.at = ap (λ (f : ℕ). ending_from (starting_at s f) cursor.at) begun in
-    (subst (λ (left : List Occurrence). ShowsFirst (A.Reaches a asked.anchored) (A.matches a) (A.built a).dictionary s left r) (same ∙ sym had.later) shows.0, shown-behind at cursor r.place lt shows.1)
+-- of each text that reaches a state it is known what is live
+abbrev pub KnowsLive : {S : Type 0} → Ghosts S → S → Asked → Type 0
+KnowsLive A a asked = (text : List ℕ) (state : StateID) → A.Reaches a asked.anchored text state → (live : Option ℕ) × IsLive (A.built a).dictionary (is_anchored asked.anchored) text live
 
--- and what that cost
-pub pays-shown : (b : Built) (Reaches : List ℕ → StateID → Type 0) (s : Search) (from at : ℕ) (cursor : Cursor) (r : Shown) (x y : Steps)
-    → s.start ≤ cursor.at → cursor.at ≤ s.end → cursor.from ≡ from
-    → ((text : List ℕ) (state : StateID) → Reaches text state → (live : Option ℕ) × IsLive b.dictionary s.anchored text live)
-    → HasWalkedOn Reaches b.dictionary b.deterministic s from at cursor.at cursor.at cursor.sid x y
-    → (r.place ≡ Over) ⊎ ((index : ℕ) × (r.place ≡ At cursor.sid cursor.from cursor.at index))
-    → (looks more : ℕ) → IsPaidAt b.dictionary b.deterministic s from at looks → looks + looked_of y ≡ more + looked_of x → IsPaidBy b.dictionary b.deterministic s (Found r) more
-pays-shown b Reaches s from at cursor r x y g h begun lives had where_ =
-    ⊎_elim
-    (λ (over : r.place ≡ Over). pays-over Reaches b.dictionary b.deterministic s from at cursor.at cursor.at cursor.sid x y r g h lives had over)
-    (λ (here : (index : ℕ) × (r.place ≡ At cursor.sid cursor.from cursor.at index)).
-    pays-at Reaches b.dictionary b.deterministic s from at cursor.at cursor.at cursor.sid cursor.sid x y here.0 r had (here.1 ∙ ap (λ (f : ℕ). At cursor.sid f cursor.at here.0) begun))
-    where_
+-- A walk stood at one place, and has read on to another. What ends after the first ends from `next` on, and the looks are paid for.
+pub record HasWalked {S : Type 0} (A : Ghosts S) (a : S) (asked : Asked) (first cursor : Cursor) (next : ℕ) (x y : Steps) : Type 0 where
+  pub stands : StandsIn (A.built a) (A.Reaches a) asked cursor
+  pub begun : cursor.from ≡ first.from
+  pub since : first.at < next
+  pub on : HasWalkedOn (A.Reaches a asked.anchored) (A.built a).dictionary (A.built a).deterministic (searched (A.built a) asked) first.from first.at cursor.at next cursor.sid x y
 
--- where no state has an occurrence, the walk goes on after the place
-pub walked_on-settled : (b : Built) (Reaches : Anchored → List ℕ → StateID → Type 0) (matches : StateID → List ℕ) (asked : Asked) (from at : ℕ) (cursor : Cursor) (x y : Steps)
-    → b.dictionary.kind ≡ Standard → IsCursor (Reaches asked.anchored) (searched b asked) cursor → cursor.from ≡ from
-    → Tells b.dictionary asked.anchored (read_to (walked (searched b asked) cursor) cursor.at) (matches cursor.sid)
-    → told_from b.dictionary (walked (searched b asked) cursor) cursor.at (matches cursor.sid) 0 ≡ []
-    → HasWalkedOn (Reaches asked.anchored) b.dictionary b.deterministic (searched b asked) from at cursor.at cursor.at cursor.sid x y
-    → HasWalkedOn (Reaches asked.anchored) b.dictionary b.deterministic (searched b asked) from at cursor.at (cursor.at + 1) cursor.sid x y
-walked_on-settled b Reaches matches asked from at cursor x y standard is begun tells none had =
-    let m = b.dictionary in
+-- Reading on from a place ended: what was shown there, and what it cost.
+pub record HasEnded {S : Type 0} (A : Ghosts S) (a : S) (asked : Asked) (first : Cursor) (end : End Shown) (x y : Steps) : Type 0 where
+  pub reads : ShowsLater A a asked first end
+  pub pays : PaysOn (A.built a) asked first end x y
+  pub only : OnlyLooked x y
+
+-- at first nothing was read
+pub walked-first : {S : Type 0} (A : Ghosts S) (a : S) (asked : Asked) (first : Cursor) (x : Steps) → StandsIn (A.built a) (A.Reaches a) asked first → HasWalked A a asked first first (first.at + 1) x x
+walked-first A a asked first x stands = record { stands = stands; begun = refl; since = omega arith; on = read_on-start _ _ _ _ _ _ _ _ stands.reads }
+
+-- on to the next special state
+pub walked-further : {S : Type 0} (A : Ghosts S) (a : S) (asked : Asked) (first cursor next : Cursor) (x y z : Steps)
+    → KnowsLive A a asked → MayShow A a asked first → HasWalked A a asked first cursor (cursor.at + 1) x y
+    → StandsIn (A.built a) (A.Reaches a) asked next → next.from ≡ cursor.from → ReadsFurther (A.built a) asked cursor next y z
+    → HasWalked A a asked first next next.at x z
+walked-further A a asked first cursor next x y z lives may walked there same further =
+    let R = A.Reaches a asked.anchored in
+    let b = A.built a in
     let s = searched b asked in
-    let place = place_of-cursor (Reaches asked.anchored) m asked cursor standard is in
-    read_on-settled (Reaches asked.anchored) m b.deterministic asked.anchored s from at cursor.at (matches cursor.sid) cursor.sid x y
-    (subst (λ (f : ℕ). IsPlace m asked.anchored (starting_at s f) cursor.at) begun place)
-    (subst (λ (f : ℕ). Tells m asked.anchored (read_to (starting_at s f) cursor.at) (matches cursor.sid)) begun tells)
-    (subst (λ (f : ℕ). told_from m (starting_at s f) cursor.at (matches cursor.sid) 0 ≡ []) begun none)
-    had
+    let begun = same ∙ walked.begun in
+    let place = subst (λ (f : ℕ). IsPlace b.dictionary asked.anchored (starting_at s f) cursor.at) walked.begun (place_of-cursor R b.dictionary asked cursor may.standard walked.stands) in
+    record {
+      stands = there;
+      begun = begun;
+      since = omega (arith, further.further, walked.since);
+      on = walked_on-further R b asked.anchored s first.from first.at cursor next x y z place may.cursor.behind walked.begun refl there begun lives further walked.on;
+    }
 
--- how reading on ends where it came to
-pub reads-end : {S : Type 0} (A : Ghosts S) (a : S) (asked : Asked) (from at : ℕ) (cursor : Cursor) (end : End Shown) (x y : Steps)
-    → at < cursor.at → cursor.at ≤ (searched (A.built a) asked).end → cursor.from ≡ from
-    → HasWalkedOn (A.Reaches a asked.anchored) (A.built a).dictionary (A.built a).deterministic (searched (A.built a) asked) from at cursor.at cursor.at cursor.sid x y
-    → EndsHere A a asked cursor (Some end)
-    → ReadsOn (A.Reaches a asked.anchored) (A.matches a) (A.built a).dictionary (searched (A.built a) asked) at (ending_from (starting_at (searched (A.built a) asked) from) (at + 1)) end
-reads-end A a asked from at cursor (Found r) x y lt le begun had ends = reads-shown A a asked from at cursor r x y lt begun had ends
-reads-end A a asked from at cursor (Idle to) x y lt le begun had (here, left) =
+-- where the state has no occurrence, the walk goes on after the place
+pub walked-settled : {S : Type 0} (A : Ghosts S) (a : S) (asked : Asked) (first cursor : Cursor) (x y : Steps)
+    → (A.built a).dictionary.kind ≡ Standard → Tells (A.built a).dictionary asked.anchored (read_to (walked (searched (A.built a) asked) cursor) cursor.at) (A.matches a cursor.sid)
+    → told_at A a asked cursor 0 ≡ [] → HasWalked A a asked first cursor cursor.at x y → HasWalked A a asked first cursor (cursor.at + 1) x y
+walked-settled A a asked first cursor x y standard tells none had =
+    let m = (A.built a).dictionary in
     let s = searched (A.built a) asked in
-    let same : ending_from (starting_at s from) cursor.at ≡ ending_from (walked s cursor) cursor.at = ap (λ (f : ℕ). ending_from (starting_at s f) cursor.at) (sym begun) in
-    (omega arith, omega arith, had.later ∙ same ∙ left ∙ ap (λ (n : ℕ). listing_of (starting_at s n)) (sym here))
+    let place = place_of-cursor (A.Reaches a asked.anchored) m asked cursor standard had.stands in
+    record {
+      stands = had.stands;
+      begun = had.begun;
+      since = omega (arith, had.since);
+      on = read_on-settled (A.Reaches a asked.anchored) m (A.built a).deterministic asked.anchored s first.from first.at cursor.at (A.matches a cursor.sid) cursor.sid x y
+          (subst (λ (f : ℕ). IsPlace m asked.anchored (starting_at s f) cursor.at) had.begun place)
+          (subst (λ (f : ℕ). Tells m asked.anchored (read_to (starting_at s f) cursor.at) (A.matches a cursor.sid)) had.begun tells)
+          (subst (λ (f : ℕ). told_from m (starting_at s f) cursor.at (A.matches a cursor.sid) 0 ≡ []) had.begun none)
+          had.on;
+    }
 
--- and what that cost
-pub pays-end : {S : Type 0} (A : Ghosts S) (a : S) (asked : Asked) (from at : ℕ) (cursor : Cursor) (end : End Shown) (x y : Steps)
-    → (searched (A.built a) asked).start ≤ cursor.at → cursor.at ≤ (searched (A.built a) asked).end → cursor.from ≡ from
-    → ((text : List ℕ) (state : StateID) → A.Reaches a asked.anchored text state → (live : Option ℕ) × IsLive (A.built a).dictionary (is_anchored asked.anchored) text live)
-    → HasWalkedOn (A.Reaches a asked.anchored) (A.built a).dictionary (A.built a).deterministic (searched (A.built a) asked) from at cursor.at cursor.at cursor.sid x y
-    → EndsHere A a asked cursor (Some end)
-    → (looks more : ℕ) → IsPaidAt (A.built a).dictionary (A.built a).deterministic (searched (A.built a) asked) from at looks → looks + looked_of y ≡ more + looked_of x → IsPaidBy (A.built a).dictionary (A.built a).deterministic (searched (A.built a) asked) end more
-pays-end A a asked from at cursor (Found r) x y g h begun lives had ends = pays-shown (A.built a) (A.Reaches a asked.anchored) (searched (A.built a) asked) from at cursor r x y g h begun lives had ends.1
-pays-end A a asked from at cursor (Idle to) x y g h begun lives had (here, left) = λ looks more paid e.
-    let s = searched (A.built a) asked in
-    subst (λ (n : ℕ). IsPaidBy (A.built a).dictionary (A.built a).deterministic s (Idle n) more) (sym here)
-    (pays-back (A.Reaches a asked.anchored) (A.built a).dictionary (A.built a).deterministic s from at cursor.at cursor.at cursor.sid x y g lives had looks more paid e)
+-- at the end of the span nothing is left
+pub walked-over : {S : Type 0} (A : Ghosts S) (a : S) (asked : Asked) (first cursor : Cursor) (r : Shown) (x y : Steps)
+    → KnowsLive A a asked → HasWalked A a asked first cursor (cursor.at + 1) x y
+    → cursor.at ≡ asked.span.end → r.found ≡ None → r.place ≡ Over → HasEnded A a asked first (Found r) x y
+walked-over A a asked first cursor r x y lives had end found place =
+    let R = A.Reaches a asked.anchored in
+    let b = A.built a in
+    let s = searched b asked in
+    let stands = had.stands in
+    let past = ending_from-end (starting_at s first.from) (cursor.at + 1) stands.inside (omega arith) in
+    record {
+      reads = over-reads R (A.matches a) b.dictionary s first.at (ending_from (starting_at s first.from) (first.at + 1)) r (had.on.later ∙ past) found place;
+      pays = pays-over R b.dictionary b.deterministic s first.from first.at cursor.at (cursor.at + 1) cursor.sid x y r (omega (arith, stands.behind, stands.ordered)) stands.within lives had.on place;
+      only = had.on.only;
+    }
+
+-- what is shown where a walk stands, and what that costs
+walked-shows : {S : Type 0} (A : Ghosts S) (a : S) (asked : Asked) (first cursor : Cursor) (r : Shown) (x y : Steps)
+    → KnowsLive A a asked → HasWalked A a asked first cursor cursor.at x y → ShowsHere A a asked cursor (Some r) → HasEnded A a asked first (Found r) x y
+walked-shows A a asked first cursor r x y lives had shows =
+    let R = A.Reaches a asked.anchored in
+    let b = A.built a in
+    let s = searched b asked in
+    let stands = had.stands in
+    let same : ending_from (walked s cursor) cursor.at ≡ ending_from (starting_at s first.from) cursor.at = ap (λ (f : ℕ). ending_from (starting_at s f) cursor.at) had.begun in
+    record {
+      reads = (subst (λ (left : List Occurrence). ShowsFirst R (A.matches a) b.dictionary s left r) (same ∙ sym had.on.later) shows.0, shown-behind first.at cursor r.place had.since shows.1);
+      pays = ⊎_elim
+          (λ (over : r.place ≡ Over). pays-over R b.dictionary b.deterministic s first.from first.at cursor.at cursor.at cursor.sid x y r (omega (arith, stands.behind, stands.ordered)) stands.within lives had.on over)
+          (λ (here : (index : ℕ) × (r.place ≡ At cursor.sid cursor.from cursor.at index)).
+          pays-at R b.dictionary b.deterministic s first.from first.at cursor.at cursor.at cursor.sid cursor.sid x y here.0 r had.on (here.1 ∙ ap (λ (f : ℕ). At cursor.sid f cursor.at here.0) had.begun))
+          shows.1;
+      only = had.on.only;
+    }
+
+-- how reading on ends where a walk stands
+pub walked-ends : {S : Type 0} (A : Ghosts S) (a : S) (asked : Asked) (first cursor : Cursor) (end : End Shown) (x y : Steps)
+    → KnowsLive A a asked → HasWalked A a asked first cursor cursor.at x y → EndsHere A a asked cursor (Some end) → HasEnded A a asked first end x y
+walked-ends A a asked first cursor (Found r) x y lives had ends = walked-shows A a asked first cursor r x y lives had ends
+walked-ends A a asked first cursor (Idle to) x y lives had (here, left, restart) =
+    let b = A.built a in
+    let s = searched b asked in
+    let stands = had.stands in
+    let since = had.since in
+    let same : ending_from (starting_at s first.from) cursor.at ≡ ending_from (walked s cursor) cursor.at = ap (λ (f : ℕ). ending_from (starting_at s f) cursor.at) (sym had.begun) in
+    record {
+      reads = (omega arith, omega (arith, stands.within), had.on.later ∙ same ∙ left ∙ ap (λ (n : ℕ). listing_of (starting_at s n)) (sym here), restart);
+      pays = λ looks more paid e.
+          subst (λ (n : ℕ). IsPaidBy b.dictionary b.deterministic s (Idle n) more) (sym here)
+          (pays-back (A.Reaches a asked.anchored) b.dictionary b.deterministic s first.from first.at cursor.at cursor.at cursor.sid x y (omega (arith, stands.behind, stands.ordered)) lives had.on looks more paid e);
+      only = had.on.only;
+    }

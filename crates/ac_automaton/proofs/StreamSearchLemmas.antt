@@ -24,6 +24,9 @@ use Rattle.ac_automaton.specs.Stream.{CanBeCounted, HasRead, IsOnCourse, StreamP
 use Rattle.ac_automaton.specs.Moved.{HasGiven}
 use Rattle.ac_automaton.specs.declared.watched.Watched.{Watched}
 use Rattle.ac_automaton.specs.declared.stream.search.Progress.{Progress}
+use Rattle.ac_input.specs.declared.search.Anchored.TheVariants.{No}
+use Rattle.ac_automaton.specs.declared.stream.search.StreamSearch.TheInside.{Inside}
+use Rattle.ac_automaton.specs.declared.automaton.Automaton.{Ghosts}
 use Rattle.ac_automaton.specs.declared.stream.search.Searched.{Searched}
 use Rattle.ac_automaton.proofs.IterLemmas.{occurs-not_empty}
 use Rattle.ac_automaton.proofs.SearchLemmas.{live-empty, stands-from}
@@ -283,7 +286,7 @@ piece-behind held front piece n is long =
     ap (λ (i : ℕ). drop i held) k ∙ ap (drop (length front)) is ∙ drop-append_seam front piece
 
 -- After a read that failed: what is kept is right, the read gave an empty piece, and the search is on its course.
-pub read-failed : {R : Type 0} (remaining : R → Option (List ℕ)) (before after : Watched R) (b : Built) (Reaches : List ℕ → StateID → Type 0) (start : StateID) (pieces all : List (List ℕ)) (count : ℕ) (p : Progress) (old new : Held) (sums : Steps) (over : Bool)
+read-failed : {R : Type 0} (remaining : R → Option (List ℕ)) (before after : Watched R) (b : Built) (Reaches : List ℕ → StateID → Type 0) (start : StateID) (pieces all : List (List ℕ)) (count : ℕ) (p : Progress) (old new : Held) (sums : Steps) (over : Bool)
     → IsStreamSearch Reaches (progress_at b pieces count p old sums) start p.sid count old over
     → ((live : Option ℕ) × IsLive b.dictionary false (since_last (progress_at b pieces count p old sums)) live)
     → new ≡ old → IsRollPaid new → all ≡ pieces ++ [] ∷ []
@@ -317,17 +320,15 @@ read-failed {R} remaining before after b Reaches start pieces all count p old ne
           }),
     )
 
--- After a read that returned some bytes: what is kept is right, and it returned this many bytes.
-pub read-gave : {R : Type 0} (remaining : R → Option (List ℕ)) (before after : Watched R) (b : Built) (Reaches : List ℕ → StateID → Type 0) (start : StateID) (pieces all : List (List ℕ)) (count : ℕ) (p : Progress) (old new : Held) (sums : Steps) (was : Bool) (n : ℕ) (held : List ℕ)
+-- After a read that gave some bytes: what is kept is right, and the read gave this piece.
+read-gave : {R : Type 0} (remaining : R → Option (List ℕ)) (before after : Watched R) (b : Built) (Reaches : List ℕ → StateID → Type 0) (start : StateID) (pieces all : List (List ℕ)) (count : ℕ) (p : Progress) (old new : Held) (sums : Steps) (was : Bool) (n : ℕ) (held : List ℕ)
     → IsStreamSearch Reaches (progress_at b pieces count p old sums) start p.sid count old was
     → ((live : Option ℕ) × IsLive b.dictionary false (since_last (progress_at b pieces count p old sums)) live)
-    → Filled remaining old new before after n → IsRollPaid new
+    → (filled : Filled remaining old new before after n) → IsRollPaid new
     → held ≡ new.bytes → all ≡ pieces ++ drop (length held - n) held ∷ []
     → p.from ≤ 18446744073709551615
     → IsStreamSearch Reaches (progress_at b all count p new sums) start p.sid count new (nat_lt (18446744073709551615 - p.from) (length held))
-    × ((piece : List ℕ) × HasRead remaining (progress_at b pieces count p old sums) (progress_at b all count p new sums) before after piece 0 × (length piece ≡ n))
-    × (nat_lt (18446744073709551615 - p.from) (length held) ≡ false → CanBeCounted (read_by (progress_at b all count p new sums)))
-    × (nat_lt (18446744073709551615 - p.from) (length held) ≡ true → ¬ CanBeCounted (read_by (progress_at b all count p new sums)))
+    × HasRead remaining (progress_at b pieces count p old sums) (progress_at b all count p new sums) before after filled.piece 0
 read-gave {R} remaining before after b Reaches start pieces all count p old new sums was n held is live filled paid holds more fits =
     let s : StreamProgress = progress_at b pieces count p old sums in
     let piece : List ℕ = filled.piece in
@@ -346,21 +347,56 @@ read-gave {R} remaining before after b Reaches start pieces all count p old new 
     let test = over-test p.from (length held) (length (read_by s ++ piece)) fits long in
     let right = read-right Reaches s start p.sid count old new was (nat_lt (18446744073709551615 - p.from) (length held)) piece is grown live test.0 test.1 in (
       subst (λ (t : StreamProgress). IsStreamSearch Reaches t start p.sid count new (nat_lt (18446744073709551615 - p.from) (length held))) (sym view) right,
-      (
-        piece,
-        subst (λ (t : StreamProgress). HasRead remaining s t before after piece 0) (sym view)
-            (record {
-              built = refl;
-              pieces = refl;
-              given = refl;
-              at = refl;
-              last = refl;
-              from = course.kept.0;
-              short = piece-short s old new piece course is.holds grown;
-              read = filled.read;
-            }),
-        filled.count,
-      ),
-      λ e. subst (λ (t : StreamProgress). CanBeCounted (read_by t)) (sym view) (right.countable e),
-      λ e. subst (λ (t : StreamProgress). ¬ CanBeCounted (read_by t)) (sym view) (right.uncountable e),
+      subst (λ (t : StreamProgress). HasRead remaining s t before after piece 0) (sym view)
+          (record {
+            built = refl;
+            pieces = refl;
+            given = refl;
+            at = refl;
+            last = refl;
+            from = course.kept.0;
+            short = piece-short s old new piece course is.holds grown;
+            read = filled.read;
+          }),
     )
+
+-- ---- what a read leaves, by what the search keeps
+
+-- how far a search has come that keeps this
+abbrev pub come_by : {S : Type 0} → Ghosts S → Inside S → StreamProgress
+come_by A i = progress_at (A.built i.automaton.now) i.pieces.items i.given.value i.progress i.buffer i.sums
+
+-- what is live is known of each text that reaches a state
+abbrev pub KnowsLive : {S : Type 0} → Ghosts S → S → Type 0
+KnowsLive A a = (text : List ℕ) (state : StateID) → A.Reaches a No text state → (live : Option ℕ) × IsLive (A.built a).dictionary false text live
+
+module _ {S R : Type 0} (A : Ghosts S) (remaining : R → Option (List ℕ)) (i : Inside S) (before after : Watched R) (all : List (List ℕ)) (new : Held) where
+  -- where the search stands after a read
+  abbrev pub filled_by : StreamProgress
+  filled_by = progress_at (A.built i.automaton.now) all i.given.value i.progress new i.sums
+
+  -- After a read: what is kept is right, and the read gave this piece.
+  pub record HasFilled (over : Bool) (piece : List ℕ) (errors : ℕ) : Type 0 where
+    pub right : IsStreamSearch (A.Reaches i.automaton.now No) filled_by i.start i.progress.sid i.given.value new over
+    pub read : HasRead remaining (come_by A i) filled_by before after piece errors
+
+-- a read that failed
+pub fill-failed : {S R : Type 0} (A : Ghosts S) (remaining : R → Option (List ℕ)) (i : Inside S) (before after : Watched R) (all : List (List ℕ)) (new : Held)
+    → IsStreamSearch (A.Reaches i.automaton.now No) (come_by A i) i.start i.progress.sid i.given.value i.buffer i.over → KnowsLive A i.automaton.now
+    → new ≡ i.buffer → IsRollPaid new → all ≡ i.pieces.items ++ [] ∷ [] → HasGiven remaining before after ([] ∷ []) 1 → HasFilled A remaining i before after all new i.over [] 1
+fill-failed A remaining i before after all new is lives same paid more failed =
+    let a = i.automaton.now in
+    let r = read-failed remaining before after (A.built a) (A.Reaches a No) i.start i.pieces.items all i.given.value i.progress i.buffer new i.sums i.over is
+    (lives (since_last (come_by A i)) i.progress.sid is.stands.reads) same paid more failed in
+    record { right = r.0; read = r.1 }
+
+-- a read that gave some bytes
+pub fill-gave : {S R : Type 0} (A : Ghosts S) (remaining : R → Option (List ℕ)) (i : Inside S) (before after : Watched R) (all : List (List ℕ)) (new : Held) (n : ℕ) (held : List ℕ)
+    → IsStreamSearch (A.Reaches i.automaton.now No) (come_by A i) i.start i.progress.sid i.given.value i.buffer i.over → KnowsLive A i.automaton.now
+    → (gave : Filled remaining i.buffer new before after n) → IsRollPaid new → held ≡ new.bytes → all ≡ i.pieces.items ++ drop (length held - n) held ∷ [] → i.progress.from ≤ 18446744073709551615
+    → HasFilled A remaining i before after all new (nat_lt (18446744073709551615 - i.progress.from) (length held)) gave.piece 0
+fill-gave A remaining i before after all new n held is lives gave paid holds more fits =
+    let a = i.automaton.now in
+    let r = read-gave remaining before after (A.built a) (A.Reaches a No) i.start i.pieces.items all i.given.value i.progress i.buffer new i.sums i.over n held is
+    (lives (since_last (come_by A i)) i.progress.sid is.stands.reads) gave paid holds more fits in
+    record { right = r.0; read = r.1 }

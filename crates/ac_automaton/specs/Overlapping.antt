@@ -1,5 +1,5 @@
 -- What an overlapping search still has to show where it stands, and what its calls may cost in total.
-use Rattle.std.specs.Prelude.{◌≡◌, ◌≢◌, ◌⊎◌, ℕ, ◌+◌, ◌-◌, ◌*◌, ◌<◌, ◌≤◌, nat_le, Bool, List, [], ◌∷◌, ◌++◌, map, drop, slice_get, IsTrue, Option, None, Some, Result, Ok, Err, is_some, filter, if◌then◌else◌}
+use Rattle.std.specs.Prelude.{◌≡◌, ◌≢◌, ◌⊎◌, ℕ, ◌+◌, ◌-◌, ◌*◌, ◌<◌, ◌≤◌, nat_le, Bool, false, List, [], ◌∷◌, ◌++◌, map, drop, slice_get, IsTrue, Option, None, Some, Result, Ok, Err, is_some, filter, if◌then◌else◌}
 use Rattle.ac_input.specs.Number.{StateID}
 use Rattle.ac_input.specs.declared.search.Anchored.{Anchored}
 use Rattle.ac_input.specs.declared.search.MatchKind.TheVariants.{Standard}
@@ -84,11 +84,15 @@ abbrev pub IsBehind : ℕ → Position → Type 0
 IsBehind place (At sid from at index) = place < at
 IsBehind place Over = Unit {0}
 
--- How reading on from a place ends: the first of what was left is shown; or the walk is back at the start, and what is left is
--- what occurs from there on.
+-- The search may go on from a start with none of what was read: it isn't anchored, and nothing matches at a start.
+abbrev pub CanRestart : (List ℕ → StateID → Type 0) → (StateID → List ℕ) → Search → Type 0
+CanRestart Reaches matches s = (s.anchored ≡ false) × ((start : StateID) → Reaches [] start → matches start ≡ [])
+
+-- How reading on from a place ends: the first of what was left is shown; or the walk is back at the start, what is left is what
+-- occurs from there on, and the search may go on from a start.
 abbrev pub ReadsOn : (List ℕ → StateID → Type 0) → (StateID → List ℕ) → Dictionary → Search → ℕ → List Occurrence → End Shown → Type 0
 ReadsOn Reaches matches m s at left (Found shown) = ShowsFirst Reaches matches m s left shown × IsBehind at shown.place
-ReadsOn Reaches matches m s at left (Idle to) = (at < to) × (to ≤ s.end) × (left ≡ listing_of (starting_at s to))
+ReadsOn Reaches matches m s at left (Idle to) = (at < to) × (to ≤ s.end) × (left ≡ listing_of (starting_at s to)) × CanRestart Reaches matches s
 
 -- this many looks are paid for where reading on ends
 abbrev pub IsPaidBy : Dictionary → Bool → Search → End Shown → ℕ → Type 0

@@ -1,6 +1,7 @@
 -- What the parts of an overlapping search say about an automaton and an input: what is shown where the search stands, and its
 -- cost.
-use Rattle.std.specs.Prelude.{◌≡◌, ◌⊎◌, ℕ, ◌+◌, ◌<◌, ◌≤◌, List, [], ◌∷◌, ◌++◌, drop, length, Option, None, Some, Result, Ok, Err}
+use Rattle.std.specs.Prelude.{◌≡◌, ◌⊎◌, ℕ, ◌+◌, ◌<◌, ◌≤◌, List, [], ◌∷◌, ◌++◌, drop, length, IfSome, Option, None, Some, Result, Ok, Err}
+use denote.Ref.{Bor}
 use Rattle.ac_input.specs.Number.{StateID}
 use Rattle.ac_input.specs.declared.search.Anchored.{Anchored}
 use Rattle.ac_input.specs.declared.search.Anchored.TheVariants.{No}
@@ -8,12 +9,14 @@ use Rattle.ac_input.specs.declared.search.MatchKind.TheVariants.{Standard}
 use Rattle.ac_input.specs.declared.steps.Steps.{Steps}
 use Rattle.ac_input.specs.Candidate.{Filter}
 use Rattle.ac_input.specs.Computed.{listing_of}
-use Rattle.ac_input.specs.Input.{Asked, is_anchored}
-use Rattle.ac_input.specs.Occurrence.{Occurrence, starting_at}
-use Rattle.ac_input.specs.Steps.{looked_of}
+use Rattle.ac_input.specs.Dictionary.{Dictionary}
+use Rattle.ac_input.specs.Input.{Asked, is_anchored, search_in}
+use Rattle.ac_input.specs.Occurrence.{Search, Occurrence, Occurs, starting_at}
+use Rattle.ac_input.specs.Steps.{looked_of, scanned_of, moved_of}
 use Rattle.ac_automaton.specs.Automaton.{Built, searched, listing_in}
 use Rattle.ac_automaton.specs.Cursor.{counted, walked, StandsIn}
-use Rattle.ac_automaton.specs.Overlapping.{AnswersOverlapping, CameFrom, CanOverlap, IsLeft, IsOverlappingRefusal, IsPaidAt, IsPaidBy, IsPlacePaid, IsSkipCost, KeepsBudget, ReadsOn, ShowsFirst, TellsFirst, ending_from, told_from}
+use Rattle.ac_automaton.specs.Find.{MayGoOnFrom}
+use Rattle.ac_automaton.specs.Overlapping.{AnswersOverlapping, CameFrom, CanOverlap, CanRestart, IsLeft, IsOverlappingRefusal, IsPaidAt, IsPaidBy, IsPlacePaid, IsSkipCost, KeepsBudget, ReadsOn, ShowsFirst, TellsFirst, ending_from, told_from}
 use Rattle.ac_automaton.specs.declared.automaton.Automaton.{Ghosts}
 use Rattle.ac_automaton.specs.declared.error.MatchErrorKind.{MatchErrorKind}
 use Rattle.ac_automaton.specs.declared.overlapping.Beginning.{Beginning}
@@ -47,7 +50,24 @@ PaysAt b asked cursor index shown before after = KeepsPaying b asked (At cursor.
 abbrev pub SkipsAtCost : Built → Asked → ℕ → End Shown → Steps → Steps → Type 0
 SkipsAtCost b asked at end before after = IsSkipCost b.dictionary b.deterministic (searched b asked) at end before after
 
+-- the scans for a candidate, from a place on to an end: the last of them is at most 254 after the candidate
+pub record IsScanFor (at end : ℕ) (found : Option ℕ) (before after : Steps) : Type 0 where
+  pub looked : looked_of after ≡ looked_of before
+  pub within : scanned_of after + at ≤ scanned_of before + end
+  pub near : (place : ℕ) → found ≡ Some place → scanned_of after + at ≤ scanned_of before + place + 255
+  pub moved : moved_of after ≡ moved_of before
+
 -- ---- what is shown
+
+-- where an occurrence may begin: none begins before; none at all if there is no such place
+abbrev pub BeginsAt : Search → Option ℕ → Type 0
+BeginsAt s None = (o : Occurrence) → ¬ Occurs s o
+BeginsAt s (Some at) = MayGoOnFrom s at
+
+-- the same from a place on of an input's search, for the dictionary of the prefilter, if there is one
+abbrev pub BeginsWith : Option (Bor Filter) → Asked → ℕ → Option ℕ → Type 0
+BeginsWith prefilter asked at found =
+    (m : Dictionary) → IfSome prefilter (λ p. p.now.dictionary ≡ m) → BeginsAt (starting_at (search_in m asked) at) found
 
 module _ {S : Type 0} (A : Ghosts S) (automaton : S) where
   -- The first entry of a state's list that counts from an index on, and the index after it. The search reached the state by this
@@ -66,15 +86,16 @@ module _ {S : Type 0} (A : Ghosts S) (automaton : S) where
       pub standard : (A.built automaton).dictionary.kind ≡ Standard
       pub cursor : StandsIn (A.built automaton) (A.Reaches automaton) asked here
 
-    -- it may run the prefilter from a place on, and go on from the start
-    pub record MaySkip (prefilter : Filter) (start : StateID) (at : ℕ) : Type 0 where
+    -- it may go on from the start at a place, by the prefilter if there is one
+    pub record MaySkip (prefilter : Option (Bor Filter)) (start : StateID) (at : ℕ) : Type 0 where
       pub standard : (A.built automaton).dictionary.kind ≡ Standard
-      pub made : prefilter.dictionary ≡ (A.built automaton).dictionary
+      pub made : IfSome prefilter (λ p. p.now.dictionary ≡ (A.built automaton).dictionary)
       pub free : asked.anchored ≡ No
-      pub starts : A.Reaches automaton No [] start
+      pub starts : A.Reaches automaton asked.anchored [] start
       pub empty : A.matches automaton start ≡ []
       pub from : asked.span.start ≤ at
       pub to : at ≤ asked.span.end
+      pub inside : asked.span.end ≤ length asked.haystack
 
     -- what a state has to show from an index of its list on
     abbrev pub ShowsAt : Cursor → ℕ → Option Shown → Type 0
@@ -108,12 +129,15 @@ module _ {S : Type 0} (A : Ghosts S) (automaton : S) where
         ShowsFirstOf (left_for cursor cursor.at) shown
         × ((shown.place ≡ Over) ⊎ ((index : ℕ) × (shown.place ≡ At cursor.sid cursor.from cursor.at index)))
 
-    -- How a search ends where a walk stands: with what is shown there; or the state has no occurrence, and what is left begins
-    -- here or later. None if it goes on: the state has no occurrence.
+    -- How a search ends where a walk stands: with what is shown there; or the state has no occurrence, what is left begins here or
+    -- later, and the search may go on from a start. None if it goes on: the state has no occurrence.
     abbrev pub EndsHere : Cursor → Option (End Shown) → Type 0
     EndsHere cursor None = told_at cursor 0 ≡ []
     EndsHere cursor (Some (Found shown)) = ShowsHere cursor (Some shown)
-    EndsHere cursor (Some (Idle at)) = (at ≡ cursor.at) × (left_for cursor cursor.at ≡ listing_of (starting_at (searched (A.built automaton) asked) cursor.at))
+    EndsHere cursor (Some (Idle at)) =
+        (at ≡ cursor.at)
+        × (left_for cursor cursor.at ≡ listing_of (starting_at (searched (A.built automaton) asked) cursor.at))
+        × CanRestart (A.Reaches automaton asked.anchored) (A.matches automaton) (searched (A.built automaton) asked)
 
     -- the first of what ends after the place where a walk stands is shown; or the walk is back at the start
     abbrev pub ShowsLater : Cursor → End Shown → Type 0

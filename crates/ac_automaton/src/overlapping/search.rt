@@ -3,13 +3,14 @@
 //! A call goes through the rest of the list of the state where the last call stood, and then reads on: to the next state whose
 //! list has something to show, or, with a prefilter, from one candidate to the next.
 ghost use Rattle.std.specs.Prelude.{◌≡◌, ℕ, ◌<◌, ◌≤◌, List, None, [], length, get_or};
+ghost use Rattle.ac_input.specs.declared.search.Anchored.TheVariants.{No};
 ghost use Rattle.ac_input.specs.declared.search.MatchKind.TheVariants.{Standard};
 ghost use Rattle.ac_input.specs.Input.{is_anchored};
 ghost use Rattle.ac_input.specs.Occurrence.{Occurrence};
 ghost use Rattle.ac_automaton.specs.declared.overlapping.Position.TheVariants.{Over};
 ghost use Rattle.ac_automaton.specs.declared.cursor.End.TheVariants.{Found};
 ghost use Rattle.ac_automaton.specs.Overlapping.{OnlyLooked};
-ghost use Rattle.ac_automaton.specs.OverlappingSearch.{AnswersBegin, EndsHere, HasLeft, IsNextEntry, KeepsPaying, MayShow, MaySkip, PaysAt, PaysOn, ShowsAfter, ShowsAt, ShowsFrom, ShowsHere, ShowsLater, ShowsNextAt, ShowsRest, SkipsAtCost};
+ghost use Rattle.ac_automaton.specs.OverlappingSearch.{AnswersBegin, BeginsWith, EndsHere, HasLeft, IsNextEntry, IsScanFor, KeepsPaying, MayShow, MaySkip, PaysAt, PaysOn, ShowsAfter, ShowsAt, ShowsFrom, ShowsHere, ShowsLater, ShowsNextAt, ShowsRest, SkipsAtCost};
 ghost use Rattle.ac_input.specs.Tells.{ending_at};
 ghost use Rattle.ac_automaton.specs.Cursor.{counts};
 
@@ -137,32 +138,8 @@ fn end_at<A: Automaton>(automaton: &A, input: &Input<'_>, cursor: &Cursor) -> Op
     None
 }
 
-/// Reads on from a state to the next one that has something to show, and shows the first of it.
-fn read_to_end<A: Automaton>(
-    automaton: &A,
-    input: &Input<'_>,
-    cursor: Cursor,
-    steps: &mut Steps,
-) -> Shown
-    requires { MayShow A.Automaton automaton.now input.now cursor }
-    ensures reads { ShowsLater A.Automaton automaton.now input.now cursor (Found result) }
-    ensures pays { PaysOn (A.built automaton.now) input.now cursor (Found result)
-        steps.old steps.new }
-    ensures only { OnlyLooked steps.old steps.new }
-{
-    let mut cursor = cursor;
-    loop {
-        if cursor.at == input.end() {
-            return over();
-        }
-        cursor = read_on(automaton, input, cursor, steps);
-        if let Some(shown) = show_at(automaton, input, &cursor) {
-            return shown;
-        }
-    }
-}
-
-/// The same, but it also stops where the walk is back at the start.
+/// Reads on from a state to the next one that has something to show, and shows the first of it. It also stops where the walk is
+/// back at the start.
 fn read_to_start<A: Automaton>(
     automaton: &A,
     input: &Input<'_>,
@@ -186,47 +163,63 @@ fn read_to_start<A: Automaton>(
     }
 }
 
-/// Runs the prefilter on the rest of the span, to find where an occurrence may begin, and reads on from there.
-fn search_from_candidate<A: Automaton>(
-    automaton: &A,
-    prefilter: &Prefilter,
+/// Where an occurrence may begin, from a place on: at the prefilter's candidate, or at the place itself if there is no prefilter.
+fn candidate(
+    prefilter: Option<&Prefilter>,
     input: &Input<'_>,
-    start: StateID,
     at: usize,
     steps: &mut Steps,
-) -> End<Shown>
-    requires { MaySkip A.Automaton automaton.now input.now prefilter.now start at }
-    ensures reads { ShowsFrom A.Automaton automaton.now input.now at result }
-    ensures cost { SkipsAtCost (A.built automaton.now) input.now at result steps.old steps.new }
+) -> Option<usize>
+    requires free { input.now.anchored ≡ No }
+    requires to { at ≤ input.now.span.end }
+    ensures begins { BeginsWith prefilter.entry input.now at result }
+    ensures work { IsScanFor at input.now.span.end result steps.old steps.new }
 {
+    let Some(prefilter) = prefilter else {
+        return Some(at);
+    };
     let rest = Span {
         start: at,
         end: input.end(),
     };
     let candidate = prefilter.find_in_counted(input.haystack(), rest, steps);
-    match candidate.into_option() {
-        None => End::Found(over()),
-        Some(from) => {
-            let cursor = Cursor {
-                sid: start,
-                from,
-                at: from,
-            };
-            read_to_start(automaton, input, cursor, steps)
-        }
-    }
+    candidate.into_option()
+}
+
+/// Reads on from the start, at the first place from which an occurrence may begin.
+fn search_from_candidate<A: Automaton>(
+    automaton: &A,
+    prefilter: Option<&Prefilter>,
+    input: &Input<'_>,
+    start: StateID,
+    at: usize,
+    steps: &mut Steps,
+) -> End<Shown>
+    requires { MaySkip A.Automaton automaton.now input.now prefilter start at }
+    ensures reads { ShowsFrom A.Automaton automaton.now input.now at result }
+    ensures cost { SkipsAtCost (A.built automaton.now) input.now at result steps.old steps.new }
+{
+    let Some(from) = candidate(prefilter, input, at, steps) else {
+        return End::Found(over());
+    };
+    let cursor = Cursor {
+        sid: start,
+        from,
+        at: from,
+    };
+    read_to_start(automaton, input, cursor, steps)
 }
 
 /// Reads on from a place before which no remaining occurrence begins, from one candidate to the next.
 fn search_by_candidates<A: Automaton>(
     automaton: &A,
-    prefilter: &Prefilter,
+    prefilter: Option<&Prefilter>,
     input: &Input<'_>,
     start: StateID,
     at: usize,
     steps: &mut Steps,
 ) -> Shown
-    requires { MaySkip A.Automaton automaton.now input.now prefilter.now start at }
+    requires { MaySkip A.Automaton automaton.now input.now prefilter start at }
     ensures reads { ShowsFrom A.Automaton automaton.now input.now at (Found result) }
     ensures cost { SkipsAtCost (A.built automaton.now) input.now at (Found result)
         steps.old steps.new }
@@ -253,10 +246,8 @@ fn show_later<A: Automaton>(
     ensures shows { ShowsAfter A.Automaton automaton.now input.now cursor result }
     ensures pays { PaysAt (A.built automaton.now) input.now cursor 0 result steps.old steps.new }
 {
-    let Some(prefilter) = usable_prefilter(automaton, input.get_anchored(), start) else {
-        return read_to_end(automaton, input, cursor, steps);
-    };
-    if cursor.at == cursor.from {
+    let prefilter = usable_prefilter(automaton, input.get_anchored(), start);
+    if prefilter.is_some() && cursor.at == cursor.from {
         return search_by_candidates(automaton, prefilter, input, start, cursor.at, steps);
     }
     match read_to_start(automaton, input, cursor, steps) {

@@ -1,5 +1,5 @@
 -- What the prefilter returns for the rest of the span.
-use Rattle.std.proofs.Common.{◌≡◌, ◌≢◌, ◌∙◌, Bool, Some, subst, sym, ap, rules}
+use Rattle.std.proofs.Common.{◌≡◌, ◌∙◌, Bool, Some, subst, sym, ap, rules}
 use Rattle.ac_input.specs.Best.{asked_kind, IsBest}
 use Rattle.ac_input.specs.Candidate.{IsCandidate}
 use Rattle.ac_input.specs.declared.search.MatchKind.{MatchKind}
@@ -33,10 +33,7 @@ returns-else-eq-clause-says g c =
     let asked = c.args.input.now in
     let n = c.args.prefilter.now.dictionary in
     let kind = c.match_kind-kind.result in
-    let early = c.get_earliest.result in
     let same = ahead-same b.dictionary n asked c.haystack.result.now c.args.at c.end.result c.requires.made c.haystack.ensures c.end.ensures.value c.requires.free in
     let kinds : n.kind ≡ kind = ap (λ (m : Dictionary). m.kind) c.requires.made ∙ sym c.match_kind-kind.ensures in
     let is : IsCandidate kind (search_from b asked c.args.at) (candidates.Match c.in-Match.found) = subst (λ (k : MatchKind). IsCandidate k (search_from b asked c.args.at) (candidates.Match c.in-Match.found)) kinds (subst (λ (s : Search). IsCandidate n.kind s (candidates.Match c.in-Match.found)) same c.in-Match.ensures.candidate) in
-    let kind_is : asked_kind kind early ≡ kind_asked b asked = ap (λ (k : MatchKind). asked_kind k early) c.match_kind-kind.ensures ∙ ap (λ (e : Bool). asked_kind b.dictionary.kind e) c.get_earliest.ensures in
-    let other : asked_kind kind early ≢ kind = search rules in
-    rw c.start.ensures.value (match-goes_on kind early (search_from b asked c.args.at) c.in-Match.found is other)
+    rw c.start.ensures.value (match-goes_on kind (search_from b asked c.args.at) c.in-Match.found is)

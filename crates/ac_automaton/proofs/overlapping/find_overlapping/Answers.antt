@@ -1,67 +1,66 @@
 -- The state stands where the search left it, and its sums stay within one walk.
-use Rattle.std.proofs.Common.{rules, ℕ, ◌+◌, List, drop, Option, is_some, if◌then◌else◌, inr, sym, ap, subst, ◌∙◌}
-use Rattle.ac_input.specs.Number.{StateID}
+use Rattle.std.proofs.Common.{rules, ℕ, ◌+◌, drop, Option, is_some, if◌then◌else◌, inr, sym, ap, subst, ◌∙◌}
 use Rattle.ac_input.specs.Computed.{listing_of}
 use Rattle.ac_input.specs.Input.{search_in}
 use Rattle.ac_input.specs.Occurrence.{Occurrence}
 use Rattle.ac_automaton.specs.declared.overlapping.Position.{Position}
 use Rattle.ac_automaton.specs.Overlapping.{DoneAlike, StandsAt, shown_of, sums_of}
 use Rattle.ac_automaton.proofs.OverlappingStateLemmas.{came-stands, stands-after, stands-work, found-after}
+use Rattle.ac_automaton.proofs.overlapping.find_overlapping.Given.{Over}
 use Rattle.ac_automaton.proofs.overlapping.find_overlapping.Goals as goal
+
+-- where the search stood before the call
+before : (g : Over) (c : goal.After-add g)
+    → let a = c.args.automaton.now in
+    let b = g.A.Automaton.built a in
+    let asked = c.args.input.now in
+    StandsAt (g.A.Automaton.Reaches a asked.anchored) (g.A.Automaton.matches a) b.dictionary b.deterministic (search_in b.dictionary asked) c.unwrap_or-place.result (shown_of c.args.state.now) (sums_of c.args.state.now)
+before g c =
+    let a = c.args.automaton.now in
+    let b = g.A.Automaton.built a in
+    let asked = c.args.input.now in
+    let R = g.A.Automaton.Reaches a in
+    let E = g.A.Automaton.matches a in
+    let state = c.args.state.now in
+    let first = came-stands b R E asked state c.in_ok-beginning.beginning.place c.in_ok-beginning.ensures.2 c.in_ok-beginning.ensures.3 c.requires in
+    subst (λ (p : Position). StandsAt (R asked.anchored) E b.dictionary b.deterministic (search_in b.dictionary asked) p (shown_of state) (sums_of state)) (sym c.unwrap_or-place.ensures) first
+
+-- where it stands after the call
+after : (g : Over) (c : goal.After-add g)
+    → let a = c.args.automaton.now in
+    let b = g.A.Automaton.built a in
+    let asked = c.args.input.now in
+    StandsAt (g.A.Automaton.Reaches a asked.anchored) (g.A.Automaton.matches a) b.dictionary b.deterministic (search_in b.dictionary asked) c.advance-shown.result.place (if is_some c.advance-shown.result.found then shown_of c.args.state.now + 1 else shown_of c.args.state.now) (sums_of c.keep.new.self)
+after g c =
+    let n : ℕ = shown_of c.args.state.now in
+    let stands = before g c in
+    let shows = c.advance-shown.ensures.shows (drop n (listing_of (search_in (g.A.Automaton.built c.args.automaton.now).dictionary c.args.input.now))) stands.left in
+    stands-after _ _ _ _ _ c.unwrap_or-place.result n c.advance-shown.result (sums_of c.args.state.now) c.new-done.result c.advance-shown.new.steps (sums_of c.keep.new.self) stands shows c.advance-shown.ensures.pays c.new-done.ensures c.keep.ensures.sums
 
 pub returns-clause-came : goal.returns-clause-came
 returns-clause-came g c =
-    let m = (g.A.Automaton.built c.args.automaton.now).dictionary in
-    let d = (g.A.Automaton.built c.args.automaton.now).deterministic in
+    let a = c.args.automaton.now in
+    let b = g.A.Automaton.built a in
     let asked = c.args.input.now in
-    let s = search_in m asked in
-    let R = g.A.Automaton.Reaches c.args.automaton.now asked.anchored in
-    let E = g.A.Automaton.matches c.args.automaton.now in
-    let state = c.args.state.now in
-    let n : ℕ = shown_of state in
-    let r = c.advance-shown.result in
-    let first = came-stands (g.A.Automaton.built c.args.automaton.now) (g.A.Automaton.Reaches c.args.automaton.now) E asked state c.in_ok-beginning.beginning.place c.in_ok-beginning.ensures.2 c.in_ok-beginning.ensures.3 c.requires in
-    let stands = subst (λ (p : Position). StandsAt R E m d s p n (sums_of state)) (sym c.unwrap_or-place.ensures) first in
-    let shows = c.advance-shown.ensures.shows (drop n (listing_of s)) stands.left in
-    let after = stands-after R E m d s c.unwrap_or-place.result n r (sums_of state) c.new-done.result c.advance-shown.new.steps (sums_of c.keep.new.self) stands shows c.advance-shown.ensures.pays c.new-done.ensures c.keep.ensures.sums in
-    inr (r.place, c.keep.ensures.place, subst (λ (k : ℕ). StandsAt R E m d s r.place k (sums_of c.keep.new.self)) (sym c.keep.ensures.shown) after)
+    let place = c.advance-shown.result.place in
+    inr (place, c.keep.ensures.place, subst (λ (k : ℕ). StandsAt (g.A.Automaton.Reaches a asked.anchored) (g.A.Automaton.matches a) b.dictionary b.deterministic (search_in b.dictionary asked) place k (sums_of c.keep.new.self)) (sym c.keep.ensures.shown) (after g c))
 
 pub returns-clause-answer : goal.returns-clause-answer
 returns-clause-answer g c =
-    let m = (g.A.Automaton.built c.args.automaton.now).dictionary in
-    let d = (g.A.Automaton.built c.args.automaton.now).deterministic in
+    let a = c.args.automaton.now in
+    let b = g.A.Automaton.built a in
     let asked = c.args.input.now in
-    let s = search_in m asked in
-    let R = g.A.Automaton.Reaches c.args.automaton.now asked.anchored in
-    let E = g.A.Automaton.matches c.args.automaton.now in
-    let state = c.args.state.now in
-    let n : ℕ = shown_of state in
-    let r = c.advance-shown.result in
-    let first = came-stands (g.A.Automaton.built c.args.automaton.now) (g.A.Automaton.Reaches c.args.automaton.now) E asked state c.in_ok-beginning.beginning.place c.in_ok-beginning.ensures.2 c.in_ok-beginning.ensures.3 c.requires in
-    let stands = subst (λ (p : Position). StandsAt R E m d s p n (sums_of state)) (sym c.unwrap_or-place.ensures) first in
-    let shows = c.advance-shown.ensures.shows (drop n (listing_of s)) stands.left in (
+    let s = search_in b.dictionary asked in
+    let n : ℕ = shown_of c.args.state.now in
+    let shows = c.advance-shown.ensures.shows (drop n (listing_of s)) (before g c).left in (
       c.in_ok-beginning.ensures.0,
       record {
-        found = c.keep.ensures.found ∙ found-after R E m s n r shows;
+        found = c.keep.ensures.found ∙ found-after (g.A.Automaton.Reaches a asked.anchored) (g.A.Automaton.matches a) b.dictionary s n c.advance-shown.result shows;
         shown = c.keep.ensures.shown ∙ ap (λ (f : Option Occurrence). if is_some f then n + 1 else n) (sym c.keep.ensures.found);
       },
     )
 
 pub returns-clause-cost : goal.returns-clause-cost
 returns-clause-cost g c =
-    let m = (g.A.Automaton.built c.args.automaton.now).dictionary in
-    let d = (g.A.Automaton.built c.args.automaton.now).deterministic in
-    let asked = c.args.input.now in
-    let s = search_in m asked in
-    let R = g.A.Automaton.Reaches c.args.automaton.now asked.anchored in
-    let E = g.A.Automaton.matches c.args.automaton.now in
-    let state = c.args.state.now in
-    let n : ℕ = shown_of state in
-    let r = c.advance-shown.result in
-    let first = came-stands (g.A.Automaton.built c.args.automaton.now) (g.A.Automaton.Reaches c.args.automaton.now) E asked state c.in_ok-beginning.beginning.place c.in_ok-beginning.ensures.2 c.in_ok-beginning.ensures.3 c.requires in
-    let stands = subst (λ (p : Position). StandsAt R E m d s p n (sums_of state)) (sym c.unwrap_or-place.ensures) first in
-    let shows = c.advance-shown.ensures.shows (drop n (listing_of s)) stands.left in
-    let after = stands-after R E m d s c.unwrap_or-place.result n r (sums_of state) c.new-done.result c.advance-shown.new.steps (sums_of c.keep.new.self) stands shows c.advance-shown.ensures.pays c.new-done.ensures c.keep.ensures.sums in
-    let lives = λ (text : List ℕ) (sid : StateID) (reads : R text sid). g.met.A.Automaton.lives c.args.automaton.now asked.anchored text sid reads in
-    let alike : DoneAlike (sums_of state) (sums_of c.keep.new.self) c.args.steps.now c.add.new.self = search rules in
-    (stands-work R E m d s r.place (if is_some r.found then n + 1 else n) (sums_of c.keep.new.self) lives after, alike)
+    let alike : DoneAlike (sums_of c.args.state.now) (sums_of c.keep.new.self) c.args.steps.now c.add.new.self = search rules in
+    (stands-work _ _ _ _ _ c.advance-shown.result.place _ (sums_of c.keep.new.self) (g.met.A.Automaton.lives c.args.automaton.now c.args.input.now.anchored) (after g c), alike)

@@ -1,5 +1,5 @@
 -- Reading on goes by the automaton's own loop, and over places at which no pattern opens.
-use Rattle.std.proofs.Common.{◌≡◌, ◌+◌, ⊎_elim, ℕ, [], sym, refl, ◌∙◌, arith}
+use Rattle.std.proofs.Common.{◌≡◌, ◌+◌, [], sym, refl, ◌∙◌, arith}
 use Rattle.std.proofs.lemmas.Bool.{eqb-true, not-false}
 use Rattle.std.proofs.lemmas.List.{take_rest}
 use Rattle.ac_input.specs.declared.search.Anchored.TheVariants.{No}

@@ -4,10 +4,11 @@ use Rattle.ac_input.specs.declared.search.Anchored.{Anchored}
 use Rattle.ac_input.specs.declared.search.Anchored.TheVariants.{No}
 use Rattle.ac_input.specs.Dictionary.{IsLive}
 use Rattle.ac_input.specs.Input.{is_anchored}
+use Rattle.ac_input.specs.Tells.{Tells}
 use Rattle.ac_automaton.specs.Automaton.{searched}
 use Rattle.ac_automaton.specs.Cursor.{read_to, walked}
 use Rattle.ac_automaton.proofs.OverlappingLemmas.{IsPlace, place_of-cursor}
-use Rattle.ac_automaton.proofs.CandidateLemmas.{ending_from-back, told_from-nil}
+use Rattle.ac_automaton.proofs.CandidateLemmas.{ending_from-back, start-empty, told_from-nil}
 use Rattle.ac_automaton.proofs.overlapping.search.end_at.Goals as goal
 
 pub returns-then-is_back : goal.returns-then-is_back
@@ -25,4 +26,8 @@ returns-then-is_back g c =
     let live : IsLive b.dictionary (is_anchored asked.anchored) text (Some (length text)) = c.is_back.ensures.empty asked.anchored text reads c.if-is_back.true empty in
     let pairs = g.met.A.Automaton.pairs a asked.anchored text cursor.sid reads in
     let place = subst (λ (x : Anchored). IsPlace b.dictionary x t cursor.at) free (place_of-cursor (g.A.Automaton.Reaches a asked.anchored) b.dictionary asked cursor c.requires.standard c.requires.cursor) in
-    (refl, ending_from-back b.dictionary t cursor.at place pairs (subst (λ (x : Anchored). IsLive b.dictionary (is_anchored x) text (Some (length text))) free live))
+    let said = subst (λ (x : Anchored). Tells b.dictionary x text ns) free (g.met.A.Automaton.tells a asked.anchored text cursor.sid reads) in (
+      refl,
+      ending_from-back b.dictionary t cursor.at place pairs (subst (λ (x : Anchored). IsLive b.dictionary (is_anchored x) text (Some (length text))) free live),
+      (ap is_anchored free, λ start begins. start-empty b.dictionary t cursor.at ns (g.A.Automaton.matches a start) place said c.in_default.ensures (subst (λ (x : Anchored). Tells b.dictionary x [] (g.A.Automaton.matches a start)) free (g.met.A.Automaton.tells a asked.anchored [] start begins))),
+    )

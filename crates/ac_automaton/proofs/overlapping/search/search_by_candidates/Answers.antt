@@ -20,6 +20,7 @@ search_from_candidate-requires g c = record {
   empty = c.requires.empty;
   from = omega (arith, c.requires.from, c.loop-shown.invariant.behind);
   to = c.loop-shown.invariant.within;
+  inside = c.requires.inside;
 }
 
 pub returns-in-Found-clause-reads : goal.returns-in-Found-clause-reads

@@ -1,5 +1,5 @@
 -- What the automaton may skip by is what each way asks.
-use Rattle.std.proofs.Common.{sym, subst, arith}
+use Rattle.std.proofs.Common.{sym, subst}
 use Rattle.ac_input.specs.declared.search.Anchored.{Anchored}
 use Rattle.ac_automaton.specs.Automaton.{IsReached}
 use Rattle.ac_automaton.specs.Passing.{ReadsToBy}

@@ -1,122 +1,59 @@
 -- What a read gave is kept after what was held.
-use Rattle.std.proofs.Common.{subst, arith}
+use Rattle.std.proofs.Common.{[], ◌-◌, length, nat_lt, subst, arith}
 use Rattle.std.proofs.lemmas.List.{take_rest}
 use Rattle.ac_input.specs.declared.search.Anchored.TheVariants.{No}
-use Rattle.ac_automaton.specs.StreamSearch.{progress_at, since_last}
 use Rattle.ac_automaton.specs.Stream.{HasRead, StreamProgress}
-use Rattle.ac_automaton.proofs.StreamSearchLemmas.{read-failed, read-gave}
+use Rattle.ac_automaton.proofs.StreamSearchLemmas.{HasFilled, fill-failed, fill-gave, filled_by}
+use Rattle.ac_automaton.proofs.stream.search.StreamSearch.fill.Given.{Over}
 use Rattle.ac_automaton.proofs.stream.search.StreamSearch.fill.Goals as goal
 
-pub invariant_of-self : goal.invariant_of-self
-invariant_of-self g c =
+-- the read failed
+failed : (g : Over) (c : goal.After-self-1 g) → HasFilled g.A.Automaton g.R.Read.remaining c.self.inside c.args.reader.now c.fill.new.reader c.and-self-inside.result.items c.fill.new.self c.self.inside.over [] 1
+failed g c =
     let i = c.self.inside in
-    let a = i.automaton.now in
-    let b = g.A.Automaton.built a in
-    let s : StreamProgress = progress_at b i.pieces.items i.given.value i.progress i.buffer i.sums in
-    let inv = c.self.invariant in
-    let live = g.met.A.Automaton.lives a No (since_last s) i.progress.sid inv.stands.reads in
-    let all = read-failed g.R.Read.remaining c.args.reader.now c.fill.new.reader b (g.A.Automaton.Reaches a No) i.start i.pieces.items c.and-self-inside.result.items i.given.value i.progress i.buffer c.fill.new.self i.sums i.over inv live
-    c.in-Err.ensures.gave.1 c.in-Err.ensures.paid c.and-self-inside.ensures c.in-Err.ensures.gave.0 in
-    all.0
+    fill-failed g.A.Automaton g.R.Read.remaining i c.args.reader.now c.fill.new.reader c.and-self-inside.result.items c.fill.new.self c.self.invariant (g.met.A.Automaton.lives i.automaton.now No) c.in-Err.ensures.gave.1 c.in-Err.ensures.paid c.and-self-inside.ensures c.in-Err.ensures.gave.0
+
+pub invariant_of-self : goal.invariant_of-self
+invariant_of-self g c = (failed g c).right
 
 pub returns-in-Err-clause-read : goal.returns-in-Err-clause-read
-returns-in-Err-clause-read g c =
-    let i = c.self.inside in
-    let a = i.automaton.now in
-    let b = g.A.Automaton.built a in
-    let s : StreamProgress = progress_at b i.pieces.items i.given.value i.progress i.buffer i.sums in
-    let inv = c.self.invariant in
-    let live = g.met.A.Automaton.lives a No (since_last s) i.progress.sid inv.stands.reads in
-    let all = read-failed g.R.Read.remaining c.args.reader.now c.fill.new.reader b (g.A.Automaton.Reaches a No) i.start i.pieces.items c.and-self-inside.result.items i.given.value i.progress i.buffer c.fill.new.self i.sums i.over inv live
-    c.in-Err.ensures.gave.1 c.in-Err.ensures.paid c.and-self-inside.ensures c.in-Err.ensures.gave.0 in
-    subst (λ (t : StreamProgress). HasRead g.R.Read.remaining t (progress_at b c.and-self-inside.result.items i.given.value i.progress c.fill.new.self i.sums) c.args.reader.now c.fill.new.reader _ _) c.self.view_is all.1
+returns-in-Err-clause-read g c = subst (λ (t : StreamProgress). HasRead g.R.Read.remaining t (filled_by g.A.Automaton g.R.Read.remaining c.self.inside c.args.reader.now c.fill.new.reader c.and-self-inside.result.items c.fill.new.self) c.args.reader.now c.fill.new.reader [] 1) c.self.view_is (failed g c).read
 
 pub returns-in-Err-clause-kept : goal.returns-in-Err-clause-kept
-returns-in-Err-clause-kept g c =
+returns-in-Err-clause-kept g c = (failed g c).right.stands.course
+
+-- there are more bytes than places
+past : (g : Over) (c : goal.Then-self g) → HasFilled g.A.Automaton g.R.Read.remaining c.self.inside c.args.reader.now c.fill.new.reader c.and-self-inside-2.result.items c.fill.new.self (nat_lt (18446744073709551615 - c.self.inside.progress.from) (length c.held-held.result.now)) c.in-Ok.ensures.gave.piece 0
+past g c =
     let i = c.self.inside in
-    let a = i.automaton.now in
-    let b = g.A.Automaton.built a in
-    let s : StreamProgress = progress_at b i.pieces.items i.given.value i.progress i.buffer i.sums in
-    let inv = c.self.invariant in
-    let live = g.met.A.Automaton.lives a No (since_last s) i.progress.sid inv.stands.reads in
-    let all = read-failed g.R.Read.remaining c.args.reader.now c.fill.new.reader b (g.A.Automaton.Reaches a No) i.start i.pieces.items c.and-self-inside.result.items i.given.value i.progress i.buffer c.fill.new.self i.sums i.over inv live
-    c.in-Err.ensures.gave.1 c.in-Err.ensures.paid c.and-self-inside.ensures c.in-Err.ensures.gave.0 in
-    all.0.stands.course
+    fill-gave g.A.Automaton g.R.Read.remaining i c.args.reader.now c.fill.new.reader c.and-self-inside-2.result.items c.fill.new.self c.in-Ok.n c.held-held.result.now c.self.invariant (g.met.A.Automaton.lives i.automaton.now No) c.in-Ok.ensures.gave c.in-Ok.ensures.paid c.held-held.ensures (rw take_rest at c.and-self-inside-2.ensures) (omega arith)
 
 pub invariant_of-self-then-self : goal.invariant_of-self-then-self
-invariant_of-self-then-self g c =
-    let i = c.self.inside in
-    let a = i.automaton.now in
-    let b = g.A.Automaton.built a in
-    let s : StreamProgress = progress_at b i.pieces.items i.given.value i.progress i.buffer i.sums in
-    let inv = c.self.invariant in
-    let live = g.met.A.Automaton.lives a No (since_last s) i.progress.sid inv.stands.reads in
-    let more = rw take_rest at c.and-self-inside-2.ensures in
-    let all = read-gave g.R.Read.remaining c.args.reader.now c.fill.new.reader b (g.A.Automaton.Reaches a No) i.start i.pieces.items c.and-self-inside-2.result.items i.given.value i.progress i.buffer c.fill.new.self i.sums i.over c.in-Ok.n c.held-held.result.now inv live
-    c.in-Ok.ensures.gave c.in-Ok.ensures.paid c.held-held.ensures more (omega arith) in
-    all.0
+invariant_of-self-then-self g c = (past g c).right
 
 pub returns-then-self-clause-read : goal.returns-then-self-clause-read
 returns-then-self-clause-read g c =
-    let i = c.self.inside in
-    let a = i.automaton.now in
-    let b = g.A.Automaton.built a in
-    let s : StreamProgress = progress_at b i.pieces.items i.given.value i.progress i.buffer i.sums in
-    let inv = c.self.invariant in
-    let live = g.met.A.Automaton.lives a No (since_last s) i.progress.sid inv.stands.reads in
-    let more = rw take_rest at c.and-self-inside-2.ensures in
-    let all = read-gave g.R.Read.remaining c.args.reader.now c.fill.new.reader b (g.A.Automaton.Reaches a No) i.start i.pieces.items c.and-self-inside-2.result.items i.given.value i.progress i.buffer c.fill.new.self i.sums i.over c.in-Ok.n c.held-held.result.now inv live
-    c.in-Ok.ensures.gave c.in-Ok.ensures.paid c.held-held.ensures more (omega arith) in
-    (all.1.0, subst (λ (t : StreamProgress). HasRead g.R.Read.remaining t (progress_at b c.and-self-inside-2.result.items i.given.value i.progress c.fill.new.self i.sums) c.args.reader.now c.fill.new.reader all.1.0 0) c.self.view_is all.1.1, all.3 c.if-self.true)
+    let piece = c.in-Ok.ensures.gave.piece in
+    let all = past g c in
+    (piece, subst (λ (t : StreamProgress). HasRead g.R.Read.remaining t (filled_by g.A.Automaton g.R.Read.remaining c.self.inside c.args.reader.now c.fill.new.reader c.and-self-inside-2.result.items c.fill.new.self) c.args.reader.now c.fill.new.reader piece 0) c.self.view_is all.read, all.right.uncountable c.if-self.true)
 
 pub returns-then-self-clause-kept : goal.returns-then-self-clause-kept
-returns-then-self-clause-kept g c =
+returns-then-self-clause-kept g c = (past g c).right.stands.course
+
+-- there is a place for each byte
+within : (g : Over) (c : goal.Else-self g) → HasFilled g.A.Automaton g.R.Read.remaining c.self.inside c.args.reader.now c.fill.new.reader c.and-self-inside-2.result.items c.fill.new.self (nat_lt (18446744073709551615 - c.self.inside.progress.from) (length c.held-held.result.now)) c.in-Ok.ensures.gave.piece 0
+within g c =
     let i = c.self.inside in
-    let a = i.automaton.now in
-    let b = g.A.Automaton.built a in
-    let s : StreamProgress = progress_at b i.pieces.items i.given.value i.progress i.buffer i.sums in
-    let inv = c.self.invariant in
-    let live = g.met.A.Automaton.lives a No (since_last s) i.progress.sid inv.stands.reads in
-    let more = rw take_rest at c.and-self-inside-2.ensures in
-    let all = read-gave g.R.Read.remaining c.args.reader.now c.fill.new.reader b (g.A.Automaton.Reaches a No) i.start i.pieces.items c.and-self-inside-2.result.items i.given.value i.progress i.buffer c.fill.new.self i.sums i.over c.in-Ok.n c.held-held.result.now inv live
-    c.in-Ok.ensures.gave c.in-Ok.ensures.paid c.held-held.ensures more (omega arith) in
-    all.0.stands.course
+    fill-gave g.A.Automaton g.R.Read.remaining i c.args.reader.now c.fill.new.reader c.and-self-inside-2.result.items c.fill.new.self c.in-Ok.n c.held-held.result.now c.self.invariant (g.met.A.Automaton.lives i.automaton.now No) c.in-Ok.ensures.gave c.in-Ok.ensures.paid c.held-held.ensures (rw take_rest at c.and-self-inside-2.ensures) (omega arith)
 
 pub invariant_of-self-2 : goal.invariant_of-self-2
-invariant_of-self-2 g c =
-    let i = c.self.inside in
-    let a = i.automaton.now in
-    let b = g.A.Automaton.built a in
-    let s : StreamProgress = progress_at b i.pieces.items i.given.value i.progress i.buffer i.sums in
-    let inv = c.self.invariant in
-    let live = g.met.A.Automaton.lives a No (since_last s) i.progress.sid inv.stands.reads in
-    let more = rw take_rest at c.and-self-inside-2.ensures in
-    let all = read-gave g.R.Read.remaining c.args.reader.now c.fill.new.reader b (g.A.Automaton.Reaches a No) i.start i.pieces.items c.and-self-inside-2.result.items i.given.value i.progress i.buffer c.fill.new.self i.sums i.over c.in-Ok.n c.held-held.result.now inv live
-    c.in-Ok.ensures.gave c.in-Ok.ensures.paid c.held-held.ensures more (omega arith) in
-    all.0
+invariant_of-self-2 g c = (within g c).right
 
 pub returns-clause-read : goal.returns-clause-read
 returns-clause-read g c =
-    let i = c.self.inside in
-    let a = i.automaton.now in
-    let b = g.A.Automaton.built a in
-    let s : StreamProgress = progress_at b i.pieces.items i.given.value i.progress i.buffer i.sums in
-    let inv = c.self.invariant in
-    let live = g.met.A.Automaton.lives a No (since_last s) i.progress.sid inv.stands.reads in
-    let more = rw take_rest at c.and-self-inside-2.ensures in
-    let all = read-gave g.R.Read.remaining c.args.reader.now c.fill.new.reader b (g.A.Automaton.Reaches a No) i.start i.pieces.items c.and-self-inside-2.result.items i.given.value i.progress i.buffer c.fill.new.self i.sums i.over c.in-Ok.n c.held-held.result.now inv live
-    c.in-Ok.ensures.gave c.in-Ok.ensures.paid c.held-held.ensures more (omega arith) in
-    (all.1.0, subst (λ (t : StreamProgress). HasRead g.R.Read.remaining t (progress_at b c.and-self-inside-2.result.items i.given.value i.progress c.fill.new.self i.sums) c.args.reader.now c.fill.new.reader all.1.0 0) c.self.view_is all.1.1, all.1.2, all.2 c.if-self.false)
+    let piece = c.in-Ok.ensures.gave.piece in
+    let all = within g c in
+    (piece, subst (λ (t : StreamProgress). HasRead g.R.Read.remaining t (filled_by g.A.Automaton g.R.Read.remaining c.self.inside c.args.reader.now c.fill.new.reader c.and-self-inside-2.result.items c.fill.new.self) c.args.reader.now c.fill.new.reader piece 0) c.self.view_is all.read, c.in-Ok.ensures.gave.count, all.right.countable c.if-self.false)
 
 pub returns-clause-kept : goal.returns-clause-kept
-returns-clause-kept g c =
-    let i = c.self.inside in
-    let a = i.automaton.now in
-    let b = g.A.Automaton.built a in
-    let s : StreamProgress = progress_at b i.pieces.items i.given.value i.progress i.buffer i.sums in
-    let inv = c.self.invariant in
-    let live = g.met.A.Automaton.lives a No (since_last s) i.progress.sid inv.stands.reads in
-    let more = rw take_rest at c.and-self-inside-2.ensures in
-    let all = read-gave g.R.Read.remaining c.args.reader.now c.fill.new.reader b (g.A.Automaton.Reaches a No) i.start i.pieces.items c.and-self-inside-2.result.items i.given.value i.progress i.buffer c.fill.new.self i.sums i.over c.in-Ok.n c.held-held.result.now inv live
-    c.in-Ok.ensures.gave c.in-Ok.ensures.paid c.held-held.ensures more (omega arith) in
-    all.0.stands.course
+returns-clause-kept g c = (within g c).right.stands.course

@@ -5,8 +5,9 @@
 //! how states and transitions are stored is left to the implementation. All searches are provided methods, proved once from the
 //! trait's clauses and laws, so every automaton that meets them returns the same results.
 //!
-//! A caller who searches needs only `try_find` and its relatives. The methods on states are for those who write a search of their
-//! own: a state comes from `start_state`, `next_state` or `advance` of the same automaton, and each step goes on from there.
+//! A caller who searches needs only `try_find` and its relatives; a function that searches by any automaton asks for
+//! [`Search`](crate::search::Search). The methods on states are for those who write a search of their own: a state comes from
+//! `start_state`, `next_state` or `advance` of the same automaton, and each step goes on from there.
 //!
 //! A search spends nearly all its time in `advance`, which reads on over the states that need nothing but the next byte. So an
 //! automaton implements that method itself, as fast as its tables allow. The provided one looks up one byte after another, for an
@@ -16,9 +17,10 @@ pub mod reference;
 use crate::error::{MatchError, ReplaceError, StreamError};
 use crate::iter::FindIter;
 use crate::overlapping::{FindOverlappingIter, OverlappingState};
+use crate::search::Search;
 use crate::stream::{self, StreamFindIter};
 use crate::watched::Watched;
-use crate::{find, iter, overlapping, replace};
+use crate::{iter, overlapping, replace};
 use ac_input::primitives::{PatternID, StateID};
 use ac_input::search::{Anchored, Input, Match, MatchKind};
 use ac_input::steps::Steps;
@@ -263,6 +265,8 @@ pub trait Automaton {
     /// Returns an error if the automaton has no start for the input's anchoring, and for no other reason.
     /// A caller: `uses::callers::find::first_match`.
     final fn try_find(&self, input: &Input<'_>) -> Result<Option<Match>, MatchError>
+    where
+        Self: Search,
         ensures { AnswersFind (built self.now) (supports self.now) input.now result }
     {
         let mut steps = Steps::new();
@@ -276,10 +280,12 @@ pub trait Automaton {
         input: &Input<'_>,
         steps: &mut Steps,
     ) -> Result<Option<Match>, MatchError>
+    where
+        Self: Search,
         ensures answer { AnswersFind (built self.now) (supports self.now) input.now result }
         ensures cost { CostsFind (built self.now) input.now steps.old steps.new result }
     {
-        find::find(self, input, steps)
+        self.search(input, steps)
     }
 
     /// All matches of the input, one after another: see [`FindIter`]. Returns an error where `try_find` does.
@@ -289,7 +295,7 @@ pub trait Automaton {
         input: Input<'h>,
     ) -> Result<FindIter<'a, 'h, Self>, MatchError>
     where
-        Self: Sized,
+        Self: Sized + Search,
         ensures { AnswersFindIter (built self.now) (supports self.now) input.entry result }
     {
         iter::find_iter(self, input)
@@ -307,6 +313,8 @@ pub trait Automaton {
         input: &Input<'_>,
         state: &mut OverlappingState,
     ) -> Result<(), MatchError>
+    where
+        Self: Search,
         requires { CameFrom (built self.now) (Reaches self.now) (matches self.now) input.now
             state.old }
         ensures came { CameFrom (built self.now) (Reaches self.now) (matches self.now)
@@ -328,7 +336,7 @@ pub trait Automaton {
         input: Input<'h>,
     ) -> Result<FindOverlappingIter<'a, 'h, Self>, MatchError>
     where
-        Self: Sized,
+        Self: Sized + Search,
         ensures { AnswersOverlappingIter (built self.now) (supports self.now) input.entry result }
     {
         overlapping::iter::find_overlapping_iter(self, input)
@@ -347,7 +355,7 @@ pub trait Automaton {
         reader: &'a mut Watched<R>,
     ) -> Result<StreamFindIter<'a, Self, R>, StreamError>
     where
-        Self: Sized,
+        Self: Sized + Search,
         requires { has_ended reader.old ≡ false }
         ensures { AnswersStreamIter (built self.now) (supports self.now) reader.entry result }
     {
@@ -365,6 +373,8 @@ pub trait Automaton {
         haystack: &str,
         replacements: &[&str],
     ) -> Result<String, ReplaceError>
+    where
+        Self: Search,
         requires { length replacements.now ≡ length (built self.now).dictionary.patterns }
         ensures { ReplacesText (built self.now) (supports self.now) haystack.now replacements.now
             result }
@@ -380,6 +390,8 @@ pub trait Automaton {
         haystack: &[u8],
         replacements: &[&[u8]],
     ) -> Result<Vec<u8>, ReplaceError>
+    where
+        Self: Search,
         requires { length replacements.now ≡ length (built self.now).dictionary.patterns }
         ensures { ReplacesBytes (built self.now) (supports self.now) haystack.now replacements.now
             result }
@@ -402,6 +414,7 @@ pub trait Automaton {
         replace_with: F,
     ) -> Result<(), ReplaceError>
     where
+        Self: Search,
         F: FnMut(&Match, &str, &mut String) -> Result<bool, AllocError>,
         requires { IsForMatches F.FnMut (length (built self.now).dictionary.patterns) replace_with }
         ensures { ReplacesTextWith F.FnMut (built self.now) (supports self.now) haystack.now
@@ -420,6 +433,7 @@ pub trait Automaton {
         replace_with: F,
     ) -> Result<(), ReplaceError>
     where
+        Self: Search,
         F: FnMut(&Match, &[u8], &mut Vec<u8>) -> Result<bool, AllocError>,
         requires { IsForMatches F.FnMut (length (built self.now).dictionary.patterns) replace_with }
         ensures { ReplacesBytesWith F.FnMut (built self.now) (supports self.now) haystack.now
@@ -442,6 +456,8 @@ pub trait Automaton {
         writer: &mut Watched<W>,
         replacements: &[&[u8]],
     ) -> Result<(), StreamError>
+    where
+        Self: Search,
         requires open { has_ended reader.old ≡ false }
         requires one_each { length replacements.now
             ≡ length (built self.now).dictionary.patterns }
@@ -465,6 +481,8 @@ pub trait Automaton {
         replacements: &[&[u8]],
         steps: &mut Steps,
     ) -> Result<(), StreamError>
+    where
+        Self: Search,
         requires open { has_ended reader.old ≡ false }
         requires one_each { length replacements.now
             ≡ length (built self.now).dictionary.patterns }
@@ -493,6 +511,7 @@ pub trait Automaton {
         replace_with: F,
     ) -> Result<(), StreamError>
     where
+        Self: Search,
         F: FnMut(&Match, &[u8], &mut Watched<W>) -> Result<(), StreamError>,
         requires open { has_ended reader.old ≡ false }
         requires ready { IsForMatches F.FnMut (length (built self.now).dictionary.patterns)

@@ -15,6 +15,7 @@ ghost use Rattle.ac_automaton.specs.Iter.{AnswersFindIter, GivesPick, CostsPick,
 
 use crate::automaton::Automaton;
 use crate::error::MatchError;
+use crate::search::Search;
 use ac_input::history::Count;
 use ac_input::search::{Input, Match};
 use ac_input::steps::Steps;
@@ -25,7 +26,7 @@ use std::marker::Model;
 /// After its first `None` it always returns `None`, and does nothing.
 /// A caller: `uses::callers::iterate::count_matches`.
 #[derive(Drop)]
-pub struct FindIter<'a, 'h, A: Automaton> {
+pub struct FindIter<'a, 'h, A: Search> {
     automaton: &'a A,
     input: Input<'h>,
     last: Option<usize>,
@@ -33,7 +34,7 @@ pub struct FindIter<'a, 'h, A: Automaton> {
     sums: Steps,
 }
 
-impl<'a, 'h, A: Automaton> Model for FindIter<'a, 'h, A> {
+impl<'a, 'h, A: Search> Model for FindIter<'a, 'h, A> {
     ghost use Rattle.ac_automaton.specs.Iter.{Walk, walk_at, IsOnItsWay};
 
     ghost Value = { Walk };
@@ -46,7 +47,7 @@ impl<'a, 'h, A: Automaton> Model for FindIter<'a, 'h, A> {
 }
 
 /// All matches of the input, one after another.
-pub fn find_iter<'a, 'h, A: Automaton>(
+pub fn find_iter<'a, 'h, A: Search>(
     automaton: &'a A,
     input: Input<'h>,
 ) -> Result<FindIter<'a, 'h, A>, MatchError>
@@ -64,12 +65,12 @@ pub fn find_iter<'a, 'h, A: Automaton>(
 }
 
 /// The match of an input that the automaton supports.
-fn best<A: Automaton>(automaton: &A, input: &Input<'_>, steps: &mut Steps) -> Option<Match>
+fn best<A: Search>(automaton: &A, input: &Input<'_>, steps: &mut Steps) -> Option<Match>
     requires { A.supports automaton.now input.now.anchored }
     ensures found { IsFound (A.built automaton.now) input.now result }
     ensures cost { IsFindCost (A.built automaton.now) input.now steps.old steps.new result }
 {
-    automaton.try_find_counted(input, steps).unwrap()
+    automaton.search(input, steps).unwrap()
 }
 
 /// Whether the match is empty and lies where the last one ended.
@@ -83,7 +84,7 @@ fn repeats(last: Option<usize>, found: &Option<Match>) -> bool
 }
 
 /// The next pick of a walk that stands where the input starts. It may set the input's start one byte further.
-fn next_pick<A: Automaton>(
+fn next_pick<A: Search>(
     automaton: &A,
     input: &mut Input<'_>,
     last: Option<usize>,
@@ -107,7 +108,7 @@ fn next_pick<A: Automaton>(
     best(automaton, input, steps)
 }
 
-impl<'a, 'h, A: Automaton> FindIter<'a, 'h, A> {
+impl<'a, 'h, A: Search> FindIter<'a, 'h, A> {
     /// The next match, as `next` returns it; counts what it does.
     /// A caller: `uses::callers::iterate::pass_matches`.
     pub fn next_counted(&mut self, steps: &mut Steps) -> Option<Match>
@@ -133,7 +134,7 @@ impl<'a, 'h, A: Automaton> FindIter<'a, 'h, A> {
     }
 }
 
-impl<'a, 'h, A: Automaton> Iterator for FindIter<'a, 'h, A> {
+impl<'a, 'h, A: Search> Iterator for FindIter<'a, 'h, A> {
     type Item = Match;
 
     ghost next_gives = { YieldsFirst left_of };

@@ -13,6 +13,7 @@ pub mod look;
 pub mod output;
 pub mod overlapping;
 mod replace;
+pub mod search;
 pub mod skip;
 pub mod starters;
 pub mod stream;

@@ -19,19 +19,20 @@ ghost use Rattle.ac_automaton.specs.OverlappingSearch.{AnswersCall, CameFromCall
 pub mod iter;
 mod search;
 
-use crate::automaton::Automaton;
 use crate::error::MatchError;
+use crate::search::Search;
 use ac_input::history::Count;
 use ac_input::primitives::{PatternID, StateID};
 use ac_input::search::{Input, Match};
 use ac_input::steps::Steps;
 pub use iter::FindOverlappingIter;
-use search::{advance, begin};
+pub(crate) use search::advance;
+use search::begin;
 use std::alloc::AllocError;
 
 /// Where an overlapping search stands between two calls.
 #[derive(Clone, Copy)]
-pub(crate) enum Position {
+pub enum Position {
     /// In this state, which was reached from the start by the bytes between two places. Of its list the matches before `index`
     /// were shown.
     At {
@@ -60,7 +61,7 @@ struct Entry {
 
 /// What a call shows, and where it leaves the search.
 #[derive(Clone, Copy)]
-pub(crate) struct Shown {
+pub struct Shown {
     place: Position,
     found: Option<Match>,
 }
@@ -144,7 +145,7 @@ pub(crate) fn with_found(shown: &Count, found: &Option<Match>) -> Count
 ///
 /// All calls with one state together look at the states of one walk over the span. Returns an error if the automaton has no start
 /// for the input's anchoring, or isn't of the standard kind; the state is then unchanged.
-pub fn find_overlapping<A: Automaton>(
+pub fn find_overlapping<A: Search>(
     automaton: &A,
     input: &Input<'_>,
     state: &mut OverlappingState,
@@ -159,7 +160,7 @@ pub fn find_overlapping<A: Automaton>(
     let beginning = begin(automaton, input)?;
     let place = state.place.unwrap_or(beginning.place);
     let mut done = Steps::new();
-    let shown = advance(automaton, input, beginning.start, place, &mut done);
+    let shown = automaton.search_overlapping(input, beginning.start, place, &mut done);
     state.keep(shown, &done);
     steps.add(&done);
     Ok(())

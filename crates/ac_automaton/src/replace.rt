@@ -13,11 +13,12 @@ ghost use Rattle.ac_automaton.specs.Replace.{IsForMatches, TakesMatches, Replies
 use crate::automaton::Automaton;
 use crate::error::ReplaceError;
 use crate::iter::FindIter;
+use crate::search::Search;
 use ac_input::search::{Anchored, Input, Match};
 use std::alloc::{AllocError, Global};
 
 /// The haystack with each match replaced by the replacement of its pattern.
-pub fn replace_all_bytes<A: Automaton>(
+pub fn replace_all_bytes<A: Search>(
     automaton: &A,
     alloc: Global,
     haystack: &[u8],
@@ -47,7 +48,7 @@ fn is_whole(text: &str, found: &Match) -> bool
 }
 
 /// The next match that begins and ends between characters of the text.
-fn next_whole<A: Automaton>(matches: &mut FindIter<'_, '_, A>, text: &str) -> Option<Match>
+fn next_whole<A: Search>(matches: &mut FindIter<'_, '_, A>, text: &str) -> Option<Match>
     ensures gives { YieldsFirst (text_left_of text.now) matches.old result matches.new }
     ensures whole { IfSome result (λ found. IsTrue (cuts_none text.now found)) }
 {
@@ -60,7 +61,7 @@ fn next_whole<A: Automaton>(matches: &mut FindIter<'_, '_, A>, text: &str) -> Op
 }
 
 /// The text with each match that cuts no character replaced by the replacement of its pattern.
-pub fn replace_all<A: Automaton>(
+pub fn replace_all<A: Search>(
     automaton: &A,
     alloc: Global,
     haystack: &str,
@@ -84,7 +85,7 @@ pub fn replace_all<A: Automaton>(
 
 /// Appends the haystack to the destination, and in place of each match what the closure appends. Once the closure returns `false`
 /// it is not called again, and the rest is copied.
-pub fn replace_all_with_bytes<A: Automaton, F>(
+pub fn replace_all_with_bytes<A: Search, F>(
     automaton: &A,
     haystack: &[u8],
     dst: &mut Vec<u8>,
@@ -126,7 +127,7 @@ where
 
 /// Appends the text to the destination, and in place of each match that cuts no character what the closure appends. Once the
 /// closure returns `false` it is not called again, and the rest is copied.
-pub fn replace_all_with<A: Automaton, F>(
+pub fn replace_all_with<A: Search, F>(
     automaton: &A,
     haystack: &str,
     dst: &mut String,

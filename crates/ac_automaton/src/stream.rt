@@ -20,12 +20,14 @@ pub(crate) mod replace;
 pub(crate) mod replace_with;
 mod search;
 
-use crate::automaton::Automaton;
 use crate::error::StreamError;
+use crate::search::Search;
 use crate::watched::Watched;
 use ac_input::search::Match;
 use ac_input::steps::Steps;
 use search::StreamSearch;
+pub(crate) use search::search as search_held;
+pub use search::{Progress, Searched};
 use std::alloc::Global;
 use std::io::Read;
 
@@ -34,7 +36,7 @@ use std::io::Read;
 ///
 /// After its first error, and after its first `None`, it always returns `None`, and never calls the reader again.
 #[derive(Drop)]
-pub struct StreamFindIter<'a, A: Automaton, R> {
+pub struct StreamFindIter<'a, A: Search, R> {
     stream: StreamSearch<'a, A>,
     reader: &'a mut Watched<R>,
 }
@@ -55,7 +57,7 @@ enum Turn {
 /// the reader is the first parameter. Call this one where your own contract speaks of the reader: it says that the reader is
 /// unchanged if the search returns an error. A contract can say what becomes of a borrowed value only for the first parameter.
 /// A caller: `uses::callers::stream::first_match`.
-pub fn stream_find_iter<'a, A: Automaton, R>(
+pub fn stream_find_iter<'a, A: Search, R>(
     reader: &'a mut Watched<R>,
     automaton: &'a A,
     alloc: Global,
@@ -70,7 +72,7 @@ pub fn stream_find_iter<'a, A: Automaton, R>(
 }
 
 /// The next match of what was read; or one read, if there is none.
-fn search_or_read<A: Automaton, R: Read>(
+fn search_or_read<A: Search, R: Read>(
     stream: &mut StreamSearch<'_, A>,
     reader: &mut Watched<R>,
     steps: &mut Steps,
@@ -91,7 +93,7 @@ fn search_or_read<A: Automaton, R: Read>(
     }
 }
 
-impl<'a, A: Automaton, R: Read> StreamFindIter<'a, A, R> {
+impl<'a, A: Search, R: Read> StreamFindIter<'a, A, R> {
     /// The reader, as the search left it.
     ///
     /// A caller whose own contract speaks of the reader ends the search this way. If the search is dropped, the reader is the
@@ -132,7 +134,7 @@ impl<'a, A: Automaton, R: Read> StreamFindIter<'a, A, R> {
     }
 }
 
-impl<'a, A: Automaton, R: Read> Iterator for StreamFindIter<'a, A, R> {
+impl<'a, A: Search, R: Read> Iterator for StreamFindIter<'a, A, R> {
     ghost use Rattle.ac_automaton.specs.Stream.{IsOnCourse};
     ghost use Rattle.ac_automaton.specs.StreamIter.{GivesItem, progress_of};
 

@@ -4,7 +4,7 @@ use Rattle.std.specs.Prelude.{◌==◌, if◌then◌else◌}
 use Rattle.std.proofs.lemmas.Bool.{cases_lt, cases_eq, eqb-true, eq-eqb, false≢true}
 use Rattle.ac_input.specs.declared.search.Anchored.TheVariants.{No}
 use Rattle.ac_input.specs.Candidate.{Filter}
-use Rattle.ac_input.specs.Dictionary.{Dictionary, IsLive}
+use Rattle.ac_input.specs.Dictionary.{IsLive}
 use Rattle.ac_input.specs.Opening.{NoneIsShorter}
 use Rattle.ac_input.proofs.SameLemmas.{own_inverse-pairing}
 use Rattle.ac_automaton.specs.Held.{last_special_of}

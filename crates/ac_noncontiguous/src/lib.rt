@@ -12,6 +12,7 @@ pub use ac_automaton::automaton::{Advance, Automaton};
 pub use ac_automaton::error::{MatchError, MatchErrorKind, ReplaceError, StreamError};
 pub use ac_automaton::iter::FindIter;
 pub use ac_automaton::overlapping::{FindOverlappingIter, OverlappingState};
+pub use ac_automaton::search::Search;
 pub use ac_automaton::stream::StreamFindIter;
 pub use ac_automaton::watched::{Watched, write_whole};
 pub use ac_input::alphabet::ByteClasses;

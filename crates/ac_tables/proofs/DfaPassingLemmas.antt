@@ -1,7 +1,7 @@
 -- What a DFA passes in the start: places at which no pattern opens.
-use Rattle.std.proofs.Common.{◌≡◌, ⊎_elim, inl, ℕ, suc, ◌+◌, ◌<◌, ◌≤◌, Bool, true, false, IsTrue, List, [], ◌∷◌, ◌++◌, Option, None, Some, refl, subst, ◌∙◌, arith}
+use Rattle.std.proofs.Common.{◌≡◌, ⊎_elim, inl, ℕ, suc, ◌+◌, ◌<◌, ◌≤◌, true, false, IsTrue, List, [], ◌∷◌, ◌++◌, Option, None, Some, refl, subst, ◌∙◌, arith}
 use Rattle.std.specs.Coded.{le_prop}
-use Rattle.std.specs.Prelude.{slice_index, IfSome}
+use Rattle.std.specs.Prelude.{slice_index}
 use Rattle.std.proofs.Math.Logic.{∥∥₁_elim, ∥∥₁_map, ∥∥₁_prop}
 use Rattle.std.proofs.lemmas.Bool.{cases_eq}
 use Rattle.std.proofs.lemmas.List.{append_assoc}
@@ -11,18 +11,17 @@ use Rattle.ac_input.specs.declared.search.StartKind.{StartKind}
 use Rattle.ac_input.specs.declared.search.StartKind.TheVariants.{Both, Unanchored, Anchored}
 use Rattle.ac_input.specs.Candidate.{Filter}
 use Rattle.ac_input.specs.Dfa.{Serves}
-use Rattle.ac_input.specs.Dictionary.{Dictionary, IsLive}
+use Rattle.ac_input.specs.Dictionary.{IsLive}
 use Rattle.ac_input.specs.Opening.{NoneIsShorter}
 use Rattle.ac_automaton.specs.Automaton.{IsReached, Leads}
 use Rattle.ac_automaton.specs.Held.{last_special_of}
-use Rattle.ac_automaton.specs.Passing.{AreOpenedBy, MayPass, MayReadBy}
+use Rattle.ac_automaton.specs.Passing.{MayPass, MayReadBy}
 use Rattle.ac_automaton.proofs.CursorLemmas.{leads-none}
 use Rattle.ac_automaton.proofs.NamedPassingLemmas.{may-pass}
 use Rattle.ac_automaton.proofs.PassingLemmas.{StopsBefore, may-read}
 use Rattle.ac_automaton.proofs.ReadOnLemmas.{between}
 use Rattle.ac_automaton.specs.declared.look.Between.{Between}
 use Rattle.ac_automaton.specs.declared.look.LookUp.{Ghosts}
-use Rattle.ac_literal.specs.declared.openings.Openings.{Openings}
 use Rattle.ac_tables.specs.declared.dfa.DFA.{DFA}
 use Rattle.ac_tables.specs.declared.dfa.table.Table.{Table}
 use Rattle.ac_tables.specs.DfaReads.{dfa_dictionary, dfa_built_as, dfa_matches_at, is_dfa_start_at, is_dfa_special_at, IsNamingFor, IsDfaRead}

@@ -19,7 +19,7 @@ use crate::error::RunError;
 use crate::matches::Matches;
 use crate::rules::Rules;
 use crate::settings::{Engine, Mode, Settings, is_streamed};
-use ac_automaton::automaton::Automaton;
+use ac_automaton::search::Search;
 use ac_input::search::{Input, MatchKind};
 use ac_literal::packed::{self, Config, Searcher};
 use aho_corasick::{AhoCorasick, AhoCorasickBuilder, AhoCorasickKind};
@@ -40,13 +40,13 @@ enum Finder<A> {
 
 /// What is settled before the input is read. A contract sees the settings and the rules.
 #[derive(Drop)]
-pub struct Prepared<A: Automaton> {
+pub struct Prepared<A: Search> {
     settings: Settings,
     rules: Rules,
     finder: Finder<A>,
 }
 
-impl<A: Automaton> Model for Prepared<A> {
+impl<A: Search> Model for Prepared<A> {
     ghost use Rattle.acsub.specs.Finder.{IsFinderOf};
     ghost use Rattle.acsub.specs.Plan.{Plan};
 
@@ -57,7 +57,7 @@ impl<A: Automaton> Model for Prepared<A> {
     ghost invariant = { λ p. IsFinderOf A.built A.supports p.settings p.rules p.finder };
 }
 
-impl<A: Automaton> Prepared<A> {
+impl<A: Search> Prepared<A> {
     /// The settings and rules, and what was made for them.
     fn new(settings: &Settings, rules: Rules, finder: Finder<A>) -> Prepared<A>
         requires { IsFinderOf A.built A.supports settings.now rules finder }

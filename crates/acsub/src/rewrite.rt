@@ -10,15 +10,15 @@ ghost use Rattle.acsub.specs.Sending.{SendsList, SendsReplaced};
 use crate::line::Line;
 use crate::matches::Matches;
 use crate::rules::Rules;
-use ac_automaton::automaton::Automaton;
 use ac_automaton::error::StreamError;
 use ac_automaton::output::Output;
+use ac_automaton::search::Search;
 use ac_automaton::watched::Watched;
 use ac_input::steps::Steps;
 use std::io::Write;
 
 /// Sends the input with each pick replaced.
-pub fn send_replaced<A: Automaton, W: Write>(
+pub fn send_replaced<A: Search, W: Write>(
     picks: &mut Matches<'_, A>,
     input: &[u8],
     rules: &Rules,
@@ -44,7 +44,7 @@ pub fn send_replaced<A: Automaton, W: Write>(
 }
 
 /// Sends a line for each match.
-pub fn send_list<A: Automaton, W: Write>(
+pub fn send_list<A: Search, W: Write>(
     matches: &mut Matches<'_, A>,
     output: &mut Output,
     writer: &mut Watched<W>,

@@ -26,9 +26,9 @@ use crate::rewrite::{send_list, send_replaced};
 use crate::rules::{RuleError, Rules, read_rules};
 use crate::settings::{Mode, Settings, check};
 use crate::stream::{stream_text, told};
-use ac_automaton::automaton::Automaton;
 use ac_automaton::error::StreamError;
 use ac_automaton::output::Output;
+use ac_automaton::search::Search;
 use ac_automaton::watched::Watched;
 use ac_input::steps::Steps;
 use std::alloc::Global;
@@ -113,7 +113,7 @@ fn accept(alloc: Global, settings: &Settings, bytes: &[u8]) -> Result<Rules, Run
 }
 
 /// Reads the input, and writes its text, while it reads where that may be.
-fn transform<A: Automaton, R: Read, W: Write>(
+fn transform<A: Search, R: Read, W: Write>(
     alloc: Global,
     prepared: &Prepared<A>,
     reader: &mut Watched<R>,
@@ -135,7 +135,7 @@ fn transform<A: Automaton, R: Read, W: Write>(
 }
 
 /// Reads the whole input, and writes its text then.
-fn transform_held<A: Automaton, R: Read, W: Write>(
+fn transform_held<A: Search, R: Read, W: Write>(
     alloc: Global,
     prepared: &Prepared<A>,
     reader: &mut Watched<R>,
@@ -158,7 +158,7 @@ fn transform_held<A: Automaton, R: Read, W: Write>(
 }
 
 /// Writes the text of an input.
-fn write_text<A: Automaton, W: Write>(
+fn write_text<A: Search, W: Write>(
     prepared: &Prepared<A>,
     input: &[u8],
     output: &mut Output,
@@ -175,7 +175,7 @@ fn write_text<A: Automaton, W: Write>(
 }
 
 /// Sends the text that a mode makes of the whole input.
-fn send_text<A: Automaton, W: Write>(
+fn send_text<A: Search, W: Write>(
     prepared: &Prepared<A>,
     input: &[u8],
     output: &mut Output,

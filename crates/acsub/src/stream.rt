@@ -16,8 +16,8 @@ ghost use Rattle.acsub.specs.declared.settings.Mode.TheVariants.{Replace};
 use crate::error::RunError;
 use crate::prepared::Prepared;
 use crate::settings::Mode;
-use ac_automaton::automaton::Automaton;
 use ac_automaton::error::StreamError;
+use ac_automaton::search::Search;
 use ac_automaton::watched::Watched;
 use ac_input::steps::Steps;
 use std::alloc::Global;
@@ -28,7 +28,7 @@ mod list;
 use list::stream_list;
 
 /// Reads the input, and writes its text while it reads.
-pub fn stream_text<A: Automaton, R: Read, W: Write>(
+pub fn stream_text<A: Search, R: Read, W: Write>(
     alloc: Global,
     prepared: &Prepared<A>,
     engine: &A,
@@ -54,7 +54,7 @@ pub fn stream_text<A: Automaton, R: Read, W: Write>(
 }
 
 /// Writes the input with each match replaced.
-pub(crate) fn stream_replaced<A: Automaton, R: Read, W: Write>(
+pub(crate) fn stream_replaced<A: Search, R: Read, W: Write>(
     alloc: Global,
     prepared: &Prepared<A>,
     engine: &A,

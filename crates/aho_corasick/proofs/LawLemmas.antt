@@ -1,5 +1,5 @@
 -- That packed search walks as an automaton does.
-use Rattle.std.proofs.Common.{◌≡◌, ℕ, List, None, [], ap, sym, refl, ◌∙◌}
+use Rattle.std.proofs.Common.{ℕ, List, None, [], ap, sym, refl, ◌∙◌}
 use Rattle.ac_input.specs.declared.search.MatchKind.{MatchKind}
 use Rattle.ac_input.specs.Computed.{walk_of}
 use Rattle.ac_input.proofs.UnpairedLemmas.{walk_after-unpaired}

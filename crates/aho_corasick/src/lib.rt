@@ -8,8 +8,8 @@
 //! - [`nfa::contiguous::NFA`] takes the least memory.
 //! - [`dfa::DFA`] searches fastest, and takes the most memory.
 //!
-//! They can be used directly too, by the trait [`automaton::Automaton`], which [`AhoCorasick`] implements as well. [`packed`] is
-//! another way to search, for a few patterns.
+//! They can be used directly too, by the trait [`automaton::Automaton`], which [`AhoCorasick`] implements as well. A function
+//! that searches by any of them asks for [`automaton::Search`]. [`packed`] is another way to search, for a few patterns.
 #![tactic(auto)]
 
 pub mod ahocorasick;

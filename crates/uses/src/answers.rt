@@ -6,7 +6,7 @@ use crate::engines::{Asked, Pick, pairing, pick};
 use ac_input::search::{Anchored, Input, Match, MatchKind};
 use ac_input::steps::Steps;
 use ac_literal::packed::{self, Config, Searcher};
-use ac_noncontiguous::{Automaton, FindIter, OverlappingState};
+use ac_noncontiguous::{FindIter, OverlappingState, Search};
 use ac_plain::plain::{Found, Naive};
 use std::alloc::{AllocError, Global};
 use std::fmt::Debug;
@@ -130,7 +130,7 @@ pub fn searcher(
 }
 
 /// Asserts that one call of an overlapping search after another shows these, and then none for good.
-pub fn shows_in_turn<T: Abort, A: Automaton>(
+pub fn shows_in_turn<T: Abort, A: Search>(
     rt: &T,
     automaton: &A,
     input: &Input<'_>,
@@ -147,7 +147,7 @@ pub fn shows_in_turn<T: Abort, A: Automaton>(
 }
 
 /// Asserts that a walk that counts what it does gives these, and then none for good.
-pub fn walks_on<T: Abort, A: Automaton>(rt: &T, matches: &mut FindIter<'_, '_, A>, want: &[Pick]) {
+pub fn walks_on<T: Abort, A: Search>(rt: &T, matches: &mut FindIter<'_, '_, A>, want: &[Pick]) {
     let mut steps = Steps::new();
     for at in 0..want.len() + 2 {
         let found = matches.next_counted(&mut steps);

@@ -6,7 +6,7 @@ use crate::answers::same;
 use crate::engines::{Asked, Case, Letters, all, serves};
 use ac_input::primitives::{PatternID, StateID};
 use ac_input::search::{Anchored, MatchKind, StartKind};
-use ac_noncontiguous::Automaton;
+use ac_noncontiguous::Search;
 use std::alloc::{AllocError, Global};
 use std::process::Abort;
 use std::test::Fail;
@@ -24,7 +24,7 @@ struct Row {
 }
 
 /// The state to which a text leads.
-fn reached<A: Automaton>(automaton: &A, anchored: Anchored, text: &[u8]) -> Option<StateID>
+fn reached<A: Search>(automaton: &A, anchored: Anchored, text: &[u8]) -> Option<StateID>
     ensures { IfSome result (IsState (A.Reaches automaton.now)) }
 {
     let mut sid = automaton.start_state(anchored).ok()?;
@@ -35,7 +35,7 @@ fn reached<A: Automaton>(automaton: &A, anchored: Anchored, text: &[u8]) -> Opti
 }
 
 /// The patterns that match at a state.
-fn matches_at<A: Automaton>(
+fn matches_at<A: Search>(
     alloc: Global,
     automaton: &A,
     sid: StateID,
@@ -52,7 +52,7 @@ fn matches_at<A: Automaton>(
 }
 
 /// Asserts what the state says; it is special where a search has more to do than to read on.
-fn says<T: Abort, A: Automaton>(rt: &T, automaton: &A, sid: StateID, row: &Row)
+fn says<T: Abort, A: Search>(rt: &T, automaton: &A, sid: StateID, row: &Row)
     requires { IsState (A.Reaches automaton.now) sid }
 {
     let matches = !row.matches.is_empty();
@@ -80,7 +80,7 @@ impl Case for Row {
         }
     }
 
-    fn check<T: Abort, A: Automaton>(
+    fn check<T: Abort, A: Search>(
         &self,
         rt: &T,
         alloc: Global,
@@ -225,7 +225,7 @@ struct Lengths {
 }
 
 /// How many bytes the pattern of this number has.
-fn length_of<A: Automaton>(automaton: &A, number: usize) -> Option<usize> {
+fn length_of<A: Search>(automaton: &A, number: usize) -> Option<usize> {
     let pattern = PatternID::new(number).ok()?;
     if number < automaton.patterns_len() {
         Some(automaton.pattern_len(pattern))
@@ -235,7 +235,7 @@ fn length_of<A: Automaton>(automaton: &A, number: usize) -> Option<usize> {
 }
 
 /// How many bytes each pattern has.
-fn each_length<A: Automaton>(alloc: Global, automaton: &A) -> Result<Vec<usize>, AllocError> {
+fn each_length<A: Search>(alloc: Global, automaton: &A) -> Result<Vec<usize>, AllocError> {
     (0..automaton.patterns_len())
         .filter_map(|number| length_of(automaton, number))
         .collect(alloc)
@@ -250,7 +250,7 @@ impl Case for Lengths {
         }
     }
 
-    fn check<T: Abort, A: Automaton>(
+    fn check<T: Abort, A: Search>(
         &self,
         rt: &T,
         alloc: Global,

@@ -11,7 +11,7 @@ use ac_input::search::StartKind::{Both, Unanchored};
 use ac_input::search::{Anchored, Match, MatchKind, StartKind};
 use ac_noncontiguous::builder::Builder;
 use ac_noncontiguous::nfa::NFA;
-use ac_noncontiguous::{Automaton, BuildError, BuildErrorKind};
+use ac_noncontiguous::{BuildError, BuildErrorKind, Search};
 use ac_tables::{contiguous, dfa};
 use aho_corasick::AhoCorasickKind::{ContiguousNFA, DFA, NoncontiguousNFA};
 use aho_corasick::{AhoCorasickBuilder, AhoCorasickKind};
@@ -125,7 +125,7 @@ pub trait Case {
     }
 
     /// Asserts what the row says of an automaton that has these starts.
-    fn check<T: Abort, A: Automaton>(
+    fn check<T: Abort, A: Search>(
         &self,
         rt: &T,
         alloc: Global,

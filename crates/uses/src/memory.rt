@@ -9,7 +9,7 @@ use ac_input::search::StartKind::{self, Both};
 use ac_input::search::{Anchored, Input, MatchKind, Span};
 use ac_literal::packed::{self, Builder, Searcher};
 use ac_literal::prefilter::{Prefilter, PrefilterBuilder};
-use ac_noncontiguous::{Automaton, BuildError, BuildErrorKind, NFA};
+use ac_noncontiguous::{Automaton, BuildError, BuildErrorKind, NFA, Search};
 use ac_tables::{contiguous, dfa};
 use std::alloc::Global;
 use std::process::Abort;
@@ -18,7 +18,7 @@ use std::test::Fail;
 const PATTERNS: &[&[u8]] = &[b"b", b"abc", b"abcd"];
 
 /// Asserts what the automaton of the patterns finds, which has these starts.
-fn is_whole<T: Abort, A: Automaton>(rt: &T, automaton: &A, starts: StartKind) {
+fn is_whole<T: Abort, A: Search>(rt: &T, automaton: &A, starts: StartKind) {
     let (anchored, want) = match starts {
         StartKind::Both | StartKind::Unanchored => (Anchored::No, (0, 1, 2)),
         StartKind::Anchored => (Anchored::Yes, (1, 0, 3)),
@@ -113,7 +113,7 @@ impl Case for Built {
         true
     }
 
-    fn check<T: Abort, A: Automaton>(
+    fn check<T: Abort, A: Search>(
         &self,
         rt: &T,
         _alloc: Global,

@@ -3,7 +3,7 @@ use crate::answers::same;
 use crate::engines::{Asked, Case, Letters, all};
 use crate::front::{OwnCase, each_own};
 use ac_input::search::{Anchored, Input, MatchKind, StartKind};
-use ac_noncontiguous::{Automaton, MatchError, MatchErrorKind, OverlappingState, ReplaceError};
+use ac_noncontiguous::{MatchError, MatchErrorKind, OverlappingState, ReplaceError, Search};
 use aho_corasick::AhoCorasick;
 use std::alloc::Global;
 use std::process::Abort;
@@ -33,7 +33,7 @@ fn reason(error: MatchError) -> MatchErrorKind {
 }
 
 /// The error of a search by each call.
-fn refusals_of<A: Automaton>(automaton: &A, input: &Input<'_>) -> Result<Refusals, Fail> {
+fn refusals_of<A: Search>(automaton: &A, input: &Input<'_>) -> Result<Refusals, Fail> {
     let mut state = OverlappingState::start();
     let overlap = automaton.try_find_overlapping(input, &mut state).err();
     Ok(Refusals {
@@ -100,7 +100,7 @@ fn unstarted(starts: StartKind) -> Option<MatchErrorKind> {
 }
 
 /// The error of a replacement, other than for memory.
-fn replacing<A: Automaton>(automaton: &A, alloc: Global) -> Option<MatchErrorKind> {
+fn replacing<A: Search>(automaton: &A, alloc: Global) -> Option<MatchErrorKind> {
     let mut dst = Vec::new(alloc);
     match automaton.try_replace_all_with_bytes(alloc, b"a", &mut dst, |_, _, _| Ok(true)) {
         Err(ReplaceError::Match(error)) => Some(reason(error)),
@@ -110,7 +110,7 @@ fn replacing<A: Automaton>(automaton: &A, alloc: Global) -> Option<MatchErrorKin
 
 /// Asserts the error of a search, also of one that would be over at once. A replacement, which is never anchored, fails exactly if
 /// there is no start for it.
-fn is_refused<T: Abort, A: Automaton>(
+fn is_refused<T: Abort, A: Search>(
     rt: &T,
     alloc: Global,
     automaton: &A,
@@ -133,7 +133,7 @@ impl Case for Row {
         }
     }
 
-    fn check<T: Abort, A: Automaton>(
+    fn check<T: Abort, A: Search>(
         &self,
         rt: &T,
         alloc: Global,

@@ -7,7 +7,7 @@ use crate::engines::Letters::{self, Cased, Folded};
 use crate::engines::{Asked, Case, ENGINES, Engine, FEW, FIRST, Pick, each};
 use crate::rows::{Row, hold, table_of};
 use ac_input::search::{Input, MatchKind, StartKind};
-use ac_noncontiguous::Automaton;
+use ac_noncontiguous::Search;
 use std::alloc::{AllocError, Global};
 use std::process::Abort;
 use std::test::Fail;
@@ -299,7 +299,7 @@ impl Case for Endless<'_> {
         }
     }
 
-    fn check<T: Abort, A: Automaton>(
+    fn check<T: Abort, A: Search>(
         &self,
         rt: &T,
         _alloc: Global,

@@ -10,7 +10,7 @@ use crate::front::{OwnCase, all_own};
 use ac_automaton::error::ReplaceError;
 use ac_input::search::MatchKind::{LeftmostFirst, LeftmostLongest, Standard};
 use ac_input::search::{Anchored, Match, MatchKind, StartKind};
-use ac_noncontiguous::Automaton;
+use ac_noncontiguous::Search;
 use aho_corasick::AhoCorasick;
 use std::alloc::{AllocError, Global};
 use std::process::Abort;
@@ -62,7 +62,7 @@ fn exchanged<'a>(
 }
 
 /// Appends the text, with a closure that appends the replacement of each match's pattern.
-pub fn append<A: Automaton>(
+pub fn append<A: Search>(
     automaton: &A,
     alloc: Global,
     text: &str,
@@ -83,7 +83,7 @@ pub fn append<A: Automaton>(
 }
 
 /// The same among bytes.
-pub fn append_bytes<A: Automaton>(
+pub fn append_bytes<A: Search>(
     automaton: &A,
     alloc: Global,
     bytes: &[u8],
@@ -105,7 +105,7 @@ pub fn append_bytes<A: Automaton>(
 
 impl Row {
     /// Asserts what is made by a list.
-    fn is_made<T: Abort, A: Automaton>(
+    fn is_made<T: Abort, A: Search>(
         &self,
         rt: &T,
         alloc: Global,
@@ -128,7 +128,7 @@ impl Row {
     }
 
     /// Asserts what is made by a closure.
-    fn is_appended<T: Abort, A: Automaton>(
+    fn is_appended<T: Abort, A: Search>(
         &self,
         rt: &T,
         alloc: Global,
@@ -174,7 +174,7 @@ impl Case for Row {
         }
     }
 
-    fn check<T: Abort, A: Automaton>(
+    fn check<T: Abort, A: Search>(
         &self,
         rt: &T,
         alloc: Global,

@@ -8,7 +8,7 @@ use crate::answers::{
 use crate::engines::{Asked, Case, ENGINES, Engine, Letters, Pick, each, pick, serves};
 use ac_input::search::{Input, MatchKind, Span, StartKind};
 use ac_literal::packed::{self, Searcher};
-use ac_noncontiguous::{Automaton, OverlappingState};
+use ac_noncontiguous::{OverlappingState, Search};
 use std::alloc::Global;
 use std::process::Abort;
 use std::test::Fail;
@@ -45,7 +45,7 @@ fn is_first<T: Abort>(rt: &T, found: Option<Pick>, row: &Row<'_>) {
 }
 
 /// Asserts the matches of a walk, by each of its calls, and that the first of them is the match of the input.
-fn walk_holds<T: Abort, A: Automaton>(
+fn walk_holds<T: Abort, A: Search>(
     rt: &T,
     alloc: Global,
     automaton: &A,
@@ -60,7 +60,7 @@ fn walk_holds<T: Abort, A: Automaton>(
 }
 
 /// Asserts the occurrences that a search shows in turn, and those of an iterator, which an anchored search hasn't.
-fn list_holds<T: Abort, A: Automaton>(
+fn list_holds<T: Abort, A: Search>(
     rt: &T,
     alloc: Global,
     automaton: &A,
@@ -77,7 +77,7 @@ fn list_holds<T: Abort, A: Automaton>(
 }
 
 /// Asserts what the row says of an automaton.
-fn row_holds<T: Abort, A: Automaton>(
+fn row_holds<T: Abort, A: Search>(
     rt: &T,
     alloc: Global,
     automaton: &A,
@@ -91,7 +91,7 @@ fn row_holds<T: Abort, A: Automaton>(
 }
 
 /// Asserts what the row says of an automaton, and of a reference to it, if there is a start for it among these.
-pub fn row_holds_of_each<T: Abort, A: Automaton>(
+pub fn row_holds_of_each<T: Abort, A: Search>(
     rt: &T,
     alloc: Global,
     automaton: &A,
@@ -124,7 +124,7 @@ impl Case for Table<'_> {
         }
     }
 
-    fn check<T: Abort, A: Automaton>(
+    fn check<T: Abort, A: Search>(
         &self,
         rt: &T,
         alloc: Global,

@@ -5,7 +5,7 @@ use crate::engines::Pick;
 use crate::rows::{Row, row_holds_of_each};
 use ac_input::pairing::Pairing;
 use ac_input::search::{MatchKind, StartKind};
-use ac_noncontiguous::{Automaton, Builder, NFA};
+use ac_noncontiguous::{Automaton, Builder, NFA, Search};
 use ac_tables::{contiguous, dfa};
 use aho_corasick::AhoCorasickKind::{ContiguousNFA, DFA, NoncontiguousNFA};
 use aho_corasick::{AhoCorasick, AhoCorasickBuilder, AhoCorasickKind};
@@ -14,7 +14,7 @@ use std::process::Abort;
 use std::test::Fail;
 
 /// Asserts of what kind the automaton is, whether it holds a prefilter, and what a walk by it gives over `A0 a1`.
-fn is_built<T: Abort, A: Automaton>(
+fn is_built<T: Abort, A: Search>(
     rt: &T,
     alloc: Global,
     automaton: &A,

@@ -11,7 +11,7 @@ use ac_automaton::error::ReplaceError;
 use ac_automaton::watched::Watched;
 use ac_input::search::{MatchKind, StartKind};
 use ac_input::steps::Steps;
-use ac_noncontiguous::Automaton;
+use ac_noncontiguous::{Automaton, Search};
 use std::alloc::{AllocError, Global};
 use std::process::Abort;
 use std::test::Fail;
@@ -33,7 +33,7 @@ pub const FRONTS: [&str; 6] = [
 ];
 
 /// Replacement over a stream: what it comes to.
-fn replacement_outcome<A: Automaton>(
+fn replacement_outcome<A: Search>(
     alloc: Global,
     automaton: &A,
     tally: &Tally,
@@ -55,7 +55,7 @@ fn replacement_outcome<A: Automaton>(
 }
 
 /// The same by a closure.
-fn closure_outcome<A: Automaton>(
+fn closure_outcome<A: Search>(
     alloc: Global,
     automaton: &A,
     tally: &Tally,
@@ -76,7 +76,7 @@ fn came<T: Abort>(rt: &T, outcome: Result<Outcome, AllocError>, tally: &Tally) {
 }
 
 /// Asserts what is made of the bytes of a text, or that there was no memory.
-fn is_made_of_bytes<T: Abort, A: Automaton>(rt: &T, alloc: Global, automaton: &A) {
+fn is_made_of_bytes<T: Abort, A: Search>(rt: &T, alloc: Global, automaton: &A) {
     let text = b"A fox and a fox.";
     let mut made = Vec::new(alloc);
     let answer = append_bytes(automaton, alloc, text, SLOTH, None, &mut made);
@@ -91,7 +91,7 @@ fn is_made_of_bytes<T: Abort, A: Automaton>(rt: &T, alloc: Global, automaton: &A
 }
 
 /// Asserts what is made of a text, or that there was no memory.
-fn is_made<T: Abort, A: Automaton>(rt: &T, alloc: Global, automaton: &A) {
+fn is_made<T: Abort, A: Search>(rt: &T, alloc: Global, automaton: &A) {
     let text = "A fox and a fox.";
     let mut made = String::new(alloc);
     let answer = append(automaton, alloc, text, SLOTH, None, &mut made);
@@ -117,7 +117,7 @@ impl Case for InMemory {
         true
     }
 
-    fn check<T: Abort, A: Automaton>(
+    fn check<T: Abort, A: Search>(
         &self,
         rt: &T,
         alloc: Global,

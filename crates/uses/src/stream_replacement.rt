@@ -13,7 +13,7 @@ use ac_automaton::error::{MatchErrorKind, StreamError};
 use ac_automaton::watched::{Watched, write_whole};
 use ac_input::search::MatchKind::Standard;
 use ac_input::search::{Anchored, Match, StartKind};
-use ac_noncontiguous::Automaton;
+use ac_noncontiguous::Search;
 use std::alloc::Global;
 use std::io::{ErrorKind, Read, Write};
 use std::process::Abort;
@@ -67,7 +67,7 @@ fn is_among(text: &[u8], those: &[&[u8]]) -> bool {
 }
 
 /// Writes the replacement of each match's pattern by a closure, which may fail.
-pub fn write_by_closure<A: Automaton, R: Read, W: Write>(
+pub fn write_by_closure<A: Search, R: Read, W: Write>(
     automaton: &A,
     alloc: Global,
     reader: &mut Watched<R>,
@@ -100,7 +100,7 @@ pub fn write_by_closure<A: Automaton, R: Read, W: Write>(
 
 impl Row {
     /// Replaces the input, at most this many bytes a read, for a writer that has this room: the result, and what was written.
-    fn replaces<A: Automaton>(
+    fn replaces<A: Search>(
         &self,
         alloc: Global,
         automaton: &A,
@@ -131,7 +131,7 @@ impl Row {
     }
 
     /// Asserts what the row says, by this many bytes a read, where the writer has this room, and one of these was written.
-    fn writes<T: Abort, A: Automaton>(
+    fn writes<T: Abort, A: Search>(
         &self,
         rt: &T,
         alloc: Global,
@@ -184,7 +184,7 @@ impl Case for Row {
         }
     }
 
-    fn check<T: Abort, A: Automaton>(
+    fn check<T: Abort, A: Search>(
         &self,
         rt: &T,
         alloc: Global,
@@ -539,7 +539,7 @@ impl Case for Stops {
         self.row.asked()
     }
 
-    fn check<T: Abort, A: Automaton>(
+    fn check<T: Abort, A: Search>(
         &self,
         rt: &T,
         alloc: Global,
@@ -557,7 +557,7 @@ impl Case for Stops {
 }
 
 /// Asserts what was written when the read after this many bytes fails, by one, two and seven bytes a read.
-fn stops_there<T: Abort, A: Automaton>(
+fn stops_there<T: Abort, A: Search>(
     rt: &T,
     alloc: Global,
     automaton: &A,
@@ -615,7 +615,7 @@ impl Case for Fronts {
         self.row.asked()
     }
 
-    fn check<T: Abort, A: Automaton>(
+    fn check<T: Abort, A: Search>(
         &self,
         rt: &T,
         alloc: Global,

@@ -13,14 +13,14 @@ use ac_automaton::stream::StreamFindIter;
 use ac_automaton::watched::Watched;
 use ac_input::search::{Anchored, MatchKind, StartKind};
 use ac_input::steps::Steps;
-use ac_noncontiguous::Automaton;
+use ac_noncontiguous::Search;
 use std::alloc::Global;
 use std::io::{ErrorKind, Read};
 use std::process::Abort;
 use std::test::Fail;
 
 /// The next match of a stream; or where that is asked, the next one that is held, and after the last of these the next one.
-pub fn next_pick<A: Automaton, R: Read>(
+pub fn next_pick<A: Search, R: Read>(
     matches: &mut StreamFindIter<'_, A, R>,
     held: bool,
 ) -> Result<Option<Pick>, Outcome> {
@@ -57,7 +57,7 @@ pub struct Row<'a> {
 impl Row<'_> {
     /// Asserts what the automaton gives of it: the matches, each after the read that gave its last byte, then the error of a failed
     /// read, and nothing for good. There is one read more than the text needs.
-    fn gives<T: Abort, A: Automaton>(
+    fn gives<T: Abort, A: Search>(
         &self,
         rt: &T,
         alloc: Global,
@@ -92,7 +92,7 @@ impl Row<'_> {
     }
 
     /// Asserts the same by so many bytes a read as the row says, also with the matches that are held.
-    fn gives_each<T: Abort, A: Automaton>(
+    fn gives_each<T: Abort, A: Search>(
         &self,
         rt: &T,
         alloc: Global,
@@ -116,7 +116,7 @@ impl Case for Row<'_> {
         }
     }
 
-    fn check<T: Abort, A: Automaton>(
+    fn check<T: Abort, A: Search>(
         &self,
         rt: &T,
         alloc: Global,
@@ -150,7 +150,7 @@ impl Case for Stops {
         self.0.asked()
     }
 
-    fn check<T: Abort, A: Automaton>(
+    fn check<T: Abort, A: Search>(
         &self,
         rt: &T,
         alloc: Global,
@@ -493,7 +493,7 @@ fn streams(rt: HostRuntime) -> Result<(), Fail> {
 }
 
 /// Makes a search of a stream, and drops it.
-fn try_stream<'a, A: Automaton, R: Read>(
+fn try_stream<'a, A: Search, R: Read>(
     alloc: Global,
     automaton: &'a A,
     reader: &'a mut Watched<R>,
@@ -505,13 +505,13 @@ fn try_stream<'a, A: Automaton, R: Read>(
 }
 
 /// The result of a search of a stream that takes no match.
-pub fn search_outcome<A: Automaton>(alloc: Global, automaton: &A, tally: &Tally) -> Outcome {
+pub fn search_outcome<A: Search>(alloc: Global, automaton: &A, tally: &Tally) -> Outcome {
     let mut reader = Watched::new(Source::new(Given::Whole(b"ab"), 1, &[], tally));
     Outcome::of(&try_stream(alloc, automaton, &mut reader))
 }
 
 /// What replacement over a stream comes to, for two patterns.
-fn replacement_outcome<A: Automaton>(
+fn replacement_outcome<A: Search>(
     alloc: Global,
     automaton: &A,
     tally: &Tally,
@@ -526,7 +526,7 @@ fn replacement_outcome<A: Automaton>(
 }
 
 /// Asserts that a search of a stream returns this error, and that nothing was read or written.
-fn is_refused<T: Abort, A: Automaton>(
+fn is_refused<T: Abort, A: Search>(
     rt: &T,
     alloc: Global,
     automaton: &A,
@@ -565,7 +565,7 @@ impl Case for Refused {
         }
     }
 
-    fn check<T: Abort, A: Automaton>(
+    fn check<T: Abort, A: Search>(
         &self,
         rt: &T,
         alloc: Global,

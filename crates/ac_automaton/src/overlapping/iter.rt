@@ -5,10 +5,10 @@
 ghost use Rattle.std.specs.Iterator.{YieldsFirst, item_count};
 ghost use Rattle.ac_automaton.specs.OverlappingIter.{AnswersOverlappingIter, GivesFirst, RunCounts, IsWithinOneWalk, rest_of};
 
-use crate::automaton::Automaton;
 use crate::error::MatchError;
-use crate::overlapping::search::{advance, begin};
+use crate::overlapping::search::begin;
 use crate::overlapping::{Position, with_found};
+use crate::search::Search;
 use ac_input::history::Count;
 use ac_input::primitives::StateID;
 use ac_input::search::{Anchored, Input, Match};
@@ -21,7 +21,7 @@ use std::marker::Model;
 /// After its first `None` it always returns `None`, and does nothing.
 /// A caller: `uses::callers::overlap::all_occurrences`.
 #[derive(Drop)]
-pub struct FindOverlappingIter<'a, 'h, A: Automaton> {
+pub struct FindOverlappingIter<'a, 'h, A: Search> {
     automaton: &'a A,
     input: Input<'h>,
     start: StateID,
@@ -30,7 +30,7 @@ pub struct FindOverlappingIter<'a, 'h, A: Automaton> {
     sums: Steps,
 }
 
-impl<'a, 'h, A: Automaton> Model for FindOverlappingIter<'a, 'h, A> {
+impl<'a, 'h, A: Search> Model for FindOverlappingIter<'a, 'h, A> {
     ghost use Rattle.std.specs.Prelude.{◌≡◌, []};
     ghost use Rattle.ac_input.specs.declared.search.MatchKind.TheVariants.{Standard};
     ghost use Rattle.ac_automaton.specs.Automaton.{searched};
@@ -52,7 +52,7 @@ impl<'a, 'h, A: Automaton> Model for FindOverlappingIter<'a, 'h, A> {
 /// All occurrences in the input, one after another.
 ///
 /// Returns an error where an overlapping search does, and also if the input is anchored.
-pub fn find_overlapping_iter<'a, 'h, A: Automaton>(
+pub fn find_overlapping_iter<'a, 'h, A: Search>(
     automaton: &'a A,
     input: Input<'h>,
 ) -> Result<FindOverlappingIter<'a, 'h, A>, MatchError>
@@ -73,7 +73,7 @@ pub fn find_overlapping_iter<'a, 'h, A: Automaton>(
     }
 }
 
-impl<'a, 'h, A: Automaton> FindOverlappingIter<'a, 'h, A> {
+impl<'a, 'h, A: Search> FindOverlappingIter<'a, 'h, A> {
     /// The next match, as `next` returns it; counts what it does.
     /// A caller: `uses::callers::overlap::pass_occurrences`.
     pub fn next_counted(&mut self, steps: &mut Steps) -> Option<Match>
@@ -82,13 +82,9 @@ impl<'a, 'h, A: Automaton> FindOverlappingIter<'a, 'h, A> {
         ensures work { IsWithinOneWalk self.new }
     {
         let mut done = Steps::new();
-        let shown = advance(
-            self.automaton,
-            &self.input,
-            self.start,
-            self.place,
-            &mut done,
-        );
+        let shown = self
+            .automaton
+            .search_overlapping(&self.input, self.start, self.place, &mut done);
         self.place = shown.place;
         self.shown = with_found(&self.shown, &shown.found);
         self.sums.add(&done);
@@ -97,7 +93,7 @@ impl<'a, 'h, A: Automaton> FindOverlappingIter<'a, 'h, A> {
     }
 }
 
-impl<'a, 'h, A: Automaton> Iterator for FindOverlappingIter<'a, 'h, A> {
+impl<'a, 'h, A: Search> Iterator for FindOverlappingIter<'a, 'h, A> {
     type Item = Match;
 
     ghost next_gives = { YieldsFirst rest_of };
@@ -110,4 +106,4 @@ impl<'a, 'h, A: Automaton> Iterator for FindOverlappingIter<'a, 'h, A> {
     }
 }
 
-impl<'a, 'h, A: Automaton> FusedIterator for FindOverlappingIter<'a, 'h, A> {}
+impl<'a, 'h, A: Search> FusedIterator for FindOverlappingIter<'a, 'h, A> {}

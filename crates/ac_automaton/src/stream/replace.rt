@@ -13,9 +13,9 @@ ghost use Rattle.ac_automaton.specs.StreamReplace.{AcceptsReplacing, AnswersDeci
 ghost use Rattle.ac_automaton.specs.Watched.{has_ended};
 
 use super::search::StreamSearch;
-use crate::automaton::Automaton;
 use crate::error::StreamError;
 use crate::output::Output;
+use crate::search::Search;
 use crate::watched::Watched;
 use ac_input::steps::Steps;
 use std::alloc::Global;
@@ -33,7 +33,7 @@ pub(super) fn part(held: &[u8], from: usize, start: usize, end: usize) -> &[u8]
 
 /// Finds the next match of what was read, and sends the text from a place to its end. Returns where that is, or none if there is
 /// no further match.
-fn send_match<A: Automaton, W: Write>(
+fn send_match<A: Search, W: Write>(
     stream: &mut StreamSearch<'_, A>,
     replacements: &[&[u8]],
     at: usize,
@@ -58,7 +58,7 @@ fn send_match<A: Automaton, W: Write>(
 }
 
 /// Sends the text from a place up to the cut, and holds nothing back. Returns where the cut is.
-fn send_decided<A: Automaton, W: Write>(
+fn send_decided<A: Search, W: Write>(
     stream: &mut StreamSearch<'_, A>,
     replacements: &[&[u8]],
     at: usize,
@@ -92,7 +92,7 @@ pub(super) fn rest(held: &[u8], from: usize, start: usize) -> &[u8]
 }
 
 /// Reads on to the end of the input. Before each read everything that is decided is written, and at the end the rest.
-fn replace_read<A: Automaton, R: Read, W: Write>(
+fn replace_read<A: Search, R: Read, W: Write>(
     stream: &mut StreamSearch<'_, A>,
     output: &mut Output,
     reader: &mut Watched<R>,
@@ -120,7 +120,7 @@ fn replace_read<A: Automaton, R: Read, W: Write>(
 }
 
 /// Writes the input with each match replaced by the replacement of its pattern, and counts what it does.
-pub fn replace_all_counted<A: Automaton, R: Read, W: Write>(
+pub fn replace_all_counted<A: Search, R: Read, W: Write>(
     automaton: &A,
     alloc: Global,
     reader: &mut Watched<R>,

@@ -15,8 +15,8 @@ ghost use Rattle.ac_automaton.specs.Watched.{has_ended};
 
 use super::replace::{part, rest};
 use super::search::StreamSearch;
-use crate::automaton::Automaton;
 use crate::error::StreamError;
+use crate::search::Search;
 use crate::watched::{Watched, write_whole};
 use ac_input::search::Match;
 use ac_input::steps::Steps;
@@ -41,7 +41,7 @@ where
 
 /// Finds the next match of what was read, writes the text from a place to its start, and calls the closure. Returns where the
 /// match ends, or none if there is no further match.
-fn replace_match<A: Automaton, W: Write, F>(
+fn replace_match<A: Search, W: Write, F>(
     stream: &mut StreamSearch<'_, A>,
     at: usize,
     writer: &mut Watched<W>,
@@ -72,7 +72,7 @@ where
 }
 
 /// Replaces one match after another, and writes the text up to the cut. Returns where the cut is.
-fn replace_decided<A: Automaton, W: Write, F>(
+fn replace_decided<A: Search, W: Write, F>(
     stream: &mut StreamSearch<'_, A>,
     at: usize,
     writer: &mut Watched<W>,
@@ -102,7 +102,7 @@ where
 }
 
 /// Reads on to the end of the input. Before each read everything that is decided is written, and at the end the rest.
-fn replace_read<A: Automaton, R: Read, W: Write, F>(
+fn replace_read<A: Search, R: Read, W: Write, F>(
     stream: &mut StreamSearch<'_, A>,
     reader: &mut Watched<R>,
     writer: &mut Watched<W>,
@@ -128,7 +128,7 @@ where
 }
 
 /// Writes the input, and in place of each match what the closure writes.
-pub fn replace_all_with<A: Automaton, R: Read, W: Write, F>(
+pub fn replace_all_with<A: Search, R: Read, W: Write, F>(
     automaton: &A,
     alloc: Global,
     reader: &mut Watched<R>,

@@ -24,6 +24,7 @@ use crate::automaton::Automaton;
 use crate::buffer::Buffer;
 use crate::error::{MatchError, StreamError};
 use crate::find::first_match;
+use crate::search::Search;
 use crate::watched::Watched;
 use ac_input::history::{Count, Pieces};
 use ac_input::primitives::StateID;
@@ -36,7 +37,7 @@ use std::marker::Model;
 /// Where a search stands: in which state; and, counted from the first byte of the stream, the place of the first byte that is
 /// held, the place up to which the automaton has read, and the place where the search last began anew.
 #[derive(Clone, Copy)]
-struct Progress {
+pub struct Progress {
     sid: StateID,
     from: usize,
     at: usize,
@@ -45,14 +46,14 @@ struct Progress {
 
 /// The new place of a search over the held bytes, and the match that it found.
 #[derive(Clone, Copy)]
-struct Searched {
+pub struct Searched {
     progress: Progress,
     found: Option<Match>,
 }
 
 /// How far a search of a stream has come.
 #[derive(Drop)]
-pub(crate) struct StreamSearch<'a, A: Automaton> {
+pub(crate) struct StreamSearch<'a, A: Search> {
     automaton: &'a A,
     start: StateID,
     buffer: Buffer,
@@ -63,7 +64,7 @@ pub(crate) struct StreamSearch<'a, A: Automaton> {
     sums: Steps,
 }
 
-impl<'a, A: Automaton> Model for StreamSearch<'a, A> {
+impl<'a, A: Search> Model for StreamSearch<'a, A> {
     ghost use Rattle.ac_input.specs.declared.search.Anchored.TheVariants.{No};
     ghost use Rattle.ac_automaton.specs.Stream.{StreamProgress};
 
@@ -100,7 +101,7 @@ fn configured<A: Automaton>(automaton: &A) -> Result<StateID, MatchError>
 
 /// Searches the held bytes from where a search stands, up to the next match or to the last byte. After a match the search begins
 /// anew, and also if it reaches the last byte in a start: nothing of what was read is live there.
-fn search<A: Automaton>(
+pub(crate) fn search<A: Automaton>(
     automaton: &A,
     start: StateID,
     progress: &Progress,
@@ -153,7 +154,7 @@ fn given_then(given: &Count, found: &Option<Match>) -> Count
     }
 }
 
-impl<'a, A: Automaton> StreamSearch<'a, A> {
+impl<'a, A: Search> StreamSearch<'a, A> {
     /// A search of a stream, which has read nothing yet. Returns an error if the automaton can't make one, and otherwise if there
     /// is no memory for the buffer; it takes no memory after that.
     pub fn new(automaton: &'a A, alloc: Global) -> Result<StreamSearch<'a, A>, StreamError>
@@ -227,13 +228,9 @@ impl<'a, A: Automaton> StreamSearch<'a, A> {
             return None;
         }
         let mut taken = Steps::new();
-        let searched = search(
-            self.automaton,
-            self.start,
-            &self.progress,
-            self.buffer.held(),
-            &mut taken,
-        );
+        let searched = self
+            .automaton
+            .search_stream(self.start, &self.progress, self.buffer.held(), &mut taken);
         steps.add(&taken);
         self.sums.add(&taken);
         self.given = given_then(&self.given, &searched.found);

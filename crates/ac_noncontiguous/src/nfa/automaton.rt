@@ -8,6 +8,7 @@ use crate::nfa::tables::FAIL;
 use ac_automaton::automaton::{Advance, Automaton};
 use ac_automaton::error::MatchError;
 use ac_automaton::look::{Between, LookUp};
+use ac_automaton::search::Search;
 use ac_input::primitives::{PatternID, StateID};
 use ac_input::search::{Anchored, MatchKind};
 use ac_input::steps::Steps;
@@ -157,3 +158,5 @@ impl Automaton for NFA {
         self.prefilter.as_ref()
     }
 }
+
+impl Search for NFA {}

@@ -13,6 +13,7 @@ use crate::dfa::DFA;
 use ac_automaton::automaton::{Advance, Automaton};
 use ac_automaton::error::MatchError;
 use ac_automaton::look::{Between, LookUp};
+use ac_automaton::search::Search;
 use ac_input::primitives::{PatternID, StateID};
 use ac_input::search::{Anchored, MatchKind};
 use ac_input::steps::Steps;
@@ -221,3 +222,5 @@ impl Automaton for DFA {
         self.prefilter.as_ref()
     }
 }
+
+impl Search for DFA {}

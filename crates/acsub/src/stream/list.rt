@@ -24,9 +24,9 @@ use crate::error::RunError;
 use crate::line::Line;
 use crate::prepared::Prepared;
 use crate::stream::told;
-use ac_automaton::automaton::Automaton;
 use ac_automaton::error::StreamError;
 use ac_automaton::output::Output;
+use ac_automaton::search::Search;
 use ac_automaton::stream::{StreamFindIter, stream_find_iter};
 use ac_automaton::watched::Watched;
 use ac_input::search::Match;
@@ -35,7 +35,7 @@ use std::alloc::Global;
 use std::io::{Read, Write};
 
 /// Sends a line for each match of what was read that was not given yet, and holds nothing back.
-fn send_held_lines<A: Automaton, R: Read, W: Write>(
+fn send_held_lines<A: Search, R: Read, W: Write>(
     matches: &mut StreamFindIter<'_, A, R>,
     output: &mut Output,
     writer: &mut Watched<W>,
@@ -61,7 +61,7 @@ fn send_held_lines<A: Automaton, R: Read, W: Write>(
 }
 
 /// Writes a line for a match, and one for each further match of what was read.
-fn write_lines<A: Automaton, R: Read, W: Write>(
+fn write_lines<A: Search, R: Read, W: Write>(
     found: &Match,
     matches: &mut StreamFindIter<'_, A, R>,
     output: &mut Output,
@@ -87,7 +87,7 @@ fn write_lines<A: Automaton, R: Read, W: Write>(
 }
 
 /// Reads on to the end of the input. Before each read all that can be listed is written.
-fn list_read<A: Automaton, R: Read, W: Write>(
+fn list_read<A: Search, R: Read, W: Write>(
     matches: &mut StreamFindIter<'_, A, R>,
     output: &mut Output,
     writer: &mut Watched<W>,
@@ -112,7 +112,7 @@ fn list_read<A: Automaton, R: Read, W: Write>(
 }
 
 /// Takes both buffers, and writes a line for each match of what is read.
-fn list_stream<A: Automaton, R: Read, W: Write>(
+fn list_stream<A: Search, R: Read, W: Write>(
     alloc: Global,
     engine: &A,
     reader: &mut Watched<R>,
@@ -139,7 +139,7 @@ fn list_stream<A: Automaton, R: Read, W: Write>(
 }
 
 /// Writes a line for each match of what is read, by the automaton that was prepared.
-pub(crate) fn stream_list<A: Automaton, R: Read, W: Write>(
+pub(crate) fn stream_list<A: Search, R: Read, W: Write>(
     alloc: Global,
     prepared: &Prepared<A>,
     engine: &A,

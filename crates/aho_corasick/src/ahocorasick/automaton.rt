@@ -7,8 +7,11 @@ use super::AhoCorasick;
 use crate::engine::Engine;
 use ac_automaton::automaton::{Advance, Automaton};
 use ac_automaton::error::MatchError;
+use ac_automaton::overlapping::{Position, Shown};
+use ac_automaton::search::Search;
+use ac_automaton::stream::{Progress, Searched};
 use ac_input::primitives::{PatternID, StateID};
-use ac_input::search::{Anchored, MatchKind, StartKind};
+use ac_input::search::{Anchored, Input, Match, MatchKind, StartKind};
 use ac_input::steps::Steps;
 use ac_literal::prefilter::Prefilter;
 
@@ -209,4 +212,43 @@ impl Automaton for AhoCorasick {
     ghost pairs = { λ ac anchored text sid reads. read-pairs (serving_engine ac) anchored text sid reads };
 
     ghost stops = { λ ac anchored text sid reads. read-stops (serving_engine ac) anchored text sid reads };
+}
+
+impl Search for AhoCorasick {
+    fn search(&self, input: &Input<'_>, steps: &mut Steps) -> Result<Option<Match>, MatchError> {
+        enforce_anchored_consistency(self.start_kind, input.get_anchored())?;
+        match &*self.engine {
+            Engine::Noncontiguous(nfa) => nfa.search(input, steps),
+            Engine::Contiguous(nfa) => nfa.search(input, steps),
+            Engine::Dfa(dfa) => dfa.search(input, steps),
+        }
+    }
+
+    fn search_overlapping(
+        &self,
+        input: &Input<'_>,
+        start: StateID,
+        place: Position,
+        steps: &mut Steps,
+    ) -> Shown {
+        match &*self.engine {
+            Engine::Noncontiguous(nfa) => nfa.search_overlapping(input, start, place, steps),
+            Engine::Contiguous(nfa) => nfa.search_overlapping(input, start, place, steps),
+            Engine::Dfa(dfa) => dfa.search_overlapping(input, start, place, steps),
+        }
+    }
+
+    fn search_stream(
+        &self,
+        start: StateID,
+        progress: &Progress,
+        held: &[u8],
+        steps: &mut Steps,
+    ) -> Searched {
+        match &*self.engine {
+            Engine::Noncontiguous(nfa) => nfa.search_stream(start, progress, held, steps),
+            Engine::Contiguous(nfa) => nfa.search_stream(start, progress, held, steps),
+            Engine::Dfa(dfa) => dfa.search_stream(start, progress, held, steps),
+        }
+    }
 }

@@ -8,12 +8,13 @@ ghost use Rattle.uses.specs.Callers.{BeginsWithPattern, IsFirstEnd, IsMostBytes,
 
 use ac_automaton::automaton::Automaton;
 use ac_automaton::error::MatchError;
+use ac_automaton::search::Search;
 use ac_input::primitives::PatternID;
 use ac_input::search::{Anchored, Input, Match, Span};
 use ac_input::steps::Steps;
 
 /// Whether any of the patterns occurs in the text.
-pub fn contains_any<A: Automaton>(automaton: &A, text: &[u8]) -> Result<bool, MatchError>
+pub fn contains_any<A: Search>(automaton: &A, text: &[u8]) -> Result<bool, MatchError>
     ensures { IfOk result (λ it. IsTrue it
         ↔ OccursIn (A.built automaton.now).dictionary text.now) }
 {
@@ -21,15 +22,23 @@ pub fn contains_any<A: Automaton>(automaton: &A, text: &[u8]) -> Result<bool, Ma
 }
 
 /// The match of the text, where the automaton can search from any place.
-pub fn first_match<A: Automaton>(automaton: &A, text: &[u8]) -> Option<Match>
+pub fn first_match<A: Search>(automaton: &A, text: &[u8]) -> Option<Match>
     requires { A.supports automaton.now Anchored.No }
     ensures { result ≡ first_in (A.built automaton.now).dictionary text.now }
 {
     automaton.try_find(&Input::new(text)).unwrap()
 }
 
+/// The same, by the method that an automaton may override.
+pub fn found_by_search<A: Search>(automaton: &A, text: &[u8], steps: &mut Steps) -> Option<Match>
+    requires { A.supports automaton.now Anchored.No }
+    ensures { result ≡ first_in (A.built automaton.now).dictionary text.now }
+{
+    automaton.search(&Input::new(text), steps).unwrap()
+}
+
 /// Whether one of the patterns begins the text, by an anchored search.
-pub fn begins_with_any<A: Automaton>(automaton: &A, text: &[u8]) -> bool
+pub fn begins_with_any<A: Search>(automaton: &A, text: &[u8]) -> bool
     requires { A.supports automaton.now Anchored.Yes }
     ensures { IsTrue result
         ↔ BeginsWithPattern (A.built automaton.now).dictionary text.now }
@@ -39,7 +48,7 @@ pub fn begins_with_any<A: Automaton>(automaton: &A, text: &[u8]) -> bool
 }
 
 /// The least place at which an occurrence ends, by an earliest search.
-pub fn first_end<A: Automaton>(automaton: &A, text: &[u8]) -> Option<usize>
+pub fn first_end<A: Search>(automaton: &A, text: &[u8]) -> Option<usize>
     requires { A.supports automaton.now Anchored.No }
     ensures { IsFirstEnd (whole (A.built automaton.now).dictionary text.now false) result }
 {
@@ -49,7 +58,7 @@ pub fn first_end<A: Automaton>(automaton: &A, text: &[u8]) -> Option<usize>
 }
 
 /// The match of a part of the text. It lies in that part.
-pub fn match_in<A: Automaton>(automaton: &A, text: &[u8], part: Span) -> Option<Match>
+pub fn match_in<A: Search>(automaton: &A, text: &[u8], part: Span) -> Option<Match>
     requires supports { A.supports automaton.now Anchored.No }
     requires span { IsSpanOf text.now part }
     ensures { IfSome result (LiesIn part) }
@@ -59,7 +68,7 @@ pub fn match_in<A: Automaton>(automaton: &A, text: &[u8], part: Span) -> Option<
 
 /// The match of the text, and what it costs: two looks at states for each byte of the text at most, and under the standard kind
 /// for each byte up to the match's end.
-pub fn first_match_counted<A: Automaton>(
+pub fn first_match_counted<A: Search>(
     automaton: &A,
     text: &[u8],
     steps: &mut Steps,
@@ -100,7 +109,7 @@ pub fn numbered<A: Automaton>(automaton: &A, number: usize) -> Option<PatternID>
 }
 
 /// How many bytes the first match has, as many as its pattern.
-pub fn match_len<A: Automaton>(automaton: &A, text: &[u8]) -> Option<usize>
+pub fn match_len<A: Search>(automaton: &A, text: &[u8]) -> Option<usize>
     requires { A.supports automaton.now Anchored.No }
     ensures { result ≡ option_map (λ o. o.end - o.start)
         (first_in (A.built automaton.now).dictionary text.now) }
@@ -110,7 +119,7 @@ pub fn match_len<A: Automaton>(automaton: &A, text: &[u8]) -> Option<usize>
 }
 
 /// The match of the text by two automata of the same patterns, pairing and kind. It is the same, with a prefilter or without.
-pub fn find_by_both<A: Automaton, B: Automaton>(
+pub fn find_by_both<A: Search, B: Search>(
     one: &A,
     other: &B,
     text: &[u8],

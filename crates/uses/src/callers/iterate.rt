@@ -5,14 +5,14 @@ ghost use Rattle.ac_input.specs.Steps.{looked_of};
 ghost use Rattle.ac_automaton.specs.Replace.{matches_in};
 ghost use Rattle.uses.specs.Callers.{bytes_in};
 
-use ac_automaton::automaton::Automaton;
 use ac_automaton::error::MatchError;
+use ac_automaton::search::Search;
 use ac_input::search::{Anchored, Input, Match};
 use ac_input::steps::Steps;
 use std::alloc::{AllocError, Global};
 
 /// All matches of the text, one after another.
-pub fn all_matches<A: Automaton>(
+pub fn all_matches<A: Search>(
     automaton: &A,
     alloc: Global,
     text: &[u8],
@@ -27,7 +27,7 @@ pub fn all_matches<A: Automaton>(
 }
 
 /// How many matches the text has.
-pub fn count_matches<A: Automaton>(automaton: &A, text: &[u8]) -> usize
+pub fn count_matches<A: Search>(automaton: &A, text: &[u8]) -> usize
     requires { A.supports automaton.now Anchored.No }
     ensures { result ≡ length (matches_in (A.built automaton.now) text.now) }
 {
@@ -35,7 +35,7 @@ pub fn count_matches<A: Automaton>(automaton: &A, text: &[u8]) -> usize
 }
 
 /// How many bytes of the text lie in matches. Matches never overlap, so they are no more than the text has.
-pub fn bytes_matched<A: Automaton>(automaton: &A, text: &[u8]) -> Result<usize, MatchError>
+pub fn bytes_matched<A: Search>(automaton: &A, text: &[u8]) -> Result<usize, MatchError>
     ensures value { IfOk result
         (λ n. n ≡ bytes_in (matches_in (A.built automaton.now) text.now)) }
     ensures within { IfOk result (λ n. n ≤ length text.now) }
@@ -49,7 +49,7 @@ pub fn bytes_matched<A: Automaton>(automaton: &A, text: &[u8]) -> Result<usize, 
 
 /// Goes over all matches of the text. Under the standard kind that takes two looks at states for each byte at most, however many
 /// matches there are.
-pub fn pass_matches<A: Automaton>(automaton: &A, text: &[u8], steps: &mut Steps)
+pub fn pass_matches<A: Search>(automaton: &A, text: &[u8], steps: &mut Steps)
     requires supports { A.supports automaton.now Anchored.No }
     requires standard { (A.built automaton.now).dictionary.kind ≡ Standard }
     ensures { looked_of steps.new ≤ looked_of steps.old + 2 * length text.now }

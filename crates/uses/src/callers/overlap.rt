@@ -9,6 +9,7 @@ ghost use Rattle.ac_automaton.specs.Automaton.{listing_in};
 
 use ac_automaton::automaton::Automaton;
 use ac_automaton::overlapping::OverlappingState;
+use ac_automaton::search::Search;
 use ac_input::search::{Anchored, Input, Match, MatchKind};
 use ac_input::steps::Steps;
 use std::alloc::{AllocError, Global};
@@ -21,7 +22,7 @@ pub fn can_list<A: Automaton>(automaton: &A) -> bool
 }
 
 /// All occurrences in the text, overlapping ones too, each once, by end, start and number.
-pub fn all_occurrences<A: Automaton>(
+pub fn all_occurrences<A: Search>(
     automaton: &A,
     alloc: Global,
     text: &[u8],
@@ -38,7 +39,7 @@ pub fn all_occurrences<A: Automaton>(
 }
 
 /// The occurrence of this index, counted from 0, by calls that go on from where the last one stood.
-pub fn occurrence<A: Automaton>(automaton: &A, text: &[u8], index: usize) -> Option<Match>
+pub fn occurrence<A: Search>(automaton: &A, text: &[u8], index: usize) -> Option<Match>
     requires supports { A.supports automaton.now Anchored.No }
     requires standard { (A.built automaton.now).dictionary.kind ≡ Standard }
     ensures { result ≡ slice_get (listing_in (A.built automaton.now) (whole_of text.now)) index }
@@ -53,7 +54,7 @@ pub fn occurrence<A: Automaton>(automaton: &A, text: &[u8], index: usize) -> Opt
 }
 
 /// Goes over all occurrences in the text. That takes two looks at states for each byte at most, however many there are.
-pub fn pass_occurrences<A: Automaton>(automaton: &A, text: &[u8], steps: &mut Steps)
+pub fn pass_occurrences<A: Search>(automaton: &A, text: &[u8], steps: &mut Steps)
     requires supports { A.supports automaton.now Anchored.No }
     requires standard { (A.built automaton.now).dictionary.kind ≡ Standard }
     ensures { looked_of steps.new ≤ looked_of steps.old + 2 * length text.now }

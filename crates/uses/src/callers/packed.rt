@@ -11,6 +11,7 @@ ghost use Rattle.ac_literal.specs.Packed.{AreServed, added, added_all, bytes_of,
 ghost use Rattle.uses.specs.Callers.{IsSkip, LiesIn};
 
 use ac_automaton::automaton::Automaton;
+use ac_automaton::search::Search;
 use ac_input::pairing::Pairing;
 use ac_input::search::{Anchored, Input, Match, MatchKind, Span};
 use ac_input::steps::Steps;
@@ -139,7 +140,7 @@ pub fn all_matches(
 }
 
 /// The match of the text by packed search, and by an automaton of the same patterns and kind that pairs no byte. It is the same.
-pub fn find_by_both<A: Automaton>(
+pub fn find_by_both<A: Search>(
     searcher: &Searcher,
     automaton: &A,
     text: &[u8],

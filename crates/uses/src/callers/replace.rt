@@ -4,12 +4,12 @@ ghost use Rattle.std.specs.String.{string_bytes};
 ghost use Rattle.ac_input.specs.Same.{IsUnpaired};
 ghost use Rattle.uses.specs.Callers.{AppendsOne, KeepsUnmatched};
 
-use ac_automaton::automaton::Automaton;
 use ac_automaton::error::ReplaceError;
+use ac_automaton::search::Search;
 use std::alloc::Global;
 
 /// The bytes with each match exchanged for its pattern. Where no byte is paired, they stay as they are.
-pub fn replaced_by_itself<A: Automaton>(
+pub fn replaced_by_itself<A: Search>(
     automaton: &A,
     alloc: Global,
     bytes: &[u8],
@@ -23,7 +23,7 @@ pub fn replaced_by_itself<A: Automaton>(
 }
 
 /// The text with each match replaced. A text in which no pattern occurs is unchanged.
-pub fn replaced_text<A: Automaton>(
+pub fn replaced_text<A: Search>(
     automaton: &A,
     alloc: Global,
     text: &str,
@@ -37,7 +37,7 @@ pub fn replaced_text<A: Automaton>(
 }
 
 /// Appends the text to the destination, with its first match exchanged for the replacement: the closure ends the replacement there.
-pub fn append_first_replaced<A: Automaton>(
+pub fn append_first_replaced<A: Search>(
     automaton: &A,
     alloc: Global,
     text: &str,
@@ -54,7 +54,7 @@ pub fn append_first_replaced<A: Automaton>(
 }
 
 /// Appends the bytes to the destination, each match by a closure that appends what matched.
-pub fn append_matched<A: Automaton>(
+pub fn append_matched<A: Search>(
     automaton: &A,
     alloc: Global,
     bytes: &[u8],

@@ -8,9 +8,9 @@ ghost use Rattle.ac_automaton.specs.StreamIter.{progress_of, reader_name, reader
 ghost use Rattle.ac_automaton.specs.Watched.{failures_of, has_ended, inner_of};
 ghost use Rattle.uses.specs.Callers.{WritesReplaced};
 
-use ac_automaton::automaton::Automaton;
 use ac_automaton::error::StreamError;
 use ac_automaton::output::Output;
+use ac_automaton::search::Search;
 use ac_automaton::stream::{StreamFindIter, stream_find_iter};
 use ac_automaton::watched::{Watched, write_whole};
 use ac_input::search::Match;
@@ -20,7 +20,7 @@ use std::io;
 use std::io::{Read, Write};
 
 /// All matches of what a reader gives, one after another.
-pub fn all_matches<A: Automaton>(
+pub fn all_matches<A: Search>(
     automaton: &A,
     alloc: Global,
     text: &[u8],
@@ -38,7 +38,7 @@ pub fn all_matches<A: Automaton>(
 }
 
 /// The next match of a stream. Where there is one, the reader has not ended.
-pub fn next_match<A: Automaton, R: Read>(
+pub fn next_match<A: Search, R: Read>(
     matches: &mut StreamFindIter<'_, A, R>,
 ) -> Result<Option<Match>, StreamError>
     requires { has_ended (reader_of matches.old) ≡ false }
@@ -54,7 +54,7 @@ pub fn next_match<A: Automaton, R: Read>(
 }
 
 /// The first match of a stream. What comes after the read that gave it is left for others to read.
-pub fn first_match<A: Automaton, R: Read>(
+pub fn first_match<A: Search, R: Read>(
     reader: &mut Watched<R>,
     automaton: &A,
     alloc: Global,
@@ -69,7 +69,7 @@ pub fn first_match<A: Automaton, R: Read>(
 }
 
 /// Goes over the matches of what was read that were not given yet. It makes no read.
-pub fn pass_held<A: Automaton, R: Read>(matches: &mut StreamFindIter<'_, A, R>, steps: &mut Steps)
+pub fn pass_held<A: Search, R: Read>(matches: &mut StreamFindIter<'_, A, R>, steps: &mut Steps)
     requires { CanBeCounted (read_by (progress_of matches.old)) }
     ensures reader { reader_of matches.new ≡ reader_of matches.old }
     ensures all { AreAllGiven (progress_of matches.new) }
@@ -78,7 +78,7 @@ pub fn pass_held<A: Automaton, R: Read>(matches: &mut StreamFindIter<'_, A, R>, 
 }
 
 /// Reads the text and writes it with each match replaced.
-pub fn replaced<A: Automaton>(
+pub fn replaced<A: Search>(
     automaton: &A,
     alloc: Global,
     text: &[u8],
@@ -94,7 +94,7 @@ pub fn replaced<A: Automaton>(
 }
 
 /// The same, counted: two looks at states for each byte at most, also where it fails.
-pub fn replaced_counted<A: Automaton>(
+pub fn replaced_counted<A: Search>(
     automaton: &A,
     alloc: Global,
     text: &[u8],
@@ -110,7 +110,7 @@ pub fn replaced_counted<A: Automaton>(
 }
 
 /// Reads the text and writes it, each match by a closure that writes what matched.
-pub fn copied<A: Automaton>(
+pub fn copied<A: Search>(
     automaton: &A,
     alloc: Global,
     text: &[u8],

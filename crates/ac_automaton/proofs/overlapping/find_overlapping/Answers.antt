@@ -30,19 +30,19 @@ after : (g : Over) (c : goal.After-add g)
     → let a = c.args.automaton.now in
     let b = g.A.Automaton.built a in
     let asked = c.args.input.now in
-    StandsAt (g.A.Automaton.Reaches a asked.anchored) (g.A.Automaton.matches a) b.dictionary b.deterministic (search_in b.dictionary asked) c.advance-shown.result.place (if is_some c.advance-shown.result.found then shown_of c.args.state.now + 1 else shown_of c.args.state.now) (sums_of c.keep.new.self)
+    StandsAt (g.A.Automaton.Reaches a asked.anchored) (g.A.Automaton.matches a) b.dictionary b.deterministic (search_in b.dictionary asked) c.search_overlapping-shown.result.place (if is_some c.search_overlapping-shown.result.found then shown_of c.args.state.now + 1 else shown_of c.args.state.now) (sums_of c.keep.new.self)
 after g c =
     let n : ℕ = shown_of c.args.state.now in
     let stands = before g c in
-    let shows = c.advance-shown.ensures.shows (drop n (listing_of (search_in (g.A.Automaton.built c.args.automaton.now).dictionary c.args.input.now))) stands.left in
-    stands-after _ _ _ _ _ c.unwrap_or-place.result n c.advance-shown.result (sums_of c.args.state.now) c.new-done.result c.advance-shown.new.steps (sums_of c.keep.new.self) stands shows c.advance-shown.ensures.pays c.new-done.ensures c.keep.ensures.sums
+    let shows = c.search_overlapping-shown.ensures.shows (drop n (listing_of (search_in (g.A.Automaton.built c.args.automaton.now).dictionary c.args.input.now))) stands.left in
+    stands-after _ _ _ _ _ c.unwrap_or-place.result n c.search_overlapping-shown.result (sums_of c.args.state.now) c.new-done.result c.search_overlapping-shown.new.steps (sums_of c.keep.new.self) stands shows c.search_overlapping-shown.ensures.pays c.new-done.ensures c.keep.ensures.sums
 
 pub returns-clause-came : goal.returns-clause-came
 returns-clause-came g c =
     let a = c.args.automaton.now in
     let b = g.A.Automaton.built a in
     let asked = c.args.input.now in
-    let place = c.advance-shown.result.place in
+    let place = c.search_overlapping-shown.result.place in
     inr (place, c.keep.ensures.place, subst (λ (k : ℕ). StandsAt (g.A.Automaton.Reaches a asked.anchored) (g.A.Automaton.matches a) b.dictionary b.deterministic (search_in b.dictionary asked) place k (sums_of c.keep.new.self)) (sym c.keep.ensures.shown) (after g c))
 
 pub returns-clause-answer : goal.returns-clause-answer
@@ -52,10 +52,10 @@ returns-clause-answer g c =
     let asked = c.args.input.now in
     let s = search_in b.dictionary asked in
     let n : ℕ = shown_of c.args.state.now in
-    let shows = c.advance-shown.ensures.shows (drop n (listing_of s)) (before g c).left in (
+    let shows = c.search_overlapping-shown.ensures.shows (drop n (listing_of s)) (before g c).left in (
       c.in_ok-beginning.ensures.0,
       record {
-        found = c.keep.ensures.found ∙ found-after (g.A.Automaton.Reaches a asked.anchored) (g.A.Automaton.matches a) b.dictionary s n c.advance-shown.result shows;
+        found = c.keep.ensures.found ∙ found-after (g.A.Automaton.Reaches a asked.anchored) (g.A.Automaton.matches a) b.dictionary s n c.search_overlapping-shown.result shows;
         shown = c.keep.ensures.shown ∙ ap (λ (f : Option Occurrence). if is_some f then n + 1 else n) (sym c.keep.ensures.found);
       },
     )
@@ -63,4 +63,4 @@ returns-clause-answer g c =
 pub returns-clause-cost : goal.returns-clause-cost
 returns-clause-cost g c =
     let alike : DoneAlike (sums_of c.args.state.now) (sums_of c.keep.new.self) c.args.steps.now c.add.new.self = search rules in
-    (stands-work _ _ _ _ _ c.advance-shown.result.place _ (sums_of c.keep.new.self) (g.met.A.Automaton.lives c.args.automaton.now c.args.input.now.anchored) (after g c), alike)
+    (stands-work _ _ _ _ _ c.search_overlapping-shown.result.place _ (sums_of c.keep.new.self) (g.met.A.Automaton.lives c.args.automaton.now c.args.input.now.anchored) (after g c), alike)

@@ -16,9 +16,9 @@ invariant_of-self g c =
     let R = g.A.Automaton.Reaches i.automaton.now i.input.anchored in
     let E = g.A.Automaton.matches i.automaton.now in
     let stands = c.self.invariant.2 in
-    let shows = c.advance-shown.ensures.shows (drop i.shown.value (listing_of s)) stands.left in
-    let after = stands-after R E m d s i.place i.shown.value c.advance-shown.result i.sums c.new-done.result c.advance-shown.new.steps c.add.new.self stands shows c.advance-shown.ensures.pays c.new-done.ensures c.add.ensures in
-    (c.self.invariant.0, c.self.invariant.1, subst (λ (k : ℕ). StandsAt R E m d s c.advance-shown.result.place k c.add.new.self) (sym c.with_found-self-inside.ensures) after)
+    let shows = c.search_overlapping-shown.ensures.shows (drop i.shown.value (listing_of s)) stands.left in
+    let after = stands-after R E m d s i.place i.shown.value c.search_overlapping-shown.result i.sums c.new-done.result c.search_overlapping-shown.new.steps c.add.new.self stands shows c.search_overlapping-shown.ensures.pays c.new-done.ensures c.add.ensures in
+    (c.self.invariant.0, c.self.invariant.1, subst (λ (k : ℕ). StandsAt R E m d s c.search_overlapping-shown.result.place k c.add.new.self) (sym c.with_found-self-inside.ensures) after)
 
 pub returns-clause-gives : goal.returns-clause-gives
 returns-clause-gives g c =
@@ -26,9 +26,9 @@ returns-clause-gives g c =
     let s = search_in (g.A.Automaton.built i.automaton.now).dictionary i.input in
     let L = listing_of s in
     let n : ℕ = i.shown.value in
-    let r = c.advance-shown.result.found in
+    let r = c.search_overlapping-shown.result.found in
     let stands = c.self.invariant.2 in
-    let shows = c.advance-shown.ensures.shows (drop n L) stands.left in
+    let shows = c.search_overlapping-shown.ensures.shows (drop n L) stands.left in
     let yields = yields-next L n r shows.0 in
     let counted = subst (λ (k : ℕ). MatchOption r ((drop n L ≡ []) × (drop k L ≡ [])) (λ o. drop n L ≡ o ∷ drop k L)) (sym c.with_found-self-inside.ensures) yields in
     (rw (← c.self.view_is) counted, search rules)
@@ -42,8 +42,8 @@ returns-clause-work g c =
     let R = g.A.Automaton.Reaches i.automaton.now i.input.anchored in
     let E = g.A.Automaton.matches i.automaton.now in
     let stands = c.self.invariant.2 in
-    let shows = c.advance-shown.ensures.shows (drop i.shown.value (listing_of s)) stands.left in
-    let after = stands-after R E m d s i.place i.shown.value c.advance-shown.result i.sums c.new-done.result c.advance-shown.new.steps c.add.new.self stands shows c.advance-shown.ensures.pays c.new-done.ensures c.add.ensures in
+    let shows = c.search_overlapping-shown.ensures.shows (drop i.shown.value (listing_of s)) stands.left in
+    let after = stands-after R E m d s i.place i.shown.value c.search_overlapping-shown.result i.sums c.new-done.result c.search_overlapping-shown.new.steps c.add.new.self stands shows c.search_overlapping-shown.ensures.pays c.new-done.ensures c.add.ensures in
     let lives = λ (text : List ℕ) (sid : StateID) (reads : R text sid). g.met.A.Automaton.lives i.automaton.now i.input.anchored text sid reads in
-    let work = stands-work R E m d s c.advance-shown.result.place (if is_some c.advance-shown.result.found then i.shown.value + 1 else i.shown.value) c.add.new.self lives after in
+    let work = stands-work R E m d s c.search_overlapping-shown.result.place (if is_some c.search_overlapping-shown.result.found then i.shown.value + 1 else i.shown.value) c.add.new.self lives after in
     record { looked = work.looked; scanned = work.scanned; moved = work.moved }

@@ -16,11 +16,11 @@ invariant_of-self g c =
     let Reaches = g.A.Automaton.Reaches i.automaton.now No in
     let s : StreamProgress = progress_at b i.pieces.items i.given.value i.progress i.buffer i.sums in
     let inv = c.self.invariant in
-    let on : SearchesOn Reaches s i.start c.search-searched.result _ _ = c.search-searched.ensures s (record { built = refl; stands = inv.stands; from = refl; at = refl; last = refl; bytes = c.held.ensures ∙ inv.holds.bytes; countable = inv.countable c.if-self.false }) in
+    let on : SearchesOn Reaches s i.start c.search_stream-searched.result _ _ = c.search_stream-searched.ensures s (record { built = refl; stands = inv.stands; from = refl; at = refl; last = refl; bytes = c.held.ensures ∙ inv.holds.bytes; countable = inv.countable c.if-self.false }) in
     let done = added-done on.looks _ _ _ _ c.new-taken.ensures on.done c.add-2.ensures in
-    let view = next-view b i.pieces.items i.given.value i.progress i.buffer i.sums c.search-searched.result on.looks _ _ inv.number on.stands.course.decided on.from c.given_then-self-inside.ensures done in
-    subst (λ (t : StreamProgress). IsStreamSearch Reaches t i.start c.search-searched.result.progress.sid c.given_then-self-inside.result.value i.buffer i.over) (sym view)
-    (next-stream Reaches s i.start i.progress.sid i.given.value i.buffer i.over c.search-searched.result _ _ c.given_then-self-inside.result.value inv on c.given_then-self-inside.ensures)
+    let view = next-view b i.pieces.items i.given.value i.progress i.buffer i.sums c.search_stream-searched.result on.looks _ _ inv.number on.stands.course.decided on.from c.given_then-self-inside.ensures done in
+    subst (λ (t : StreamProgress). IsStreamSearch Reaches t i.start c.search_stream-searched.result.progress.sid c.given_then-self-inside.result.value i.buffer i.over) (sym view)
+    (next-stream Reaches s i.start i.progress.sid i.given.value i.buffer i.over c.search_stream-searched.result _ _ c.given_then-self-inside.result.value inv on c.given_then-self-inside.ensures)
 
 pub returns-clause-finds : goal.returns-clause-finds
 returns-clause-finds g c =
@@ -29,11 +29,11 @@ returns-clause-finds g c =
     let Reaches = g.A.Automaton.Reaches i.automaton.now No in
     let s : StreamProgress = progress_at b i.pieces.items i.given.value i.progress i.buffer i.sums in
     let inv = c.self.invariant in
-    let on : SearchesOn Reaches s i.start c.search-searched.result _ _ = c.search-searched.ensures s (record { built = refl; stands = inv.stands; from = refl; at = refl; last = refl; bytes = c.held.ensures ∙ inv.holds.bytes; countable = inv.countable c.if-self.false }) in
+    let on : SearchesOn Reaches s i.start c.search_stream-searched.result _ _ = c.search_stream-searched.ensures s (record { built = refl; stands = inv.stands; from = refl; at = refl; last = refl; bytes = c.held.ensures ∙ inv.holds.bytes; countable = inv.countable c.if-self.false }) in
     let done = added-done on.looks _ _ _ _ c.new-taken.ensures on.done c.add-2.ensures in
-    let view = next-view b i.pieces.items i.given.value i.progress i.buffer i.sums c.search-searched.result on.looks _ _ inv.number on.stands.course.decided on.from c.given_then-self-inside.ensures done in
-    subst (λ (t : StreamProgress). FindsHeld t c.search-searched.result.found (progress_at b i.pieces.items c.given_then-self-inside.result.value c.search-searched.result.progress i.buffer c.add-2.new.self)) c.self.view_is
-    (subst (λ (t : StreamProgress). FindsHeld s c.search-searched.result.found t) (sym view) on.finds)
+    let view = next-view b i.pieces.items i.given.value i.progress i.buffer i.sums c.search_stream-searched.result on.looks _ _ inv.number on.stands.course.decided on.from c.given_then-self-inside.ensures done in
+    subst (λ (t : StreamProgress). FindsHeld t c.search_stream-searched.result.found (progress_at b i.pieces.items c.given_then-self-inside.result.value c.search_stream-searched.result.progress i.buffer c.add-2.new.self)) c.self.view_is
+    (subst (λ (t : StreamProgress). FindsHeld s c.search_stream-searched.result.found t) (sym view) on.finds)
 
 pub returns-clause-counts : goal.returns-clause-counts
 returns-clause-counts g c =
@@ -42,11 +42,11 @@ returns-clause-counts g c =
     let Reaches = g.A.Automaton.Reaches i.automaton.now No in
     let s : StreamProgress = progress_at b i.pieces.items i.given.value i.progress i.buffer i.sums in
     let inv = c.self.invariant in
-    let on : SearchesOn Reaches s i.start c.search-searched.result _ _ = c.search-searched.ensures s (record { built = refl; stands = inv.stands; from = refl; at = refl; last = refl; bytes = c.held.ensures ∙ inv.holds.bytes; countable = inv.countable c.if-self.false }) in
+    let on : SearchesOn Reaches s i.start c.search_stream-searched.result _ _ = c.search_stream-searched.ensures s (record { built = refl; stands = inv.stands; from = refl; at = refl; last = refl; bytes = c.held.ensures ∙ inv.holds.bytes; countable = inv.countable c.if-self.false }) in
     let done = added-done on.looks _ _ _ _ c.new-taken.ensures on.done c.add-2.ensures in
-    let view = next-view b i.pieces.items i.given.value i.progress i.buffer i.sums c.search-searched.result on.looks _ _ inv.number on.stands.course.decided on.from c.given_then-self-inside.ensures done in
-    subst (λ (t : StreamProgress). StreamCounts t (progress_at b i.pieces.items c.given_then-self-inside.result.value c.search-searched.result.progress i.buffer c.add-2.new.self) c.args.steps.now c.add.new.self) c.self.view_is
-    (subst (λ (t : StreamProgress). StreamCounts s t c.args.steps.now c.add.new.self) (sym view) (next-counts s c.search-searched.result on.looks _ _ _ _ c.new-taken.ensures on.done c.add.ensures))
+    let view = next-view b i.pieces.items i.given.value i.progress i.buffer i.sums c.search_stream-searched.result on.looks _ _ inv.number on.stands.course.decided on.from c.given_then-self-inside.ensures done in
+    subst (λ (t : StreamProgress). StreamCounts t (progress_at b i.pieces.items c.given_then-self-inside.result.value c.search_stream-searched.result.progress i.buffer c.add-2.new.self) c.args.steps.now c.add.new.self) c.self.view_is
+    (subst (λ (t : StreamProgress). StreamCounts s t c.args.steps.now c.add.new.self) (sym view) (next-counts s c.search_stream-searched.result on.looks _ _ _ _ c.new-taken.ensures on.done c.add.ensures))
 
 pub returns-clause-kept : goal.returns-clause-kept
 returns-clause-kept g c =
@@ -55,7 +55,7 @@ returns-clause-kept g c =
     let Reaches = g.A.Automaton.Reaches i.automaton.now No in
     let s : StreamProgress = progress_at b i.pieces.items i.given.value i.progress i.buffer i.sums in
     let inv = c.self.invariant in
-    let on : SearchesOn Reaches s i.start c.search-searched.result _ _ = c.search-searched.ensures s (record { built = refl; stands = inv.stands; from = refl; at = refl; last = refl; bytes = c.held.ensures ∙ inv.holds.bytes; countable = inv.countable c.if-self.false }) in
+    let on : SearchesOn Reaches s i.start c.search_stream-searched.result _ _ = c.search_stream-searched.ensures s (record { built = refl; stands = inv.stands; from = refl; at = refl; last = refl; bytes = c.held.ensures ∙ inv.holds.bytes; countable = inv.countable c.if-self.false }) in
     let done = added-done on.looks _ _ _ _ c.new-taken.ensures on.done c.add-2.ensures in
-    let view = next-view b i.pieces.items i.given.value i.progress i.buffer i.sums c.search-searched.result on.looks _ _ inv.number on.stands.course.decided on.from c.given_then-self-inside.ensures done in
+    let view = next-view b i.pieces.items i.given.value i.progress i.buffer i.sums c.search_stream-searched.result on.looks _ _ inv.number on.stands.course.decided on.from c.given_then-self-inside.ensures done in
     subst IsOnCourse (sym view) on.stands.course

@@ -1,0 +1,93 @@
+//! The searches that an automaton runs whole: for one match, for the next occurrence, and for the next match of a stream.
+//!
+//! [`Search`] needs nothing but the calls on states, so for most automata an implementation is an empty one. An automaton that
+//! stands for one of several, as that of the crate `aho_corasick` does, passes each search on to the one that serves. So it
+//! chooses once a search, and not at each state.
+//!
+//! A function that searches by any automaton asks for `A: Search`. One that goes from state to state asks for `A: Automaton`.
+use crate::automaton::Automaton;
+use crate::error::MatchError;
+use crate::overlapping::{Position, Shown};
+use crate::stream::{Progress, Searched};
+use crate::{find, overlapping, stream};
+use ac_input::primitives::StateID;
+use ac_input::search::{Input, Match};
+use ac_input::steps::Steps;
+
+/// An automaton that searches.
+pub trait Search: Automaton {
+    ghost use Rattle.std.specs.Prelude.{◌≡◌, []};
+    ghost use Rattle.ac_input.specs.declared.search.MatchKind.TheVariants.{Standard};
+    ghost use Rattle.ac_automaton.specs.Automaton.{AnswersFind, CostsFind};
+    ghost use Rattle.ac_automaton.specs.OverlappingSearch.{HasLeft, KeepsPaying, ShowsNextAt};
+    ghost use Rattle.ac_automaton.specs.StreamWalk.{MayWalk, WalksOn};
+
+    /// The match of the input, if it has one, as [`Automaton::try_find_counted`] returns it; counts what it does.
+    /// A caller: `uses::callers::find::found_by_search`.
+    fn search(&self, input: &Input<'_>, steps: &mut Steps) -> Result<Option<Match>, MatchError>
+        ensures answer { AnswersFind (Self.built self.now) (Self.supports self.now) input.now result }
+        ensures cost { CostsFind (Self.built self.now) input.now steps.old steps.new result }
+    {
+        find::find(self, input, steps)
+    }
+
+    /// The next occurrence of an overlapping search that began in a start state and stands at a place; counts what it does.
+    fn search_overlapping(
+        &self,
+        input: &Input<'_>,
+        start: StateID,
+        place: Position,
+        steps: &mut Steps,
+    ) -> Shown
+        requires standard { (Self.built self.now).dictionary.kind ≡ Standard }
+        requires starts { Self.Reaches self.now input.now.anchored [] start }
+        requires left { HasLeft Self.Automaton self.now input.now place }
+        ensures shows { ShowsNextAt Self.Automaton self.now input.now place result }
+        ensures pays { KeepsPaying (Self.built self.now) input.now place result
+            steps.old steps.new }
+    {
+        overlapping::advance(self, input, start, place, steps)
+    }
+
+    /// The next match of a stream among the bytes that are held, of a search that began in a start state and has come this far;
+    /// counts what it does.
+    fn search_stream(
+        &self,
+        start: StateID,
+        progress: &Progress,
+        held: &[u8],
+        steps: &mut Steps,
+    ) -> Searched
+        requires { MayWalk Self.Automaton self.now start progress.now held.now }
+        ensures { WalksOn Self.Automaton self.now start progress.now held.now result
+            steps.old steps.new }
+    {
+        stream::search_held(self, start, progress, held, steps)
+    }
+}
+
+impl<'a, A: Search> Search for &'a A {
+    fn search(&self, input: &Input<'_>, steps: &mut Steps) -> Result<Option<Match>, MatchError> {
+        (**self).search(input, steps)
+    }
+
+    fn search_overlapping(
+        &self,
+        input: &Input<'_>,
+        start: StateID,
+        place: Position,
+        steps: &mut Steps,
+    ) -> Shown {
+        (**self).search_overlapping(input, start, place, steps)
+    }
+
+    fn search_stream(
+        &self,
+        start: StateID,
+        progress: &Progress,
+        held: &[u8],
+        steps: &mut Steps,
+    ) -> Searched {
+        (**self).search_stream(start, progress, held, steps)
+    }
+}

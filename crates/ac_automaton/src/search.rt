@@ -32,6 +32,8 @@ pub trait Search: Automaton {
     }
 
     /// The next occurrence of an overlapping search that began in a start state and stands at a place; counts what it does.
+    /// Its callers are [`Automaton::try_find_overlapping`] and the iterator: a place comes from an earlier call, or from their
+    /// beginning.
     fn search_overlapping(
         &self,
         input: &Input<'_>,
@@ -50,7 +52,7 @@ pub trait Search: Automaton {
     }
 
     /// The next match of a stream among the bytes that are held, of a search that began in a start state and has come this far;
-    /// counts what it does.
+    /// counts what it does. Its callers are the searches of streams, which alone make and keep a [`Progress`].
     fn search_stream(
         &self,
         start: StateID,

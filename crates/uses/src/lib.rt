@@ -1,49 +1,6 @@
-//! The libraries as their users call them: callers with contracts of their own, and all tests of the libraries.
+//! The libraries as their users call them.
 //!
-//! [`callers`] shows for each public call what a caller can conclude from its contract. The tests are tables of rows, by subject;
-//! what a row needs of automata stands in `engines`, which builds each automaton in each setting that changes no result.
+//! [`callers`] has a caller for each public call, with a contract of its own that shows what can be concluded from that call's.
 #![tactic(auto)]
 
-#[cfg(test)]
-mod answers;
-#[cfg(test)]
-mod automata;
 pub mod callers;
-#[cfg(test)]
-mod calls;
-#[cfg(test)]
-mod compared;
-#[cfg(test)]
-mod devices;
-#[cfg(test)]
-mod engines;
-#[cfg(test)]
-mod front;
-#[cfg(test)]
-mod hostile;
-#[cfg(test)]
-mod memory;
-#[cfg(test)]
-mod openings;
-#[cfg(test)]
-mod packed;
-#[cfg(test)]
-mod prefilters;
-#[cfg(test)]
-mod refused;
-#[cfg(test)]
-mod repeated;
-#[cfg(test)]
-mod replacement;
-#[cfg(test)]
-mod rows;
-#[cfg(test)]
-mod settings;
-#[cfg(test)]
-mod stream_memory;
-#[cfg(test)]
-mod stream_replacement;
-#[cfg(test)]
-mod streams;
-#[cfg(test)]
-mod vocabulary;

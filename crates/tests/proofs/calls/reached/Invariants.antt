@@ -1,6 +1,6 @@
 -- The state was reached by the bytes so far.
 use Rattle.ac_automaton.specs.Automaton.{IsReached}
-use Rattle.uses.proofs.calls.reached.Given as goal
+use Rattle.tests.proofs.calls.reached.Given as goal
 
 abbrev pub invariant-loop-byte : goal.invariant-loop-byte
 invariant-loop-byte g l = IsReached (g.A.Automaton.Reaches l.automaton l.anchored) l.sid

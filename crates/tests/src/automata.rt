@@ -3,7 +3,6 @@ ghost use Rattle.std.specs.Prelude.{◌<◌};
 ghost use Rattle.ac_noncontiguous.specs.ReadCalls.{state_len};
 
 use crate::answers::same;
-use crate::callers::nfa::numbered;
 use crate::engines::{Asked, Letters, Prefiltering, noncontiguous};
 use ac_input::primitives::StateID;
 use ac_input::search::MatchKind;
@@ -153,7 +152,10 @@ fn state_is<T: Abort>(
     state: &State,
     shows: &str,
 ) -> Result<(), Fail> {
-    let sid = numbered(nfa, state.number).ok_or("no such state")?;
+    let sid = StateID::new(state.number)?;
+    if sid.as_usize() >= nfa.state_len() {
+        return Err("no such state".into());
+    }
     let found = [nfa.depth(sid), nfa.fail(sid).as_usize()];
     same(rt, &found, &[state.depth, state.fails_to], shows);
     state_leads(rt, alloc, nfa, sid, state.leads, shows)?;

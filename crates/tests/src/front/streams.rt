@@ -5,10 +5,9 @@ ghost use Rattle.ac_automaton.specs.Watched.{has_ended};
 ghost use Rattle.aho_corasick.specs.AhoCorasick.{as_built, supported_by};
 
 use super::{OwnCase, each_own};
-use crate::callers::front::{can_list, serves};
 use crate::devices::{AMPLE, Given, Outcome, Sink, Source, Tally};
 use crate::engines::Letters::{Cased, Folded};
-use crate::engines::{Asked, Letters, Pick};
+use crate::engines::{Asked, Letters, Pick, serves};
 use crate::streams::next_pick;
 use ac_input::search::{Anchored, Match, MatchKind, StartKind};
 use ac_input::steps::Steps;
@@ -150,7 +149,8 @@ impl OwnCase for Row {
     }
 
     fn check_own<T: Abort>(&self, rt: &T, alloc: Global, ac: &AhoCorasick) -> Result<(), Fail> {
-        if !serves(ac, Anchored::No) || !can_list(ac) || ac.min_pattern_len() == 0 {
+        let is_standard = ac.match_kind() == MatchKind::Standard;
+        if !serves(ac.start_kind(), Anchored::No) || !is_standard || ac.min_pattern_len() == 0 {
             return Err("a stream can be searched".into());
         }
         for most in [1, 2, 7, 100] {

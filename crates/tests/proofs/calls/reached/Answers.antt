@@ -1,6 +1,6 @@
 -- By one byte more, and from the start of the search.
 use Rattle.std.proofs.Math.Logic.{∥∥₁_map}
-use Rattle.uses.proofs.calls.reached.Goals as goal
+use Rattle.tests.proofs.calls.reached.Goals as goal
 
 pub loop-byte-preserved : goal.loop-byte-preserved
 loop-byte-preserved g c = ∥∥₁_map c.loop-byte.invariant (λ w. (_, c.next_state-sid.ensures w.0 w.1))

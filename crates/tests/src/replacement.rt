@@ -3,7 +3,6 @@
 //! A match within a character of a text is passed over there, and replaced among bytes.
 ghost use Rattle.aho_corasick.specs.AhoCorasick.{supported_by};
 
-use crate::callers::front::serves as serves_own;
 use crate::engines::Letters::{Cased, Folded, Paired};
 use crate::engines::{Asked, Case, Letters, all, serves};
 use crate::front::{OwnCase, all_own};
@@ -284,7 +283,7 @@ impl OwnCase for Row {
     }
 
     fn check_own<T: Abort>(&self, rt: &T, alloc: Global, ac: &AhoCorasick) -> Result<(), Fail> {
-        if !serves_own(ac, Anchored::No) {
+        if !serves(ac.start_kind(), Anchored::No) {
             return Ok(());
         }
         if self.until.is_none() {

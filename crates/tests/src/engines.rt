@@ -3,6 +3,9 @@
 //! A [`Case`] is a row of a table: it says what an automaton is built of, and checks an automaton that was built. [`ENGINES`] lists
 //! the automata and their settings, a line each, and [`all`] runs cases by each of them. A function that owns an automaton is slow
 //! to prove, so there is one such function for each automaton, and all others are handed a reference.
+ghost use Rattle.std.specs.Prelude.{◌↔◌, IsTrue};
+ghost use Rattle.ac_input.specs.Dfa.{Serves};
+
 use crate::engines::Alphabet::{Bytes, Classes};
 use crate::engines::Engine::{Contiguous, Dfa, Front, Noncontiguous};
 use crate::engines::Prefiltering::{Off, On};
@@ -135,7 +138,9 @@ pub trait Case {
 }
 
 /// Whether there is a start for this anchoring among these.
-pub fn serves(starts: StartKind, anchored: Anchored) -> bool {
+pub fn serves(starts: StartKind, anchored: Anchored) -> bool
+    ensures { IsTrue result ↔ Serves starts anchored }
+{
     match starts {
         StartKind::Both => true,
         StartKind::Unanchored => !anchored.is_anchored(),

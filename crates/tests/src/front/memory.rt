@@ -6,8 +6,7 @@ ghost use Rattle.std.specs.Prelude.{◌≡◌};
 ghost use Rattle.aho_corasick.specs.AhoCorasick.{supported_by, pattern_count};
 
 use super::NAMED;
-use crate::callers::front::serves;
-use crate::engines::{Asked, Letters, front_builder};
+use crate::engines::{Asked, Letters, front_builder, serves};
 use crate::stream_memory::{FRONTS, SLOTH};
 use ac_input::search::{Anchored, MatchKind, StartKind};
 use ac_noncontiguous::BuildErrorKind;
@@ -91,7 +90,7 @@ fn is_whole<T: Abort>(
     served: AhoCorasickKind,
 ) -> Result<(), Fail> {
     assert_eq!(rt; ac.kind(), served);
-    if !serves(ac, Anchored::No) || ac.patterns_len() != 1 {
+    if !serves(ac.start_kind(), Anchored::No) || ac.patterns_len() != 1 {
         return Err("one word, for searches that aren't anchored".into());
     }
     text_is_made(rt, alloc, ac)?;

@@ -10,8 +10,7 @@ mod memory;
 mod streams;
 
 use crate::answers::{Asks, collected, input, same};
-use crate::callers::front::{can_list, serves};
-use crate::engines::{Asked, Case, Letters, front_builder, pick};
+use crate::engines::{Asked, Case, Letters, front_builder, pick, serves};
 use crate::rows::{Row, SUBJECTS, Table};
 use ac_input::search::{Input, MatchKind, StartKind};
 use ac_input::steps::Steps;
@@ -163,13 +162,13 @@ fn list_holds<T: Abort>(
 /// Asserts what a row says, if the front has a start for it.
 fn row_holds<T: Abort>(rt: &T, alloc: Global, ac: &AhoCorasick, row: &Row<'_>) -> Result<(), Fail> {
     let asked = input(&row.text)?;
-    if !serves(ac, asked.get_anchored()) {
+    if !serves(ac.start_kind(), asked.get_anchored()) {
         return Ok(());
     }
     match row.asks {
         Asks::Walk => walk_holds(rt, alloc, ac, &asked, row),
         Asks::List => {
-            if !can_list(ac) {
+            if ac.match_kind() != MatchKind::Standard {
                 return Err("no standard kind".into());
             }
             list_holds(rt, alloc, ac, &asked, row)

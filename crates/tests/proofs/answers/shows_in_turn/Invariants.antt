@@ -1,6 +1,6 @@
 -- The state came from calls of this automaton over this input.
 use Rattle.ac_automaton.specs.Overlapping.{CameFrom}
-use Rattle.uses.proofs.answers.shows_in_turn.Given as goal
+use Rattle.tests.proofs.answers.shows_in_turn.Given as goal
 
 abbrev pub invariant-loop-at : goal.invariant-loop-at
 invariant-loop-at g l =

@@ -44,10 +44,14 @@ abbrev pub scan_len : Search → Option ℕ → ℕ
 scan_len s None = s.end - s.start
 scan_len s (Some found) = found + 1 - s.start
 
--- the result of a scan for bytes: none where it found none, else a place at most 254 before the byte that it found
+-- how far a byte that is scanned for may stand after the beginning of a pattern: where the last byte of 255 stands
+abbrev pub max_distance : ℕ
+max_distance = 254
+
+-- the result of a scan for bytes: none where it found none, else a place at most that far before the byte that it found
 abbrev pub IsNearFound : Option ℕ → Candidate → Type 0
 IsNearFound None c = c ≡ candidates.None
-IsNearFound (Some found) c = (at : ℕ) × (c ≡ candidates.PossibleStartOfMatch at) × (at ≤ found) × (found ≤ at + 254)
+IsNearFound (Some found) c = (at : ℕ) × (c ≡ candidates.PossibleStartOfMatch at) × (at ≤ found) × (found ≤ at + max_distance)
 
 -- A scan for bytes covered exactly these places of the span: those up to and including the first byte that it looks for, or all of
 -- them, where there is none. They lie before the end of every occurrence that is whole in the span.

@@ -1,6 +1,5 @@
 -- For which searches an automaton with start kinds has a start, and how large the table of a deterministic one is.
 use Rattle.std.specs.Prelude.{◌≡◌, ℕ, ◌-◌, ◌*◌, ◌<◌, Bool}
-use Rattle.ac_input.specs.declared.primitives.number.TheConstants.{GREATEST}
 use Rattle.ac_input.specs.declared.search.Anchored.{Anchored}
 use Rattle.ac_input.specs.declared.search.Anchored.TheVariants as anchorings
 use Rattle.ac_input.specs.declared.search.StartKind.{StartKind}
@@ -8,7 +7,8 @@ use Rattle.ac_input.specs.declared.search.StartKind.TheVariants as starts
 use Rattle.ac_input.specs.Alphabet.{IsLeastPowerOfTwo}
 use Rattle.ac_input.specs.Classes.{IsAlphabet}
 use Rattle.ac_input.specs.Dictionary.{Dictionary}
-use Rattle.ac_input.specs.Limits.{HasStates}
+use Rattle.ac_input.specs.Limits.{fixed_states, HasStates}
+use Rattle.ac_input.specs.Number.{greatest_number}
 
 -- an automaton of this start kind has a start for searches of this anchoring
 abbrev pub Serves : StartKind → Anchored → Type 0
@@ -17,9 +17,9 @@ Serves starts.Unanchored anchored = anchored ≡ anchorings.No
 Serves starts.Anchored anchored = anchored ≡ anchorings.Yes
 
 -- How many states a deterministic automaton has, where the other one has so many. For both anchorings it has each state twice,
--- except the dead state, the fail state and the two starts.
+-- except those that stand for no prefix.
 abbrev pub dfa_states : StartKind → ℕ → ℕ
-dfa_states starts.Both states = 2 * states - 4
+dfa_states starts.Both states = 2 * states - fixed_states
 dfa_states starts.Unanchored states = states
 dfa_states starts.Anchored states = states
 
@@ -30,7 +30,7 @@ IsDfaSize m kind classes n = (states alphabet stride : ℕ) × HasStates m state
 
 -- that number is past the greatest
 abbrev pub IsDfaTooLarge : Dictionary → StartKind → Bool → Type 0
-IsDfaTooLarge m kind classes = (n : ℕ) × IsDfaSize m kind classes n × (GREATEST < n)
+IsDfaTooLarge m kind classes = (n : ℕ) × IsDfaSize m kind classes n × (greatest_number < n)
 
 -- a dictionary has one size for a start kind, with classes and without
 abbrev pub DfaSizesAreOneNumber : Type 0

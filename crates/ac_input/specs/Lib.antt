@@ -15,6 +15,7 @@ pub mod Rules
 pub mod Computed
 pub mod Laws
 pub mod BeginningLaws
+pub mod Utf8Laws
 pub mod LiveLaws
 pub mod Limits
 pub mod States

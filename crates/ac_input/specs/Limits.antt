@@ -1,6 +1,6 @@
 -- The limits of a build: how many patterns and states an automaton may have, and how long a pattern may be.
 use Rattle.std.specs.Prelude.{◌≡◌, ◌≢◌, ◌↔◌, ℕ, ◌+◌, ◌<◌, ◌≤◌, List, [], ◌∷◌, ◌++◌, length, take, map, AllPairs, Contains}
-use Rattle.ac_input.specs.declared.primitives.number.TheConstants.{GREATEST}
+use Rattle.ac_input.specs.Number.{greatest_number}
 use Rattle.ac_input.specs.declared.search.MatchKind.{MatchKind}
 use Rattle.ac_input.specs.Dictionary.{Dictionary, IsPattern, IsEntered}
 use Rattle.ac_input.specs.LiveLaws.{canonical}
@@ -26,15 +26,19 @@ pub record IsPrefix (m : Dictionary) (text : List ℕ) : Type 0 where
   pub some : 0 < length text
   pub entered : (n : ℕ) × (p : List ℕ) × IsEntered m n p × (length text ≤ length p) × (text ≡ take (length text) (canonical_text m p))
 
--- how many states an automaton has: 4, and one for each of these prefixes
+-- how many states stand for none of these prefixes: the dead state, the fail state and the two starts
+abbrev pub fixed_states : ℕ
+fixed_states = 4
+
+-- how many states an automaton has: those, and one for each of these prefixes
 abbrev pub HasStates : Dictionary → ℕ → Type 0
-HasStates m states = (texts : List (List ℕ)) × AllPairs (λ s t. s ≢ t) texts × ((text : List ℕ) → Contains texts text ↔ IsPrefix m text) × (states ≡ length texts + 4)
+HasStates m states = (texts : List (List ℕ)) × AllPairs (λ s t. s ≢ t) texts × ((text : List ℕ) → Contains texts text ↔ IsPrefix m text) × (states ≡ length texts + fixed_states)
 
 -- The dictionary passes no limit. Numbers begin at 0, so there may be one more pattern or state than the greatest number.
 pub record IsWithinLimits (m : Dictionary) : Type 0 where
-  pub patterns : length m.patterns ≤ GREATEST + 1
-  pub lengths : (n : ℕ) (p : List ℕ) → IsPattern m n p → length p ≤ GREATEST
-  pub states : (states : ℕ) × HasStates m states × (states ≤ GREATEST + 1)
+  pub patterns : length m.patterns ≤ greatest_number + 1
+  pub lengths : (n : ℕ) (p : List ℕ) → IsPattern m n p → length p ≤ greatest_number
+  pub states : (states : ℕ) × HasStates m states × (states ≤ greatest_number + 1)
 
 -- a limit of a build
 pub data Limit : Type 0 where
@@ -45,9 +49,9 @@ pub data Limit : Type 0 where
 -- The limit that one more pattern passes: its number is too great, or it is too long, or with it there are too many states. Where
 -- several are passed, the first of these counts.
 abbrev pub Passes : Dictionary → List ℕ → Limit → Type 0
-Passes m p PatternNumber = GREATEST < length m.patterns
-Passes m p PatternLength = (length m.patterns ≤ GREATEST) × (GREATEST < length p)
-Passes m p StateNumber = (length m.patterns ≤ GREATEST) × (length p ≤ GREATEST) × ((states : ℕ) × HasStates (with_pattern m p) states × (GREATEST + 1 < states))
+Passes m p PatternNumber = greatest_number < length m.patterns
+Passes m p PatternLength = (length m.patterns ≤ greatest_number) × (greatest_number < length p)
+Passes m p StateNumber = (length m.patterns ≤ greatest_number) × (length p ≤ greatest_number) × ((states : ℕ) × HasStates (with_pattern m p) states × (greatest_number + 1 < states))
 
 -- the pattern of this number passes the limit, and none before it passes one
 pub record IsLimitAt (m : Dictionary) (n : ℕ) (limit : Limit) : Type 0 where

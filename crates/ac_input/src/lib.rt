@@ -2,10 +2,10 @@
 //! contracts of the layers above cite.
 //!
 //! The definitions are in `specs/`. They name no trie, hash or buffer: an occurrence is a pattern that lies in a span of the
-//! haystack, the best one is the least in the order of the kind, a walk takes the best from where it stands. The laws about
-//! The laws about them that a user cites are the contracts of the functions of [`laws`], [`beginning_laws`], [`live_laws`],
-//! [`state_laws`] and [`limit_laws`]. What else an automaton needs stands in the lemmas of `proofs/`, which any proof of the
-//! crates above may import.
+//! haystack, the best one is the least in the order of the kind, a walk takes the best from where it stands. The laws about them
+//! that a user cites are the contracts of the functions of [`laws`], [`beginning_laws`], [`live_laws`], [`state_laws`],
+//! [`limit_laws`] and [`utf8_laws`]. What else an automaton needs stands in the lemmas of `proofs/`, which any proof of the crates
+//! above may import.
 #![tactic(auto)]
 
 pub mod alphabet;
@@ -19,3 +19,4 @@ pub mod primitives;
 pub mod search;
 pub mod state_laws;
 pub mod steps;
+pub mod utf8_laws;

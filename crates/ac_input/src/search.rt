@@ -5,7 +5,7 @@
 ghost use Rattle.std.specs.Prelude.{◌≡◌, ◌+◌, ◌-◌, ◌^◌, ◌<◌, ◌≤◌, ◌↔◌, length, slice_range, IsCharBoundary, IsTrue, true, false};
 ghost use Rattle.ac_input.specs.Occurrence.{Occurrence};
 ghost use Rattle.ac_input.specs.Best.{asked_kind};
-ghost use Rattle.ac_input.specs.declared.primitives.number.TheConstants.{GREATEST};
+ghost use Rattle.ac_input.specs.Number.{greatest_number};
 
 pub mod candidate;
 pub mod input;
@@ -192,7 +192,7 @@ impl Match {
 
     /// A match of the pattern of this number at the range, where the caller knows that the number fits.
     pub fn must(pattern: usize, range: Range<usize>) -> Match
-        requires pattern { pattern ≤ GREATEST }
+        requires pattern { pattern ≤ greatest_number }
         requires range { range.start ≤ range.end }
         ensures { result ≡ record { pattern = pattern; start = range.start; end = range.end } }
     {

@@ -2,7 +2,7 @@
 //!
 //! The mark takes no memory and no time; it keeps numbers of two kinds apart.
 ghost use Rattle.std.specs.Prelude.{◌≡◌, ◌+◌, ◌<◌, ◌≤◌, ◌↔◌, ◌++◌, ◌≤ℤ◌, pos, length, slice_get, IsOk, IfOk, IfErr, Some, codes, decimal};
-ghost use Rattle.ac_input.specs.Number.{IsTried};
+ghost use Rattle.ac_input.specs.Number.{greatest_number, IsTried};
 
 use crate::primitives::{Kind, PatternID, SmallIndex, StateID};
 use std::error::Error;
@@ -24,13 +24,13 @@ pub struct Number<K> {
 
 impl<K> Model for Number<K> {
     ghost use Rattle.std.specs.Prelude.{ℕ, ◌≤◌};
-    ghost use Rattle.ac_input.specs.declared.primitives.number.TheConstants.{GREATEST};
+    ghost use Rattle.ac_input.specs.Number.{greatest_number};
 
     ghost Value = { ℕ };
 
     ghost view = { λ number. number.index };
 
-    ghost invariant = { λ number. number.index ≤ GREATEST };
+    ghost invariant = { λ number. number.index ≤ greatest_number };
 
     ghost inverse = { λ n. record { index = n; of = record {} } };
 }
@@ -99,7 +99,7 @@ impl StateID {
 impl<K> Number<K> {
     /// The number as one of this kind. It fails where the number is past the greatest; the error keeps it.
     pub fn new(number: usize) -> Result<Number<K>, NumberError<K>>
-        ensures fits { IsOk result ↔ (number ≤ GREATEST) }
+        ensures fits { IsOk result ↔ (number ≤ greatest_number) }
         ensures value { IfOk result (λ made. made ≡ number) }
         ensures refused { IfErr result (λ error. error ≡ number) }
     {
@@ -117,7 +117,7 @@ impl<K> Number<K> {
 
     /// The number, which the caller knows to fit.
     pub fn must(number: usize) -> Number<K>
-        requires { number ≤ GREATEST }
+        requires { number ≤ greatest_number }
         ensures { result ≡ number }
     {
         Number {
@@ -129,7 +129,7 @@ impl<K> Number<K> {
     /// The number for indexing.
     pub fn as_usize(&self) -> usize
         ensures value { result ≡ self.now }
-        ensures fits { result ≤ GREATEST }
+        ensures fits { result ≤ greatest_number }
     {
         self.index as usize
     }
@@ -137,7 +137,7 @@ impl<K> Number<K> {
     /// The number as `u64`.
     pub fn as_u64(&self) -> u64
         ensures value { result ≡ self.now }
-        ensures fits { result ≤ GREATEST }
+        ensures fits { result ≤ greatest_number }
     {
         self.index as u64
     }
@@ -145,7 +145,7 @@ impl<K> Number<K> {
     /// The number as `u32`.
     pub fn as_u32(&self) -> u32
         ensures value { result ≡ self.now }
-        ensures fits { result ≤ GREATEST }
+        ensures fits { result ≤ greatest_number }
     {
         self.index
     }
@@ -153,7 +153,7 @@ impl<K> Number<K> {
     /// The number as `i32`.
     pub fn as_i32(&self) -> i32
         ensures value { result ≡ pos self.now }
-        ensures fits { result ≤ℤ pos GREATEST }
+        ensures fits { result ≤ℤ pos greatest_number }
     {
         self.index as i32
     }
@@ -169,7 +169,7 @@ impl<K> Number<K> {
     /// The number after this one, which may be past the greatest.
     pub fn one_more(&self) -> usize
         ensures value { result ≡ self.now + 1 }
-        ensures fits { result ≤ GREATEST + 1 }
+        ensures fits { result ≤ greatest_number + 1 }
     {
         self.index as usize + 1
     }
@@ -290,10 +290,10 @@ impl<K> NumberError<K> {
 }
 
 impl<K> fmt::Display for NumberError<K> {
-    ghost use Rattle.ac_input.specs.declared.primitives.number.TheConstants.{GREATEST};
+    ghost use Rattle.ac_input.specs.Number.{greatest_number};
 
     ghost output = { λ error. Some (codes "number " ++ decimal error
-        ++ codes " is past " ++ decimal GREATEST) };
+        ++ codes " is past " ++ decimal greatest_number) };
 
     fn fmt<W: fmt::Write>(&self, f: &mut fmt::Formatter<W>) -> fmt::Result {
         let attempted = self.attempted;

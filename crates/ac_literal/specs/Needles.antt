@@ -6,7 +6,14 @@ use Rattle.ac_literal.specs.declared.prefilter.needles.Needles.{Needles}
 use Rattle.ac_literal.specs.declared.prefilter.needles.Needles.TheVariants.{One, Two, Three}
 use Rattle.ac_literal.specs.declared.prefilter.needles.FewBytes.{FewBytes}
 use Rattle.ac_literal.specs.declared.prefilter.needles.FewBytes.TheVariants as few
-use Rattle.ac_literal.specs.declared.prefilter.needles.TheConstants.{ASCII_LIMIT}
+
+-- the first byte that isn't ASCII
+abbrev pub ascii_limit : ℕ
+ascii_limit = 0x80
+
+-- how many bytes a scan looks for at most
+abbrev pub most_needles : ℕ
+most_needles = 3
 
 -- whether a byte is one of the needles
 abbrev pub is_needle : Needles → ℕ → Bool
@@ -22,9 +29,9 @@ needle_list (Three a b c) = a ∷ (b ∷ (c ∷ []))
 
 -- whether all needles are ASCII
 abbrev pub all_ascii : Needles → Bool
-all_ascii (One a) = nat_lt a ASCII_LIMIT
-all_ascii (Two a b) = nat_lt a ASCII_LIMIT && nat_lt b ASCII_LIMIT
-all_ascii (Three a b c) = nat_lt a ASCII_LIMIT && nat_lt b ASCII_LIMIT && nat_lt c ASCII_LIMIT
+all_ascii (One a) = nat_lt a ascii_limit
+all_ascii (Two a b) = nat_lt a ascii_limit && nat_lt b ascii_limit
+all_ascii (Three a b c) = nat_lt a ascii_limit && nat_lt b ascii_limit && nat_lt c ascii_limit
 
 -- the first place of the span that holds a needle
 abbrev pub IsFirstNeedle : Needles → List ℕ → Span → Option ℕ → Type 0

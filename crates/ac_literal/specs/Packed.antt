@@ -25,9 +25,13 @@ pub record Building : Type 0 where
 abbrev pub fresh : MatchKind → Building
 fresh kind = record { kind = kind; patterns = []; inert = false }
 
--- whether a builder with this many patterns can't take this one: it is empty, or there are 128
+-- how many patterns packed search serves at most
+abbrev pub most_packed : ℕ
+most_packed = 128
+
+-- whether a builder with this many patterns can't take this one: it is empty, or there are as many as packed search serves
 abbrev pub is_too_much : ℕ → List ℕ → Bool
-is_too_much count pattern = (length pattern == 0) || (count == 128)
+is_too_much count pattern = (length pattern == 0) || (count == most_packed)
 
 -- a builder with one more pattern
 abbrev pub added : Building → List ℕ → Building
@@ -48,15 +52,15 @@ HasBeginning old patterns new = (count : ℕ) × (count < length patterns) × (n
 abbrev pub pattern_at : List (List ℕ) → ℕ → List ℕ
 pattern_at patterns number = get_or patterns number []
 
--- what a builder takes: at most 128 patterns, none of them empty
+-- what a builder takes: no more patterns than packed search serves, none of them empty
 pub record AreTaken (patterns : List (List ℕ)) : Type 0 where
-  pub few : length patterns ≤ 128
+  pub few : length patterns ≤ most_packed
   pub full : (number : ℕ) → number < length patterns → 0 < length (pattern_at patterns number)
 
--- what packed search serves: 1 to 128 patterns, none of them empty
+-- what packed search serves: patterns, but not too many, none of them empty
 pub record AreServed (patterns : List (List ℕ)) : Type 0 where
   pub some : 0 < length patterns
-  pub few : length patterns ≤ 128
+  pub few : length patterns ≤ most_packed
   pub full : (number : ℕ) → number < length patterns → 0 < length (pattern_at patterns number)
 
 -- each pattern has at least this many bytes

@@ -13,11 +13,9 @@ use Rattle.ac_input.specs.Input.{search_of}
 use Rattle.ac_input.specs.Candidate.{Filter, IsCandidate, HasNoByte, IsScanCounted}
 use Rattle.ac_literal.specs.declared.prefilter.strategy.Strategy.{Strategy}
 use Rattle.ac_literal.specs.declared.prefilter.strategy.Strategy.TheVariants.{Memmem, Packed, StartBytes, RareBytes}
-use Rattle.ac_literal.specs.Needles.{needle_list}
-use Rattle.ac_literal.specs.Strategy.{AreFull, is_start, AreStarts, AreRareOf, IsPacked, IsMemmem}
-use Rattle.ac_literal.specs.declared.prefilter.needles.TheConstants.{ASCII_LIMIT}
-use Rattle.ac_literal.specs.declared.prefilter.rare_bytes.TheConstants.{LEN_LIMIT}
-use Rattle.ac_literal.specs.declared.packed.api.TheConstants.{PATTERN_LIMIT}
+use Rattle.ac_literal.specs.Needles.{ascii_limit, most_needles, needle_list}
+use Rattle.ac_literal.specs.Packed.{most_packed}
+use Rattle.ac_literal.specs.Strategy.{AreFull, is_start, AreStarts, AreRareOf, IsPacked, IsMemmem, rare_len_limit}
 
 -- the way of finding candidates is right for the dictionary
 abbrev pub IsStrategyOf : Dictionary → Strategy → Type 0
@@ -47,13 +45,13 @@ IsCountedIn f haystack span c before after = IsScanCounted f.needles (search_of 
 
 -- at most three bytes, all of them ASCII, and patterns begin with no other
 abbrev pub AreStartBytes : Dictionary → List ℕ → Type 0
-AreStartBytes m bytes = (length bytes ≤ 3) × ((byte : ℕ) → IsTrue (is_start m.pairing m.patterns byte) → Contains bytes byte × (byte < ASCII_LIMIT))
+AreStartBytes m bytes = (length bytes ≤ most_needles) × ((byte : ℕ) → IsTrue (is_start m.pairing m.patterns byte) → Contains bytes byte × (byte < ascii_limit))
 
 -- at most three bytes, of which each pattern, none of them too long, holds one, with what is paired with it among them
 abbrev pub AreRareBytes : Dictionary → List ℕ → Type 0
 AreRareBytes m bytes =
-    (length bytes ≤ 3)
-    × ((p : List ℕ) → Contains m.patterns p → (length p < LEN_LIMIT) × ((rare : ℕ) × Contains p rare × ((byte : ℕ) → IsTrue (same m.pairing rare byte) → Contains bytes byte)))
+    (length bytes ≤ most_needles)
+    × ((p : List ℕ) → Contains m.patterns p → (length p < rare_len_limit) × ((rare : ℕ) × Contains p rare × ((byte : ℕ) → IsTrue (same m.pairing rare byte) → Contains bytes byte)))
 
 -- Start bytes serve where the bytes that patterns may begin with are at most three, all of them ASCII.
 abbrev pub StartBytesServe : Dictionary → Type 0
@@ -66,7 +64,7 @@ RareBytesServe m = (bytes : List ℕ) × AreRareBytes m bytes
 
 -- Packed search serves the patterns of a leftmost kind, as many as it takes, where nothing is paired.
 abbrev pub PackedServes : Dictionary → Type 0
-PackedServes m = (m.kind ≢ Standard) × IsUnpaired m.pairing × (length m.patterns ≤ PATTERN_LIMIT)
+PackedServes m = (m.kind ≢ Standard) × IsUnpaired m.pairing × (length m.patterns ≤ most_packed)
 
 -- The search for one pattern serves where nothing is paired.
 abbrev pub MemmemServes : Dictionary → Type 0

@@ -1,20 +1,33 @@
 -- How rare bytes are chosen, and what is known about them while patterns come.
 use Rattle.std.specs.Prelude.{◌≡◌, ℕ, ◌<◌, ◌≤◌, ◌==◌, ◌||◌, ◌&&◌, ◌⊎◌, nat_le, max, List, [], ◌∷◌, ◌++◌, length, slice_index, true, IsTrue, EachIndex, if◌then◌else◌}
 use Rattle.std.specs.List.{Contains}
+use Rattle.ac_input.specs.Candidate.{max_distance}
 use Rattle.ac_input.specs.Same.{other, same}
-use Rattle.ac_literal.specs.Needles.{few_has, few_surely_has}
-use Rattle.ac_literal.specs.Strategy.{distance_of, max_distance, AreDistances, StandsInSome}
+use Rattle.ac_literal.specs.Needles.{ascii_limit, few_has, few_surely_has}
+use Rattle.ac_literal.specs.Strategy.{distance_of, rare_len_limit, AreDistances, StandsInSome}
 use Rattle.ac_literal.specs.declared.prefilter.needles.FewBytes.{FewBytes}
-use Rattle.ac_literal.specs.declared.prefilter.rank.TheConstants.{COMMON, CAPITAL, SIGN, HIGH}
 use Rattle.ac_literal.specs.declared.prefilter.rare_bytes.RareBytesBuilder.{RareBytesBuilder}
-use Rattle.ac_literal.specs.declared.prefilter.rare_bytes.TheConstants.{LEN_LIMIT}
+
+-- how common lower-case letters, space, line feed and byte 0 are estimated to be; digits and upper-case letters; other bytes of
+-- ASCII; and the bytes that aren't ASCII
+abbrev pub common_rank : ℕ
+common_rank = 200
+
+abbrev pub capital_rank : ℕ
+capital_rank = 150
+
+abbrev pub sign_rank : ℕ
+sign_rank = 100
+
+abbrev pub high_rank : ℕ
+high_rank = 50
 
 -- How common a byte is estimated to be: the most for lower-case letters, space, line feed and byte 0; less for digits and
 -- upper-case letters; least from 0x80 up.
 abbrev pub rank_of : ℕ → ℕ
 rank_of byte =
-    if (byte == 0) || (byte == 10) || (byte == 32) || (nat_le 97 byte && nat_le byte 122) then COMMON
-    else (if (nat_le 48 byte && nat_le byte 57) || (nat_le 65 byte && nat_le byte 90) then CAPITAL else (if nat_le 128 byte then HIGH else SIGN))
+    if (byte == 0) || (byte == 10) || (byte == 32) || (nat_le 97 byte && nat_le byte 122) then common_rank
+    else (if (nat_le 48 byte && nat_le byte 57) || (nat_le 65 byte && nat_le byte 90) then capital_rank else (if nat_le ascii_limit byte then high_rank else sign_rank))
 
 -- the rank of a byte that is looked for together with its partner
 abbrev pub paired_rank_of : List ℕ → ℕ → ℕ
@@ -49,12 +62,12 @@ pub record IsChosen (pairing : List ℕ) (before : FewBytes) (p : List ℕ) (aft
 -- distances that grew, to reach over a pattern that isn't too long, but not past the greatest
 pub record AreReached (pairing : List ℕ) (before p after : List ℕ) : Type 0 where
   pub grown : (byte : ℕ) → distance_of before byte ≤ distance_of after byte
-  pub reach : length p < LEN_LIMIT → AreDistances pairing after p
+  pub reach : length p < rare_len_limit → AreDistances pairing after p
   pub near : ((byte : ℕ) → distance_of before byte ≤ max_distance) → (byte : ℕ) → distance_of after byte ≤ max_distance
 
 -- what is known about the rare bytes of some patterns
 pub record IsRareSoFar (pairing : List ℕ) (patterns : List (List ℕ)) (rare : RareBytesBuilder) : Type 0 where
-  pub short : rare.is_short ≡ true → (p : List ℕ) → Contains patterns p → length p < LEN_LIMIT
+  pub short : rare.is_short ≡ true → (p : List ℕ) → Contains patterns p → length p < rare_len_limit
   pub held : (p : List ℕ) → Contains patterns p → HoldsFew pairing rare.few p
   pub reach : rare.is_short ≡ true → (p : List ℕ) → Contains patterns p → AreDistances pairing rare.distances p
   pub near : (byte : ℕ) → distance_of rare.distances byte ≤ max_distance

@@ -9,14 +9,11 @@ use Rattle.ac_input.specs.declared.steps.Steps.{Steps}
 use Rattle.ac_input.specs.Same.{same, IsUnpaired}
 use Rattle.ac_input.specs.Dictionary.{Dictionary}
 use Rattle.ac_input.specs.Input.{search_of}
-use Rattle.ac_input.specs.Candidate.{IsCandidate, HasNoByte, IsScanCounted}
-use Rattle.ac_literal.specs.Needles.{is_needle, needle_list}
-use Rattle.ac_literal.specs.Packed.{Packed, search_kind}
+use Rattle.ac_input.specs.Candidate.{max_distance, IsCandidate, HasNoByte, IsScanCounted}
+use Rattle.ac_literal.specs.Needles.{ascii_limit, is_needle, needle_list}
+use Rattle.ac_literal.specs.Packed.{Packed, search_kind, most_packed}
 use Rattle.ac_literal.specs.declared.prefilter.needles.Needles.{Needles}
 use Rattle.ac_literal.specs.declared.prefilter.strategy.RareBytes.{RareBytes}
-use Rattle.ac_literal.specs.declared.prefilter.needles.TheConstants.{ASCII_LIMIT}
-use Rattle.ac_literal.specs.declared.prefilter.rare_bytes.TheConstants.{LEN_LIMIT}
-use Rattle.ac_literal.specs.declared.packed.api.TheConstants.{PATTERN_LIMIT}
 
 -- there is a pattern, and none is empty
 pub record AreFull (patterns : List (List ℕ)) : Type 0 where
@@ -37,7 +34,7 @@ is_start pairing (p ∷ ps) byte = begins_same pairing p byte || is_start pairin
 pub record AreStarts (m : Dictionary) (needles : Needles) : Type 0 where
   pub full : AreFull m.patterns
   pub exact : (byte : ℕ) → is_needle needles byte ≡ is_start m.pairing m.patterns byte
-  pub low : (byte : ℕ) → IsTrue (is_needle needles byte) → byte < ASCII_LIMIT
+  pub low : (byte : ℕ) → IsTrue (is_needle needles byte) → byte < ascii_limit
 
 -- the pattern has at that place a byte that is a needle, as is what is paired with it
 pub record HoldsNeedle (pairing : List ℕ) (needles : Needles) (p : List ℕ) : Type 0 where
@@ -49,9 +46,9 @@ pub record HoldsNeedle (pairing : List ℕ) (needles : Needles) (p : List ℕ) :
 abbrev pub distance_of : List ℕ → ℕ → ℕ
 distance_of distances byte = slice_index distances byte
 
--- how far the last byte of the longest pattern that rare bytes serve stands after its beginning
-abbrev pub max_distance : ℕ
-max_distance = 254
+-- rare bytes serve patterns that are shorter than this
+abbrev pub rare_len_limit : ℕ
+rare_len_limit = 256
 
 -- each byte of the pattern, and what is paired with it, stands no further after the beginning than its distance says
 abbrev pub AreDistances : List ℕ → List ℕ → List ℕ → Type 0
@@ -64,7 +61,7 @@ StandsInSome pairing patterns byte = (p : List ℕ) × (inner : ℕ) × Contains
 -- Every pattern, none of them too long, holds a needle, and the distances are those of all patterns.
 pub record AreRare (m : Dictionary) (needles : Needles) (distances : List ℕ) : Type 0 where
   pub full : AreFull m.patterns
-  pub short : (p : List ℕ) → Contains m.patterns p → length p < LEN_LIMIT
+  pub short : (p : List ℕ) → Contains m.patterns p → length p < rare_len_limit
   pub held : (p : List ℕ) → Contains m.patterns p → HoldsNeedle m.pairing needles p
   pub reach : (p : List ℕ) → Contains m.patterns p → AreDistances m.pairing distances p
   pub near : (byte : ℕ) → distance_of distances byte ≤ max_distance
@@ -81,7 +78,7 @@ pub record IsPacked (m : Dictionary) (searcher : Packed) : Type 0 where
   pub patterns : searcher.patterns ≡ m.patterns
   pub kind : search_kind searcher.kind ≡ m.kind
   pub several : length m.patterns ≢ 1
-  pub few : length m.patterns ≤ PATTERN_LIMIT
+  pub few : length m.patterns ≤ most_packed
 
 -- the needle is the one pattern, and nothing is paired
 pub record IsMemmem (m : Dictionary) (needle : List ℕ) : Type 0 where

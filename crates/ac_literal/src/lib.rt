@@ -8,7 +8,10 @@ pub mod openings;
 pub mod packed;
 pub mod prefilter;
 
+pub use ac_input::alphabet::{ByteClassSet, ByteClasses, ByteSet, opposite_ascii_case};
 pub use ac_input::pairing::{Pairing, PairingError};
-pub use ac_input::primitives::PatternID;
-pub use ac_input::search::{Candidate, Match, MatchKind, Span};
+pub use ac_input::primitives::{
+    PatternID, PatternIDError, SmallIndex, SmallIndexError, StateID, StateIDError,
+};
+pub use ac_input::search::{Anchored, Candidate, Input, Match, MatchKind, Span, StartKind};
 pub use ac_input::steps::Steps;

@@ -10,10 +10,10 @@
 //! Patterns are collected in a [`Builder`], which a [`Config`] makes. Bytes are compared exactly: there is no case folding. Only
 //! building and cloning take memory; a search takes none and can't fail.
 pub mod api;
-pub mod needle;
-pub mod pattern;
-pub mod rabinkarp;
-pub mod scanner;
-pub mod teddy;
+mod needle;
+mod pattern;
+mod rabinkarp;
+mod scanner;
+pub(crate) mod teddy;
 
-pub use api::{Builder, Config, FindIter, MatchKind, Searcher};
+pub use api::{Builder, Config, FindIter, MatchKind, PATTERN_LIMIT, Searcher};

@@ -6,7 +6,7 @@
 ghost use Rattle.std.specs.Prelude.{◌≡◌, ℕ, ◌<◌, ◌≤◌, [], ◌∷◌, ◌++◌, ◌==◌, length, IfOk, OnOk, OnErr};
 ghost use Rattle.ac_input.specs.Best.{preference};
 ghost use Rattle.ac_input.specs.Work.{shortest};
-ghost use Rattle.ac_literal.specs.Packed.{search_kind, pattern_at};
+ghost use Rattle.ac_literal.specs.Packed.{search_kind, most_packed, pattern_at};
 ghost use Rattle.ac_literal.specs.RabinKarp.{lying, IsOrder, IsPlace};
 
 use crate::packed::api::MatchKind;
@@ -165,7 +165,7 @@ impl Patterns {
     ///
     /// It takes at most the square of their number in comparisons, which is little for few patterns.
     pub fn order(&self, alloc: Global, kind: MatchKind) -> Result<Vec<PatternID>, AllocError>
-        requires { length self.now ≤ 128 }
+        requires { length self.now ≤ most_packed }
         ensures { IfOk result (λ order. IsOrder kind self.now (length self.now) order.items) }
     {
         let mut order = Vec::with_capacity(alloc, self.len())?;

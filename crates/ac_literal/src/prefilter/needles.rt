@@ -12,7 +12,7 @@ use ac_input::steps::Steps;
 use memchr::{memchr, memchr2, memchr3};
 
 /// The first byte that isn't ASCII.
-const ASCII_LIMIT: u8 = 0x80;
+pub const ASCII_LIMIT: u8 = 0x80;
 
 /// One to three bytes that are looked for together.
 #[derive(Clone, Copy, Debug)]

@@ -7,7 +7,7 @@ ghost use Rattle.std.specs.Prelude.{◌≡◌, ◌≤◌, ◌*◌};
 ghost use Rattle.ac_literal.specs.RareBytes.{rank_of, paired_rank_of};
 ghost use Rattle.ac_literal.specs.declared.prefilter.rank.TheConstants.{COMMON_STOPS};
 
-use crate::prefilter::needles::Needles;
+use crate::prefilter::needles::{ASCII_LIMIT, Needles};
 use ac_input::pairing::Pairing;
 
 /// The rank of lower-case letters, space, line feed and byte 0.
@@ -39,7 +39,7 @@ pub fn rank(byte: u8) -> u8
     match byte {
         0 | b'\n' | b' ' | b'a'..=b'z' => COMMON,
         b'0'..=b'9' | b'A'..=b'Z' => CAPITAL,
-        0x80..=0xff => HIGH,
+        ASCII_LIMIT..=0xff => HIGH,
         _ => SIGN,
     }
 }

@@ -8,7 +8,7 @@
 //! pattern, not only of the pattern for which it was chosen. So the place of each byte of each pattern is recorded.
 ghost use Rattle.std.specs.Prelude.{◌≡◌, ℕ, ◌<◌, [], List, length, slice_index, slice_set, max, IsTrue};
 ghost use Rattle.std.specs.List.{Contains};
-ghost use Rattle.ac_literal.specs.declared.prefilter.rare_bytes.TheConstants.{LEN_LIMIT};
+ghost use Rattle.ac_literal.specs.Strategy.{rare_len_limit};
 ghost use Rattle.ac_literal.specs.RareBytes.{IsRarest, HoldsOne, IsClosed, IsChosen, AreReached, IsRareSoFar, AddsRare};
 
 use crate::prefilter::needles::FewBytes;
@@ -56,7 +56,7 @@ fn lengthen(distances: &mut [u8; 256], byte: u8, at: u8)
 
 /// Each byte of a pattern, and what is paired with it, may stand where it stands there.
 fn record(distances: &mut [u8; 256], pairing: &Pairing, pattern: &[u8])
-    requires { length pattern.now < LEN_LIMIT }
+    requires { length pattern.now < rare_len_limit }
     ensures { AreReached pairing.now distances.old pattern.now distances.new }
 {
     for at in 0..pattern.len() {

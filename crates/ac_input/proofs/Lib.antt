@@ -34,3 +34,4 @@ pub mod OnceLemmas
 pub mod ClassLemmas
 pub mod DfaLemmas
 pub mod DeadLemmas
+pub mod UnusedLemmas

@@ -26,3 +26,4 @@ pub mod Alphabet
 pub mod Work
 pub mod Classes
 pub mod Dfa
+pub mod Unused

@@ -19,3 +19,4 @@ pub mod primitives;
 pub mod search;
 pub mod state_laws;
 pub mod steps;
+pub mod unused_laws;

@@ -35,3 +35,4 @@ pub mod ClassLemmas
 pub mod DfaLemmas
 pub mod DeadLemmas
 pub mod Utf8Lemmas
+pub mod UnusedLemmas

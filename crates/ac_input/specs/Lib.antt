@@ -27,3 +27,4 @@ pub mod Alphabet
 pub mod Work
 pub mod Classes
 pub mod Dfa
+pub mod Unused

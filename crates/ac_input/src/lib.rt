@@ -19,4 +19,5 @@ pub mod primitives;
 pub mod search;
 pub mod state_laws;
 pub mod steps;
+pub mod unused_laws;
 pub mod utf8_laws;

@@ -14,6 +14,7 @@ pub mod OverlappingStateLemmas
 pub mod CandidateLemmas
 pub mod ShowLemmas
 pub mod ReplaceLemmas
+pub mod ItemsLemmas
 pub mod ReplacerLemmas
 pub mod BufferLemmas
 pub mod OutputLemmas

@@ -50,7 +50,8 @@ pub trait Automaton {
     ghost use Rattle.ac_automaton.specs.Automaton.{Built, IsReached, IsState, AtEach, Leads, IsReadCost, TellsDead, TellsStart, IsSpecial, Advances, AdvancesToMatch, OwnsPrefilter, AnswersStart, AnswersFind, CostsFind};
     ghost use Rattle.ac_automaton.specs.Iter.{AnswersFindIter};
     ghost use Rattle.ac_automaton.specs.Overlapping.{CameFrom, IsOverlappingCost, AnswersOverlapping, sums_of};
-    ghost use Rattle.ac_automaton.specs.OverlappingIter.{AnswersOverlappingIter};
+    ghost use Rattle.ac_automaton.specs.OverlappingIter.{AnswersOverlappingIter, rest_of};
+    ghost use Rattle.ac_automaton.specs.Items.{AreFew, AreFewForEach, AreInOrder, EachLiesWithin, FindsWithin};
     ghost use Rattle.ac_automaton.specs.StreamIter.{AnswersStreamIter};
     ghost use Rattle.ac_automaton.specs.StreamReplace.{AcceptsReplacing, CostsStream, ReplacesStream};
     ghost use Rattle.ac_automaton.specs.StreamReplaceWith.{ReplacesStreamWith};
@@ -267,7 +268,8 @@ pub trait Automaton {
     final fn try_find(&self, input: &Input<'_>) -> Result<Option<Match>, MatchError>
     where
         Self: Search,
-        ensures { AnswersFind (built self.now) (supports self.now) input.now result }
+        ensures answer { AnswersFind (built self.now) (supports self.now) input.now result }
+        ensures within { FindsWithin (built self.now) input.now result }
     {
         let mut steps = Steps::new();
         self.try_find_counted(input, &mut steps)
@@ -283,6 +285,7 @@ pub trait Automaton {
     where
         Self: Search,
         ensures answer { AnswersFind (built self.now) (supports self.now) input.now result }
+        ensures within { FindsWithin (built self.now) input.now result }
         ensures cost { CostsFind (built self.now) input.now steps.old steps.new result }
     {
         self.search(input, steps)
@@ -296,7 +299,9 @@ pub trait Automaton {
     ) -> Result<FindIter<'a, 'h, Self>, MatchError>
     where
         Self: Sized + Search,
-        ensures { AnswersFindIter (built self.now) (supports self.now) input.entry result }
+        ensures answer { AnswersFindIter (built self.now) (supports self.now) input.entry result }
+        ensures few { IfOk result (AreFew input.entry) }
+        ensures lie { IfOk result (AreInOrder (built self.now) input.entry) }
     {
         iter::find_iter(self, input)
     }
@@ -337,7 +342,10 @@ pub trait Automaton {
     ) -> Result<FindOverlappingIter<'a, 'h, Self>, MatchError>
     where
         Self: Sized + Search,
-        ensures { AnswersOverlappingIter (built self.now) (supports self.now) input.entry result }
+        ensures answer { AnswersOverlappingIter (built self.now) (supports self.now) input.entry
+            result }
+        ensures few { IfOk result (AreFewForEach (built self.now) input.entry) }
+        ensures lie { IfOk result (EachLiesWithin rest_of (built self.now) input.entry) }
     {
         overlapping::iter::find_overlapping_iter(self, input)
     }

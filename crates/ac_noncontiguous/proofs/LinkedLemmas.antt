@@ -2,7 +2,7 @@
 use Rattle.std.proofs.Common.{◌≡◌, ◌≢◌, ℕ, zero, suc, ◌+◌, ◌<◌, ◌≤◌, false, List, [], ◌∷◌, ◌++◌, length, refl, sym, ap, subst, ◌∙◌, ⊎_elim, arith, slice_index_or, slice_set, length-append, length-set, get_or-set_same, get_or-set_other}
 use Rattle.std.proofs.lemmas.Bool.{cases_eq}
 use Rattle.std.proofs.lemmas.List.{get_or_append_left, get_or-append-add, get_or_read}
-use Rattle.ac_input.specs.declared.primitives.number.TheConstants.{GREATEST}
+use Rattle.ac_input.specs.Number.{greatest_number}
 use Rattle.ac_noncontiguous.specs.declared.trie.State.{State}
 use Rattle.ac_noncontiguous.specs.Tree.{IsTree, parent, byte, child, sibling, depth, is_match, state_at, no_state}
 use Rattle.ac_noncontiguous.proofs.GrownLemmas.{IsGrown}
@@ -121,5 +121,5 @@ depth-le states tree (suc most) i le within =
     (cases_eq i 0)
 
 -- a state that is set leaves as many
-pub few-set : (xs : List State) (j : ℕ) (r : State) → length xs + 3 ≤ GREATEST + 1 → length (slice_set xs j r) + 3 ≤ GREATEST + 1
+pub few-set : (xs : List State) (j : ℕ) (r : State) → length xs + 3 ≤ greatest_number + 1 → length (slice_set xs j r) + 3 ≤ greatest_number + 1
 few-set xs j r few = omega (arith, length-set xs j r)

@@ -8,7 +8,7 @@ use Rattle.std.proofs.lemmas.Bool.Decides.{nat_tests}
 use Rattle.std.proofs.lemmas.List.{length-take-le, get_or-take, get_or-drop}
 use Rattle.std.proofs.lemmas.Option.{slice_get_read}
 use Rattle.ac_automaton.specs.Held.{last_special_of}
-use Rattle.ac_input.specs.declared.primitives.number.TheConstants.{GREATEST}
+use Rattle.ac_input.specs.Number.{greatest_number}
 use Rattle.ac_input.specs.declared.search.Anchored.{Anchored}
 use Rattle.ac_input.specs.declared.steps.Steps.{Steps}
 use Rattle.ac_input.specs.Candidate.{Filter}
@@ -43,7 +43,7 @@ pub tables-start : (m : Dictionary) (tables : Tables) → ∥ AreTablesOf m tabl
 tables-start m tables h = ∥∥₁_elim h le_prop (λ w. w.1.texts.starts.0)
 
 -- and there is room for the anchored one
-pub tables-few : (m : Dictionary) (tables : Tables) → ∥ AreTablesOf m tables ∥₁ → tables.start + 1 ≤ GREATEST
+pub tables-few : (m : Dictionary) (tables : Tables) → ∥ AreTablesOf m tables ∥₁ → tables.start + 1 ≤ greatest_number
 tables-few m tables h = ∥∥₁_elim h le_prop (λ w. let few = w.1.few in let within = w.1.texts.starts.1 in omega (arith, few, within))
 
 -- ---- the patterns of a state

@@ -6,7 +6,7 @@ use Rattle.std.proofs.lemmas.Option.{slice_get_within, slice_get-get_or}
 use Rattle.ac_input.specs.declared.search.MatchKind.TheVariants.{LeftmostFirst}
 use Rattle.ac_input.specs.Dictionary.{Dictionary, IsPattern, IsShadowed, IsEntered}
 use Rattle.ac_input.specs.LiveLaws.{canonical, IsOwnInverse}
-use Rattle.ac_input.specs.declared.primitives.number.TheConstants.{GREATEST}
+use Rattle.ac_input.specs.Number.{greatest_number}
 use Rattle.ac_input.specs.Limits.{with_pattern, canonical_text}
 use Rattle.ac_noncontiguous.specs.declared.trie.State.{State}
 use Rattle.ac_noncontiguous.specs.Tree.{IsTree, Extends, parent, depth, is_match, path, text}
@@ -39,7 +39,7 @@ pub record IsMore (m : Dictionary) (p : List ℕ) (old new : List State) (end : 
   pub unmarked_added : (i : ℕ) → length old ≤ i → i < length new → end ≢ Some i → is_match new i ≡ false
 
 -- so it stands for the dictionary with the pattern
-pub stand-more : (m : Dictionary) (p : List ℕ) (old new : List State) (ends : List (Option ℕ)) (end : Option ℕ) → HasEntered m old ends → length p ≤ GREATEST → IsMore m p old new end → HasEntered (with_pattern m p) new (ends ++ end ∷ [])
+pub stand-more : (m : Dictionary) (p : List ℕ) (old new : List State) (ends : List (Option ℕ)) (end : Option ℕ) → HasEntered m old ends → length p ≤ greatest_number → IsMore m p old new end → HasEntered (with_pattern m p) new (ends ++ end ∷ [])
 stand-more m p old new ends end s short g =
     record {
       counted = omega (arith, length-append ends (end ∷ []), length-append m.patterns (p ∷ []), s.counted);
@@ -166,7 +166,7 @@ entered-walked m p old mid ends read at inverse s tree ext free =
     )
 
 -- what an entered pattern adds
-pub more-entered : (m : Dictionary) (p : List ℕ) (old mid new : List State) (ends : List (Option ℕ)) (id : ℕ) → IsOwnInverse m.pairing → HasEntered m old ends → IsTree old → length p ≤ GREATEST → IsWalked m.kind old mid (canonical_text m p) (length (canonical_text m p)) id → IsMarked mid new id → IsMore m p old new (Some id)
+pub more-entered : (m : Dictionary) (p : List ℕ) (old mid new : List State) (ends : List (Option ℕ)) (id : ℕ) → IsOwnInverse m.pairing → HasEntered m old ends → IsTree old → length p ≤ greatest_number → IsWalked m.kind old mid (canonical_text m p) (length (canonical_text m p)) id → IsMarked mid new id → IsMore m p old new (Some id)
 more-entered m p old mid new ends id inverse s tree short w k =
     let bytes = canonical_text m p in
     let len : length bytes ≡ length p = length-map p (canonical m.pairing) in
@@ -189,11 +189,11 @@ more-entered m p old mid new ends id inverse s tree short w k =
     }
 
 -- so the trie stands for one more pattern
-pub stand-entered : (m : Dictionary) (p : List ℕ) (old mid new : List State) (ends : List (Option ℕ)) (id : ℕ) → IsOwnInverse m.pairing → HasEntered m old ends → IsTree old → length p ≤ GREATEST → IsWalked m.kind old mid (canonical_text m p) (length (canonical_text m p)) id → IsMarked mid new id → HasEntered (with_pattern m p) new (ends ++ Some id ∷ [])
+pub stand-entered : (m : Dictionary) (p : List ℕ) (old mid new : List State) (ends : List (Option ℕ)) (id : ℕ) → IsOwnInverse m.pairing → HasEntered m old ends → IsTree old → length p ≤ greatest_number → IsWalked m.kind old mid (canonical_text m p) (length (canonical_text m p)) id → IsMarked mid new id → HasEntered (with_pattern m p) new (ends ++ Some id ∷ [])
 stand-entered m p old mid new ends id inverse s tree short w k = stand-more m p old new ends (Some id) s short (more-entered m p old mid new ends id inverse s tree short w k)
 
 -- what a shadowed one adds
-pub more-left_out : (m : Dictionary) (p : List ℕ) (old mid : List State) (ends : List (Option ℕ)) (read at : ℕ) → IsOwnInverse m.pairing → HasEntered m old ends → IsTree old → length p ≤ GREATEST → m.kind ≡ LeftmostFirst → read < length (canonical_text m p) → is_match mid at ≡ true → IsWalked m.kind old mid (canonical_text m p) read at → IsMore m p old mid None
+pub more-left_out : (m : Dictionary) (p : List ℕ) (old mid : List State) (ends : List (Option ℕ)) (read at : ℕ) → IsOwnInverse m.pairing → HasEntered m old ends → IsTree old → length p ≤ greatest_number → m.kind ≡ LeftmostFirst → read < length (canonical_text m p) → is_match mid at ≡ true → IsWalked m.kind old mid (canonical_text m p) read at → IsMore m p old mid None
 more-left_out m p old mid ends read at inverse s tree short first more match w =
     let bytes = canonical_text m p in
     let len : length bytes ≡ length p = length-map p (canonical m.pairing) in
@@ -221,5 +221,5 @@ more-left_out m p old mid ends read at inverse s tree short first more match w =
     }
 
 -- or for one more that is shadowed
-pub stand-left_out : (m : Dictionary) (p : List ℕ) (old mid : List State) (ends : List (Option ℕ)) (read at : ℕ) → IsOwnInverse m.pairing → HasEntered m old ends → IsTree old → length p ≤ GREATEST → m.kind ≡ LeftmostFirst → read < length (canonical_text m p) → is_match mid at ≡ true → IsWalked m.kind old mid (canonical_text m p) read at → HasEntered (with_pattern m p) mid (ends ++ None ∷ [])
+pub stand-left_out : (m : Dictionary) (p : List ℕ) (old mid : List State) (ends : List (Option ℕ)) (read at : ℕ) → IsOwnInverse m.pairing → HasEntered m old ends → IsTree old → length p ≤ greatest_number → m.kind ≡ LeftmostFirst → read < length (canonical_text m p) → is_match mid at ≡ true → IsWalked m.kind old mid (canonical_text m p) read at → HasEntered (with_pattern m p) mid (ends ++ None ∷ [])
 stand-left_out m p old mid ends read at inverse s tree short first more match w = stand-more m p old mid ends None s short (more-left_out m p old mid ends read at inverse s tree short first more match w)

@@ -6,7 +6,7 @@ use Rattle.ac_input.specs.declared.search.MatchKind.{MatchKind}
 use Rattle.ac_input.specs.declared.search.MatchKind.TheVariants.{LeftmostFirst}
 use Rattle.ac_input.specs.Dictionary.{Dictionary}
 use Rattle.ac_input.specs.LiveLaws.{canonical, IsOwnInverse}
-use Rattle.ac_input.specs.declared.primitives.number.TheConstants.{GREATEST}
+use Rattle.ac_input.specs.Number.{greatest_number}
 use Rattle.ac_input.specs.Limits.{canonical_text, Passes, StateNumber}
 use Rattle.ac_noncontiguous.specs.declared.error.BuildErrorKind.{BuildErrorKind}
 use Rattle.ac_noncontiguous.specs.declared.error.BuildErrorKind.TheVariants.{StateIDOverflow, PatternIDOverflow, PatternTooLong, Memory}
@@ -36,14 +36,14 @@ stuck-free kind old mid bytes read at tree w more free none first i within shall
     (cases_lt (depth mid i) read)
 
 -- there are too many states with the pattern
-stuck-passes : (m : Dictionary) (p : List ℕ) (old mid : List State) (ends : List (Option ℕ)) (read at : ℕ) → IsOwnInverse m.pairing → HasEntered m old ends → IsTree old → IsTree mid → length ends ≤ GREATEST → length p ≤ GREATEST → IsWalked m.kind old mid (canonical_text m p) read at → read < length (canonical_text m p) → (m.kind ≡ LeftmostFirst → is_match mid at ≡ false) → HasNoChild mid at (get_or (canonical_text m p) read 0) → GREATEST + 1 < length mid + 4 → Passes m p StateNumber
+stuck-passes : (m : Dictionary) (p : List ℕ) (old mid : List State) (ends : List (Option ℕ)) (read at : ℕ) → IsOwnInverse m.pairing → HasEntered m old ends → IsTree old → IsTree mid → length ends ≤ greatest_number → length p ≤ greatest_number → IsWalked m.kind old mid (canonical_text m p) read at → read < length (canonical_text m p) → (m.kind ≡ LeftmostFirst → is_match mid at ≡ false) → HasNoChild mid at (get_or (canonical_text m p) read 0) → greatest_number + 1 < length mid + 4 → Passes m p StateNumber
 stuck-passes m p old mid ends read at inverse s tree mid_tree few short w more free none many =
     let len : length (canonical_text m p) ≡ length p = length-map p (canonical m.pairing) in
     let entered = entered-walked m p old mid ends 0 0 inverse s tree w.extends (λ first i within shallow spelled. stuck-free m.kind old mid (canonical_text m p) read at mid_tree w more free none first i within (omega arith) spelled) in
     (omega (arith, s.counted), short, (length mid - 1 + (length p - read) + 4, stuck-counts m p old mid ends read at tree mid_tree s w (omega arith) entered none, omega (arith, mid_tree.start.0)))
 
 -- what a trie that stands for a dictionary says about a pattern that it can't enter
-pub trie-stuck : (m : Dictionary) (p : List ℕ) (old : Trie) (error : BuildErrorKind) → IsTrieOf m old → length old.ends.items ≤ GREATEST → length p ≤ GREATEST → IsStuck old.kind old.states.items (map (canonical old.pairing) p) error → IsPatternRefused m p error
+pub trie-stuck : (m : Dictionary) (p : List ℕ) (old : Trie) (error : BuildErrorKind) → IsTrieOf m old → length old.ends.items ≤ greatest_number → length p ≤ greatest_number → IsStuck old.kind old.states.items (map (canonical old.pairing) p) error → IsPatternRefused m p error
 trie-stuck m p old (StateIDOverflow max requested) t few short stuck =
     let h : IsStuck m.kind old.states.items (canonical_text m p) (StateIDOverflow max requested) =
     subst (λ (k : MatchKind). IsStuck k old.states.items (canonical_text m p) (StateIDOverflow max requested)) (sym t.kind) (subst (λ (q : List ℕ). IsStuck old.kind old.states.items (map (canonical q) p) (StateIDOverflow max requested)) (sym t.pairing) stuck) in

@@ -5,7 +5,7 @@ use Rattle.ac_input.specs.Pairing.{IsPairing}
 use Rattle.ac_input.specs.Dictionary.{Dictionary}
 use Rattle.ac_input.specs.LiveLaws.{canonical, IsOwnInverse}
 use Rattle.ac_input.proofs.SameLemmas.{own_inverse-pairing}
-use Rattle.ac_input.specs.declared.primitives.number.TheConstants.{GREATEST}
+use Rattle.ac_input.specs.Number.{greatest_number}
 use Rattle.ac_input.specs.Limits.{with_pattern, canonical_text, IsWithinLimits}
 use Rattle.ac_noncontiguous.specs.declared.trie.State.{State}
 use Rattle.ac_noncontiguous.specs.declared.trie.Trie.{Trie}
@@ -25,7 +25,7 @@ pub trie-ends : (m : Dictionary) (p : List ℕ) (old : Trie) (mid : List State) 
 trie-ends m p old mid end t h = subst (λ (k : MatchKind). IsEnd k old.states.items mid (canonical_text m p) end) (sym t.kind) (subst (λ (q : List ℕ). IsEnd old.kind old.states.items mid (map (canonical q) p) end) (sym t.pairing) h)
 
 -- one more pattern is entered
-pub trie-entered : (m : Dictionary) (p : List ℕ) (old mid marked new : Trie) (id : ℕ) → IsTrieOf m old → length p ≤ GREATEST → IsEnd old.kind old.states.items mid.states.items (map (canonical old.pairing) p) (Some id) → KeepsSettings old mid → IsMarked mid.states.items marked.states.items id → KeepsSettings mid marked → IsNoted marked new (Some id) → IsTrieOf (with_pattern m p) new
+pub trie-entered : (m : Dictionary) (p : List ℕ) (old mid marked new : Trie) (id : ℕ) → IsTrieOf m old → length p ≤ greatest_number → IsEnd old.kind old.states.items mid.states.items (map (canonical old.pairing) p) (Some id) → KeepsSettings old mid → IsMarked mid.states.items marked.states.items id → KeepsSettings mid marked → IsNoted marked new (Some id) → IsTrieOf (with_pattern m p) new
 trie-entered m p old mid marked new id t short w kept k kept_marked n =
     let more = more-entered m p old.states.items mid.states.items marked.states.items old.ends.items id (trie-inverse m old t) t.stands old.tree short (trie-ends m p old mid.states.items (Some id) t w) k in
     let stands = stand-entered m p old.states.items mid.states.items marked.states.items old.ends.items id (trie-inverse m old t) t.stands old.tree short (trie-ends m p old mid.states.items (Some id) t w) k in
@@ -38,7 +38,7 @@ trie-entered m p old mid marked new id t short w kept k kept_marked n =
     }
 
 -- one more pattern is shadowed
-pub trie-left_out : (m : Dictionary) (p : List ℕ) (old mid new : Trie) → IsTrieOf m old → length p ≤ GREATEST → IsEnd old.kind old.states.items mid.states.items (map (canonical old.pairing) p) None → KeepsSettings old mid → IsNoted mid new None → IsTrieOf (with_pattern m p) new
+pub trie-left_out : (m : Dictionary) (p : List ℕ) (old mid new : Trie) → IsTrieOf m old → length p ≤ greatest_number → IsEnd old.kind old.states.items mid.states.items (map (canonical old.pairing) p) None → KeepsSettings old mid → IsNoted mid new None → IsTrieOf (with_pattern m p) new
 trie-left_out m p old mid new t short w kept n =
     let h = trie-ends m p old mid.states.items None t w in
     let more = more-left_out m p old.states.items mid.states.items old.ends.items h.1.0 h.1.1 (trie-inverse m old t) t.stands old.tree short h.0 h.1.2 h.1.3 h.1.4 in

@@ -24,11 +24,15 @@ pub record Settings : Type 0 where
   pub dense_depth : ℕ
   pub prefilter : Bool
 
+-- to which depth states keep a row where nothing else is set: the starts, and those of one byte and of two
+abbrev pub default_dense_depth : ℕ
+default_dense_depth = 3
+
 -- what they are at first
 pub record AreFirst (s : Settings) : Type 0 where
   pub kind : s.kind ≡ Standard
   pub pairing : IsUnpaired s.pairing
-  pub dense_depth : s.dense_depth ≡ 3
+  pub dense_depth : s.dense_depth ≡ default_dense_depth
   pub prefilter : s.prefilter ≡ true
 
 -- the dictionary of these patterns under the settings

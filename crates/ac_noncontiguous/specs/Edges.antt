@@ -1,6 +1,7 @@
 -- Where the bytes lead from each state of the automaton, by its trie state.
 use Rattle.std.specs.Prelude.{◌≡◌, ◌≢◌, ◌⊎◌, ℕ, ◌<◌, ◌==◌, if◌then◌else◌, List, length, slice_index}
 use Rattle.ac_input.specs.LiveLaws.{canonical}
+use Rattle.ac_automaton.specs.Named.{nowhere}
 use Rattle.ac_noncontiguous.specs.declared.trie.State.{State}
 use Rattle.ac_noncontiguous.specs.declared.trie.Trie.{Trie}
 use Rattle.ac_noncontiguous.specs.declared.compiler.numbering.Numbering.{Numbering}
@@ -25,7 +26,7 @@ pub record AreTargetsBelow (states : List State) (numbers : List ℕ) (of other 
 
 -- where a byte leads from a state that is no longer by it: from the unanchored start back, and from the others to none
 abbrev pub missing : ℕ → ℕ → ℕ → ℕ
-missing start back i = if i == start then back else 1
+missing start back i = if i == start then back else nowhere
 
 -- Where a byte leads from a state: to the number of the trie state's child, where there is one.
 pub record IsEdgeTo (trie : Trie) (numbering : Numbering) (back i b next : ℕ) : Type 0 where

@@ -2,7 +2,7 @@
 use Rattle.std.specs.Prelude.{◌≡◌, ◌≢◌, ℕ, ◌+◌, ◌<◌, ◌≤◌, ◌⊎◌, true, false, List, length, take, slice_index, Option, Some, None}
 use Rattle.ac_input.specs.declared.search.MatchKind.{MatchKind}
 use Rattle.ac_input.specs.declared.search.MatchKind.TheVariants.{LeftmostFirst}
-use Rattle.ac_input.specs.declared.primitives.number.TheConstants.{GREATEST}
+use Rattle.ac_input.specs.Number.{greatest_number}
 use Rattle.ac_noncontiguous.specs.declared.trie.State.{State}
 use Rattle.ac_noncontiguous.specs.declared.error.BuildErrorKind.{BuildErrorKind}
 use Rattle.ac_noncontiguous.specs.declared.error.BuildErrorKind.TheVariants.{StateIDOverflow, PatternIDOverflow, PatternTooLong, Memory}
@@ -20,7 +20,7 @@ pub record IsChildStep (old new : List State) (of low id : ℕ) : Type 0 where
 
 -- why a child can't be added: there is no number for it, or no memory
 abbrev pub IsChildRefused : List State → ℕ → ℕ → BuildErrorKind → Type 0
-IsChildRefused states of low (StateIDOverflow max requested) = (max ≡ GREATEST) × (max < requested) × (GREATEST + 1 < length states + 4) × HasNoChild states of low
+IsChildRefused states of low (StateIDOverflow max requested) = (max ≡ greatest_number) × (max < requested) × (greatest_number + 1 < length states + 4) × HasNoChild states of low
 IsChildRefused states of low (PatternIDOverflow max requested) = ⊥
 IsChildRefused states of low (PatternTooLong pattern len) = ⊥
 IsChildRefused states of low Memory = Unit {0}

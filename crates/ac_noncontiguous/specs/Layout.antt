@@ -3,6 +3,7 @@ use Rattle.std.specs.Prelude.{◌≡◌, ◌≢◌, ◌⊎◌, ◌↔◌, ℕ, �
 use Rattle.ac_input.specs.Alphabet.{has, class, is_edge, AreClassesOf}
 use Rattle.ac_input.specs.Classes.{IsParted, IsAlone}
 use Rattle.ac_input.specs.Same.{other, same}
+use Rattle.ac_automaton.specs.Named.{nowhere}
 use Rattle.ac_noncontiguous.specs.declared.nfa.tables.Transition.{Transition}
 use Rattle.ac_noncontiguous.specs.declared.trie.Trie.{Trie}
 use Rattle.ac_noncontiguous.specs.declared.compiler.numbering.Numbering.{Numbering}
@@ -18,9 +19,9 @@ pub record Keeps (old new : List Transition) : Type 0 where
 -- The transitions for the bytes below one, in rising order: for all of them, or for those that lead somewhere.
 pub record AreAppended (edges : List ℕ) (all : Bool) (to : ℕ) (old new : List Transition) : Type 0 where
   pub keeps : Keeps old new
-  pub reads : (k : ℕ) → length old ≤ k → k < length new → (byte_at new k < to) × (next_at new k ≡ slice_index edges (byte_at new k)) × (all ≡ false → next_at new k ≢ 1)
+  pub reads : (k : ℕ) → length old ≤ k → k < length new → (byte_at new k < to) × (next_at new k ≡ slice_index edges (byte_at new k)) × (all ≡ false → next_at new k ≢ nowhere)
   pub rising : (j k : ℕ) → length old ≤ j → j < k → k < length new → byte_at new j < byte_at new k
-  pub missing : (b : ℕ) → b < to → ((k : ℕ) → length old ≤ k → k < length new → byte_at new k ≢ b) → slice_index edges b ≡ 1
+  pub missing : (b : ℕ) → b < to → ((k : ℕ) → length old ≤ k → k < length new → byte_at new k ≢ b) → slice_index edges b ≡ nowhere
   pub complete : all ≡ true → length new ≡ length old + to
 
 -- the dead state and both starts have a transition for each byte
@@ -33,10 +34,10 @@ pub record IsLaid (trie : Trie) (numbering : Numbering) (back i from to : ℕ) (
   pub edges : (k : ℕ) → from ≤ k → k < to → IsEdgeTo trie numbering back i (byte_at transitions k) (next_at transitions k)
   pub small : (k : ℕ) → from ≤ k → k < to → byte_at transitions k < 256
   pub rising : (j k : ℕ) → from ≤ j → j < k → k < to → byte_at transitions j < byte_at transitions k
-  pub missing : (b : ℕ) → b < 256 → ((k : ℕ) → from ≤ k → k < to → byte_at transitions k ≢ b) → IsEdgeTo trie numbering back i b 1
+  pub missing : (b : ℕ) → b < 256 → ((k : ℕ) → from ≤ k → k < to → byte_at transitions k ≢ b) → IsEdgeTo trie numbering back i b nowhere
   pub all : HasAll numbering.start i → to ≡ from + 256
-  pub none : i ≡ 1 → to ≡ from
-  pub longer : (¬ HasAll numbering.start i) → (k : ℕ) → from ≤ k → k < to → next_at transitions k ≢ 1
+  pub none : i ≡ nowhere → to ≡ from
+  pub longer : (¬ HasAll numbering.start i) → (k : ℕ) → from ≤ k → k < to → next_at transitions k ≢ nowhere
 
 -- those of one state more
 pub record IsAppended (trie : Trie) (numbering : Numbering) (back i : ℕ) (old new : List Transition) : Type 0 where

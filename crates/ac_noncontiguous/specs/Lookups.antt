@@ -3,7 +3,7 @@ use Rattle.std.specs.Prelude.{◌≡◌, ◌≢◌, ◌⊎◌, ℕ, ◌+◌, ◌
 use Rattle.ac_input.specs.declared.steps.Steps.{Steps}
 use Rattle.ac_input.specs.Dictionary.{Dictionary}
 use Rattle.ac_input.specs.LiveLaws.{IsOwnInverse}
-use Rattle.ac_automaton.specs.Named.{Naming, OfNames, IsPaidStep}
+use Rattle.ac_automaton.specs.Named.{nowhere, Naming, OfNames, IsPaidStep}
 use Rattle.ac_noncontiguous.specs.declared.nfa.tables.Transition.{Transition}
 use Rattle.ac_noncontiguous.specs.declared.nfa.tables.Tables.{Tables}
 use Rattle.ac_noncontiguous.specs.Nfa.{state_of, byte_at, next_at, IsEdge, AreTables}
@@ -22,9 +22,9 @@ StepsTo tables i byte j = (m : Dictionary) (text : ℕ → List ℕ) (t : AreTab
 abbrev pub AreRisingIn : List Transition → ℕ → ℕ → Type 0
 AreRisingIn transitions from end = (j k : ℕ) → from ≤ j → j < k → k < end → byte_at transitions j < byte_at transitions k
 
--- the next state of that one of them that has the byte; 1 where none has it
+-- the next state of that one of them that has the byte; the fail state where none has it
 abbrev pub IsNextIn : List Transition → ℕ → ℕ → ℕ → ℕ → Type 0
-IsNextIn transitions from end byte j = ((k : ℕ) × (from ≤ k) × (k < end) × (byte_at transitions k ≡ byte) × (j ≡ next_at transitions k)) ⊎ ((j ≡ 1) × ((k : ℕ) → from ≤ k → k < end → byte_at transitions k ≢ byte))
+IsNextIn transitions from end byte j = ((k : ℕ) × (from ≤ k) × (k < end) × (byte_at transitions k ≡ byte) × (j ≡ next_at transitions k)) ⊎ ((j ≡ nowhere) × ((k : ℕ) → from ≤ k → k < end → byte_at transitions k ≢ byte))
 
 -- ---- a look-up
 
@@ -38,7 +38,7 @@ other_start start false = start + 1
 abbrev pub naming_of : (ℕ → List ℕ) → ℕ → ℕ → Naming
 naming_of text len start = record {
   text = state_of text;
-  met = λ anchored i. nat_lt i len && (not (i == 1) && not (i == other_start start anchored));
+  met = λ anchored i. nat_lt i len && (not (i == nowhere) && not (i == other_start start anchored));
 }
 
 -- the tables are those of the dictionary, and name their states so
@@ -47,7 +47,7 @@ IsNamingOf m tables names = (text : ℕ → List ℕ) × (t : AreTables m text t
 
 -- a state that a search of this anchoring may reach
 abbrev pub IsVisited : Tables → Bool → ℕ → Type 0
-IsVisited tables anchored i = IsKept tables i × (i ≢ 1) × (i ≢ other_start tables.start anchored)
+IsVisited tables anchored i = IsKept tables i × (i ≢ nowhere) × (i ≢ other_start tables.start anchored)
 
 -- The state to which a byte leads from another one in a search, and how many states were looked at to find it, whatever dictionary
 -- the tables are those of.

@@ -1,12 +1,13 @@
 -- What the states of the automaton stand for, and what its tables store for them.
 use Rattle.std.specs.Prelude.{◌≡◌, ◌≢◌, ◌↔◌, ◌⊎◌, ℕ, zero, suc, ◌+◌, ◌-◌, ◌<◌, ◌≤◌, map, false, List, [], ◌∷◌, ◌++◌, length, take, drop, slice_index, slice_index_or, Option, Some, None}
+use Rattle.ac_automaton.specs.Named.{nowhere}
 use Rattle.ac_input.specs.Alphabet.{class}
 use Rattle.ac_input.specs.Candidate.{Filter}
 use Rattle.ac_input.specs.Classes.{AreByteClasses}
 use Rattle.ac_input.specs.Dictionary.{Dictionary, BeginsEntered}
 use Rattle.ac_input.specs.Pairing.{IsPairing}
 use Rattle.ac_input.specs.Failure.{IsList}
-use Rattle.ac_input.specs.declared.primitives.number.TheConstants.{GREATEST}
+use Rattle.ac_input.specs.Number.{greatest_number}
 use Rattle.ac_input.specs.Limits.{IsPrefix, HasStates, IsWithinLimits}
 use Rattle.ac_input.specs.LiveLaws.{canonical}
 use Rattle.ac_input.specs.States.{LeadsTo, FailsTo, BeginsBefore}
@@ -95,7 +96,7 @@ pub record AreTexts (m : Dictionary) (len start : ℕ) (text : ℕ → List ℕ)
 pub record IsEdge (m : Dictionary) (len start : ℕ) (text : ℕ → List ℕ) (i byte j : ℕ) : Type 0 where
   pub dead : i ≡ 0 → j ≡ 0
   pub child : 1 < i → BeginsEntered m (text i ++ byte ∷ []) → (1 < j) × (j < len) × (text j ≡ text i ++ canonical m.pairing byte ∷ [])
-  pub none : 1 < i → i ≢ start → (¬ BeginsEntered m (text i ++ byte ∷ [])) → j ≡ 1
+  pub none : 1 < i → i ≢ start → (¬ BeginsEntered m (text i ++ byte ∷ [])) → j ≡ nowhere
   pub back : i ≡ start → (¬ BeginsEntered m (text i ++ byte ∷ [])) → ((j ≡ 0) ⊎ (j ≡ start)) × LeadsTo m false (text i ++ byte ∷ []) (state_of text j)
 
 -- ---- the tables
@@ -124,7 +125,7 @@ AreRows m len start text states classes rows = (i byte : ℕ) → i < len → by
 -- To which state each one fails, and how many bytes lead to it. None fails to the fail state or to the anchored start.
 pub record AreFailures (m : Dictionary) (len start : ℕ) (text : ℕ → List ℕ) (states : List State) : Type 0 where
   pub fails : (i : ℕ) → 1 < i → i < len → FailsTo m (text i) (state_of text (fail_of states i))
-  pub within : (i : ℕ) → i < len → (fail_of states i < len) × (fail_of states i ≢ 1) × (fail_of states i ≢ start + 1)
+  pub within : (i : ℕ) → i < len → (fail_of states i < len) × (fail_of states i ≢ nowhere) × (fail_of states i ≢ start + 1)
   pub none : (fail_of states 0 ≡ 0) × (fail_of states 1 ≡ 0)
   pub depths : (i : ℕ) → 1 < i → i < len → depth_of states i ≡ length (text i)
   pub flat : (depth_of states 0 ≡ 0) × (depth_of states 1 ≡ 0)
@@ -148,7 +149,7 @@ pub record AreLists (m : Dictionary) (len start max_match : ℕ) (text : ℕ →
 pub record AreTables (m : Dictionary) (text : ℕ → List ℕ) (tables : Tables) : Type 0 where
   pub len : ℕ
   pub counted : length tables.states.items ≡ len + 1
-  pub few : len ≤ GREATEST + 1
+  pub few : len ≤ greatest_number + 1
   pub has : HasStates m len
   pub texts : AreTexts m len tables.start text
   pub transitions : AreTransitions m len tables.start text tables.states.items tables.transitions.items

@@ -1,6 +1,6 @@
 -- How long the patterns of an automaton are.
 use Rattle.std.specs.Prelude.{◌≡◌, ℕ, ◌≤◌, map, List, length, slice_get, Some}
-use Rattle.ac_input.specs.declared.primitives.number.TheConstants.{GREATEST}
+use Rattle.ac_input.specs.Number.{greatest_number}
 use Rattle.ac_input.specs.Work.{longest, shortest}
 
 -- how long each pattern is
@@ -9,7 +9,7 @@ lens_of patterns = map (λ p. length p) patterns
 
 -- no pattern is longer than the greatest number
 abbrev pub AreShort : List (List ℕ) → Type 0
-AreShort patterns = (n : ℕ) (p : List ℕ) → slice_get patterns n ≡ Some p → length p ≤ GREATEST
+AreShort patterns = (n : ℕ) (p : List ℕ) → slice_get patterns n ≡ Some p → length p ≤ greatest_number
 
 -- what is stored for patterns: how long each is, the shortest and the longest
 pub record AreLens (patterns : List (List ℕ)) (each : List ℕ) (least most : ℕ) : Type 0 where

@@ -1,6 +1,7 @@
 -- What the read calls of the automaton return, and what that says about the texts for which its states stand.
 use Rattle.std.specs.Prelude.{◌≡◌, ◌≢◌, ◌↔◌, ◌⊎◌, ℕ, ◌+◌, ◌-◌, ◌<◌, ◌≤◌, map, List, [], ◌∷◌, ◌++◌, length, slice_get, Option, Some, None}
-use Rattle.ac_input.specs.declared.primitives.number.TheConstants.{GREATEST}
+use Rattle.ac_automaton.specs.Named.{nowhere}
+use Rattle.ac_input.specs.Number.{greatest_number}
 use Rattle.ac_input.specs.declared.search.Anchored.{Anchored}
 use Rattle.ac_input.specs.declared.search.Anchored.TheVariants.{No, Yes}
 use Rattle.ac_automaton.specs.Automaton.{IsReached}
@@ -49,7 +50,7 @@ special_in nfa = record { max_special_id = nfa.max_special; max_match_id = nfa.t
 -- an automaton of the dictionary has this many states, and each has a number
 pub record CountsIn (nfa : NFA) (states : ℕ) : Type 0 where
   pub counted : ∥ HasStates (dictionary nfa) states ∥₁
-  pub few : states ≤ GREATEST + 1
+  pub few : states ≤ greatest_number + 1
 
 -- the dictionary is within the limits of a build
 abbrev pub IsWithin : NFA → Type 0
@@ -75,7 +76,7 @@ TextsBegin nfa = OfTexts nfa (λ text. (sid : ℕ) → 1 < sid → sid < state_l
 -- fails to the fail state or to the anchored start.
 pub record FailsIn (nfa : NFA) (sid fail : ℕ) : Type 0 where
   pub within : fail < state_len nfa
-  pub stands : fail ≢ 1
+  pub stands : fail ≢ nowhere
   pub unanchored : fail ≢ (special_in nfa).start_anchored_id
   pub shallower : 1 < fail → depth_in nfa fail < depth_in nfa sid
   pub dead : sid < 2 → fail ≡ 0
@@ -88,7 +89,7 @@ IsDeepIn nfa sid depth = OfTexts nfa (λ text. (sid < 2 → depth ≡ 0) × (1 <
 -- These patterns match at a state, each once; at the dead state and at the fail state none does.
 pub record ListsIn (nfa : NFA) (sid : ℕ) (ns : List ℕ) : Type 0 where
   pub once : AreOnce (dictionary nfa) ns
-  pub few : length ns ≤ GREATEST + 1
+  pub few : length ns ≤ greatest_number + 1
   pub none : sid < 2 → ns ≡ []
   pub list : OfTexts nfa (λ text. 1 < sid → IsList (dictionary nfa) (text sid) ns)
 
@@ -104,7 +105,7 @@ IsEdgeIn nfa text sid byte next = IsEdge (dictionary nfa) (state_len nfa) (speci
 -- a state that is one byte longer.
 pub record AreLeading (nfa : NFA) (text : ℕ → List ℕ) (sid : ℕ) (edges : List (ℕ × ℕ)) : Type 0 where
   pub lead : (k byte next : ℕ) → slice_get edges k ≡ Some (byte, next) → IsEdgeIn nfa text sid byte next
-  pub missing : (byte : ℕ) → byte < 256 → ((k next : ℕ) → slice_get edges k ≢ Some (byte, next)) → IsEdgeIn nfa text sid byte 1
+  pub missing : (byte : ℕ) → byte < 256 → ((k next : ℕ) → slice_get edges k ≢ Some (byte, next)) → IsEdgeIn nfa text sid byte nowhere
   pub longer : (k byte next : ℕ) → 1 < sid → ¬ IsFull nfa sid → slice_get edges k ≡ Some (byte, next) → BeginsEntered (dictionary nfa) (text sid ++ byte ∷ [])
 
 -- The transitions of a state come in rising order of byte, and each leads to a state. The dead state and both starts have one for
@@ -113,7 +114,7 @@ pub record AreEdges (nfa : NFA) (sid : ℕ) (edges : List (ℕ × ℕ)) : Type 0
   pub within : (k byte next : ℕ) → slice_get edges k ≡ Some (byte, next) → (byte < 256) × (next < state_len nfa)
   pub rising : (j k b c n o : ℕ) → j < k → slice_get edges j ≡ Some (b, n) → slice_get edges k ≡ Some (c, o) → b < c
   pub all : IsFull nfa sid → length edges ≡ 256
-  pub none : sid ≡ 1 → edges ≡ []
+  pub none : sid ≡ nowhere → edges ≡ []
   pub some : (k byte next : ℕ) → ¬ IsFull nfa sid → slice_get edges k ≡ Some (byte, next) → 1 < next
   pub leading : OfTexts nfa (λ text. AreLeading nfa text sid edges)
 
@@ -124,7 +125,7 @@ EdgesLeadIn nfa sid = AreEdges nfa sid (edges_in nfa sid)
 -- a state that a search of this anchoring may reach: not the fail state, and not the other start
 pub record MayBeMet (nfa : NFA) (anchored : Anchored) (sid : ℕ) : Type 0 where
   pub within : sid < state_len nfa
-  pub stands : sid ≢ 1
+  pub stands : sid ≢ nowhere
   pub own : sid ≢ other_start (special_in nfa).start_unanchored_id (is_anchored anchored)
 
 -- where a byte leads from a state, all failures followed

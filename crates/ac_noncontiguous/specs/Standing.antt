@@ -2,7 +2,7 @@
 use Rattle.std.specs.Prelude.{◌≡◌, ◌↔◌, ℕ, ◌<◌, ◌≤◌, true, List, length, take, slice_get, Option, Some, None}
 use Rattle.ac_input.specs.declared.search.MatchKind.TheVariants.{LeftmostFirst}
 use Rattle.ac_input.specs.Dictionary.{Dictionary, IsPattern, IsShadowed, IsEntered}
-use Rattle.ac_input.specs.declared.primitives.number.TheConstants.{GREATEST}
+use Rattle.ac_input.specs.Number.{greatest_number}
 use Rattle.ac_input.specs.Limits.{canonical_text, PatternNumber, PatternLength, StateNumber, Passes, IsLimitAt, IsLimitOf}
 use Rattle.ac_noncontiguous.specs.declared.trie.State.{State}
 use Rattle.ac_noncontiguous.specs.declared.error.BuildErrorKind.{BuildErrorKind}
@@ -13,7 +13,7 @@ use Rattle.ac_noncontiguous.specs.Tree.{depth, text, is_match}
 -- state of its own text; the others are shadowed. A state in which a pattern ends is a match state.
 pub record HasEntered (m : Dictionary) (states : List State) (ends : List (Option ℕ)) : Type 0 where
   pub counted : length ends ≡ length m.patterns
-  pub short : (n : ℕ) (p : List ℕ) → IsPattern m n p → length p ≤ GREATEST
+  pub short : (n : ℕ) (p : List ℕ) → IsPattern m n p → length p ≤ greatest_number
   pub entered : (n id : ℕ) (p : List ℕ) → IsPattern m n p → slice_get ends n ≡ Some (Some id) → IsEntered m n p × (id < length states) × (text states id ≡ canonical_text m p)
   pub left_out : (n : ℕ) (p : List ℕ) → IsPattern m n p → slice_get ends n ≡ Some None → (m.kind ≡ LeftmostFirst) × IsShadowed m n p
   pub begins : (i : ℕ) → 0 < i → i < length states → (n : ℕ) × (p : List ℕ) × IsEntered m n p × (depth states i ≤ length p) × (text states i ≡ take (depth states i) (canonical_text m p))
@@ -21,14 +21,14 @@ pub record HasEntered (m : Dictionary) (states : List State) (ends : List (Optio
 
 -- why one more pattern is an error
 abbrev pub IsPatternRefused : Dictionary → List ℕ → BuildErrorKind → Type 0
-IsPatternRefused m p (StateIDOverflow max requested) = (max ≡ GREATEST) × (max < requested) × Passes m p StateNumber
-IsPatternRefused m p (PatternIDOverflow max requested) = (max ≡ GREATEST) × (max < requested) × Passes m p PatternNumber
+IsPatternRefused m p (StateIDOverflow max requested) = (max ≡ greatest_number) × (max < requested) × Passes m p StateNumber
+IsPatternRefused m p (PatternIDOverflow max requested) = (max ≡ greatest_number) × (max < requested) × Passes m p PatternNumber
 IsPatternRefused m p (PatternTooLong number len) = (number ≡ length m.patterns) × (len ≡ length p) × Passes m p PatternLength
 IsPatternRefused m p Memory = Unit {0}
 
 -- why the build of a dictionary fails: its first pattern that passes a limit, or out of memory
 abbrev pub IsBuildRefused : Dictionary → BuildErrorKind → Type 0
-IsBuildRefused m (StateIDOverflow max requested) = (max ≡ GREATEST) × (max < requested) × IsLimitOf m StateNumber
-IsBuildRefused m (PatternIDOverflow max requested) = (max ≡ GREATEST) × (max < requested) × IsLimitOf m PatternNumber
+IsBuildRefused m (StateIDOverflow max requested) = (max ≡ greatest_number) × (max < requested) × IsLimitOf m StateNumber
+IsBuildRefused m (PatternIDOverflow max requested) = (max ≡ greatest_number) × (max < requested) × IsLimitOf m PatternNumber
 IsBuildRefused m (PatternTooLong number len) = IsLimitAt m number PatternLength × ((p : List ℕ) → IsPattern m number p → len ≡ length p)
 IsBuildRefused m Memory = Unit {0}

@@ -81,7 +81,7 @@ impl Default for Builder {
 }
 
 impl Builder {
-    /// Standard matches, no byte paired, a prefilter wanted, and rows for states of up to two bytes.
+    /// Standard matches, no byte paired, a prefilter wanted, and rows for states of up to two bytes. It takes no memory.
     /// A caller: `uses::callers::build::folded`.
     pub fn new() -> Builder
         ensures { AreFirst result }
@@ -130,8 +130,11 @@ impl Builder {
         self
     }
 
-    /// Sets to which depth states keep a row: those to which fewer bytes lead. A row makes a look-up fast, and takes four bytes
-    /// for each class of bytes. It changes no result.
+    /// Sets to which depth states keep a row: those to which fewer bytes lead. At first it is 3.
+    ///
+    /// It changes no result. A look-up in a row takes three loads, elsewhere a binary search. A row takes four bytes for each
+    /// class of bytes, so at most 1 KiB. Any depth is accepted; there are at most 256 states of one byte, and 65,536 of two. Take 0
+    /// for an automaton from which another one is made.
     /// A caller: `uses::callers::build::thrifty`.
     pub fn dense_depth(&mut self, depth: usize) -> &mut Builder
         ensures same { result.ghost_name ≡ self.entry.ghost_name }
@@ -141,7 +144,11 @@ impl Builder {
         self
     }
 
-    /// Sets whether searches have a prefilter, if one serves. It changes no result.
+    /// Sets whether searches have a prefilter, if one serves. At first they have.
+    ///
+    /// It changes no result. A prefilter passes quickly over bytes where no match begins, which pays if matches are rare. It has
+    /// copies of the patterns if it searches for them, and else takes some 256 bytes. Without one the automaton still passes over
+    /// bytes that begin no pattern.
     /// A caller: `uses::callers::build::thrifty`.
     pub fn prefilter(&mut self, yes: bool) -> &mut Builder
         ensures same { result.ghost_name ≡ self.entry.ghost_name }
@@ -178,13 +185,24 @@ impl Builder {
         self.collect(alloc, patterns)?.build()
     }
 
-    /// The automaton of the patterns, which are numbered from 0 in this order.
+    /// Builds the automaton of the patterns, which are numbered from 0 in this order.
+    ///
+    /// Of the three automata it is built soonest, so it suits patterns that are searched for once. The others are made from it.
+    /// There is no condition on the patterns: there may be none, and they may be empty or equal.
+    ///
+    /// # Errors
     ///
     /// Returns an error only in these cases: there are more patterns than
     /// [`PatternID::LIMIT`](ac_input::primitives::PatternID::LIMIT); a pattern has more bytes than the greatest number; more
     /// states than that limit are needed (four, and one for each different non-empty beginning of the patterns that are entered; a
     /// byte and its partner count as one); or memory runs out. If several limits are passed, the first pattern that passes one
     /// decides.
+    ///
+    /// # Cost
+    ///
+    /// Time and memory are in proportion to the bytes of all patterns, to the rows, and to the lists of the states. A state takes
+    /// 32 bytes, and each transition 8; the dead state and both starts have 256 transitions. [The module](crate::builder) says
+    /// when lists are long: bound the patterns of a stranger under the standard kind.
     /// A caller: `uses::callers::build::thrifty`.
     pub fn build(&self, alloc: Global, patterns: &[&[u8]]) -> Result<NFA, BuildError>
         ensures built { IfOk result (λ nfa. IsBuiltOf self.now patterns.now (built_as nfa)) }
@@ -209,7 +227,9 @@ impl Builder {
 }
 
 impl NFA {
-    /// The automaton of the patterns with the default settings: standard matches, no byte paired.
+    /// Builds the automaton of the patterns with the default settings: standard matches, no byte paired.
+    ///
+    /// Its errors and its cost are those of [`Builder::build`].
     /// A caller: `uses::callers::build::occurs_in`.
     pub fn new(alloc: Global, patterns: &[&[u8]]) -> Result<NFA, BuildError>
         ensures built { IfOk result (λ nfa. IsBuiltAtFirst patterns.now (built_as nfa)) }
@@ -218,7 +238,7 @@ impl NFA {
         Builder::new().build(alloc, patterns)
     }
 
-    /// A builder with the default settings.
+    /// A builder with the default settings. It takes no memory.
     /// A caller: `uses::callers::build::thrifty`.
     pub fn builder() -> Builder
         ensures { AreFirst result }

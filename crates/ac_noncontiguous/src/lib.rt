@@ -15,12 +15,16 @@ pub use ac_automaton::overlapping::{FindOverlappingIter, OverlappingState};
 pub use ac_automaton::search::Search;
 pub use ac_automaton::stream::StreamFindIter;
 pub use ac_automaton::watched::{Watched, write_whole};
-pub use ac_input::alphabet::ByteClasses;
+pub use ac_input::alphabet::{ByteClassSet, ByteClasses, ByteSet, opposite_ascii_case};
 pub use ac_input::pairing::{Pairing, PairingError};
-pub use ac_input::primitives::{PatternID, StateID};
-pub use ac_input::search::{Anchored, Input, Match, MatchKind, Span};
+pub use ac_input::primitives::{
+    PatternID, PatternIDError, SmallIndex, SmallIndexError, StateID, StateIDError,
+};
+pub use ac_input::search::{Anchored, Input, Match, MatchKind, Span, StartKind};
 pub use ac_input::steps::Steps;
+pub use ac_literal::packed;
 pub use ac_literal::prefilter::{Candidate, Prefilter, PrefilterBuilder};
 pub use builder::Builder;
 pub use error::{BuildError, BuildErrorKind};
 pub use nfa::NFA;
+pub use nfa::read::Special;

@@ -32,6 +32,7 @@ use ac_input::primitives::StateID;
 use ac_input::search::MatchKind;
 use ac_literal::openings::Openings;
 use ac_literal::prefilter::Prefilter;
+pub use tables::FAIL;
 
 /// A noncontiguous automaton.
 #[derive(Drop)]

@@ -16,7 +16,7 @@ ghost use Rattle.ac_input.specs.Same.{other};
 ghost use Rattle.ac_input.specs.Pairing.{IsPairing};
 ghost use Rattle.ac_input.specs.LiveLaws.{canonical};
 ghost use Rattle.ac_input.specs.Dictionary.{Dictionary, dictionary_of};
-ghost use Rattle.ac_input.specs.declared.primitives.number.TheConstants.{GREATEST};
+ghost use Rattle.ac_input.specs.Number.{greatest_number};
 ghost use Rattle.ac_input.specs.Limits.{without_patterns, with_pattern};
 ghost use Rattle.ac_literal.specs.Packed.{bytes_of};
 ghost use Rattle.ac_noncontiguous.specs.Own.{AreEnds};
@@ -71,8 +71,8 @@ pub(crate) struct Trie {
     pairing: [u8; 256],
     kind: MatchKind,
     ghost tree: { IsTree states.items },
-    ghost few: { length states.items + 3 ≤ GREATEST + 1 },
-    ghost counted: { length ends.items ≤ GREATEST + 1 },
+    ghost few: { length states.items + 3 ≤ greatest_number + 1 },
+    ghost counted: { length ends.items ≤ greatest_number + 1 },
     ghost paired: { IsPairing pairing },
     ghost placed: { AreEnds ends.items (length states.items) },
 }
@@ -279,7 +279,7 @@ impl Trie {
 
     /// Records where the next pattern by number ends.
     fn note_end(&mut self, end: Option<StateID>) -> Result<(), BuildError>
-        requires room { length self.old.ends.items ≤ GREATEST }
+        requires room { length self.old.ends.items ≤ greatest_number }
         requires within { (id : ℕ) → end ≡ Some id → id < length self.old.states.items }
         ensures noted { OnOk result (IsNoted self.old self.new end) }
         ensures refused { IfErr result (λ kind. kind ≡ BuildErrorKind.Memory) }

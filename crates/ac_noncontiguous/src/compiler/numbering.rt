@@ -5,7 +5,7 @@
 //! that are met most often lie close together.
 ghost use Rattle.std.specs.Prelude.{◌≡◌, ◌+◌, ◌<◌, ◌≤◌, ◌++◌, length, true, false, slice_index, EachIndex, IfOk};
 ghost use Rattle.std.specs.List.{filter};
-ghost use Rattle.ac_input.specs.declared.primitives.number.TheConstants.{GREATEST};
+ghost use Rattle.ac_input.specs.Number.{greatest_number};
 ghost use Rattle.ac_noncontiguous.specs.Order.{IsBreadthFirst};
 ghost use Rattle.ac_noncontiguous.specs.Numbering.{is_chosen, AreListed, AreFirstNumbers, FitsTrie, IsNumbering, AreInRuns, IsLastMatch};
 
@@ -69,7 +69,7 @@ fn push_chosen(
 fn list(alloc: Global, states: &[StateID], links: &Links) -> Result<Listed, AllocError>
     requires within { EachIndex states.now
         (λ k. slice_index states.now k < length links.now.ranges.items) }
-    requires few { length states.now + 4 ≤ GREATEST + 1 }
+    requires few { length states.now + 4 ≤ greatest_number + 1 }
     ensures { IfOk result (AreListed links.now.ranges.items states.now) }
 {
     let mut at = Vec::with_capacity(alloc, states.len() + 4)?;
@@ -86,7 +86,7 @@ fn list(alloc: Global, states: &[StateID], links: &Links) -> Result<Listed, Allo
 /// The number of each trie state.
 fn inverse(alloc: Global, at: &[StateID], states: usize) -> Result<Vec<StateID>, AllocError>
     requires some { 2 ≤ length at.now }
-    requires few { length at.now ≤ GREATEST + 1 }
+    requires few { length at.now ≤ greatest_number + 1 }
     requires within { EachIndex at.now (λ k. slice_index at.now k < states) }
     ensures { IfOk result (λ of. (length of.items ≡ states) × AreFirstNumbers at.now 2 of.items) }
 {
@@ -102,7 +102,7 @@ fn inverse(alloc: Global, at: &[StateID], states: usize) -> Result<Vec<StateID>,
 /// The last state at which some pattern matches: the anchored start, or the state before the unanchored one.
 fn last_match(links: &Links, start: StateID) -> StateID
     requires some { 0 < length links.now.ranges.items }
-    requires within { (1 < start) × (start < GREATEST) }
+    requires within { (1 < start) × (start < greatest_number) }
     ensures yes { is_chosen links.now.ranges.items true 0 ≡ true → result ≡ start + 1 }
     ensures no { is_chosen links.now.ranges.items true 0 ≡ false → result + 1 ≡ start }
 {

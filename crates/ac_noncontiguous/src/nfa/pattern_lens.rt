@@ -3,7 +3,7 @@
 //! A search needs how long a pattern is, and never again which bytes it has. So an automaton stores only the lengths; the patterns
 //! themselves are seen by contracts, and take no memory.
 ghost use Rattle.std.specs.Prelude.{◌≡◌, ◌++◌, [], ◌∷◌, ◌<◌, ◌≤◌, length, get_or, IfOk, OnOk};
-ghost use Rattle.ac_input.specs.declared.primitives.number.TheConstants.{GREATEST};
+ghost use Rattle.ac_input.specs.Number.{greatest_number};
 ghost use Rattle.ac_input.specs.Work.{longest, shortest};
 ghost use Rattle.ac_literal.specs.Packed.{bytes_of};
 ghost use Rattle.ac_noncontiguous.specs.PatternLens.{AreShort};
@@ -48,7 +48,7 @@ impl PatternLens {
 
     /// Of one pattern more.
     pub(crate) fn add(&mut self, pattern: &[u8]) -> Result<(), AllocError>
-        requires { length pattern.now ≤ GREATEST }
+        requires { length pattern.now ≤ greatest_number }
         ensures { OnOk result (self.new ≡ self.old ++ pattern.now ∷ []) }
     {
         self.each.push(pattern.len() as u32)?;

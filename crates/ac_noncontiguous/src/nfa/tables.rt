@@ -5,6 +5,7 @@
 //! each class of bytes: there a look-up is three loads (where the row begins, the class of the byte, and the next state),
 //! elsewhere a binary search in the range.
 ghost use Rattle.std.specs.Prelude.{◌≡◌, ◌≤◌, ◌+◌, false, length, take, drop, IfOk};
+ghost use Rattle.ac_automaton.specs.Named.{nowhere};
 ghost use Rattle.ac_automaton.specs.Starters.{SkipsIdle};
 ghost use Rattle.ac_input.specs.Input.{is_anchored};
 ghost use Rattle.ac_noncontiguous.specs.Nfa.{fail_of};
@@ -62,8 +63,8 @@ pub(crate) struct Tables {
     pub max_match: StateID,
 }
 
-/// What stands for no state: the number of the fail state.
-pub(crate) const FAIL: usize = 1;
+/// The number of the fail state, which stands for no state: where a byte leads nowhere, its next state is this one.
+pub const FAIL: usize = 1;
 
 /// This many items of a list, from a place on.
 pub(crate) fn part<T>(items: &[T], from: usize, len: usize) -> &[T]
@@ -142,7 +143,7 @@ impl Tables {
     #[inline(never)]
     fn follow(&self, sid: StateID, byte: u8, steps: &mut Steps) -> StateID
         requires visited { IsVisited self.now false sid }
-        requires stuck { StepsTo self.now sid byte 1 }
+        requires stuck { StepsTo self.now sid byte nowhere }
         ensures { LeadsNext self.now false 1 sid byte result steps.old steps.new }
     {
         let mut from = sid;

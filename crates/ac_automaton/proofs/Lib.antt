@@ -30,6 +30,7 @@ pub mod MovedLemmas
 pub mod StreamReplaceLemmas
 pub mod StreamSearchLemmas
 pub mod StreamIterLemmas
+pub mod StreamLeftLemmas
 pub mod StreamAnswerLemmas
 pub mod WriterChainLemmas
 pub mod StreamWithLemmas

@@ -292,7 +292,7 @@ pub trait Automaton {
     }
 
     /// All matches of the input, one after another: see [`FindIter`]. Returns an error where `try_find` does.
-    /// A caller: `uses::callers::iterate::all_matches`.
+    /// Callers: `uses::callers::iterate::all_matches`; `uses::callers::plain::texts`, which needs no proof file.
     final fn try_find_iter<'a, 'h>(
         &'a self,
         input: Input<'h>,
@@ -335,7 +335,7 @@ pub trait Automaton {
     /// All occurrences in the input, one after another; see [`FindOverlappingIter`].
     ///
     /// Returns an error where `try_find_overlapping` does, and also if the input is anchored.
-    /// A caller: `uses::callers::overlap::all_occurrences`.
+    /// Callers: `uses::callers::overlap::all_occurrences`; `uses::callers::plain::overlapping_texts`, which needs no proof file.
     final fn try_find_overlapping_iter<'a, 'h>(
         &'a self,
         input: Input<'h>,
@@ -356,7 +356,7 @@ pub trait Automaton {
     /// Returns an error if the automaton has no start for a search that isn't anchored, isn't of the standard kind, or has an
     /// empty pattern, checked in that order, and then if there is no memory for the buffer. Nothing was read then: this call does
     /// not require [`Read`], so it can't read.
-    /// A caller: `uses::callers::stream::all_matches`.
+    /// Callers: `uses::callers::stream::all_matches`; `uses::callers::plain::places_in_stream`, which needs no proof file.
     final fn try_stream_find_iter<'a, R>(
         &'a self,
         alloc: Global,

@@ -3,7 +3,7 @@
 //! [`FindOverlappingIter`] holds an automaton, an input, and where the search began and stands. It takes no memory, and looks at
 //! the states of one walk over the span, however many matches it returns.
 ghost use Rattle.std.specs.Iterator.{YieldsFirst, item_count};
-ghost use Rattle.ac_automaton.specs.OverlappingIter.{AnswersOverlappingIter, GivesFirst, RunCounts, IsWithinOneWalk, rest_of};
+ghost use Rattle.ac_automaton.specs.OverlappingIter.{AnswersOverlappingIter, CountsRun, GivesFirst, RunCounts, IsWithinOneWalk, rest_of};
 
 use crate::error::MatchError;
 use crate::overlapping::search::begin;
@@ -34,7 +34,7 @@ impl<'a, 'h, A: Search> Model for FindOverlappingIter<'a, 'h, A> {
     ghost use Rattle.std.specs.Prelude.{◌≡◌, []};
     ghost use Rattle.ac_input.specs.declared.search.MatchKind.TheVariants.{Standard};
     ghost use Rattle.ac_automaton.specs.Automaton.{searched};
-    ghost use Rattle.ac_automaton.specs.Overlapping.{StandsAt};
+    ghost use Rattle.ac_automaton.specs.Overlapping.{IsPlaceCounted, StandsAt};
     ghost use Rattle.ac_automaton.specs.OverlappingIter.{Run, run_at};
 
     ghost Value = { Run };
@@ -46,7 +46,8 @@ impl<'a, 'h, A: Search> Model for FindOverlappingIter<'a, 'h, A> {
         × A.Reaches i.automaton.now i.input.anchored [] i.start
         × StandsAt (A.Reaches i.automaton.now i.input.anchored) (A.matches i.automaton.now)
         (A.built i.automaton.now).dictionary (A.built i.automaton.now).deterministic
-        (searched (A.built i.automaton.now) i.input) i.place i.shown.value i.sums };
+        (searched (A.built i.automaton.now) i.input) i.place i.shown.value i.sums
+        × IsPlaceCounted (A.built i.automaton.now) i.input i.place i.sums };
 }
 
 /// All occurrences in the input, one after another.
@@ -80,6 +81,7 @@ impl<'a, 'h, A: Search> FindOverlappingIter<'a, 'h, A> {
         ensures gives { GivesFirst self.old result self.new }
         ensures sums { RunCounts self.old self.new steps.old steps.new }
         ensures work { IsWithinOneWalk self.new }
+        ensures counted { CountsRun self.new result }
     {
         let mut done = Steps::new();
         let shown = self

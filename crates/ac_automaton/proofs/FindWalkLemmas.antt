@@ -16,10 +16,10 @@ use Rattle.ac_automaton.specs.declared.cursor.Cursor.{Cursor}
 use Rattle.ac_automaton.specs.declared.cursor.End.TheVariants.{Found, Idle}
 use Rattle.ac_automaton.specs.Automaton.{kind_asked}
 use Rattle.ac_automaton.specs.Cursor.{IsTaken, ReadsFurther, StandsIn}
-use Rattle.ac_automaton.specs.Find.{IsWalkCost, WalkSays}
+use Rattle.ac_automaton.specs.Find.{IsWalkCost, WalkLooks, WalkSays}
 use Rattle.ac_automaton.proofs.CursorLemmas.{part-empty}
 use Rattle.ac_automaton.proofs.WalkLemmas.{HasTold, HasWalked, read, told-best, walked-none}
-use Rattle.ac_automaton.proofs.WalkEndLemmas.{IsDone, answer-says, answer-work, back-says, back-work, walked-on}
+use Rattle.ac_automaton.proofs.WalkEndLemmas.{IsDone, answer-looks, answer-says, answer-work, back-says, back-work, walked-on}
 
 -- the rest of the span, from where the walk began
 abbrev pub rest : Asked → Cursor → Span
@@ -93,6 +93,20 @@ asked-work A a asked at cursor best x y has =
     let b = A.built a in
     subst (λ (n : ℕ). IsWalkCost b asked n (Found best) x y) has.begun
     (answer-work b.dictionary asked.anchored asked.earliest b.deterministic asked.haystack (rest asked cursor) cursor.at best x y has.stands.inside has.inverse has.told has.lives)
+
+-- it looked at each byte up to where it is over
+pub asked-looks : {S : Type 0} (A : Ghosts S) (a : S) (asked : Asked) (at : ℕ) (cursor : Cursor) (best : Option Occurrence) (x y : Steps) → HasAsked A a asked at cursor best x y
+    → IsDone (A.built a).dictionary asked.anchored (kind_asked (A.built a) asked) asked.haystack (rest asked cursor) cursor.at best → WalkLooks (A.built a) asked at (Found best) x y
+asked-looks A a asked at cursor best x y has done =
+    let b = A.built a in
+    subst (λ (n : ℕ). WalkLooks b asked n (Found best) x y) has.begun
+    (answer-looks b.dictionary asked.anchored asked.earliest b.deterministic asked.haystack (rest asked cursor) cursor.at best x y has.stands.inside has.told has.lives done)
+
+-- and up to where it is back at the start
+pub back-looks : {S : Type 0} (A : Ghosts S) (a : S) (asked : Asked) (at : ℕ) (cursor : Cursor) (best : Option Occurrence) (x y : Steps) → HasAsked A a asked at cursor best x y → WalkLooks (A.built a) asked at (Idle cursor.at) x y
+back-looks A a asked at cursor best x y has =
+    let some = (has.told.work has.lives.0 has.lives.1).some in
+    subst (λ (n : ℕ). WalkLooks (A.built a) asked n (Idle cursor.at) x y) has.begun some
 
 -- a walk that is back at the start
 pub asked-back : {S : Type 0} (A : Ghosts S) (a : S) (asked : Asked) (at : ℕ) (cursor : Cursor) (best : Option Occurrence) (x y : Steps) → HasAsked A a asked at cursor best x y

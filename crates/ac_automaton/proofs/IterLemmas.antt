@@ -1,5 +1,5 @@
 -- The next pick of a walk, what it costs, and what it leaves of the walk.
-use Rattle.std.proofs.Common.{◌≡◌, ℕ, ◌+◌, ◌-◌, ◌*◌, ◌<◌, ◌≤◌, Bool, List, [], ◌∷◌, length, Option, None, Some, IfSome, slice_get, zero, suc, refl, sym, ap, subst, ◌∙◌, arith}
+use Rattle.std.proofs.Common.{◌≡◌, ℕ, ◌+◌, ◌-◌, ◌*◌, ◌<◌, ◌≤◌, Bool, List, [], ◌∷◌, length, Option, None, Some, IfSome, add-zero, if◌then◌else◌, slice_get, zero, suc, refl, sym, ap, subst, ◌∙◌, arith}
 use Rattle.std.proofs.Math.Nat.{mul-le-mul_left}
 use Rattle.std.proofs.lemmas.Option.{same_Some, none-some}
 use Rattle.std.specs.Iterator.{YieldsFirst, MakesProgress, item_count}
@@ -7,15 +7,17 @@ use Rattle.ac_input.specs.declared.search.MatchKind.{MatchKind}
 use Rattle.ac_input.specs.declared.search.MatchKind.TheVariants.{Standard}
 use Rattle.ac_input.specs.declared.steps.Steps.{Steps}
 use Rattle.ac_input.specs.Best.{IsBest, asked_kind}
-use Rattle.ac_input.specs.Input.{Asked, search_of}
+use Rattle.ac_input.specs.Input.{Asked, is_anchored, search_of}
+use Rattle.ac_input.specs.declared.search.Anchored.{Anchored}
 use Rattle.ac_input.specs.Occurrence.{Search, Occurrence, Occurs, starting_at}
-use Rattle.ac_input.specs.Steps.{looked_of, scanned_of, moved_of}
+use Rattle.ac_input.specs.Steps.{Added, AreNone, looked_of, scanned_of, moved_of}
 use Rattle.ac_input.specs.Walk.{Repeats, IsPick, Here, Further}
-use Rattle.ac_input.specs.Work.{IsFindWork, lookups_per_byte, over_at, shortest}
+use Rattle.ac_input.specs.Work.{HasCounted, IsFindWork, lookups_per_byte, over_at, shortest}
 use Rattle.ac_input.proofs.OrderLemmas.{occurs-end}
 use Rattle.ac_input.proofs.WalkLemmas.{walk_after-none, walk_after-some, walk_after-nothing}
-use Rattle.ac_automaton.specs.Automaton.{Built}
-use Rattle.ac_automaton.specs.Iter.{Walk, walk_at, kind_of, search_of_walk, left_of, IsNextPick, IsWalkAfter, IsPickWork, IsPickOf}
+use Rattle.ac_automaton.specs.Automaton.{Built, prefilter_for}
+use Rattle.ac_automaton.specs.Iter.{CostsPick, CountsPick, CountsWalk, PickCounts, Walk, walk_after_pick, walk_at, kind_of, search_of_walk, left_of, IsNextPick, IsWalkAfter, IsPickWork, IsPickOf, passed}
+use Rattle.ac_automaton.proofs.CountedLemmas.{counted-moved, sums-more}
 
 -- where a search begins says nothing of the pick of a walk that stands at a place
 pub pick-wherever : (kind : MatchKind) (s : Search) (begun at : ℕ) (last : Option ℕ) (r : Option Occurrence) → IsPick kind s at last r → IsPick kind (starting_at s begun) at last r
@@ -108,3 +110,43 @@ pick-yields w v (Some o) inside h e = walk_after-some (kind_of w) (search_of_wal
 pub yields-progress : (w v : Walk) (r : Option Occurrence) → YieldsFirst left_of w r v → MakesProgress (λ _. Unit {0}) (item_count left_of) w r v
 yields-progress w v None h = record { on = λ _. tt; keeps = tt; rests = λ _. tt }
 yields-progress w v (Some o) h = let longer = ap length h in record { on = λ _. (tt, tt, omega arith); keeps = tt; rests = λ _. tt }
+
+-- ---- what is counted
+
+-- past the span nothing is done
+pub idle-cost : (w : Walk) (x : Steps) → w.asked.span.end < w.at → CostsPick w w x x None
+idle-cost w x past = (
+  (0, 0, 0, record { looked = sym (add-zero _); scanned = sym (add-zero _); moved = sym (add-zero _) }, sym (add-zero _), sym (add-zero _), sym (add-zero _)),
+  record {
+    pick = record { looked = omega arith; standard = λ k. omega arith; leftmost = λ some o e. absurd (none-some o e); scanned = omega arith; moved = refl };
+    idle = λ _. refl;
+  },
+)
+
+-- after its next pick a walk has counted what lies before it
+walk-counts-on : (w v : Walk) (r : Option Occurrence) (start done : Steps) → IsWalkAfter w r v → w.asked.span.start ≤ w.at → w.at ≤ w.asked.span.end
+    → AreNone start → v.looked ≡ w.looked + looked_of done → v.scanned ≡ w.scanned + scanned_of done
+    → PickCounts w.built w.asked w.at r start done → CountsWalk w → CountsWalk v
+walk-counts-on w v r start done after begun within none looked scanned counts had =
+    subst CountsWalk (sym after) (by r counts)
+  where
+    by : (r : Option Occurrence) → PickCounts w.built w.asked w.at r start done → CountsWalk (record (walk_after_pick w r) { looked = v.looked; scanned = v.scanned; moved = v.moved })
+    by None counts = λ free some bytes.
+        let more : HasCounted w.built.prefilter (w.asked.span.end - w.at) start done =
+        subst (λ (a : Anchored). HasCounted (prefilter_for w.built a) ((if is_anchored a then w.at else w.asked.span.end) - w.at) start done) free (counts some) in
+        let before = had free some bytes in
+        sums-more w.built.prefilter (passed w) (w.asked.span.end - w.at) _ w.looked w.scanned v.looked v.scanned start done (omega arith) none looked scanned before (λ _. more) bytes
+    by (Some o) counts = λ free some bytes.
+        let more : HasCounted w.built.prefilter (o.end - w.at) start done =
+        subst (λ (a : Anchored). HasCounted (prefilter_for w.built a) (o.end - w.at) start done) free (counts some) in
+        let before = had free some bytes in
+        sums-more w.built.prefilter (passed w) (o.end - w.at) _ w.looked w.scanned v.looked v.scanned start done (omega arith) none looked scanned before (λ _. more) bytes
+
+-- what its next pick counted from nothing on, was added
+pub pick-counted : (w v : Walk) (r : Option Occurrence) (start done before after : Steps) → IsWalkAfter w r v → w.asked.span.start ≤ w.at → w.at ≤ w.asked.span.end
+    → AreNone start → Added done before after → v.looked ≡ w.looked + looked_of done → v.scanned ≡ w.scanned + scanned_of done
+    → PickCounts w.built w.asked w.at r start done → CountsWalk w → CountsPick w v before after r
+pick-counted w v r start done before after goes begun within none added looked scanned counts had = record {
+  pick = λ some. counted-moved (prefilter_for w.built w.asked.anchored) _ start done before after none added (counts some);
+  walk = walk-counts-on w v r start done goes begun within none looked scanned counts had;
+}

@@ -1,5 +1,6 @@
 pub mod CursorLemmas
 pub mod FindLemmas
+pub mod CountedLemmas
 pub mod FindWalkLemmas
 pub mod ReadOnLemmas
 pub mod WriteWholeLoop

@@ -1,5 +1,5 @@
 -- What an overlapping search pays as it reads on, and what it has to show where it comes to.
-use Rattle.std.proofs.Common.{◌≡◌, ℕ, zero, suc, ◌+◌, ◌-◌, ◌<◌, ◌≤◌, Bool, true, false, List, [], ◌∷◌, ◌++◌, length, drop, Option, Some, None, slice_get, sym, ap, subst, refl, ◌∙◌, arith}
+use Rattle.std.proofs.Common.{◌≡◌, ℕ, zero, suc, ◌+◌, ◌-◌, ◌<◌, ◌≤◌, Bool, true, false, List, [], ◌∷◌, ◌++◌, length, map, drop, Option, Some, None, slice_get, sym, ap, subst, refl, ◌∙◌, arith}
 use Rattle.std.proofs.lemmas.Bool.{false≢true}
 use Rattle.ac_input.specs.declared.search.Anchored.{Anchored}
 use Rattle.ac_input.specs.Number.{StateID}
@@ -8,15 +8,16 @@ use Rattle.ac_input.specs.Occurrence.{Search, Occurrence, starting_at}
 use Rattle.ac_input.specs.Input.{is_anchored}
 use Rattle.ac_input.specs.Dictionary.{Dictionary, IsLive, live_len}
 use Rattle.ac_input.specs.Steps.{looked_of}
-use Rattle.ac_input.specs.Tells.{Tells}
-use Rattle.ac_input.specs.Work.{IsLookups}
+use Rattle.ac_input.specs.LiveLaws.{shifted}
+use Rattle.ac_input.specs.Tells.{Tells, ending}
+use Rattle.ac_input.specs.Work.{IsLookups, come_at_least}
 use Rattle.ac_automaton.specs.declared.overlapping.Position.{Position}
 use Rattle.ac_automaton.specs.declared.overlapping.Position.TheVariants.{At, Over}
 use Rattle.ac_automaton.specs.declared.cursor.Cursor.{Cursor}
 use Rattle.ac_automaton.specs.declared.cursor.End.TheVariants.{Found, Idle}
 use Rattle.ac_automaton.specs.declared.overlapping.Shown.{Shown}
-use Rattle.ac_automaton.specs.Overlapping.{ending_from, told_from, TellsFirst, IsLeft, ShowsFirst, IsPaidTo, IsPaidAt, IsPlacePaid, IsPaidBy, OnlyLooked}
-use Rattle.ac_automaton.specs.Cursor.{read_to, walked, IsCursor, IsQuiet, HasReadOn}
+use Rattle.ac_automaton.specs.Overlapping.{ending_from, told_from, TellsFirst, IsLeft, ShowsFirst, IsPaidTo, IsPaidAt, IsPlacePaid, IsPaidBy, OnlyLooked, stands_at_least}
+use Rattle.ac_automaton.specs.Cursor.{counted, read_to, walked, IsCursor, IsQuiet, HasReadOn}
 use Rattle.ac_automaton.specs.Automaton.{Built}
 use Rattle.ac_automaton.proofs.OverlappingLemmas.{IsPlace, counted-past, ending_from-split, read_to-length, told_from-none}
 
@@ -59,11 +60,24 @@ paid-to m false s from at to looks g h had paid = let bound = (paid had.0 had.1)
 
 -- ---- reading on
 
+-- where the search is over, and shows nothing, it has come as far as it says
+over-come : (s : Search) (r : Shown) → r.found ≡ None → r.place ≡ Over → come_at_least s r.found ≤ stands_at_least s r.place
+over-come s r found place =
+    let same : come_at_least s None ≤ stands_at_least s Over = omega arith in
+    subst (λ (o : Option Occurrence). come_at_least s o ≤ stands_at_least s r.place) (sym found) (subst (λ (p : Position). come_at_least s None ≤ stands_at_least s p) (sym place) same)
+
+-- the first occurrence of a state ends where the state was reached
+told-end : (m : Dictionary) (text : List ℕ) (start : ℕ) (ns : List ℕ) (o : Occurrence) (rest : List Occurrence) → map (shifted start) (map (ending m text) ns) ≡ o ∷ rest → o.end ≡ start + length text
+told-end m text start [] o rest e = cc
+told-end m text start (n ∷ ns) o rest e =
+    let first : shifted start (ending m text n) ≡ o = cc in
+    sym (ap (λ (x : Occurrence). x.end) first)
+
 -- where nothing is left, nothing is shown, and the search is over
 pub shows-none : (Reaches : List ℕ → StateID → Type 0) (matches : StateID → List ℕ) (m : Dictionary) (s : Search) (left : List Occurrence) (r : Shown) → left ≡ [] → r.found ≡ None → r.place ≡ Over → ShowsFirst Reaches matches m s left r
 shows-none Reaches matches m s left r none found place =
     let all : (None ≡ slice_get left 0) × (drop 1 left ≡ []) = subst (λ (xs : List Occurrence). (None ≡ slice_get xs 0) × (drop 1 xs ≡ [])) (sym none) (refl, refl) in
-    (found ∙ all.0, subst (λ (p : Position). IsLeft Reaches matches m s p (drop 1 left)) (sym place) all.1)
+    (found ∙ all.0, subst (λ (p : Position). IsLeft Reaches matches m s p (drop 1 left)) (sym place) all.1, over-come s r found place)
 
 -- the first occurrence of a state is the first that is left
 pub shows-some : (Reaches : List ℕ → StateID → Type 0) (matches : StateID → List ℕ) (m : Dictionary) (s : Search) (left : List Occurrence) (cursor : Cursor) (index : ℕ) (r : Shown)
@@ -76,7 +90,14 @@ shows-some Reaches matches m s left cursor index r reads e (o, next, found, plac
     let rest : List Occurrence = told_from m t at (matches cursor.sid) next ++ ending_from t (at + 1) in
     let is : left ≡ o ∷ rest = e ∙ ap (λ (xs : List Occurrence). xs ++ ending_from t (at + 1)) told in
     let all : (Some o ≡ slice_get left 0) × (drop 1 left ≡ rest) = subst (λ (xs : List Occurrence). (Some o ≡ slice_get xs 0) × (drop 1 xs ≡ rest)) (sym is) (refl, refl) in
-    (found ∙ all.0, subst (λ (p : Position). IsLeft Reaches matches m s p (drop 1 left)) (sym place) (reads, all.1))
+    let ends = told-end m (read_to t at) t.start (counted m t.anchored (at - t.start) (drop index (matches cursor.sid))) o _ told in
+    let long = read_to-length t at reads.ordered reads.within reads.inside in
+    let ordered = reads.ordered in
+    let come : come_at_least s (Some o) ≤ stands_at_least s (At cursor.sid cursor.from at next) = omega arith in (
+      found ∙ all.0,
+      subst (λ (p : Position). IsLeft Reaches matches m s p (drop 1 left)) (sym place) (reads, all.1),
+      subst (λ (x : Option Occurrence). come_at_least s x ≤ stands_at_least s r.place) (sym found) (subst (λ (p : Position). come_at_least s (Some o) ≤ stands_at_least s p) (sym place) come),
+    )
 
 -- A walk that began at one place stood at another, and has read on to a further one. What ends after the second ends from
 -- `next` on, and the looks are paid for.
@@ -85,6 +106,7 @@ pub record HasWalkedOn (Reaches : List ℕ → StateID → Type 0) (m : Dictiona
   pub later : ending_from (starting_at s from) (at + 1) ≡ ending_from (starting_at s from) next
   pub pays : (looks more : ℕ) → IsPaidAt m deterministic s from at looks → looks + looked_of after ≡ more + looked_of before → IsPaidAt m deterministic s from i more
   pub only : OnlyLooked before after
+  pub looks : looked_of before + (i - at) ≤ looked_of after
 
 -- at first nothing was read
 pub read_on-start : (Reaches : List ℕ → StateID → Type 0) (m : Dictionary) (deterministic : Bool) (s : Search) (from at : ℕ) (sid : StateID) (steps : Steps) → Reaches (read_to (starting_at s from) at) sid → HasWalkedOn Reaches m deterministic s from at at (at + 1) sid steps steps
@@ -94,6 +116,7 @@ read_on-start Reaches m deterministic s from at sid steps reads =
       later = refl;
       pays = λ looks more paid e. let same : looks ≡ more = omega arith in subst (IsPaidAt m deterministic s from at) same paid;
       only = record { rose = omega arith; scanned = refl; moved = refl };
+      looks = omega arith;
     }
 
 -- a state with no matches has no occurrence
@@ -150,6 +173,7 @@ walked_on-further Reaches b anchored s from at cursor next before mid after plac
           let first : looks + looked_of mid ≡ between + looked_of before = omega arith in
           paid-on m b.deterministic s from cursor.at next.at between more mid after behind ordered (omega arith) live cost (omega arith) (had.pays looks between paid first);
       only = record { rose = omega arith; scanned = done.scanned ∙ had.only.scanned; moved = done.moved ∙ had.only.moved };
+      looks = let before_it = had.looks in omega arith;
     }
 
 -- a search stands after a place whose state has no occurrence
@@ -163,6 +187,7 @@ read_on-settled Reaches m deterministic anchored s from at i ns sid before after
       later = read.later ∙ ending_from-split m anchored t i ns is tells ∙ ap (λ (xs : List Occurrence). xs ++ ending_from t (i + 1)) none;
       pays = read.pays;
       only = read.only;
+      looks = read.looks;
     }
 
 -- where the search is over after a place, all is paid for

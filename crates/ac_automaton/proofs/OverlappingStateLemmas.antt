@@ -10,14 +10,16 @@ use Rattle.ac_input.specs.Computed.{listing_of}
 use Rattle.ac_input.specs.Input.{Asked, is_anchored}
 use Rattle.ac_input.specs.Dictionary.{Dictionary, IsLive}
 use Rattle.ac_input.specs.Steps.{AreNone, Added, looked_of, scanned_of, moved_of}
-use Rattle.ac_input.specs.Work.{lookups_per_byte}
+use Rattle.ac_input.specs.Work.{come_at_least, lookups_per_byte}
 use Rattle.ac_automaton.specs.declared.overlapping.OverlappingState.{OverlappingState}
 use Rattle.ac_automaton.specs.declared.overlapping.Position.{Position}
 use Rattle.ac_automaton.specs.declared.overlapping.Position.TheVariants.{At, Over}
 use Rattle.ac_automaton.specs.declared.overlapping.Shown.{Shown}
-use Rattle.ac_automaton.specs.Overlapping.{come_to, IsLeft, ShowsFirst, IsPlacePaid, IsScanPaidTo, KeepsBudget, StandsAt, CameFrom, IsFreshState, IsOverlappingWork, IsOverlappingCost, shown_of, sums_of}
+use Rattle.ac_automaton.specs.Overlapping.{come_to, IsLeft, ShowsFirst, IsPlacePaid, IsScanPaidTo, KeepsBudget, StandsAt, CameFrom, IsFreshState, IsOverlappingWork, IsOverlappingCost, IsCountedTo, IsPlaceCounted, shown_of, stands_at_least, sums_of}
+use Rattle.ac_automaton.specs.OverlappingSearch.{CountsOn}
 use Rattle.ac_automaton.specs.Cursor.{read_to}
-use Rattle.ac_automaton.specs.Automaton.{Built, searched}
+use Rattle.ac_automaton.specs.Automaton.{Built, prefilter_for, searched}
+use Rattle.ac_automaton.proofs.CountedLemmas.{counted-added}
 use Rattle.ac_automaton.proofs.OverlappingReadLemmas.{paid-to}
 
 -- ---- between calls
@@ -74,9 +76,32 @@ came-stands b Reaches matches asked state first left paid came =
       moved = fresh.sums.moved;
     } in
     subst (λ (p : Option Position). StandsAt (Reaches asked.anchored) matches m deterministic s (unwrap_or p first) (shown_of state) (sums_of state)) (sym fresh.place) there)
-    (λ (stands : (place : Position) × (state.place ≡ Some place) × StandsAt (Reaches asked.anchored) matches m deterministic s place (shown_of state) (sums_of state)).
+    (λ (stands : (place : Position) × (state.place ≡ Some place) × StandsAt (Reaches asked.anchored) matches m deterministic s place (shown_of state) (sums_of state) × IsPlaceCounted b asked place (sums_of state)).
     subst (λ (p : Option Position). StandsAt (Reaches asked.anchored) matches m deterministic s (unwrap_or p first) (shown_of state) (sums_of state)) (sym stands.1) stands.2)
     came
+
+-- before the first place nothing has to be counted
+pub first-counted : (b : Built) (asked : Asked) (first : Position) (sums : Steps) → stands_at_least (searched b asked) first ≤ asked.span.start → IsPlaceCounted b asked first sums
+first-counted b asked first sums le = λ counts. omega arith
+
+-- each byte was counted up to where a search stands that begins, or comes from earlier calls
+pub came-counted : (b : Built) (Reaches : Anchored → List ℕ → StateID → Type 0) (matches : StateID → List ℕ) (asked : Asked) (state : OverlappingState) (first : Position)
+    → stands_at_least (searched b asked) first ≤ asked.span.start → CameFrom b Reaches matches asked state → IsPlaceCounted b asked (unwrap_or state.place first) (sums_of state)
+came-counted b Reaches matches asked state first le came =
+    ⊎_elim
+    (λ (fresh : IsFreshState state). subst (λ (p : Option Position). IsPlaceCounted b asked (unwrap_or p first) (sums_of state)) (sym fresh.place) (first-counted b asked first (sums_of state) le))
+    (λ (stands : (place : Position) × (state.place ≡ Some place) × StandsAt (Reaches asked.anchored) matches b.dictionary b.deterministic (searched b asked) place (shown_of state) (sums_of state) × IsPlaceCounted b asked place (sums_of state)).
+    subst (λ (p : Option Position). IsPlaceCounted b asked (unwrap_or p first) (sums_of state)) (sym stands.1) stands.3)
+    came
+
+-- and up to where it stands after a call
+pub counted-after : (b : Built) (asked : Asked) (place : Position) (r : Shown) (sums start done after : Steps) → IsPlaceCounted b asked place sums → CountsOn b asked place r start done → AreNone start → Added done sums after → IsPlaceCounted b asked r.place after
+counted-after b asked place r sums start done after had counts none added =
+    counted-added (prefilter_for b asked.anchored) (stands_at_least (searched b asked) place - asked.span.start) _ _ start done sums after (omega arith) none added had counts
+
+-- so up to the end of what it showed
+pub shown-counted : (b : Built) (asked : Asked) (r : Shown) (sums : Steps) → IsPlaceCounted b asked r.place sums → come_at_least (searched b asked) r.found ≤ stands_at_least (searched b asked) r.place → IsCountedTo b asked (come_at_least (searched b asked) r.found) sums
+shown-counted b asked r sums had le = λ counts. let all = had counts in omega arith
 
 -- where it stands after a call
 pub stands-after : (Reaches : List ℕ → StateID → Type 0) (matches : StateID → List ℕ) (m : Dictionary) (deterministic : Bool) (s : Search) (place : Position) (n : ℕ) (r : Shown) (sums start done after : Steps)
@@ -129,7 +154,7 @@ pub came-work : (b : Built) (Reaches : Anchored → List ℕ → StateID → Typ
 came-work b Reaches matches asked state lives came =
     ⊎_elim
     (λ (fresh : IsFreshState state). record { looked = let none = fresh.sums.looked in omega arith; scanned = let none = fresh.sums.scanned in omega arith; moved = fresh.sums.moved })
-    (λ (stands : (place : Position) × (state.place ≡ Some place) × StandsAt (Reaches asked.anchored) matches b.dictionary b.deterministic (searched b asked) place (shown_of state) (sums_of state)).
+    (λ (stands : (place : Position) × (state.place ≡ Some place) × StandsAt (Reaches asked.anchored) matches b.dictionary b.deterministic (searched b asked) place (shown_of state) (sums_of state) × IsPlaceCounted b asked place (sums_of state)).
     stands-work (Reaches asked.anchored) matches b.dictionary b.deterministic (searched b asked) stands.0 (shown_of state) (sums_of state) lives stands.2)
     came
 

@@ -1,15 +1,19 @@
 -- What an overlapping search shows where its walk stands, and what reading on to there comes to.
-use Rattle.std.proofs.Common.{◌≡◌, ◌⊎◌, ⊎_elim, ℕ, ◌+◌, ◌<◌, List, [], Option, Some, None, inl, inr, sym, ap, subst, refl, ◌∙◌, arith}
+use Rattle.std.proofs.Common.{◌≡◌, ◌⊎◌, ⊎_elim, ℕ, ◌+◌, ◌-◌, ◌<◌, ◌≤◌, List, [], length, Option, Some, None, if◌then◌else◌, inl, inr, sym, ap, subst, refl, ◌∙◌, arith}
+use Rattle.std.proofs.lemmas.Bool.{false≢true}
+use Rattle.ac_input.specs.declared.search.Anchored.{Anchored}
+use Rattle.ac_input.specs.declared.search.Anchored.TheVariants.{No, Yes}
 use Rattle.ac_input.specs.Number.{StateID}
 use Rattle.ac_input.specs.declared.search.MatchKind.TheVariants.{Standard}
 use Rattle.ac_input.specs.declared.steps.Steps.{Steps}
 use Rattle.ac_input.specs.Computed.{listing_of}
-use Rattle.ac_input.specs.Dictionary.{IsLive}
+use Rattle.ac_input.specs.Dictionary.{Dictionary, IsLive}
 use Rattle.ac_input.specs.Input.{Asked, is_anchored}
 use Rattle.ac_input.specs.LiveLaws.{IsOwnInverse}
 use Rattle.ac_input.specs.Occurrence.{Occurrence, starting_at}
+use Rattle.ac_input.specs.Steps.{looked_of}
 use Rattle.ac_input.specs.Tells.{Tells}
-use Rattle.ac_automaton.specs.Automaton.{searched}
+use Rattle.ac_automaton.specs.Automaton.{Built, searched}
 use Rattle.ac_automaton.specs.Cursor.{IsCursor, ReadsFurther, StandsIn, read_to, walked}
 use Rattle.ac_automaton.specs.declared.cursor.Cursor.{Cursor}
 use Rattle.ac_automaton.specs.declared.cursor.End.{End}
@@ -19,10 +23,18 @@ use Rattle.ac_automaton.specs.declared.overlapping.Position.TheVariants.{At, Ove
 use Rattle.ac_automaton.specs.declared.overlapping.Shown.{Shown}
 use Rattle.ac_automaton.specs.OverlappingSearch.{EndsHere, MayShow, PaysOn, ShowsHere, ShowsLater, told_at}
 use Rattle.ac_automaton.specs.declared.automaton.Automaton.{Ghosts}
-use Rattle.ac_automaton.specs.Overlapping.{ending_from, told_from, TellsFirst, ShowsFirst, IsBehind, IsPaidBy, OnlyLooked}
+use Rattle.ac_automaton.specs.Overlapping.{ending_from, told_from, TellsFirst, ShowsFirst, IsBehind, IsPaidBy, OnlyLooked, ReadLooks, stands_at_least}
 use Rattle.ac_automaton.proofs.OverlappingLemmas.{IsPlace, ending_from-dead, ending_from-end, ending_from-split, place_of-cursor}
 use Rattle.ac_automaton.proofs.CandidateLemmas.{over-reads}
+use Rattle.ac_automaton.proofs.CountedLemmas.{come-none}
+use Rattle.ac_automaton.proofs.WalkEndLemmas.{end-begins}
 use Rattle.ac_automaton.proofs.OverlappingReadLemmas.{HasWalkedOn, shows-none, shows-some, pays-over, pays-at, pays-back, read_on-settled, read_on-start, walked_on-further}
+
+-- a text of the standard kind is dead in an anchored search alone
+dead-anchored : (m : Dictionary) (anchored : Anchored) (text : List ℕ) → m.kind ≡ Standard → IsLive m (is_anchored anchored) text None → anchored ≡ Yes
+dead-anchored m Yes text standard dead = refl
+dead-anchored m No text standard dead =
+    absurd (dead (length text) (record { within = omega arith; begins = end-begins m text; anchor = λ a. absurd (false≢true a); no_later = inr (inl standard) }))
 
 -- where the state is dead, nothing more is shown
 pub shows-dead : {S : Type 0} (A : Ghosts S) (a : S) (asked : Asked) (cursor : Cursor) (r : Shown)
@@ -33,7 +45,7 @@ shows-dead A a asked cursor r standard inverse is dead found place =
     let s = searched (A.built a) asked in
     let at = place_of-cursor (A.Reaches a asked.anchored) (A.built a).dictionary asked cursor standard is in
     let none = ending_from-dead (A.built a).dictionary asked.anchored (walked s cursor) cursor.at at inverse dead in
-    (shows-none (A.Reaches a asked.anchored) (A.matches a) (A.built a).dictionary s (ending_from (walked s cursor) cursor.at) r none found place, inl place)
+    (shows-none (A.Reaches a asked.anchored) (A.matches a) (A.built a).dictionary s (ending_from (walked s cursor) cursor.at) r none found place, inl (place, dead-anchored (A.built a).dictionary asked.anchored (read_to (walked s cursor) cursor.at) standard dead))
 
 -- else the first that it has
 pub shows-told : {S : Type 0} (A : Ghosts S) (a : S) (asked : Asked) (cursor : Cursor) (r : Option Shown)
@@ -48,10 +60,10 @@ shows-told A a asked cursor (Some r) standard is tells (o, next, found, place, t
     (shows-some (A.Reaches a asked.anchored) (A.matches a) (A.built a).dictionary s (ending_from (walked s cursor) cursor.at) cursor 0 r is split (o, next, found, place, told), inr (next, place))
 
 -- a search that stands at a further place stands after an earlier one
-shown-behind : (at : ℕ) (cursor : Cursor) (place : Position) → at < cursor.at → (place ≡ Over) ⊎ ((index : ℕ) × (place ≡ At cursor.sid cursor.from cursor.at index)) → IsBehind at place
-shown-behind at cursor place lt where_ =
+shown-behind : (at : ℕ) (anchored : Anchored) (cursor : Cursor) (place : Position) → at < cursor.at → ((place ≡ Over) × (anchored ≡ Yes)) ⊎ ((index : ℕ) × (place ≡ At cursor.sid cursor.from cursor.at index)) → IsBehind at place
+shown-behind at anchored cursor place lt where_ =
     ⊎_elim
-    (λ (over : place ≡ Over). subst (IsBehind at) (sym over) tt)
+    (λ (over : (place ≡ Over) × (anchored ≡ Yes)). subst (IsBehind at) (sym over.0) tt)
     (λ (here : (index : ℕ) × (place ≡ At cursor.sid cursor.from cursor.at index)). subst (IsBehind at) (sym here.1) lt)
     where_
 
@@ -71,6 +83,7 @@ pub record HasEnded {S : Type 0} (A : Ghosts S) (a : S) (asked : Asked) (first :
   pub reads : ShowsLater A a asked first end
   pub pays : PaysOn (A.built a) asked first end x y
   pub only : OnlyLooked x y
+  pub looks : ReadLooks (searched (A.built a) asked) first.at end x y
 
 -- at first nothing was read
 pub walked-first : {S : Type 0} (A : Ghosts S) (a : S) (asked : Asked) (first : Cursor) (x : Steps) → StandsIn (A.built a) (A.Reaches a) asked first → HasWalked A a asked first first (first.at + 1) x x
@@ -127,7 +140,25 @@ walked-over A a asked first cursor r x y lives had end found place =
       reads = over-reads R (A.matches a) b.dictionary s first.at (ending_from (starting_at s first.from) (first.at + 1)) r (had.on.later ∙ past) found place;
       pays = pays-over R b.dictionary b.deterministic s first.from first.at cursor.at (cursor.at + 1) cursor.sid x y r (omega (arith, stands.behind, stands.ordered)) stands.within lives had.on place;
       only = had.on.only;
+      looks =
+          let come = come-none s in
+          let looked = had.on.looks in
+          let none : looked_of x + (stands_at_least s Over - first.at) ≤ looked_of y = omega (arith, stands.behind, stands.ordered) in
+          subst (λ (p : Position). looked_of x + (stands_at_least s p - first.at) ≤ looked_of y) (sym place) none;
     }
+
+-- a search that shows something where a walk stands has come no further than the walk
+shown-looks : (b : Built) (asked : Asked) (at : ℕ) (cursor : Cursor) (r : Shown) (x y : Steps) → asked.span.start ≤ cursor.at → looked_of x + (cursor.at - at) ≤ looked_of y
+    → ((r.place ≡ Over) × (asked.anchored ≡ Yes)) ⊎ ((index : ℕ) × (r.place ≡ At cursor.sid cursor.from cursor.at index)) → ReadLooks (searched b asked) at (Found r) x y
+shown-looks b asked at cursor r x y begun looks where_ =
+    ⊎_elim
+    (λ (over : (r.place ≡ Over) × (asked.anchored ≡ Yes)).
+    let none : looked_of x + ((if is_anchored Yes then asked.span.start else asked.span.end) - at) ≤ looked_of y = omega arith in
+    subst (λ (p : Position). looked_of x + (stands_at_least (searched b asked) p - at) ≤ looked_of y) (sym over.0)
+    (subst (λ (a : Anchored). looked_of x + ((if is_anchored a then asked.span.start else asked.span.end) - at) ≤ looked_of y) (sym over.1) none))
+    (λ (here : (index : ℕ) × (r.place ≡ At cursor.sid cursor.from cursor.at index)).
+    subst (λ (p : Position). looked_of x + (stands_at_least (searched b asked) p - at) ≤ looked_of y) (sym here.1) looks)
+    where_
 
 -- what is shown where a walk stands, and what that costs
 walked-shows : {S : Type 0} (A : Ghosts S) (a : S) (asked : Asked) (first cursor : Cursor) (r : Shown) (x y : Steps)
@@ -139,13 +170,14 @@ walked-shows A a asked first cursor r x y lives had shows =
     let stands = had.stands in
     let same : ending_from (walked s cursor) cursor.at ≡ ending_from (starting_at s first.from) cursor.at = ap (λ (f : ℕ). ending_from (starting_at s f) cursor.at) had.begun in
     record {
-      reads = (subst (λ (left : List Occurrence). ShowsFirst R (A.matches a) b.dictionary s left r) (same ∙ sym had.on.later) shows.0, shown-behind first.at cursor r.place had.since shows.1);
+      reads = (subst (λ (left : List Occurrence). ShowsFirst R (A.matches a) b.dictionary s left r) (same ∙ sym had.on.later) shows.0, shown-behind first.at asked.anchored cursor r.place had.since shows.1);
       pays = ⊎_elim
-          (λ (over : r.place ≡ Over). pays-over R b.dictionary b.deterministic s first.from first.at cursor.at cursor.at cursor.sid x y r (omega (arith, stands.behind, stands.ordered)) stands.within lives had.on over)
+          (λ (over : (r.place ≡ Over) × (asked.anchored ≡ Yes)). pays-over R b.dictionary b.deterministic s first.from first.at cursor.at cursor.at cursor.sid x y r (omega (arith, stands.behind, stands.ordered)) stands.within lives had.on over.0)
           (λ (here : (index : ℕ) × (r.place ≡ At cursor.sid cursor.from cursor.at index)).
           pays-at R b.dictionary b.deterministic s first.from first.at cursor.at cursor.at cursor.sid cursor.sid x y here.0 r had.on (here.1 ∙ ap (λ (f : ℕ). At cursor.sid f cursor.at here.0) had.begun))
           shows.1;
       only = had.on.only;
+      looks = shown-looks (A.built a) asked first.at cursor r x y (omega (arith, stands.behind, stands.ordered)) had.on.looks shows.1;
     }
 
 -- how reading on ends where a walk stands
@@ -164,4 +196,5 @@ walked-ends A a asked first cursor (Idle to) x y lives had (here, left, restart)
           subst (λ (n : ℕ). IsPaidBy b.dictionary b.deterministic s (Idle n) more) (sym here)
           (pays-back (A.Reaches a asked.anchored) b.dictionary b.deterministic s first.from first.at cursor.at cursor.at cursor.sid x y (omega (arith, stands.behind, stands.ordered)) lives had.on looks more paid e);
       only = had.on.only;
+      looks = subst (λ (n : ℕ). looked_of x + (n - first.at) ≤ looked_of y) (sym here) had.on.looks;
     }

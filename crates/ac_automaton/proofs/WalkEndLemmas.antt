@@ -1,11 +1,11 @@
 -- How a walk ends, and how it goes on to the next special state.
-use Rattle.std.proofs.Common.{◌≡◌, ◌≢◌, ⊎_elim, ℕ, zero, suc, ◌+◌, ◌-◌, ◌*◌, ◌<◌, ◌≤◌, ◌&&◌, not, Bool, true, false, List, [], ◌∷◌, ◌++◌, length, take, drop, Option, Some, None, get_or, slice_get, slice_range, sym, ap, subst, refl, ◌∙◌, arith, length-append, take-append-drop}
+use Rattle.std.proofs.Common.{◌≡◌, ◌≢◌, ⊎_elim, ℕ, zero, suc, ◌+◌, ◌-◌, ◌*◌, ◌<◌, ◌≤◌, ◌&&◌, not, Bool, true, false, List, [], ◌∷◌, ◌++◌, length, take, drop, Option, Some, None, get_or, slice_get, slice_range, inr, sym, ap, subst, refl, ◌∙◌, arith, length-append, take-append-drop}
 use Rattle.std.specs.Option.{option_map, option_or, is_some}
 use Rattle.std.proofs.lemmas.Bool.{false≢true, cases_lt}
-use Rattle.std.proofs.lemmas.List.{take-take}
-use Rattle.std.proofs.lemmas.Option.{same_Some, slice_get-get_or}
+use Rattle.std.proofs.lemmas.List.{drop_all, take-take}
+use Rattle.std.proofs.lemmas.Option.{none-some, same_Some, slice_get-get_or}
 use Rattle.ac_input.specs.declared.search.Anchored.{Anchored}
-use Rattle.ac_input.specs.declared.search.Anchored.TheVariants.{No}
+use Rattle.ac_input.specs.declared.search.Anchored.TheVariants.{No, Yes}
 use Rattle.ac_input.specs.declared.search.MatchKind.{MatchKind}
 use Rattle.ac_input.specs.declared.search.MatchKind.TheVariants.{Standard}
 use Rattle.ac_input.specs.declared.search.Span.{Span}
@@ -13,11 +13,11 @@ use Rattle.ac_input.specs.declared.steps.Steps.{Steps}
 use Rattle.ac_input.specs.Best.{IsBest, asked_kind}
 use Rattle.ac_input.specs.Input.{is_anchored, search_of}
 use Rattle.ac_input.specs.LiveLaws.{IsOwnInverse, shifted, shifted_best}
-use Rattle.ac_input.specs.Dictionary.{Dictionary, whole, IsLive, live_len}
+use Rattle.ac_input.specs.Dictionary.{BeginsEntered, Dictionary, whole, IsLive, live_len}
 use Rattle.ac_input.specs.Occurrence.{Occurrence, Occurs}
 use Rattle.ac_input.specs.Tells.{ending}
 use Rattle.ac_input.specs.Steps.{looked_of}
-use Rattle.ac_input.specs.Work.{IsLookups, lookups_per_byte, longest, over_at}
+use Rattle.ac_input.specs.Work.{IsLookups, come_at_least, lookups_per_byte, longest, over_at}
 use Rattle.ac_input.proofs.OrderLemmas.{slice_range-length}
 use Rattle.ac_input.proofs.LiveLemmas.{occurs-front}
 use Rattle.ac_input.proofs.ShiftLemmas.{back_by}
@@ -154,6 +154,52 @@ answer-work m anchored earliest deterministic haystack span at best s t within i
       },
       run.scanned,
     )
+
+-- the end of a text begins an entered pattern: nothing of that was read
+pub end-begins : (m : Dictionary) (text : List ℕ) → BeginsEntered m (drop (length text) text)
+end-begins m text = subst (λ (t : List ℕ). BeginsEntered m t) (sym (drop_all (length text) text (omega arith))) tt
+
+-- an unanchored text without an occurrence isn't dead: what follows may still begin a match
+none-alive : (m : Dictionary) (kind : MatchKind) (text : List ℕ) → IsBest kind (whole m text false) None → ¬ IsLive m false text None
+none-alive m kind text none dead =
+    dead (length text) (record {
+      within = omega arith;
+      begins = end-begins m text;
+      anchor = λ a. absurd (false≢true a);
+      no_later = inr (inr (λ best h. absurd (none best h.0)));
+    })
+
+-- how far a walk has come at least, where it stops
+come-bound : (m : Dictionary) (anchored : Anchored) (earliest deterministic : Bool) (haystack : List ℕ) (span : Span) (at : ℕ) (best : Option Occurrence) (s t : Steps) (r : Option Occurrence)
+    → span.end ≤ length haystack
+    → (has : HasTold m anchored earliest deterministic haystack span at best s t)
+    → has.found ≡ r
+    → IsDone m anchored (asked_kind m.kind earliest) haystack span at best
+    → come_at_least (search_of m anchored haystack span) (shifted_best span.start r) - span.start ≤ at - span.start
+come-bound m anchored earliest deterministic haystack span at best s t (Some b) within has is done =
+    let here : IsBest (asked_kind m.kind earliest) (whole m (read haystack span at) (is_anchored anchored)) (Some b) = subst (λ (x : Option Occurrence). IsBest (asked_kind m.kind earliest) (whole m (read haystack span at) (is_anchored anchored)) x) is has.told in
+    let inside = has.inside in
+    let long = slice_range-length haystack span.start at has.behind (omega arith) in
+    let w = here.0.within in
+    omega arith
+come-bound m Yes earliest deterministic haystack span at best s t None within has is done = omega arith
+come-bound m No earliest deterministic haystack span at best s t None within has is (Ended e) = omega arith
+come-bound m No earliest deterministic haystack span at best s t None within has is (Died dead) =
+    absurd (none-alive m (asked_kind m.kind earliest) (read haystack span at) (subst (λ (x : Option Occurrence). IsBest (asked_kind m.kind earliest) (whole m (read haystack span at) false) x) is has.told) dead)
+come-bound m No earliest deterministic haystack span at best s t None within has is (Won o standard some) =
+    absurd (none-some o (sym (has.kept ∙ ap (shifted_best span.start) is) ∙ some))
+
+-- what a walk that returns has looked at
+pub answer-looks : (m : Dictionary) (anchored : Anchored) (earliest deterministic : Bool) (haystack : List ℕ) (span : Span) (at : ℕ) (best : Option Occurrence) (s t : Steps)
+    → span.end ≤ length haystack
+    → HasTold m anchored earliest deterministic haystack span at best s t
+    → ((live : Option ℕ) × IsLive m (is_anchored anchored) (read haystack span at) live)
+    → IsDone m anchored (asked_kind m.kind earliest) haystack span at best
+    → looked_of s + (come_at_least (search_of m anchored haystack span) best - span.start) ≤ looked_of t
+answer-looks m anchored earliest deterministic haystack span at best s t within has lives done =
+    let some = (has.work lives.0 lives.1).some in
+    let le : come_at_least (search_of m anchored haystack span) best - span.start ≤ at - span.start = subst (λ (x : Option Occurrence). come_at_least (search_of m anchored haystack span) x - span.start ≤ at - span.start) (sym has.kept) (come-bound m anchored earliest deterministic haystack span at best s t has.found within has refl done) in
+    omega arith
 
 -- so far on, none is none
 unshifted-none : (start : ℕ) (r : Option Occurrence) → shifted_best start r ≡ None → r ≡ None

@@ -1,5 +1,5 @@
 -- What an automaton was built as, what its calls on states return, and what its searches return and cost.
-use Rattle.std.specs.Prelude.{◌≡◌, ◌≢◌, ◌⊎◌, ◌↔◌, ℕ, ◌<◌, ◌≤◌, Bool, false, true, List, [], ◌∷◌, ◌++◌, length, take, IsTrue, Option, None, Some, Result, Ok, Err}
+use Rattle.std.specs.Prelude.{◌≡◌, ◌≢◌, ◌⊎◌, ◌↔◌, ℕ, ◌-◌, ◌<◌, ◌≤◌, Bool, false, true, List, [], ◌∷◌, ◌++◌, length, take, IsTrue, Option, None, Some, Result, Ok, Err}
 use Rattle.ac_input.specs.Number.{StateID}
 use Rattle.ac_input.specs.declared.search.Anchored.{Anchored}
 use Rattle.ac_input.specs.declared.search.Anchored.TheVariants.{No, Yes}
@@ -11,7 +11,7 @@ use Rattle.ac_input.specs.Computed.{walk_of, listing_of}
 use Rattle.ac_input.specs.Dictionary.{Dictionary, IsLive, live_len}
 use Rattle.ac_input.specs.Input.{Asked, is_anchored, search_in}
 use Rattle.ac_input.specs.Occurrence.{Search, Occurrence}
-use Rattle.ac_input.specs.Work.{IsLookups, IsFindWork}
+use Rattle.ac_input.specs.Work.{HasCounted, IsFindWork, IsLookups, come_at_least}
 use Rattle.ac_automaton.specs.declared.automaton.Advance.{Advance}
 use Rattle.ac_automaton.specs.declared.error.MatchErrorKind.{MatchErrorKind}
 use Rattle.ac_automaton.specs.declared.error.MatchErrorKind.TheVariants.{InvalidInputAnchored, InvalidInputUnanchored}
@@ -136,9 +136,15 @@ searched b asked = search_in b.dictionary asked
 abbrev pub IsFound : Built → Asked → Option Occurrence → Type 0
 IsFound b asked r = IsBest (kind_asked b asked) (searched b asked) r
 
--- what it may cost
-abbrev pub IsFindCost : Built → Asked → Steps → Steps → Option Occurrence → Type 0
-IsFindCost b asked before after r = IsFindWork (kind_asked b asked) b.deterministic (searched b asked) r before after
+-- the prefilter that a search may use: an anchored one uses none
+abbrev pub prefilter_for : Built → Anchored → Option Filter
+prefilter_for b No = b.prefilter
+prefilter_for b Yes = None
+
+-- what it may cost, and what it counts at least: each byte that it passes
+pub record IsFindCost (b : Built) (asked : Asked) (before after : Steps) (r : Option Occurrence) : Type 0 where
+  pub work : IsFindWork (kind_asked b asked) b.deterministic (searched b asked) r before after
+  pub counted : HasCounted (prefilter_for b asked.anchored) (come_at_least (searched b asked) r - asked.span.start) before after
 
 -- the result is the match of the search, if it has one, provided that there is a start for it
 abbrev pub AnswersFind : Built → (Anchored → Type 0) → Asked → Result (Option Occurrence) MatchErrorKind → Type 0

@@ -11,8 +11,8 @@ use Rattle.ac_input.specs.Candidate.{Filter}
 use Rattle.ac_input.specs.Input.{Asked}
 use Rattle.ac_input.specs.Occurrence.{Search, Occurrence, Occurs, starting_at}
 use Rattle.ac_input.specs.Steps.{looked_of, scanned_of, moved_of}
-use Rattle.ac_input.specs.Work.{lookups_per_byte, IsFindWork}
-use Rattle.ac_automaton.specs.Automaton.{AtEach, Built, StartIsEmpty, kind_asked, searched}
+use Rattle.ac_input.specs.Work.{HasCounted, IsFindWork, come_at_least, lookups_per_byte}
+use Rattle.ac_automaton.specs.Automaton.{AtEach, Built, StartIsEmpty, kind_asked, prefilter_for, searched}
 use Rattle.ac_automaton.specs.declared.automaton.Automaton.{Ghosts}
 use Rattle.ac_automaton.specs.declared.cursor.End.{End}
 use Rattle.ac_automaton.specs.declared.cursor.End.TheVariants.{Found, Idle}
@@ -39,6 +39,15 @@ IsWalkWork kind deterministic s (Idle at) before after = (looked_of after ≤ lo
 -- the same of a walk from a place on
 abbrev pub IsWalkCost : Built → Asked → ℕ → End (Option Occurrence) → Steps → Steps → Type 0
 IsWalkCost b asked at end before after = IsWalkWork (kind_asked b asked) b.deterministic (search_from b asked at) end before after
+
+-- how far it has come at least
+abbrev pub come_by : Search → End (Option Occurrence) → ℕ
+come_by s (Found r) = come_at_least s r
+come_by s (Idle at) = at
+
+-- a walk from a place on looks at a state for each byte that it passes
+abbrev pub WalkLooks : Built → Asked → ℕ → End (Option Occurrence) → Steps → Steps → Type 0
+WalkLooks b asked at end before after = looked_of before + (come_by (search_from b asked at) end - at) ≤ looked_of after
 
 -- a place of the span from which the search may go on: no occurrence begins before it
 pub record MayGoOnFrom (s : Search) (at : ℕ) : Type 0 where
@@ -75,6 +84,14 @@ IsSearchWork kind deterministic s (Idle at) before after = IsWorkTo deterministi
 abbrev pub IsSearchCost : Built → Asked → ℕ → End (Option Occurrence) → Steps → Steps → Type 0
 IsSearchCost b asked at end before after = IsSearchWork (kind_asked b asked) b.deterministic (search_from b asked at) end before after
 
+-- it counts each byte that it passes
+abbrev pub SearchCounts : Built → Asked → ℕ → End (Option Occurrence) → Steps → Steps → Type 0
+SearchCounts b asked at end before after = HasCounted (prefilter_for b asked.anchored) (come_by (search_from b asked at) end - at) before after
+
+-- so does a prefilter that scans for bytes, each as a scanned place
+abbrev pub CandidateCounts : Filter → Built → Asked → ℕ → End (Option Occurrence) → Steps → Steps → Type 0
+CandidateCounts f b asked at told before after = f.needles ≢ [] → scanned_of before + (come_by (search_from b asked at) told - at) ≤ scanned_of after
+
 -- the same for a prefilter's result from a place on of an input's search, and for its cost
 abbrev pub CandidateEnds : Built → Asked → ℕ → End (Option Occurrence) → Type 0
 CandidateEnds b asked at told = CandidateSays (kind_asked b asked) (search_from b asked at) told
@@ -85,7 +102,7 @@ IsCandidateCost b asked at told before after = IsCandidateWork (search_from b as
 -- The prefilter that a search may use, if there is one: it is the automaton's own, the search isn't anchored, and nothing matches
 -- at the start itself.
 abbrev pub IsUsable : Built → (StateID → List ℕ) → Anchored → StateID → Option (Bor Filter) → Type 0
-IsUsable b matches anchored start (Some p) = (p.now.dictionary ≡ b.dictionary) × (anchored ≡ No) × (matches start ≡ [])
+IsUsable b matches anchored start (Some p) = (p.now.dictionary ≡ b.dictionary) × (anchored ≡ No) × (matches start ≡ []) × (b.prefilter ≡ Some p.now)
 IsUsable b matches anchored start None = (anchored ≡ Yes) ⊎ (matches start ≢ []) ⊎ (b.prefilter ≡ None)
 
 -- Where a search is back at a start at which nothing matches, none of the bytes read is live any more.

@@ -1,16 +1,17 @@
 -- A walk over the matches of an input: where it stands, what is left of it, and what it costs.
 use Rattle.std.specs.Prelude.{◌≡◌, ℕ, ◌+◌, ◌-◌, ◌*◌, ◌<◌, ◌≤◌, min, Bool, List, Option, None, Some, Result, Ok, Err, IfSome, length}
 use Rattle.ac_input.specs.declared.search.Anchored.{Anchored}
+use Rattle.ac_input.specs.declared.search.Anchored.TheVariants.{No}
 use Rattle.ac_input.specs.declared.search.MatchKind.{MatchKind}
 use Rattle.ac_input.specs.declared.search.MatchKind.TheVariants.{Standard}
 use Rattle.ac_input.specs.declared.steps.Steps.{Steps}
 use Rattle.ac_input.specs.Computed.{walk_after}
 use Rattle.ac_input.specs.Input.{Asked}
-use Rattle.ac_input.specs.Occurrence.{Search, Occurrence}
+use Rattle.ac_input.specs.Occurrence.{Search, Occurrence, starting_at}
 use Rattle.ac_input.specs.Steps.{looked_of, scanned_of, moved_of, Done}
 use Rattle.ac_input.specs.Walk.{IsPick}
-use Rattle.ac_input.specs.Work.{lookups_per_byte, longest, shortest, over_at}
-use Rattle.ac_automaton.specs.Automaton.{Built, IsStartRefusal, kind_asked, searched, walk_in}
+use Rattle.ac_input.specs.Work.{CountsBytes, HasCounted, bytes_counted, come_at_least, lookups_per_byte, longest, shortest, over_at}
+use Rattle.ac_automaton.specs.Automaton.{Built, IsStartRefusal, kind_asked, prefilter_for, searched, walk_in}
 use Rattle.ac_automaton.specs.declared.error.MatchErrorKind.{MatchErrorKind}
 
 -- A walk: the automaton and the input; the place where it stands, and where its last pick ended; and how many states it looked at,
@@ -108,6 +109,23 @@ pub record IsWithinBudget (w : Walk) : Type 0 where
   pub looked : kind_of w ≡ Standard → w.looked ≤ lookups_per_byte w.built.deterministic * passed w
   pub scanned : w.scanned ≤ 256 * passed w
   pub moved : w.moved ≡ 0
+
+-- Where no pattern is empty, the next pick of a walk that stands at a place counts each byte that it passes.
+abbrev pub PickCounts : Built → Asked → ℕ → Option Occurrence → Steps → Steps → Type 0
+PickCounts b asked at r before after =
+    1 ≤ shortest b.dictionary.patterns
+    → HasCounted (prefilter_for b asked.anchored) (come_at_least (starting_at (searched b asked) at) r - at) before after
+
+-- Where it isn't anchored either, a walk has counted each byte of the span that lies before it.
+abbrev pub CountsWalk : Walk → Type 0
+CountsWalk w =
+    w.asked.anchored ≡ No → 1 ≤ shortest w.built.dictionary.patterns → CountsBytes w.built.prefilter
+    → passed w ≤ bytes_counted w.built.prefilter w.looked w.scanned
+
+-- the next pick counts each byte that it passes, and so has the walk after it
+pub record CountsPick (w v : Walk) (before after : Steps) (r : Option Occurrence) : Type 0 where
+  pub pick : PickCounts w.built w.asked w.at r before after
+  pub walk : CountsWalk v
 
 -- what holds of a walk wherever it stands
 pub record IsOnItsWay (w : Walk) : Type 0 where

@@ -11,8 +11,8 @@ use Rattle.ac_input.specs.Dictionary.{Dictionary, IsLive, live_len}
 use Rattle.ac_input.specs.Occurrence.{Search, Occurrence, starting_at}
 use Rattle.ac_input.specs.Steps.{AreNone, looked_of, scanned_of, moved_of}
 use Rattle.ac_input.specs.Tells.{ending}
-use Rattle.ac_input.specs.Work.{lookups_per_byte}
-use Rattle.ac_automaton.specs.Automaton.{Built, IsStartRefusal, searched, listing_in}
+use Rattle.ac_input.specs.Work.{CountsBytes, bytes_counted, come_at_least, lookups_per_byte}
+use Rattle.ac_automaton.specs.Automaton.{Built, IsStartRefusal, listing_in, prefilter_for, searched}
 use Rattle.ac_automaton.specs.Cursor.{read_to, walked, counted, IsCursor}
 use Rattle.ac_automaton.specs.declared.error.MatchErrorKind.{MatchErrorKind}
 use Rattle.ac_automaton.specs.declared.error.MatchErrorKind.TheVariants.{UnsupportedOverlapping}
@@ -45,9 +45,15 @@ IsLeft Reaches matches m s (At sid from at index) left =
     IsCursor Reaches s (record { sid = sid; from = from; at = at }) × (left ≡ told_from m (starting_at s from) at (matches sid) index ++ ending_from (starting_at s from) (at + 1))
 IsLeft Reaches matches m s Over left = left ≡ []
 
--- A call showed the first of what was left, if there was anything.
+-- how far a search has come at least where it stands; an anchored one may be over at any place
+abbrev pub stands_at_least : Search → Position → ℕ
+stands_at_least s (At sid from at index) = at
+stands_at_least s Over = come_at_least s None
+
+-- A call showed the first of what was left, if there was anything, and the search has come to its end.
 abbrev pub ShowsFirst : (List ℕ → StateID → Type 0) → (StateID → List ℕ) → Dictionary → Search → List Occurrence → Shown → Type 0
-ShowsFirst Reaches matches m s left r = (r.found ≡ slice_get left 0) × IsLeft Reaches matches m s r.place (drop 1 left)
+ShowsFirst Reaches matches m s left r =
+    (r.found ≡ slice_get left 0) × IsLeft Reaches matches m s r.place (drop 1 left) × (come_at_least s r.found ≤ stands_at_least s r.place)
 
 -- This many looks are paid for by the bytes up to a place of the span.
 abbrev pub IsPaidTo : Bool → Search → ℕ → ℕ → Type 0
@@ -104,6 +110,15 @@ abbrev pub read_on_to : Search → End Shown → ℕ
 read_on_to s (Found shown) = come_to s shown.place
 read_on_to s (Idle to) = to
 
+-- how far it has come there at least
+abbrev pub read_at_least : Search → End Shown → ℕ
+read_at_least s (Found shown) = stands_at_least s shown.place
+read_at_least s (Idle to) = to
+
+-- a walk that reads on from a place looks at a state for each byte that it passes
+abbrev pub ReadLooks : Search → ℕ → End Shown → Steps → Steps → Type 0
+ReadLooks s at reading before after = looked_of before + (read_at_least s reading - at) ≤ looked_of after
+
 -- What it costs to read on from one candidate to the next, from a place up to which this many looks and scans were paid for.
 pub record IsSkipCost (m : Dictionary) (deterministic : Bool) (s : Search) (at : ℕ) (reading : End Shown) (before after : Steps) : Type 0 where
   pub rose : looked_of before ≤ looked_of after
@@ -152,10 +167,21 @@ pub record StandsAt (Reaches : List ℕ → StateID → Type 0) (matches : State
   pub scanned : IsScanPaidTo s (come_to s place) (scanned_of sums)
   pub moved : moved_of sums ≡ 0
 
+-- each byte of the span up to a place is among those that were counted
+abbrev pub IsCountedTo : Built → Asked → ℕ → Steps → Type 0
+IsCountedTo b asked at sums =
+    CountsBytes (prefilter_for b asked.anchored) → at - asked.span.start ≤ bytes_counted (prefilter_for b asked.anchored) (looked_of sums) (scanned_of sums)
+
+-- so it is up to where a search stands
+abbrev pub IsPlaceCounted : Built → Asked → Position → Steps → Type 0
+IsPlaceCounted b asked place sums = IsCountedTo b asked (stands_at_least (searched b asked) place) sums
+
 -- A state that is fresh, or that came only from earlier calls with the same automaton and input.
 abbrev pub CameFrom : Built → (Anchored → List ℕ → StateID → Type 0) → (StateID → List ℕ) → Asked → OverlappingState → Type 0
 CameFrom b Reaches matches asked state =
-    IsFreshState state ⊎ ((place : Position) × (state.place ≡ Some place) × StandsAt (Reaches asked.anchored) matches b.dictionary b.deterministic (searched b asked) place (shown_of state) state.sums)
+    IsFreshState state
+    ⊎ ((place : Position) × (state.place ≡ Some place) × StandsAt (Reaches asked.anchored) matches b.dictionary b.deterministic (searched b asked) place (shown_of state) state.sums
+    × IsPlaceCounted b asked place state.sums)
 
 -- A call showed the next of the listing, if there was one more.
 pub record ShowsNext (b : Built) (asked : Asked) (before after : OverlappingState) : Type 0 where
@@ -165,6 +191,11 @@ pub record ShowsNext (b : Built) (asked : Asked) (before after : OverlappingStat
 -- what the calls with a state cost up to now
 abbrev pub sums_of : OverlappingState → Steps
 sums_of state = state.sums
+
+-- All calls with a state together counted each byte of the span up to the end of what they showed last; all of the span's, where
+-- nothing was left and the search isn't anchored.
+abbrev pub CountsShown : Built → Asked → OverlappingState → Type 0
+CountsShown b asked state = IsCountedTo b asked (come_at_least (searched b asked) (found_of state)) (sums_of state)
 
 -- what was done between the first two steps was done between the other two as well
 pub record DoneAlike (before after one another : Steps) : Type 0 where

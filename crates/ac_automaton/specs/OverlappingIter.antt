@@ -7,11 +7,11 @@ use Rattle.ac_input.specs.declared.steps.Steps.{Steps}
 use Rattle.ac_input.specs.Input.{Asked}
 use Rattle.ac_input.specs.Occurrence.{Occurrence}
 use Rattle.ac_input.specs.Steps.{looked_of, scanned_of, moved_of}
-use Rattle.ac_input.specs.Work.{lookups_per_byte}
+use Rattle.ac_input.specs.Work.{CountsBytes, bytes_counted, come_at_least, lookups_per_byte}
 use Rattle.ac_automaton.specs.declared.error.MatchErrorKind.{MatchErrorKind}
 use Rattle.ac_automaton.specs.declared.error.MatchErrorKind.TheVariants.{InvalidInputAnchored}
 use Rattle.ac_automaton.specs.Overlapping.{CanOverlap, IsOverlappingRefusal, and_one}
-use Rattle.ac_automaton.specs.Automaton.{Built, listing_in}
+use Rattle.ac_automaton.specs.Automaton.{Built, listing_in, prefilter_for, searched}
 
 -- A run through a listing: the automaton and the input; how many of the listing were shown; and how many states were looked at,
 -- how many places were scanned and how many bytes were moved so far.
@@ -54,6 +54,13 @@ pub record IsWithinOneWalk (run : Run) : Type 0 where
   pub looked : run.looked ≤ lookups_per_byte run.built.deterministic * (run.asked.span.end - run.asked.span.start)
   pub scanned : run.scanned ≤ 256 * (run.asked.span.end - run.asked.span.start)
   pub moved : run.moved ≡ 0
+
+-- A run has counted each byte of the span up to the end of this, which it showed last; all of the span's, where nothing was left and
+-- the search isn't anchored.
+abbrev pub CountsRun : Run → Option Occurrence → Type 0
+CountsRun run r =
+    CountsBytes (prefilter_for run.built run.asked.anchored)
+    → come_at_least (searched run.built run.asked) r - run.asked.span.start ≤ bytes_counted (prefilter_for run.built run.asked.anchored) run.looked run.scanned
 
 -- a run over the overlapping matches is supported: an overlapping search is, and the input isn't anchored
 abbrev pub CanRun : Built → (Anchored → Type 0) → Asked → Type 0

@@ -1,10 +1,10 @@
 -- What the parts of an overlapping search say about an automaton and an input: what is shown where the search stands, and its
 -- cost.
-use Rattle.std.specs.Prelude.{◌≡◌, ◌⊎◌, ℕ, ◌+◌, ◌<◌, ◌≤◌, List, [], ◌∷◌, ◌++◌, drop, length, IfSome, Option, None, Some, Result, Ok, Err}
+use Rattle.std.specs.Prelude.{◌≡◌, ◌≢◌, ◌⊎◌, ℕ, ◌+◌, ◌-◌, ◌<◌, ◌≤◌, List, [], ◌∷◌, ◌++◌, drop, length, IfSome, Option, None, Some, Result, Ok, Err, unwrap_or}
 use denote.Ref.{Bor}
 use Rattle.ac_input.specs.Number.{StateID}
 use Rattle.ac_input.specs.declared.search.Anchored.{Anchored}
-use Rattle.ac_input.specs.declared.search.Anchored.TheVariants.{No}
+use Rattle.ac_input.specs.declared.search.Anchored.TheVariants.{No, Yes}
 use Rattle.ac_input.specs.declared.search.MatchKind.TheVariants.{Standard}
 use Rattle.ac_input.specs.declared.steps.Steps.{Steps}
 use Rattle.ac_input.specs.Candidate.{Filter}
@@ -13,10 +13,11 @@ use Rattle.ac_input.specs.Dictionary.{Dictionary}
 use Rattle.ac_input.specs.Input.{Asked, is_anchored, search_in}
 use Rattle.ac_input.specs.Occurrence.{Search, Occurrence, Occurs, starting_at}
 use Rattle.ac_input.specs.Steps.{looked_of, scanned_of, moved_of}
-use Rattle.ac_automaton.specs.Automaton.{Built, searched, listing_in}
+use Rattle.ac_input.specs.Work.{HasCounted}
+use Rattle.ac_automaton.specs.Automaton.{Built, listing_in, prefilter_for, searched}
 use Rattle.ac_automaton.specs.Cursor.{counted, walked, StandsIn}
 use Rattle.ac_automaton.specs.Find.{MayGoOnFrom}
-use Rattle.ac_automaton.specs.Overlapping.{AnswersOverlapping, CameFrom, CanOverlap, CanRestart, IsLeft, IsOverlappingRefusal, IsPaidAt, IsPaidBy, IsPlacePaid, IsSkipCost, KeepsBudget, ReadsOn, ShowsFirst, TellsFirst, ending_from, told_from}
+use Rattle.ac_automaton.specs.Overlapping.{AnswersOverlapping, CameFrom, CanOverlap, CanRestart, IsLeft, IsOverlappingRefusal, IsPaidAt, IsPaidBy, IsPlacePaid, IsSkipCost, KeepsBudget, ReadLooks, ReadsOn, ShowsFirst, TellsFirst, ending_from, read_at_least, stands_at_least, told_from}
 use Rattle.ac_automaton.specs.declared.automaton.Automaton.{Ghosts}
 use Rattle.ac_automaton.specs.declared.error.MatchErrorKind.{MatchErrorKind}
 use Rattle.ac_automaton.specs.declared.overlapping.Beginning.{Beginning}
@@ -49,6 +50,28 @@ PaysAt b asked cursor index shown before after = KeepsPaying b asked (At cursor.
 -- what it costs to read on from one candidate to the next, from a place on
 abbrev pub SkipsAtCost : Built → Asked → ℕ → End Shown → Steps → Steps → Type 0
 SkipsAtCost b asked at end before after = IsSkipCost b.dictionary b.deterministic (searched b asked) at end before after
+
+-- A walk that reads on looks at a state for each byte that it passes.
+abbrev pub LooksOn : Built → Asked → Cursor → End Shown → Steps → Steps → Type 0
+LooksOn b asked cursor end before after = ReadLooks (searched b asked) cursor.at end before after
+
+-- from one candidate to the next, from a place on, each byte that is passed is counted
+abbrev pub SkipCounts : Built → Asked → ℕ → End Shown → Steps → Steps → Type 0
+SkipCounts b asked at end before after = HasCounted (prefilter_for b asked.anchored) (read_at_least (searched b asked) end - at) before after
+
+-- a call counts each byte that it passes
+abbrev pub CountsFrom : Built → Asked → ℕ → Shown → Steps → Steps → Type 0
+CountsFrom b asked at shown before after = SkipCounts b asked at (Found shown) before after
+
+-- the same of a search that stands at a place
+abbrev pub CountsOn : Built → Asked → Position → Shown → Steps → Steps → Type 0
+CountsOn b asked place shown before after = CountsFrom b asked (stands_at_least (searched b asked) place) shown before after
+
+-- A prefilter that scans for bytes counts the places up to its candidate, or to the end if there is none; without a prefilter the
+-- candidate is the place itself.
+abbrev pub ScanCounts : Option (Bor Filter) → ℕ → ℕ → Option ℕ → Steps → Steps → Type 0
+ScanCounts None at end found before after = (found ≡ Some at) × (after ≡ before)
+ScanCounts (Some p) at end found before after = p.now.needles ≢ [] → scanned_of before + (unwrap_or found end - at) ≤ scanned_of after
 
 -- the scans for a candidate, from a place on to an end: the last of them is at most 254 after the candidate
 pub record IsScanFor (at end : ℕ) (found : Option ℕ) (before after : Steps) : Type 0 where
@@ -90,6 +113,7 @@ module _ {S : Type 0} (A : Ghosts S) (automaton : S) where
     pub record MaySkip (prefilter : Option (Bor Filter)) (start : StateID) (at : ℕ) : Type 0 where
       pub standard : (A.built automaton).dictionary.kind ≡ Standard
       pub made : IfSome prefilter (λ p. p.now.dictionary ≡ (A.built automaton).dictionary)
+      pub own : IfSome prefilter (λ p. (A.built automaton).prefilter ≡ Some p.now)
       pub free : asked.anchored ≡ No
       pub starts : A.Reaches automaton asked.anchored [] start
       pub empty : A.matches automaton start ≡ []
@@ -121,13 +145,13 @@ module _ {S : Type 0} (A : Ghosts S) (automaton : S) where
     abbrev pub ReadsOnFrom : ℕ → List Occurrence → End Shown → Type 0
     ReadsOnFrom at left end = ReadsOn (A.Reaches automaton asked.anchored) (A.matches automaton) (A.built automaton).dictionary (searched (A.built automaton) asked) at left end
 
-    -- What is shown where a walk stands: the first of what is left there, which is nothing if the state is dead; none if the state
-    -- has no occurrence.
+    -- What is shown where a walk stands: the first of what is left there, which is nothing if the state is dead, as only an anchored
+    -- search finds it; none if the state has no occurrence.
     abbrev pub ShowsHere : Cursor → Option Shown → Type 0
     ShowsHere cursor None = told_at cursor 0 ≡ []
     ShowsHere cursor (Some shown) =
         ShowsFirstOf (left_for cursor cursor.at) shown
-        × ((shown.place ≡ Over) ⊎ ((index : ℕ) × (shown.place ≡ At cursor.sid cursor.from cursor.at index)))
+        × (((shown.place ≡ Over) × (asked.anchored ≡ Yes)) ⊎ ((index : ℕ) × (shown.place ≡ At cursor.sid cursor.from cursor.at index)))
 
     -- How a search ends where a walk stands: with what is shown there; or the state has no occurrence, what is left begins here or
     -- later, and the search may go on from a start. None if it goes on: the state has no occurrence.
@@ -170,6 +194,7 @@ module _ {S : Type 0} (A : Ghosts S) (automaton : S) where
         × A.Reaches automaton asked.anchored [] beginning.start
         × IsLeftAt beginning.place (listing_in (A.built automaton) asked)
         × IsPlacePaid (A.built automaton).dictionary (A.built automaton).deterministic (searched (A.built automaton) asked) beginning.place 0
+        × (stands_at_least (searched (A.built automaton) asked) beginning.place ≤ asked.span.start)
     AnswersBegin (Err error) = IsOverlappingRefusal (A.built automaton) (A.supports automaton) asked error
 
     -- the state is fresh, or came only from earlier calls with this automaton and input

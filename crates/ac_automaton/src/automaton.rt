@@ -49,7 +49,7 @@ pub trait Automaton {
     ghost use Rattle.ac_input.specs.Work.{longest, shortest};
     ghost use Rattle.ac_automaton.specs.Automaton.{Built, IsReached, IsState, AtEach, Leads, IsReadCost, TellsDead, TellsStart, IsSpecial, Advances, AdvancesToMatch, OwnsPrefilter, AnswersStart, AnswersFind, CostsFind};
     ghost use Rattle.ac_automaton.specs.Iter.{AnswersFindIter};
-    ghost use Rattle.ac_automaton.specs.Overlapping.{CameFrom, IsOverlappingCost, AnswersOverlapping, sums_of};
+    ghost use Rattle.ac_automaton.specs.Overlapping.{CameFrom, CountsShown, IsOverlappingCost, AnswersOverlapping, sums_of};
     ghost use Rattle.ac_automaton.specs.OverlappingIter.{AnswersOverlappingIter, rest_of};
     ghost use Rattle.ac_automaton.specs.Items.{AreFew, AreFewForEach, AreInOrder, EachLiesWithin, FindsWithin};
     ghost use Rattle.ac_automaton.specs.StreamIter.{AnswersStreamIter};
@@ -96,7 +96,11 @@ pub trait Automaton {
             (byte ∷ []) steps.old steps.new };
 
     /// Reads on from a state over bytes, to the first state that is special, or to the last byte. It reads at least one byte, if
-    /// there is one. Counts the states that it looks at, as many as `next_state_counted` would.
+    /// there is one.
+    ///
+    /// It counts at least one look at a state for each byte that it reads, also for one that it passes without a look. In total it
+    /// counts at most two for each, plus the bytes that were live before, less those that are live after. A deterministic automaton
+    /// counts exactly one for each.
     ///
     /// The provided method calls `next_state_counted` and `is_special` for each byte. An automaton with a faster way overrides it.
     /// A caller: `uses::callers::states::next_special`.
@@ -123,7 +127,7 @@ pub trait Automaton {
     }
 
     /// Reads on from a state over bytes, to the first state that matches, or to the last byte; it passes over starts and dead
-    /// states. It reads at least one byte, if there is one. Counts the states that it looks at, as `advance` does.
+    /// states. It reads at least one byte, if there is one. Its looks at states are within the bounds of `advance`.
     ///
     /// A search without a prefilter reads this way: there a start is a state like any other.
     /// A caller: `uses::callers::states::first_end`.
@@ -327,6 +331,7 @@ pub trait Automaton {
         ensures answer { AnswersOverlapping (built self.now) (supports self.now) input.now
             state.old state.new result }
         ensures cost { IsOverlappingCost (built self.now) input.now (sums_of state.new) }
+        ensures counted { OnOk result (CountsShown (built self.now) input.now state.new) }
     {
         let mut steps = Steps::new();
         overlapping::find_overlapping(self, input, state, &mut steps)

@@ -13,10 +13,10 @@
 //!
 //! A prefilter may return the match itself. It is the best of the automaton's kind, so an earliest search, which stops at the
 //! first end, uses only its place and walks from there.
-ghost use Rattle.std.specs.Prelude.{◌≡◌, ◌≢◌, ◌↔◌, ℕ, ◌<◌, ◌≤◌, List, [], IfSome, IsTrue};
+ghost use Rattle.std.specs.Prelude.{◌≡◌, ◌≢◌, ◌↔◌, ℕ, ◌<◌, ◌≤◌, List, [], IfSome, IsTrue, Some};
 ghost use Rattle.ac_automaton.specs.Automaton.{AnswersFind, CostsFind, IsFindCost, IsFound, IsState, kind_asked};
 ghost use Rattle.ac_automaton.specs.Cursor.{IsFirstAt, IsReachedWithin, IsTaken, IsWholeTaken, ReadsFurther, StandsIn};
-ghost use Rattle.ac_automaton.specs.Find.{BackIsEmpty, CandidateEnds, IsCandidateCost, IsSearchCost, IsUsable, IsWalkCost, WalkSays};
+ghost use Rattle.ac_automaton.specs.Find.{BackIsEmpty, CandidateCounts, CandidateEnds, IsCandidateCost, IsSearchCost, IsUsable, IsWalkCost, SearchCounts, WalkLooks, WalkSays};
 ghost use Rattle.ac_automaton.specs.Items.{FindsWithin};
 
 use crate::automaton::Automaton;
@@ -137,6 +137,7 @@ fn walk<A: Automaton>(
     ensures says { WalkSays (A.built automaton.now) input.now at result }
     ensures free { (place : ℕ) → result ≡ End.Idle place → input.now.anchored ≡ Anchored.No }
     ensures work { IsWalkCost (A.built automaton.now) input.now at result steps.old steps.new }
+    ensures looks { WalkLooks (A.built automaton.now) input.now at result steps.old steps.new }
 {
     let first_wins = takes_first(automaton, input);
     let end = input.end();
@@ -196,6 +197,8 @@ fn candidate<A: Automaton>(
     requires to { at ≤ input.now.span.end }
     ensures says { CandidateEnds (A.built automaton.now) input.now at result }
     ensures work { IsCandidateCost (A.built automaton.now) input.now at result steps.old steps.new }
+    ensures counts { CandidateCounts prefilter.now (A.built automaton.now) input.now at result
+        steps.old steps.new }
 {
     let kind = automaton.match_kind();
     let rest = Span {
@@ -226,6 +229,7 @@ fn search_from_candidate<A: Automaton>(
     steps: &mut Steps,
 ) -> End<Option<Match>>
     requires made { IfSome prefilter (λ p. p.now.dictionary ≡ (A.built automaton.now).dictionary) }
+    requires own { IfSome prefilter (λ p. (A.built automaton.now).prefilter ≡ Some p.now) }
     requires free { IfSome prefilter (λ _. input.now.anchored ≡ Anchored.No) }
     requires starts { A.Reaches automaton.now input.now.anchored [] start }
     requires from { input.now.span.start ≤ at }
@@ -233,6 +237,7 @@ fn search_from_candidate<A: Automaton>(
     ensures says { WalkSays (A.built automaton.now) input.now at result }
     ensures free { (place : ℕ) → result ≡ End.Idle place → input.now.anchored ≡ Anchored.No }
     ensures work { IsSearchCost (A.built automaton.now) input.now at result steps.old steps.new }
+    ensures counts { SearchCounts (A.built automaton.now) input.now at result steps.old steps.new }
 {
     let Some(prefilter) = prefilter else {
         return walk(automaton, input, start, at, at, steps);
@@ -260,6 +265,7 @@ fn search<A: Automaton>(
     steps: &mut Steps,
 ) -> Option<Match>
     requires made { IfSome prefilter (λ p. p.now.dictionary ≡ (A.built automaton.now).dictionary) }
+    requires own { IfSome prefilter (λ p. (A.built automaton.now).prefilter ≡ Some p.now) }
     requires free { IfSome prefilter (λ _. input.now.anchored ≡ Anchored.No) }
     requires starts { A.Reaches automaton.now input.now.anchored [] start }
     requires ordered { input.now.span.start ≤ input.now.span.end }

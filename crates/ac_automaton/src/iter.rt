@@ -11,7 +11,7 @@ ghost use Rattle.std.specs.Prelude.{◌↔◌, ◌≤◌, IfOk, IfSome, IsTrue};
 ghost use Rattle.std.specs.Iterator.{YieldsFirst, item_count};
 ghost use Rattle.ac_input.specs.Walk.{Repeats};
 ghost use Rattle.ac_automaton.specs.Automaton.{IsFound, IsFindCost};
-ghost use Rattle.ac_automaton.specs.Iter.{AnswersFindIter, GivesPick, CostsPick, left_of, IsPickOf, IsPickCost, IsRestOf, IsOnItsWay};
+ghost use Rattle.ac_automaton.specs.Iter.{AnswersFindIter, GivesPick, CostsPick, left_of, IsPickOf, IsPickCost, IsRestOf, IsOnItsWay, CountsPick, PickCounts};
 ghost use Rattle.ac_automaton.specs.Items.{AreFew, AreInOrder};
 
 use crate::automaton::Automaton;
@@ -36,7 +36,7 @@ pub struct FindIter<'a, 'h, A: Search> {
 }
 
 impl<'a, 'h, A: Search> Model for FindIter<'a, 'h, A> {
-    ghost use Rattle.ac_automaton.specs.Iter.{Walk, walk_at, IsOnItsWay};
+    ghost use Rattle.ac_automaton.specs.Iter.{CountsWalk, Walk, walk_at, IsOnItsWay};
 
     ghost Value = { Walk };
 
@@ -44,7 +44,8 @@ impl<'a, 'h, A: Search> Model for FindIter<'a, 'h, A> {
 
     ghost invariant = { λ i.
         A.supports i.automaton.now i.input.anchored
-        × IsOnItsWay (walk_at (A.built i.automaton.now) i.first.value i.input i.last i.sums) };
+        × IsOnItsWay (walk_at (A.built i.automaton.now) i.first.value i.input i.last i.sums)
+        × CountsWalk (walk_at (A.built i.automaton.now) i.first.value i.input i.last i.sums) };
 }
 
 /// All matches of the input, one after another.
@@ -100,6 +101,8 @@ fn next_pick<A: Search>(
     ensures pick { IsPickOf (A.built automaton.now) input.old last result }
     ensures asked { IsRestOf input.old input.new }
     ensures work { IsPickCost (A.built automaton.now) input.old steps.old steps.new result }
+    ensures counts { PickCounts (A.built automaton.now) input.old input.old.span.start result
+        steps.old steps.new }
 {
     let found = best(automaton, input, steps);
     if !repeats(last, &found) {
@@ -119,6 +122,7 @@ impl<'a, 'h, A: Search> FindIter<'a, 'h, A> {
         ensures gives { GivesPick self.old result self.new }
         ensures cost { CostsPick self.old self.new steps.old steps.new result }
         ensures kept { IsOnItsWay self.new }
+        ensures counted { CountsPick self.old self.new steps.old steps.new result }
     {
         if self.input.is_done() {
             return None;

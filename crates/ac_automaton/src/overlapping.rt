@@ -11,9 +11,9 @@
 //!
 //! The caller keeps the place of a search between two calls, in an [`OverlappingState`]. It belongs to one automaton and one input
 //! from its first search on. [`FindOverlappingIter`] keeps all three together.
-ghost use Rattle.std.specs.Prelude.{◌≡◌, ⊤, None, Some};
+ghost use Rattle.std.specs.Prelude.{◌≡◌, ⊤, None, OnOk, Some};
 ghost use Rattle.ac_input.specs.Steps.{Added};
-ghost use Rattle.ac_automaton.specs.Overlapping.{IsFreshState, CostsOverlapping, and_one, found_of, shown_of, sums_of};
+ghost use Rattle.ac_automaton.specs.Overlapping.{IsFreshState, CostsOverlapping, CountsShown, and_one, found_of, shown_of, sums_of};
 ghost use Rattle.ac_automaton.specs.OverlappingSearch.{AnswersCall, CameFromCalls};
 
 pub mod iter;
@@ -156,6 +156,7 @@ pub fn find_overlapping<A: Search>(
     ensures answer { AnswersCall A.Automaton automaton.now input.now state.old state.new result }
     ensures cost { CostsOverlapping (A.built automaton.now) input.now state.old state.new
         steps.old steps.new result }
+    ensures counted { OnOk result (CountsShown (A.built automaton.now) input.now state.new) }
 {
     let beginning = begin(automaton, input)?;
     let place = state.place.unwrap_or(beginning.place);

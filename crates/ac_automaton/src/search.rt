@@ -20,7 +20,7 @@ pub trait Search: Automaton {
     ghost use Rattle.ac_input.specs.declared.search.MatchKind.TheVariants.{Standard};
     ghost use Rattle.ac_automaton.specs.Automaton.{AnswersFind, CostsFind};
     ghost use Rattle.ac_automaton.specs.Items.{FindsWithin};
-    ghost use Rattle.ac_automaton.specs.OverlappingSearch.{HasLeft, KeepsPaying, ShowsNextAt};
+    ghost use Rattle.ac_automaton.specs.OverlappingSearch.{CountsOn, HasLeft, KeepsPaying, ShowsNextAt};
     ghost use Rattle.ac_automaton.specs.StreamWalk.{MayWalk, WalksOn};
 
     /// The match of the input, if it has one, as [`Automaton::try_find_counted`] returns it; counts what it does.
@@ -49,6 +49,7 @@ pub trait Search: Automaton {
         ensures shows { ShowsNextAt Self.Automaton self.now input.now place result }
         ensures pays { KeepsPaying (Self.built self.now) input.now place result
             steps.old steps.new }
+        ensures counts { CountsOn (Self.built self.now) input.now place result steps.old steps.new }
     {
         overlapping::advance(self, input, start, place, steps)
     }

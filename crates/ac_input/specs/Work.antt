@@ -1,8 +1,9 @@
 -- How much a search may cost.
-use Rattle.std.specs.Prelude.{◌≡◌, ℕ, ◌+◌, ◌-◌, ◌*◌, ◌≤◌, max, min, Bool, List, [], ◌∷◌, length, IsTrue, Option, None, Some, if◌then◌else◌}
+use Rattle.std.specs.Prelude.{◌≡◌, ◌≢◌, ℕ, ◌+◌, ◌-◌, ◌*◌, ◌≤◌, max, min, Bool, List, [], ◌∷◌, length, IfSome, IsTrue, Option, None, Some, if◌then◌else◌}
 use Rattle.ac_input.specs.declared.search.MatchKind.{MatchKind}
 use Rattle.ac_input.specs.declared.search.MatchKind.TheVariants.{Standard}
 use Rattle.ac_input.specs.declared.steps.Steps.{Steps}
+use Rattle.ac_input.specs.Candidate.{Filter}
 use Rattle.ac_input.specs.Occurrence.{Search, Occurrence}
 use Rattle.ac_input.specs.Steps.{looked_of, scanned_of, moved_of}
 
@@ -43,3 +44,23 @@ pub record IsFindWork (kind : MatchKind) (deterministic : Bool) (s : Search) (r 
   pub leftmost : (o : Occurrence) → r ≡ Some o → looked_of after ≤ looked_of before + lookups_per_byte deterministic * (o.start + longest s.patterns + 1 - s.start)
   pub scanned : scanned_of after ≤ scanned_of before + 256 * (over_at s r - s.start)
   pub moved : moved_of after ≡ moved_of before
+
+-- how far a search with this result has come at least: to the match's end, or to the span's where there is none; but an anchored
+-- one without a match may be over at any place
+abbrev pub come_at_least : Search → Option Occurrence → ℕ
+come_at_least s None = if s.anchored then s.start else s.end
+come_at_least s (Some o) = o.end
+
+-- Each byte that a search passes is counted: without a prefilter as a look, with one that scans for bytes as a look or a scanned
+-- place. A prefilter that searches for whole patterns counts nothing.
+abbrev pub CountsBytes : Option Filter → Type 0
+CountsBytes filter = IfSome filter (λ f. f.needles ≢ [])
+
+-- how many bytes these looks and scanned places count
+abbrev pub bytes_counted : Option Filter → ℕ → ℕ → ℕ
+bytes_counted None looks places = looks
+bytes_counted (Some f) looks places = looks + places
+
+-- at least so many bytes were counted
+pub record HasCounted (filter : Option Filter) (bytes : ℕ) (before after : Steps) : Type 0 where
+  pub least : CountsBytes filter → bytes_counted filter (looked_of before) (scanned_of before) + bytes ≤ bytes_counted filter (looked_of after) (scanned_of after)

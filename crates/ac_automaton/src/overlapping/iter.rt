@@ -5,7 +5,7 @@
 ghost use Rattle.std.specs.Prelude.{IfOk};
 ghost use Rattle.std.specs.Iterator.{YieldsFirst, item_count};
 ghost use Rattle.ac_automaton.specs.Items.{AreFewForEach, EachLiesWithin};
-ghost use Rattle.ac_automaton.specs.OverlappingIter.{AnswersOverlappingIter, GivesFirst, RunCounts, IsWithinOneWalk, rest_of};
+ghost use Rattle.ac_automaton.specs.OverlappingIter.{AnswersOverlappingIter, CountsRun, GivesFirst, RunCounts, IsWithinOneWalk, rest_of};
 
 use crate::error::MatchError;
 use crate::overlapping::search::begin;
@@ -36,7 +36,7 @@ impl<'a, 'h, A: Search> Model for FindOverlappingIter<'a, 'h, A> {
     ghost use Rattle.std.specs.Prelude.{◌≡◌, []};
     ghost use Rattle.ac_input.specs.declared.search.MatchKind.TheVariants.{Standard};
     ghost use Rattle.ac_automaton.specs.Automaton.{searched};
-    ghost use Rattle.ac_automaton.specs.Overlapping.{StandsAt};
+    ghost use Rattle.ac_automaton.specs.Overlapping.{IsPlaceCounted, StandsAt};
     ghost use Rattle.ac_automaton.specs.OverlappingIter.{Run, run_at};
 
     ghost Value = { Run };
@@ -48,7 +48,8 @@ impl<'a, 'h, A: Search> Model for FindOverlappingIter<'a, 'h, A> {
         × A.Reaches i.automaton.now i.input.anchored [] i.start
         × StandsAt (A.Reaches i.automaton.now i.input.anchored) (A.matches i.automaton.now)
         (A.built i.automaton.now).dictionary (A.built i.automaton.now).deterministic
-        (searched (A.built i.automaton.now) i.input) i.place i.shown.value i.sums };
+        (searched (A.built i.automaton.now) i.input) i.place i.shown.value i.sums
+        × IsPlaceCounted (A.built i.automaton.now) i.input i.place i.sums };
 }
 
 /// All occurrences in the input, one after another.
@@ -84,6 +85,7 @@ impl<'a, 'h, A: Search> FindOverlappingIter<'a, 'h, A> {
         ensures gives { GivesFirst self.old result self.new }
         ensures sums { RunCounts self.old self.new steps.old steps.new }
         ensures work { IsWithinOneWalk self.new }
+        ensures counted { CountsRun self.new result }
     {
         let mut done = Steps::new();
         let shown = self

@@ -10,7 +10,7 @@ ghost use Rattle.ac_input.specs.Occurrence.{Occurrence};
 ghost use Rattle.ac_automaton.specs.declared.overlapping.Position.TheVariants.{Over};
 ghost use Rattle.ac_automaton.specs.declared.cursor.End.TheVariants.{Found};
 ghost use Rattle.ac_automaton.specs.Overlapping.{OnlyLooked};
-ghost use Rattle.ac_automaton.specs.OverlappingSearch.{AnswersBegin, BeginsWith, EndsHere, HasLeft, IsNextEntry, IsScanFor, KeepsPaying, MayShow, MaySkip, PaysAt, PaysOn, ShowsAfter, ShowsAt, ShowsFrom, ShowsHere, ShowsLater, ShowsNextAt, ShowsRest, SkipsAtCost};
+ghost use Rattle.ac_automaton.specs.OverlappingSearch.{AnswersBegin, BeginsWith, CountsFrom, CountsOn, EndsHere, HasLeft, IsNextEntry, IsScanFor, KeepsPaying, LooksOn, MayShow, MaySkip, PaysAt, PaysOn, ScanCounts, ShowsAfter, ShowsAt, ShowsFrom, ShowsHere, ShowsLater, ShowsNextAt, ShowsRest, SkipCounts, SkipsAtCost};
 ghost use Rattle.ac_input.specs.Tells.{ending_at};
 ghost use Rattle.ac_automaton.specs.Cursor.{counts};
 
@@ -150,6 +150,7 @@ fn read_to_start<A: Automaton>(
     ensures reads { ShowsLater A.Automaton automaton.now input.now cursor result }
     ensures pays { PaysOn (A.built automaton.now) input.now cursor result steps.old steps.new }
     ensures only { OnlyLooked steps.old steps.new }
+    ensures looks { LooksOn (A.built automaton.now) input.now cursor result steps.old steps.new }
 {
     let mut cursor = cursor;
     loop {
@@ -174,6 +175,8 @@ fn candidate(
     requires to { at ≤ input.now.span.end }
     ensures begins { BeginsWith prefilter.entry input.now at result }
     ensures work { IsScanFor at input.now.span.end result steps.old steps.new }
+    ensures counts { ScanCounts prefilter.entry at input.now.span.end result
+        steps.old steps.new }
 {
     let Some(prefilter) = prefilter else {
         return Some(at);
@@ -198,6 +201,7 @@ fn search_from_candidate<A: Automaton>(
     requires { MaySkip A.Automaton automaton.now input.now prefilter start at }
     ensures reads { ShowsFrom A.Automaton automaton.now input.now at result }
     ensures cost { SkipsAtCost (A.built automaton.now) input.now at result steps.old steps.new }
+    ensures counts { SkipCounts (A.built automaton.now) input.now at result steps.old steps.new }
 {
     let Some(from) = candidate(prefilter, input, at, steps) else {
         return End::Found(over());
@@ -223,6 +227,7 @@ fn search_by_candidates<A: Automaton>(
     ensures reads { ShowsFrom A.Automaton automaton.now input.now at (Found result) }
     ensures cost { SkipsAtCost (A.built automaton.now) input.now at (Found result)
         steps.old steps.new }
+    ensures counts { CountsFrom (A.built automaton.now) input.now at result steps.old steps.new }
 {
     let mut place = at;
     loop {
@@ -245,6 +250,8 @@ fn show_later<A: Automaton>(
     requires stands { MayShow A.Automaton automaton.now input.now cursor }
     ensures shows { ShowsAfter A.Automaton automaton.now input.now cursor result }
     ensures pays { PaysAt (A.built automaton.now) input.now cursor 0 result steps.old steps.new }
+    ensures counts { CountsFrom (A.built automaton.now) input.now cursor.at result
+        steps.old steps.new }
 {
     let prefilter = usable_prefilter(automaton, input.get_anchored(), start);
     if prefilter.is_some() && cursor.at == cursor.from {
@@ -270,6 +277,8 @@ fn show_next<A: Automaton>(
     ensures shows { ShowsRest A.Automaton automaton.now input.now cursor.now from result }
     ensures pays { PaysAt (A.built automaton.now) input.now cursor.now from result
         steps.old steps.new }
+    ensures counts { CountsFrom (A.built automaton.now) input.now cursor.now.at result
+        steps.old steps.new }
 {
     if let Some(shown) = show(automaton, input, *cursor, from) {
         return shown;
@@ -290,6 +299,7 @@ pub(crate) fn advance<A: Automaton>(
     requires left { HasLeft A.Automaton automaton.now input.now place }
     ensures shows { ShowsNextAt A.Automaton automaton.now input.now place result }
     ensures pays { KeepsPaying (A.built automaton.now) input.now place result steps.old steps.new }
+    ensures counts { CountsOn (A.built automaton.now) input.now place result steps.old steps.new }
 {
     match place {
         Position::Over => over(),

@@ -1,5 +1,5 @@
 -- What the prefilter returns for the rest of the span.
-use Rattle.std.proofs.Common.{◌≡◌, ◌∙◌, Bool, Some, subst, sym, ap, rules}
+use Rattle.std.proofs.Common.{◌≡◌, ◌∙◌, Bool, Some, subst, sym, ap, arith, rules}
 use Rattle.ac_input.specs.Best.{asked_kind, IsBest}
 use Rattle.ac_input.specs.Candidate.{IsCandidate}
 use Rattle.ac_input.specs.declared.search.MatchKind.{MatchKind}
@@ -10,6 +10,7 @@ use Rattle.ac_automaton.specs.Automaton.{kind_asked}
 use Rattle.ac_automaton.specs.Find.{search_from}
 use Rattle.ac_automaton.proofs.FindLemmas.{match-goes_on, match-asked_best}
 use Rattle.ac_automaton.proofs.CandidateLemmas.{ahead-same}
+use Rattle.ac_automaton.proofs.CountedLemmas.{come-none, scan-covers_all, scan-covers_before, scan-no_match}
 use Rattle.ac_automaton.proofs.find.candidate.Goals as goal
 
 pub returns-then-eq-clause-says : goal.returns-then-eq-clause-says
@@ -37,3 +38,26 @@ returns-else-eq-clause-says g c =
     let kinds : n.kind ≡ kind = ap (λ (m : Dictionary). m.kind) c.requires.made ∙ sym c.match_kind-kind.ensures in
     let is : IsCandidate kind (search_from b asked c.args.at) (candidates.Match c.in-Match.found) = subst (λ (k : MatchKind). IsCandidate k (search_from b asked c.args.at) (candidates.Match c.in-Match.found)) kinds (subst (λ (s : Search). IsCandidate n.kind s (candidates.Match c.in-Match.found)) same c.in-Match.ensures.candidate) in
     rw c.start.ensures.value (match-goes_on kind (search_from b asked c.args.at) c.in-Match.found is)
+
+pub returns-in-None-clause-counts : goal.returns-in-None-clause-counts
+returns-in-None-clause-counts g c = λ some.
+    let s = search_from (g.A.Automaton.built c.args.automaton.now) c.args.input.now c.args.at in
+    let counted = c.in-None.ensures.counted in
+    let done = counted.1 in
+    let covers = scan-covers_all c.args.prefilter.now.needles _ counted.0 some counted.2 in
+    let come = come-none s in
+    let end = c.end.ensures.value in
+    omega (arith, done.scanned)
+
+pub returns-then-eq-clause-counts : goal.returns-then-eq-clause-counts
+returns-then-eq-clause-counts g c = λ some. absurd (scan-no_match c.args.prefilter.now.needles _ c.in-Match.ensures.counted.0 c.in-Match.found some c.in-Match.ensures.counted.2)
+
+pub returns-else-eq-clause-counts : goal.returns-else-eq-clause-counts
+returns-else-eq-clause-counts g c = λ some. absurd (scan-no_match c.args.prefilter.now.needles _ c.in-Match.ensures.counted.0 c.in-Match.found some c.in-Match.ensures.counted.2)
+
+pub returns-in-PossibleStartOfMatch-clause-counts : goal.returns-in-PossibleStartOfMatch-clause-counts
+returns-in-PossibleStartOfMatch-clause-counts g c = λ some.
+    let counted = c.in-PossibleStartOfMatch.ensures.counted in
+    let done = counted.1 in
+    let covers = scan-covers_before c.args.prefilter.now.needles _ counted.0 c.in-PossibleStartOfMatch.place some counted.2 in
+    omega (arith, done.scanned)

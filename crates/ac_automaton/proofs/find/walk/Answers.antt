@@ -8,7 +8,7 @@ use Rattle.ac_automaton.specs.Find.{WalkSays, IsWalkCost}
 use Rattle.ac_automaton.proofs.CursorLemmas.{alive-from}
 use Rattle.ac_automaton.proofs.WalkLemmas.{none-listed}
 use Rattle.ac_automaton.proofs.WalkEndLemmas.{IsDone, Ended, Died, Won, won-found, not_won-none, is_none-found}
-use Rattle.ac_automaton.proofs.FindWalkLemmas.{HasAsked, rest, text_read, walks-first, asks, asked-says, asked-work, asked-back, asked-on}
+use Rattle.ac_automaton.proofs.FindWalkLemmas.{HasAsked, rest, text_read, walks-first, asks, asked-looks, asked-says, asked-work, asked-back, asked-on, back-looks}
 use Rattle.ac_automaton.proofs.find.walk.Given.{Over}
 use Rattle.ac_automaton.proofs.find.walk.Goals as goal
 use Rattle.ac_automaton.proofs.find.walk.Goals.{then-first_wins, else-first_wins, then-won-via-then-won, then-won-via-else-won+then-cursor-end, then-won-via-else-won+else-cursor-end+then-is_dead}
@@ -24,10 +24,10 @@ over g c =
     let met = g.met.A.Automaton in
     asks g.A.Automaton a asked c.args.at c.loop-best.cursor c.loop-best.best c.match_at.result c.or-best.result _ _ (met.pairs a asked.anchored) (met.tells a asked.anchored) (met.lives a asked.anchored) c.loop-best.invariant c.match_at.ensures c.or-best.ensures
 
-pub returns-then-won-clause-says : goal.returns-then-won-clause-says
-returns-then-won-clause-says g c =
-    let a = c.args.automaton.now in
-    let b = g.A.Automaton.built a in
+-- why it is
+over-done : (g : Over) (c : goal.Joined-then-won g)
+    → IsDone (g.A.Automaton.built c.args.automaton.now).dictionary c.args.input.now.anchored (kind_asked (g.A.Automaton.built c.args.automaton.now) c.args.input.now) c.args.input.now.haystack (rest c.args.input.now c.loop-best.cursor) c.loop-best.cursor.at c.or-best.result
+over-done g c =
     let asked = c.args.input.now in
     let cursor = c.loop-best.cursor in
     let won : c.if-first_wins.won ≡ (c.takes_first-first_wins.result && is_some c.or-best.result) =
@@ -35,18 +35,30 @@ returns-then-won-clause-says g c =
       | then-first_wins v ↦ v.won-is ∙ v.is_some-won.ensures ∙ ap (λ (b : Bool). b && is_some c.or-best.result) (sym v.if-first_wins.true)
       | else-first_wins v ↦ v.won-is ∙ v.if-first_wins.false ∙ ap (λ (b : Bool). b && is_some c.or-best.result) (sym v.if-first_wins.false)
     ] in
-    let done : IsDone b.dictionary asked.anchored (kind_asked b asked) asked.haystack (rest asked cursor) cursor.at c.or-best.result =
     elim c.then-won.branch [
       | then-won-via-then-won w ↦
           let found = won-found _ _ c.or-best.result won w.if-won.true in
           Won found.1.0 (c.takes_first-first_wins.ensures.0 found.0) found.1.1
       | then-won-via-else-won+then-cursor-end w ↦ Ended (w.if-cursor-end.true ∙ c.end-end.ensures.value)
       | then-won-via-else-won+else-cursor-end+then-is_dead w ↦ Died ((w.is_dead.ensures asked.anchored (text_read asked cursor) c.loop-best.invariant.stands.reads).0 w.if-is_dead.true)
-    ] in
-    asked-says g.A.Automaton a asked c.args.at cursor c.or-best.result _ _ (over g c) done
+    ]
+
+pub returns-then-won-clause-says : goal.returns-then-won-clause-says
+returns-then-won-clause-says g c = asked-says g.A.Automaton c.args.automaton.now c.args.input.now c.args.at c.loop-best.cursor c.or-best.result _ _ (over g c) (over-done g c)
 
 pub returns-then-won-clause-work : goal.returns-then-won-clause-work
 returns-then-won-clause-work g c = asked-work g.A.Automaton c.args.automaton.now c.args.input.now c.args.at c.loop-best.cursor c.or-best.result _ _ (over g c)
+
+pub returns-then-won-clause-looks : goal.returns-then-won-clause-looks
+returns-then-won-clause-looks g c = asked-looks g.A.Automaton c.args.automaton.now c.args.input.now c.args.at c.loop-best.cursor c.or-best.result _ _ (over g c) (over-done g c)
+
+-- what the walk knows where it is back at the start
+asked-there : (g : Over) (c : goal.Then-is_back g) → HasAsked g.A.Automaton c.args.automaton.now c.args.input.now c.args.at c.loop-best.cursor c.or-best.result c.args.steps.now c.loop-best.steps
+asked-there g c =
+    let a = c.args.automaton.now in
+    let asked = c.args.input.now in
+    let met = g.met.A.Automaton in
+    asks g.A.Automaton a asked c.args.at c.loop-best.cursor c.loop-best.best c.match_at.result c.or-best.result _ _ (met.pairs a asked.anchored) (met.tells a asked.anchored) (met.lives a asked.anchored) c.loop-best.invariant c.match_at.ensures c.or-best.ensures
 
 -- the walk is back at the start
 back : (g : Over) (c : goal.Then-is_back g)
@@ -55,10 +67,9 @@ back g c =
     let a = c.args.automaton.now in
     let m = (g.A.Automaton.built a).dictionary in
     let asked = c.args.input.now in
-    let met = g.met.A.Automaton in
     let cursor = c.loop-best.cursor in
     let best = c.or-best.result in
-    let has = asks g.A.Automaton a asked c.args.at cursor c.loop-best.best c.match_at.result best _ _ (met.pairs a asked.anchored) (met.tells a asked.anchored) (met.lives a asked.anchored) c.loop-best.invariant c.match_at.ensures c.or-best.ensures in
+    let has = asked-there g c in
     let none = is_none-found c.is_none.result best c.is_none.ensures c.if-is_none.true in
     let free = c.is_back.ensures.free c.if-is_back.true in
     let listed = none-listed m asked.anchored cursor.at (cursor.at - cursor.from) c.loop-best.best c.match_at.result best (g.A.Automaton.matches a cursor.sid) free c.match_at.ensures c.or-best.ensures none in
@@ -70,6 +81,9 @@ returns-then-is_back-clause-says g c = (back g c).0
 
 pub returns-then-is_back-clause-work : goal.returns-then-is_back-clause-work
 returns-then-is_back-clause-work g c = (back g c).1
+
+pub returns-then-is_back-clause-looks : goal.returns-then-is_back-clause-looks
+returns-then-is_back-clause-looks g c = back-looks g.A.Automaton c.args.automaton.now c.args.input.now c.args.at c.loop-best.cursor c.or-best.result _ _ (asked-there g c)
 
 pub loop-best-preserved : goal.loop-best-preserved
 loop-best-preserved g c =

@@ -1,7 +1,7 @@
 -- Where the best repeats the last pick, the next one begins a byte further on.
 use Rattle.std.proofs.Common.{refl, arith}
 use Rattle.ac_input.specs.Walk.{Further}
-use Rattle.ac_automaton.proofs.IterLemmas.{pick-ended, work-further}
+use Rattle.ac_automaton.proofs.IterLemmas.{pick-ended, repeat-empty, work-further}
 use Rattle.ac_automaton.proofs.iter.next_pick.Goals as goal
 
 pub returns-then-start-end-clause-pick : goal.returns-then-start-end-clause-pick
@@ -13,4 +13,14 @@ returns-clause-pick g c = Further c.best-found.result c.best-found.ensures.found
 pub returns-clause-work : goal.returns-clause-work
 returns-clause-work g c =
     let inside = c.end.ensures.within in
-    work-further _ _ _ c.args.last c.best-found.result _ _ c.best-found.new.steps _ (rw c.end.ensures.value at inside) c.requires.last c.best-found.ensures.found (c.if-not-repeats.ensures.0 refl) c.best-found.ensures.cost (rw (c.set_start.ensures, c.start-2.ensures) at c.best.ensures.cost)
+    work-further _ _ _ c.args.last c.best-found.result _ _ c.best-found.new.steps _ (rw c.end.ensures.value at inside) c.requires.last c.best-found.ensures.found (c.if-not-repeats.ensures.0 refl) c.best-found.ensures.cost.work (rw (c.set_start.ensures, c.start-2.ensures) at c.best.ensures.cost.work)
+
+pub returns-then-start-end-clause-counts : goal.returns-then-start-end-clause-counts
+returns-then-start-end-clause-counts g c = λ some.
+    let inside = c.end.ensures.within in
+    absurd (repeat-empty _ _ c.args.last c.best-found.result (rw c.end.ensures.value at inside) some c.best-found.ensures.found (c.if-not-repeats.ensures.0 refl))
+
+pub returns-clause-counts : goal.returns-clause-counts
+returns-clause-counts g c = λ some.
+    let inside = c.end.ensures.within in
+    absurd (repeat-empty _ _ c.args.last c.best-found.result (rw c.end.ensures.value at inside) some c.best-found.ensures.found (c.if-not-repeats.ensures.0 refl))

@@ -26,4 +26,5 @@ returns g c =
     let cursor : IsCursor R s (record { sid = sid; from = s.start; at = s.start }) = record { behind = omega arith; ordered = omega arith; within = order; inside = inside; reads = first } in
     let can : CanOverlap (g.A.Automaton.built c.args.automaton.now) (g.A.Automaton.supports c.args.automaton.now) asked = search rules in
     let paid : IsPlacePaid m (g.A.Automaton.built c.args.automaton.now).deterministic s (At sid s.start s.start 0) 0 = search rules in
-    rw value (can, rw c.get_anchored.ensures at c.in_ok-start.ensures.1, (cursor, sym (ending_from-start s inside) ∙ ending_from-split m asked.anchored s s.start (g.A.Automaton.matches c.args.automaton.now sid) place tells), paid)
+    let first_place : s.start ≤ s.start = omega arith in
+    rw value (can, rw c.get_anchored.ensures at c.in_ok-start.ensures.1, (cursor, sym (ending_from-start s inside) ∙ ending_from-split m asked.anchored s s.start (g.A.Automaton.matches c.args.automaton.now sid) place tells), paid, first_place)

@@ -1,10 +1,11 @@
 -- The prefilter's candidate for the rest of the span, and its scans.
-use Rattle.std.proofs.Common.{◌≡◌, sym, subst, ◌∙◌, arith}
-use Rattle.ac_input.specs.Candidate.{IsCandidate}
+use Rattle.std.proofs.Common.{◌≡◌, ℕ, Option, sym, subst, ◌∙◌, ap, unwrap_or, arith}
+use Rattle.ac_input.specs.Candidate.{IsCandidate, start_of}
 use Rattle.ac_input.specs.Input.{search_in, search_of}
 use Rattle.ac_input.specs.Occurrence.{Search, starting_at}
 use Rattle.ac_input.specs.declared.search.Anchored.TheVariants.{No}
 use Rattle.ac_automaton.proofs.CandidateLemmas.{ahead-same, candidate-before, candidate-begins, scanned-in_span, scanned-near}
+use Rattle.ac_automaton.proofs.CountedLemmas.{scan-covers}
 use Rattle.ac_automaton.proofs.overlapping.search.candidate.Goals as goal
 
 pub returns-clause-begins : goal.returns-clause-begins
@@ -40,3 +41,17 @@ returns-clause-work c =
           omega arith;
       moved = omega arith;
     }
+
+pub returns-clause-counts : goal.returns-clause-counts
+returns-clause-counts c =
+    rw c.in-Some.is (λ some.
+    let n = c.in-Some.prefilter.now in
+    let found = c.find_in_counted-candidate.result in
+    let s = search_of n.dictionary No c.haystack.result.now (record { start = c.args.at; end = c.end.result }) in
+    let counted = c.find_in_counted-candidate.ensures.counted in
+    let scanned = counted.1.scanned in
+    let value = c.end.ensures.value in
+    let end : ℕ = c.args.input.now.span.end in
+    let covers = scan-covers n.needles s counted.0 found some counted.2 in
+    let same : unwrap_or c.into_option.result end ≡ unwrap_or (start_of found) c.end.result = ap (λ (r : Option ℕ). unwrap_or r end) c.into_option.ensures ∙ ap (unwrap_or (start_of found)) (sym value) in
+    omega arith)

@@ -20,6 +20,9 @@ returns-then-cursor-end-clause-reads g c = (over g c).reads
 pub returns-then-cursor-end-clause-pays : goal.returns-then-cursor-end-clause-pays
 returns-then-cursor-end-clause-pays g c = (over g c).pays
 
+pub returns-then-cursor-end-clause-looks : goal.returns-then-cursor-end-clause-looks
+returns-then-cursor-end-clause-looks g c = (over g c).looks
+
 -- it ended at a state
 ended : (g : Over) (c : goal.In-Some g) → HasEnded g.A.Automaton c.args.automaton.now c.args.input.now c.args.cursor c.in-Some.end c.args.steps.now c.read_on-cursor.new.steps
 ended g c =
@@ -39,6 +42,9 @@ returns-in-Some-clause-pays g c = (ended g c).pays
 
 pub returns-in-Some-clause-only : goal.returns-in-Some-clause-only
 returns-in-Some-clause-only g c = (ended g c).only
+
+pub returns-in-Some-clause-looks : goal.returns-in-Some-clause-looks
+returns-in-Some-clause-looks g c = (ended g c).looks
 
 pub loop-cursor-preserved : goal.loop-cursor-preserved
 loop-cursor-preserved g c =

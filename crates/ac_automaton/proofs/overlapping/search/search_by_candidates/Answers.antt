@@ -1,25 +1,31 @@
 -- What is shown after several candidates is the first of what was left.
-use Rattle.std.proofs.Common.{ℕ, sym, arith}
+use Rattle.std.proofs.Common.{ℕ, ◌-◌, sym, arith}
 use Rattle.ac_input.specs.Computed.{listing_of}
 use Rattle.ac_input.specs.Input.{search_in}
 use Rattle.ac_input.specs.Occurrence.{starting_at}
 use Rattle.ac_automaton.specs.declared.cursor.End.TheVariants.{Found}
+use Rattle.ac_automaton.specs.Automaton.{prefilter_for}
+use Rattle.ac_automaton.proofs.CountedLemmas.{counted-join, counted-none}
 use Rattle.ac_automaton.proofs.CandidateLemmas.{searched_on-first, searched_on-further, searched_on-shows, reads_on-earlier}
 use Rattle.ac_automaton.proofs.overlapping.search.search_by_candidates.Goals as goal
 
 pub loop-shown-init : goal.loop-shown-init
 loop-shown-init g c =
-    searched_on-first _ (search_in (g.A.Automaton.built c.args.automaton.now).dictionary c.args.input.now) c.args.at c.args.steps.now c.requires.to
+    let b = g.A.Automaton.built c.args.automaton.now in (
+      searched_on-first _ (search_in b.dictionary c.args.input.now) c.args.at c.args.steps.now c.requires.to,
+      counted-none (prefilter_for b c.args.input.now.anchored) (c.args.at - c.args.at) c.args.steps.now (omega arith),
+    )
 
 pub search_from_candidate-requires : goal.search_from_candidate-requires
 search_from_candidate-requires g c = record {
   standard = c.requires.standard;
   made = c.requires.made;
+  own = c.requires.own;
   free = c.requires.free;
   starts = c.requires.starts;
   empty = c.requires.empty;
-  from = omega (arith, c.requires.from, c.loop-shown.invariant.behind);
-  to = c.loop-shown.invariant.within;
+  from = omega (arith, c.requires.from, c.loop-shown.invariant.0.behind);
+  to = c.loop-shown.invariant.0.within;
   inside = c.requires.inside;
 }
 
@@ -31,7 +37,7 @@ returns-in-Found-clause-reads g c =
     let R = g.A.Automaton.Reaches c.args.automaton.now asked.anchored in
     let E = g.A.Automaton.matches c.args.automaton.now in
     let d = (g.A.Automaton.built c.args.automaton.now).deterministic in
-    let searched_on = c.loop-shown.invariant in
+    let searched_on = c.loop-shown.invariant.0 in
     let place : ℕ = c.loop-shown.place in
     reads_on-earlier R E m s c.args.at place (listing_of (starting_at s c.args.at)) (listing_of (starting_at s place)) (Found c.in-Found.shown) searched_on.behind (sym searched_on.same) c.in-Found.ensures.reads
 
@@ -43,9 +49,12 @@ returns-in-Found-clause-cost g c =
     let R = g.A.Automaton.Reaches c.args.automaton.now asked.anchored in
     let E = g.A.Automaton.matches c.args.automaton.now in
     let d = (g.A.Automaton.built c.args.automaton.now).deterministic in
-    let searched_on = c.loop-shown.invariant in
+    let searched_on = c.loop-shown.invariant.0 in
     let place : ℕ = c.loop-shown.place in
     searched_on-shows R E m d s c.args.at place c.in-Found.shown c.args.steps.now c.loop-shown.steps c.search_from_candidate.new.steps searched_on c.in-Found.ensures.reads c.in-Found.ensures.cost
+
+pub returns-in-Found-clause-counts : goal.returns-in-Found-clause-counts
+returns-in-Found-clause-counts g c = counted-join _ _ _ _ _ _ _ (omega arith) c.loop-shown.invariant.1 c.in-Found.ensures.counts
 
 pub loop-shown-smaller : goal.loop-shown-smaller
 loop-shown-smaller g c =
@@ -59,6 +68,8 @@ loop-shown-preserved g c =
     let R = g.A.Automaton.Reaches c.args.automaton.now asked.anchored in
     let E = g.A.Automaton.matches c.args.automaton.now in
     let d = (g.A.Automaton.built c.args.automaton.now).deterministic in
-    let searched_on = c.loop-shown.invariant in
-    let place : ℕ = c.loop-shown.place in
-    searched_on-further R E m d s c.args.at place c.in-Idle.to c.args.steps.now c.loop-shown.steps c.search_from_candidate.new.steps searched_on c.in-Idle.ensures.reads c.in-Idle.ensures.cost
+    let searched_on = c.loop-shown.invariant.0 in
+    let place : ℕ = c.loop-shown.place in (
+      searched_on-further R E m d s c.args.at place c.in-Idle.to c.args.steps.now c.loop-shown.steps c.search_from_candidate.new.steps searched_on c.in-Idle.ensures.reads c.in-Idle.ensures.cost,
+      counted-join (prefilter_for (g.A.Automaton.built c.args.automaton.now) asked.anchored) (place - c.args.at) (c.in-Idle.to - place) (c.in-Idle.to - c.args.at) _ _ _ (omega arith) c.loop-shown.invariant.1 c.in-Idle.ensures.counts,
+    )

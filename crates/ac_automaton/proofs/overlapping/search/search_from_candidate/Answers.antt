@@ -6,6 +6,7 @@ use Rattle.ac_input.specs.Occurrence.{starting_at}
 use Rattle.ac_automaton.specs.Overlapping.{ending_from}
 use Rattle.ac_automaton.proofs.OverlappingStateLemmas.{read_to-start}
 use Rattle.ac_automaton.proofs.CandidateLemmas.{listing-none, listing-begins, over-reads, reads_on-earlier, candidate-read}
+use Rattle.ac_automaton.proofs.CountedLemmas.{skip-over, skip-read}
 use Rattle.ac_automaton.proofs.overlapping.search.search_from_candidate.Goals as goal
 
 pub returns-in_default-clause-reads : goal.returns-in_default-clause-reads
@@ -57,3 +58,15 @@ returns-clause-cost g c =
     let from = c.in-Some.from in
     let before = c.in-Some.ensures.begins b.dictionary c.requires.made in
     candidate-read (g.A.Automaton.Reaches a asked.anchored) (g.A.Automaton.matches a) b.dictionary b.deterministic s c.args.at from (ending_from (starting_at s from) (from + 1)) c.read_to_start.result _ _ _ c.requires.from c.requires.inside before c.in-Some.ensures.work c.read_to_start.ensures.reads c.read_to_start.ensures.pays c.read_to_start.ensures.only
+
+pub returns-in_default-clause-counts : goal.returns-in_default-clause-counts
+returns-in_default-clause-counts g c =
+    let b = g.A.Automaton.built c.args.automaton.now in
+    let from = c.requires.from in
+    let to = c.requires.to in
+    skip-over b c.args.input.now c.args.at c.args.prefilter c.over.result _ _ c.requires.free (omega arith) c.requires.own c.in_default.ensures.counts c.in_default.ensures.work.looked c.over.ensures.place
+
+pub returns-clause-counts : goal.returns-clause-counts
+returns-clause-counts g c =
+    let b = g.A.Automaton.built c.args.automaton.now in
+    skip-read b c.args.input.now c.args.at c.in-Some.from c.args.prefilter c.read_to_start.result _ _ _ c.requires.free c.requires.own c.in-Some.ensures.counts c.in-Some.ensures.work.looked c.read_to_start.ensures.only.scanned c.read_to_start.ensures.looks

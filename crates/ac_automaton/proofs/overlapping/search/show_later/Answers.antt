@@ -1,9 +1,11 @@
 -- What ends later is found by the walk, or by candidates.
-use Rattle.std.proofs.Common.{ℕ, ◌+◌, [], List, ap, subst, sym, ◌∙◌, arith}
+use Rattle.std.proofs.Common.{ℕ, ◌+◌, ◌-◌, [], List, ap, subst, sym, ◌∙◌, arith}
 use Rattle.ac_input.specs.Input.{search_in}
 use Rattle.ac_input.specs.Occurrence.{Occurrence, starting_at}
+use Rattle.ac_automaton.specs.Automaton.{prefilter_for}
 use Rattle.ac_automaton.specs.Find.{MayGoOnFrom}
 use Rattle.ac_automaton.specs.Overlapping.{ending_from, ShowsFirst}
+use Rattle.ac_automaton.proofs.CountedLemmas.{counted-join, walk-counts}
 use Rattle.ac_automaton.proofs.CandidateLemmas.{listing-begins, pays-walk, pays-candidates, pays-both, usable-some}
 use Rattle.ac_automaton.proofs.overlapping.search.show_later.Goals as goal
 
@@ -39,3 +41,13 @@ returns-in-Idle-clause-pays g c =
     let back = c.in-Idle.ensures in
     let later = c.search_by_candidates-in-Idle in
     pays-both _ _ _ _ _ _ c.in-Idle.at later.result _ _ _ (omega (arith, stands.behind, stands.ordered)) back.reads.0 back.reads.1 later.ensures.reads.1 back.pays back.only later.ensures.cost
+
+pub returns-in-Found-clause-counts : goal.returns-in-Found-clause-counts
+returns-in-Found-clause-counts g c = walk-counts _ _ _ _ c.in-Found.ensures.only.scanned c.in-Found.ensures.looks
+
+pub returns-in-Idle-clause-counts : goal.returns-in-Idle-clause-counts
+returns-in-Idle-clause-counts g c =
+    let filter = prefilter_for (g.A.Automaton.built c.args.automaton.now) c.args.input.now.anchored in
+    let back = c.in-Idle.ensures in
+    let walked = walk-counts filter (c.in-Idle.at - c.args.cursor.at) c.args.steps.now c.read_to_start.new.steps back.only.scanned back.looks in
+    counted-join filter _ _ _ _ _ _ (omega arith) walked c.search_by_candidates-in-Idle.ensures.counts

@@ -4,7 +4,7 @@ use Rattle.ac_input.specs.Number.{StateID}
 use Rattle.ac_input.specs.Computed.{listing_of}
 use Rattle.ac_input.specs.Input.{search_in}
 use Rattle.ac_automaton.specs.Overlapping.{StandsAt}
-use Rattle.ac_automaton.proofs.OverlappingStateLemmas.{stands-after, stands-work, yields-next}
+use Rattle.ac_automaton.proofs.OverlappingStateLemmas.{counted-after, shown-counted, stands-after, stands-work, yields-next}
 use Rattle.ac_automaton.proofs.overlapping.iter.FindOverlappingIter.next_counted.Goals as goal
 
 pub invariant_of-self : goal.invariant_of-self
@@ -18,7 +18,7 @@ invariant_of-self g c =
     let stands = c.self.invariant.2 in
     let shows = c.search_overlapping-shown.ensures.shows (drop i.shown.value (listing_of s)) stands.left in
     let after = stands-after R E m d s i.place i.shown.value c.search_overlapping-shown.result i.sums c.new-done.result c.search_overlapping-shown.new.steps c.add.new.self stands shows c.search_overlapping-shown.ensures.pays c.new-done.ensures c.add.ensures in
-    (c.self.invariant.0, c.self.invariant.1, subst (λ (k : ℕ). StandsAt R E m d s c.search_overlapping-shown.result.place k c.add.new.self) (sym c.with_found-self-inside.ensures) after)
+    (c.self.invariant.0, c.self.invariant.1, subst (λ (k : ℕ). StandsAt R E m d s c.search_overlapping-shown.result.place k c.add.new.self) (sym c.with_found-self-inside.ensures) after, counted-after (g.A.Automaton.built i.automaton.now) i.input i.place c.search_overlapping-shown.result i.sums c.new-done.result c.search_overlapping-shown.new.steps c.add.new.self c.self.invariant.3 c.search_overlapping-shown.ensures.counts c.new-done.ensures c.add.ensures)
 
 pub returns-clause-gives : goal.returns-clause-gives
 returns-clause-gives g c =
@@ -47,3 +47,10 @@ returns-clause-work g c =
     let lives = λ (text : List ℕ) (sid : StateID) (reads : R text sid). g.met.A.Automaton.lives i.automaton.now i.input.anchored text sid reads in
     let work = stands-work R E m d s c.search_overlapping-shown.result.place (if is_some c.search_overlapping-shown.result.found then i.shown.value + 1 else i.shown.value) c.add.new.self lives after in
     record { looked = work.looked; scanned = work.scanned; moved = work.moved }
+
+pub returns-clause-counted : goal.returns-clause-counted
+returns-clause-counted g c =
+    let i = c.self.inside in
+    let b = g.A.Automaton.built i.automaton.now in
+    let shows = c.search_overlapping-shown.ensures.shows (drop i.shown.value (listing_of (search_in b.dictionary i.input))) c.self.invariant.2.left in
+    shown-counted b i.input c.search_overlapping-shown.result c.add.new.self (counted-after b i.input i.place c.search_overlapping-shown.result i.sums c.new-done.result c.search_overlapping-shown.new.steps c.add.new.self c.self.invariant.3 c.search_overlapping-shown.ensures.counts c.new-done.ensures c.add.ensures) shows.2

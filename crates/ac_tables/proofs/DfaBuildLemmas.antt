@@ -3,7 +3,7 @@ use Rattle.std.proofs.Common.{◌≡◌, ℕ, ◌+◌, ◌-◌, ◌*◌, ◌^◌
 use Rattle.std.specs.Prelude.{◌/◌}
 use Rattle.std.specs.Coded.{le_prop}
 use Rattle.std.proofs.Math.Logic.{∥∥₁_elim, ∥∥₁_map, ∥∥₁_prop}
-use Rattle.ac_input.specs.declared.primitives.number.TheConstants.{GREATEST}
+use Rattle.ac_input.specs.Number.{greatest_number}
 use Rattle.ac_input.specs.declared.search.Anchored.{Anchored}
 use Rattle.ac_input.specs.declared.search.StartKind.{StartKind}
 use Rattle.ac_input.specs.declared.search.StartKind.TheVariants as starts
@@ -62,7 +62,7 @@ size-refused nfa kind classed classes stride (PatternTooLong pattern len) r chos
 size-refused nfa kind classed classes stride Memory r chosen least over = absurd over
 
 -- and where it has one it isn't
-pub size-within : (nfa : NFA) (kind : StartKind) (classed : Bool) (classes : List ℕ) (stride : ℕ) → IsReadable nfa → AreClassesFor nfa classed classes → IsLeastPowerOfTwo (alphabet_len classes) stride → (dfa_states kind (state_len nfa) - 1) * stride ≤ GREATEST → ¬ IsDfaTooLarge (dictionary nfa) kind classed
+pub size-within : (nfa : NFA) (kind : StartKind) (classed : Bool) (classes : List ℕ) (stride : ℕ) → IsReadable nfa → AreClassesFor nfa classed classes → IsLeastPowerOfTwo (alphabet_len classes) stride → (dfa_states kind (state_len nfa) - 1) * stride ≤ greatest_number → ¬ IsDfaTooLarge (dictionary nfa) kind classed
 size-within nfa kind classed classes stride r chosen least fits large =
     ∥∥₁_elim (size-some nfa kind classed classes stride r chosen least) (λ x y. absurd x) (λ mine.
     let same : large.0 ≡ (dfa_states kind (state_len nfa) - 1) * stride = dfa-one (dictionary nfa) kind classed large.0 ((dfa_states kind (state_len nfa) - 1) * stride) large.1 mine in
@@ -99,7 +99,7 @@ chosen-within false nfa classes chosen byte small =
     omega (arith, b, l, small)
 
 -- so rows may be filled by them
-pub chosen-fit : (classed : Bool) (nfa : NFA) (kind : StartKind) (classes : List ℕ) (stride : ℕ) → IsReadable nfa → AreClassesFor nfa classed classes → IsLeastPowerOfTwo (alphabet_len classes) stride → stride ≤ 256 → (dfa_states kind (state_len nfa) - 1) * stride ≤ GREATEST → IsFit (record { nfa = nfa; kind = kind; classes = classes; stride = stride })
+pub chosen-fit : (classed : Bool) (nfa : NFA) (kind : StartKind) (classes : List ℕ) (stride : ℕ) → IsReadable nfa → AreClassesFor nfa classed classes → IsLeastPowerOfTwo (alphabet_len classes) stride → stride ≤ 256 → (dfa_states kind (state_len nfa) - 1) * stride ≤ greatest_number → IsFit (record { nfa = nfa; kind = kind; classes = classes; stride = stride })
 chosen-fit classed nfa kind classes stride r chosen least wide fits =
     let enough = least.1.enough in
     let is = least.2 in
@@ -148,8 +148,8 @@ pub made-states : (nfa : NFA) (table : Table) → IsDfaTableOf nfa table → len
 made-states nfa table h = ap (λ (n : ℕ). n / stride_of table) h.rows.len ∙ number-row (dfa_states table.kind (state_len nfa)) (stride_of table) (stride-some nfa table h)
 
 -- the number of each state fits
-pub number-kept : (p : RowPlan) (anchored : Anchored) (start sid : ℕ) → IsFit p → start ≡ nfa_start_of p.nfa → sid < state_len p.nfa → dfa_number_of p.kind start p.stride (is_anchored anchored) sid ≤ GREATEST
-number-kept p anchored start sid fit is within = subst (λ (n : ℕ). dfa_number_of p.kind n p.stride (is_anchored anchored) sid ≤ GREATEST) (sym is) (number-small p anchored sid fit within)
+pub number-kept : (p : RowPlan) (anchored : Anchored) (start sid : ℕ) → IsFit p → start ≡ nfa_start_of p.nfa → sid < state_len p.nfa → dfa_number_of p.kind start p.stride (is_anchored anchored) sid ≤ greatest_number
+number-kept p anchored start sid fit is within = subst (λ (n : ℕ). dfa_number_of p.kind n p.stride (is_anchored anchored) sid ≤ greatest_number) (sym is) (number-small p anchored sid fit within)
 
 -- ---- the automaton
 
@@ -163,7 +163,7 @@ dfa-of s nfa table dfa h made =
       classes = subst (λ (t : Table). AreClassesFor nfa s.byte_classes t.classes) back h.classes;
       states = subst (λ (t : Table). length t.trans.items / stride_of t ≡ dfa_states s.start_kind (state_len nfa)) back (subst (λ (k : StartKind). length table.trans.items / stride_of table ≡ dfa_states k (state_len nfa)) h.kind (made-states nfa table h.made));
       laid = subst (λ (t : Table). AreTransitionsOf nfa s.start_kind t.classes (stride_of t) t.trans.items) back (subst (λ (k : StartKind). AreTransitionsOf nfa k table.classes (stride_of table) table.trans.items) h.kind (made-laid nfa table h.made));
-      within = size-within nfa s.start_kind s.byte_classes table.classes (stride_of table) h.made.readable h.classes (table.stride2, h.made.least, refl) (subst (λ (k : StartKind). (dfa_states k (state_len nfa) - 1) * stride_of table ≤ GREATEST) h.kind h.made.fit.few);
+      within = size-within nfa s.start_kind s.byte_classes table.classes (stride_of table) h.made.readable h.classes (table.stride2, h.made.least, refl) (subst (λ (k : StartKind). (dfa_states k (state_len nfa) - 1) * stride_of table ≤ greatest_number) h.kind h.made.fit.few);
     }
 
 -- and why there is none
@@ -175,7 +175,7 @@ refused-of s nfa Memory h = h
 
 -- of patterns there is none for the same reasons
 pub refused-from : (s : DfaSettings) (m : Dictionary) (nfa : NFA) (error : BuildErrorKind) (other : BuildErrorKind → Type 0) → dictionary nfa ≡ m → IsDfaRefused s nfa error → IsTooLargeOr s m other error
-refused-from s m nfa (StateIDOverflow max requested) other is h = ⊎_elim (λ (large : (max ≡ GREATEST) × (max < requested) × ∥ IsDfaTooLarge (dictionary nfa) s.start_kind s.byte_classes ∥₁). inl (large.0, large.1, subst (λ (d : Dictionary). ∥ IsDfaTooLarge d s.start_kind s.byte_classes ∥₁) is large.2)) (λ (never : ⊥). absurd never) h
+refused-from s m nfa (StateIDOverflow max requested) other is h = ⊎_elim (λ (large : (max ≡ greatest_number) × (max < requested) × ∥ IsDfaTooLarge (dictionary nfa) s.start_kind s.byte_classes ∥₁). inl (large.0, large.1, subst (λ (d : Dictionary). ∥ IsDfaTooLarge d s.start_kind s.byte_classes ∥₁) is large.2)) (λ (never : ⊥). absurd never) h
 refused-from s m nfa (PatternIDOverflow max requested) other is h = absurd h
 refused-from s m nfa (PatternTooLong pattern len) other is h = absurd h
 refused-from s m nfa Memory other is h = h

@@ -6,7 +6,7 @@ use Rattle.std.proofs.Math.Logic.{∥∥₁_elim}
 use Rattle.std.proofs.lemmas.Bool.{cases_lt, cases_eq}
 use Rattle.std.proofs.lemmas.Nat.{mul-le, mul-add-lt}
 use Rattle.std.specs.List.{CopiedTo, SameBelow, SameFrom}
-use Rattle.ac_input.specs.declared.primitives.number.TheConstants.{GREATEST}
+use Rattle.ac_input.specs.Number.{greatest_number}
 use Rattle.ac_input.specs.declared.search.Anchored.{Anchored}
 use Rattle.ac_input.specs.declared.search.Anchored.TheVariants.{No, Yes}
 use Rattle.ac_input.specs.Dfa.{Serves, dfa_states}
@@ -27,10 +27,10 @@ row-space p anchored sid len fit within is =
     row-room (dfa_states p.kind (state_len p.nfa)) (dfa_row_of p.kind (special_in p.nfa).start_unanchored_id (is_anchored anchored) sid) p.stride len (row-below p.kind (special_in p.nfa).start_unanchored_id (state_len p.nfa) (is_anchored anchored) sid s.0 s.1 within) is
 
 -- and its number fits
-pub number-small : (p : RowPlan) (anchored : Anchored) (sid : ℕ) → IsFit p → sid < state_len p.nfa → number_in p anchored sid ≤ GREATEST
+pub number-small : (p : RowPlan) (anchored : Anchored) (sid : ℕ) → IsFit p → sid < state_len p.nfa → number_in p anchored sid ≤ greatest_number
 number-small p anchored sid fit within =
     let s = fit.source.starts in
-    number-fits (dfa_states p.kind (state_len p.nfa)) (dfa_row_of p.kind (special_in p.nfa).start_unanchored_id (is_anchored anchored) sid) p.stride GREATEST (row-below p.kind (special_in p.nfa).start_unanchored_id (state_len p.nfa) (is_anchored anchored) sid s.0 s.1 within) fit.few
+    number-fits (dfa_states p.kind (state_len p.nfa)) (dfa_row_of p.kind (special_in p.nfa).start_unanchored_id (is_anchored anchored) sid) p.stride greatest_number (row-below p.kind (special_in p.nfa).start_unanchored_id (state_len p.nfa) (is_anchored anchored) sid s.0 s.1 within) fit.few
 
 -- a place in another row is before a row or after it
 place-outside : (row other stride x : ℕ) → row ≢ other → x < stride → (other * stride + x < row * stride) ⊎ (row * stride + stride ≤ other * stride + x)

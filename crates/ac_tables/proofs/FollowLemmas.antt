@@ -3,7 +3,7 @@ use Rattle.std.proofs.Common.{◌≡◌, ◌≢◌, ℕ, ◌<◌, ◌≤◌, Boo
 use Rattle.std.specs.Coded.{le_prop}
 use Rattle.std.proofs.Math.Logic.{∥∥₁_elim, ∥∥₁_map}
 use Rattle.std.proofs.lemmas.Bool.{cases_eq}
-use Rattle.ac_input.specs.declared.primitives.number.TheConstants.{GREATEST}
+use Rattle.ac_input.specs.Number.{greatest_number}
 use Rattle.ac_input.specs.declared.steps.Steps.{Steps}
 use Rattle.ac_input.specs.Alphabet.{class}
 use Rattle.ac_input.specs.Dictionary.{Dictionary, BeginsEntered}
@@ -21,7 +21,7 @@ use Rattle.ac_tables.specs.Words.{StateParts, next_by}
 -- ---- a state that is met
 
 -- each byte leads to a number that fits
-edge-small : (m : Dictionary) (names : Naming) (start sid byte next : ℕ) → ((anchored : Bool) (i : ℕ) → IsTrue (names.met anchored i) → i ≤ GREATEST) → AreNumbers m names start → IsEdgeBy m names start sid byte next → next ≤ GREATEST
+edge-small : (m : Dictionary) (names : Naming) (start sid byte next : ℕ) → ((anchored : Bool) (i : ℕ) → IsTrue (names.met anchored i) → i ≤ greatest_number) → AreNumbers m names start → IsEdgeBy m names start sid byte next → next ≤ greatest_number
 edge-small m names start sid byte next small numbers edge =
     ⊎_elim
     (λ (none : names.text sid ≡ None). small true next (edge.dead none).0)
@@ -71,7 +71,7 @@ pub met-fail : (nfa : NFA) (sid fail : ℕ) → IsMet nfa false sid → IsFailOf
 met-fail nfa sid fail h fails = ∥∥₁_map h (λ w. (w.0, w.1, (laid-failure nfa sid fail fails w.0 w.1 w.2).met))
 
 -- and its number fits
-pub fail-small : (nfa : NFA) (sid fail : ℕ) → IsMet nfa false sid → IsFailOf nfa.table sid fail → fail ≤ GREATEST
+pub fail-small : (nfa : NFA) (sid fail : ℕ) → IsMet nfa false sid → IsFailOf nfa.table sid fail → fail ≤ greatest_number
 fail-small nfa sid fail h fails = ∥∥₁_elim h le_prop (λ w. w.1.1.small false fail (laid-failure nfa sid fail fails w.0 w.1 w.2).met)
 
 -- ---- one look-up

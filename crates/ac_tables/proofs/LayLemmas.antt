@@ -3,7 +3,7 @@ use Rattle.std.proofs.Common.{◌≡◌, ◌≢◌, ◌⊎◌, ℕ, zero, suc, �
 use Rattle.std.proofs.lemmas.Bool.{cases_Bool, cases_eq}
 use Rattle.std.proofs.lemmas.Bool.Decides.{nat_tests}
 use Rattle.std.proofs.lemmas.Option.{same_Some}
-use Rattle.ac_input.specs.declared.primitives.number.TheConstants.{GREATEST}
+use Rattle.ac_input.specs.Number.{greatest_number}
 use Rattle.ac_input.specs.Alphabet.{class}
 use Rattle.ac_input.specs.Dictionary.{BeginsEntered}
 use Rattle.ac_input.specs.LiveLaws.{IsOwnInverse, canonical}
@@ -32,7 +32,7 @@ pub record Laid (nfa : NFA) (text : ℕ → List ℕ) (dense_depth : ℕ) (class
   pub bounds : SpecialIn nfa (special_in nfa)
   pub inverse : IsOwnInverse (dictionary nfa).pairing
   pub serving : AreServing (dictionary nfa) classes
-  pub fits : (sid : ℕ) → sid < state_len nfa → place_in nfa dense_depth classes sid ≤ GREATEST
+  pub fits : (sid : ℕ) → sid < state_len nfa → place_in nfa dense_depth classes sid ≤ greatest_number
 
 -- the unanchored start
 abbrev pub start_in : NFA → ℕ

@@ -6,7 +6,7 @@ use Rattle.std.proofs.lemmas.Bool.Decides.{nat_tests}
 use Rattle.std.proofs.lemmas.List.{length-map, get_or_append_left, get_or_push}
 use Rattle.std.proofs.lemmas.List.FromFn.{length-map-range_with_len}
 use Rattle.std.proofs.Math.Nat.{add-div_left}
-use Rattle.ac_input.specs.declared.primitives.number.TheConstants.{GREATEST}
+use Rattle.ac_input.specs.Number.{greatest_number}
 use Rattle.ac_noncontiguous.specs.declared.nfa.NFA.{NFA}
 use Rattle.ac_noncontiguous.specs.ReadCalls.{state_len}
 use Rattle.ac_tables.specs.ContiguousTable.{len_at, len_before, place_in, ArePlacesTooGreat}
@@ -97,7 +97,7 @@ pub places-none : (nfa : NFA) (dense_depth : ℕ) (classes places : List ℕ) �
 places-none nfa dense_depth classes places none = record { counted = ap length none; at = λ sid lt. absurd (omega (arith, lt)); fits = λ sid lt. absurd (omega (arith, lt)) }
 
 -- one more state has one
-pub places-more : (nfa : NFA) (dense_depth : ℕ) (classes places : List ℕ) (n place before : ℕ) → place ≤ GREATEST → place ≡ (if n == 1 then 1 else before) → before ≡ len_before nfa dense_depth classes n → ArePlacesOf nfa dense_depth classes n places → ArePlacesOf nfa dense_depth classes (n + 1) (places ++ place ∷ [])
+pub places-more : (nfa : NFA) (dense_depth : ℕ) (classes places : List ℕ) (n place before : ℕ) → place ≤ greatest_number → place ≡ (if n == 1 then 1 else before) → before ≡ len_before nfa dense_depth classes n → ArePlacesOf nfa dense_depth classes n places → ArePlacesOf nfa dense_depth classes (n + 1) (places ++ place ∷ [])
 places-more nfa dense_depth classes places n place before fits is sum h =
     let here : place ≡ place_in nfa dense_depth classes n = is ∙ ap (λ (b : ℕ). if n == 1 then 1 else b) sum in
     let counted = h.counted in
@@ -123,7 +123,7 @@ before-more nfa dense_depth classes n before len is more =
     sum ∙ ap (len_before nfa dense_depth classes) next
 
 -- the place of a state is too great
-pub place-too_great : (nfa : NFA) (dense_depth : ℕ) (classes : List ℕ) (n before : ℕ) → n < state_len nfa → n ≢ 1 → GREATEST < before → before ≡ len_before nfa dense_depth classes n → ArePlacesTooGreat nfa dense_depth classes
+pub place-too_great : (nfa : NFA) (dense_depth : ℕ) (classes : List ℕ) (n before : ℕ) → n < state_len nfa → n ≢ 1 → greatest_number < before → before ≡ len_before nfa dense_depth classes n → ArePlacesTooGreat nfa dense_depth classes
 place-too_great nfa dense_depth classes n before within stands past is =
     let here : place_in nfa dense_depth classes n ≡ len_before nfa dense_depth classes n = cond-false (n == 1) 1 (len_before nfa dense_depth classes n) (not-equal n 1 stands) in
     (n, within, omega (arith, here, is, past))

@@ -5,7 +5,7 @@ use Rattle.std.proofs.lemmas.Bool.{ne_eqb, le-leb, lt-leb, cond-true, cond-false
 use Rattle.std.proofs.lemmas.List.{length-map, get_or-take, get_or-drop, length-drop, length-take-le}
 use Rattle.std.proofs.lemmas.Option.{slice_get_read}
 use Rattle.std.proofs.lemmas.List.FromFn.{length-map-range_with_len}
-use Rattle.ac_input.specs.declared.primitives.number.TheConstants.{GREATEST}
+use Rattle.ac_input.specs.Number.{greatest_number}
 use Rattle.ac_tables.specs.Words.{StateParts, Form, Dense, One, Sparse, form_of, next_by, packed, classes_of, nexts_of, kind_word, transition_words, one_pattern, match_words, words_of, AreWordsAt}
 use Rattle.ac_tables.specs.WordReads.{transitions_len, list_from}
 use Rattle.ac_tables.proofs.DecodeLemmas.{IsForm, IsOne, IsSparse, form-is, kind-one, kind-sparse, stands-item, stands-right, state-kind, state-matches}
@@ -52,13 +52,13 @@ many-from words at n o ns few h =
     ∙ (ap (λ (k : ℕ). take k (drop (at + 1) words)) is ∙ rest.1)
 
 -- the words of some patterns are read as those patterns
-pub list-read : (words : List ℕ) (at : ℕ) (ns : List ℕ) → ns ≢ [] → length ns ≤ GREATEST + 1 → AreWordsAt words at (match_words ns) → list_from words at ≡ ns
+pub list-read : (words : List ℕ) (at : ℕ) (ns : List ℕ) → ns ≢ [] → length ns ≤ greatest_number + 1 → AreWordsAt words at (match_words ns) → list_from words at ≡ ns
 list-read words at [] some few h = absurd (some refl)
 list-read words at (n ∷ []) some few h = one-from words at n h
 list-read words at (n ∷ o ∷ ns) some few h = many-from words at n o ns (omega (arith, few)) h
 
 -- the patterns of a state that matches are read from its words
-pub matches-read : (words : List ℕ) (at alphabet : ℕ) (s : StateParts) → AreWordsAt words at (words_of alphabet s) → s.matches ≢ [] → length s.matches ≤ GREATEST + 1 → list_from words (at + 2 + transitions_len alphabet (slice_index words at % 256)) ≡ s.matches
+pub matches-read : (words : List ℕ) (at alphabet : ℕ) (s : StateParts) → AreWordsAt words at (words_of alphabet s) → s.matches ≢ [] → length s.matches ≤ greatest_number + 1 → list_from words (at + 2 + transitions_len alphabet (slice_index words at % 256)) ≡ s.matches
 matches-read words at alphabet s h some few =
     let kind = (state-kind words at alphabet s h).1 in
     let long : length (transition_words (form_of s) alphabet s.edges) ≡ transitions_len alphabet (slice_index words at % 256) = transitions-long alphabet s ∙ ap (λ (w : ℕ). transitions_len alphabet (w % 256)) (sym kind) in

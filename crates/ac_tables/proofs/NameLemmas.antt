@@ -4,7 +4,7 @@ use Rattle.std.specs.Prelude.{◌==◌, ◌&&◌, nat_le, not, slice_index, if�
 use Rattle.std.specs.Coded.{le_prop}
 use Rattle.std.proofs.Math.Logic.{∥∥₁_elim, ∥∥₁_map, ∥∥₁_prop}
 use Rattle.std.proofs.lemmas.Bool.{cases_lt, cases_eq, cond-true, cond-false, and_from, and_left, and_right, eq-eqb, ne_eqb, le-leb, lt-leb}
-use Rattle.ac_input.specs.declared.primitives.number.TheConstants.{GREATEST}
+use Rattle.ac_input.specs.Number.{greatest_number}
 use Rattle.ac_input.specs.declared.search.Anchored.{Anchored}
 use Rattle.ac_input.specs.Candidate.{Filter}
 use Rattle.ac_input.specs.Dictionary.{Dictionary}
@@ -229,7 +229,7 @@ start-read nfa anchored sid is =
 -- ---- the numbers of patterns
 
 -- each pattern of a state has a number that fits
-pub state-small : (nfa : NFA) (sid k n : ℕ) → IsState (IsContiguousRead nfa) sid → slice_get (contiguous_matches_at nfa sid) k ≡ Some n → n ≤ GREATEST
+pub state-small : (nfa : NFA) (sid k n : ℕ) → IsState (IsContiguousRead nfa) sid → slice_get (contiguous_matches_at nfa sid) k ≡ Some n → n ≤ greatest_number
 state-small nfa sid k n h is =
     let known = read-known (contiguous_built_as nfa) (IsLaidOut nfa) (contiguous_matches_at nfa) (is_contiguous_start_at nfa) (is_contiguous_special_at nfa) sid k n (names-are nfa) h is in
     ∥∥₁_elim nfa.within le_prop (λ w. let few = w.patterns in omega (arith, few, known))

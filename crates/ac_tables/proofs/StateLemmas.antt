@@ -7,7 +7,7 @@ use Rattle.std.proofs.lemmas.Bool.{cases_lt}
 use Rattle.std.proofs.lemmas.List.{get_or-map, length-map, get_or_append_left, get_or_read}
 use Rattle.std.proofs.lemmas.Nat.{and_mask}
 use Rattle.std.proofs.lemmas.Option.{slice_get-get_or}
-use Rattle.ac_input.specs.declared.primitives.number.TheConstants.{GREATEST}
+use Rattle.ac_input.specs.Number.{greatest_number}
 use Rattle.ac_input.specs.Alphabet.{alphabet_len}
 use Rattle.ac_tables.specs.declared.contiguous.table.Table.{Table}
 use Rattle.ac_tables.specs.Words.{StateParts, form_of, next_by, packed, classes_of, nexts_of, kind_word, first_class}
@@ -155,7 +155,7 @@ sparse-some_place table sid len wanted i part h sparse is found = ∥∥₁_elim
 -- ---- where it leads at all
 
 -- a byte leads to a number that fits, also to that of nowhere
-pub step-small : (table : Table) (sid byte next : ℕ) → HoldsState table sid → byte < 256 → ByteLeadsTo table sid byte next → next ≤ GREATEST
+pub step-small : (table : Table) (sid byte next : ℕ) → HoldsState table sid → byte < 256 → ByteLeadsTo table sid byte next → next ≤ greatest_number
 step-small table sid byte next h small leads = ∥∥₁_elim h le_prop (λ w. let fits = w.1.nexts byte small in omega (arith, leads w.0 w.1, fits))
 
 -- the class of a byte is one of the alphabet

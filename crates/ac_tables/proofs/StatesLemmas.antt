@@ -3,7 +3,7 @@ use Rattle.std.proofs.Common.{◌≡◌, ◌≢◌, ◌⊎◌, ◌↔◌, ℕ, �
 use Rattle.std.specs.Prelude.{option_map, if◌then◌else◌}
 use Rattle.std.proofs.lemmas.Bool.{cases_lt}
 use Rattle.std.proofs.lemmas.Option.{slice_get-map, same_Some}
-use Rattle.ac_input.specs.declared.primitives.number.TheConstants.{GREATEST}
+use Rattle.ac_input.specs.Number.{greatest_number}
 use Rattle.ac_input.specs.Alphabet.{class, alphabet_len, IsClasses}
 use Rattle.ac_input.specs.Failure.{IsList}
 use Rattle.ac_automaton.specs.Named.{IsFirst, AreLinked}
@@ -69,7 +69,7 @@ states nfa dense_depth table text h t =
     record {
       alphabet = t.alphabet;
       few_classes = t.few_classes;
-      small = λ anchored. each anchored (λ sid. sid ≤ GREATEST) (λ i i_in i_met. h.fits i i_in);
+      small = λ anchored. each anchored (λ sid. sid ≤ greatest_number) (λ i i_in i_met. h.fits i i_in);
       stand = λ anchored. each anchored (λ sid. AreWordsAt table.words.items sid (words_of table.alphabet_len (parts sid))) (λ i i_in i_met.
           subst (λ (s : StateParts). AreWordsAt table.words.items (place i) (words_of table.alphabet_len s)) (sym (at i i_in))
           (subst (λ (n : ℕ). AreWordsAt table.words.items (place i) (words_of n (parts_of nfa dense_depth classes place i))) (sym t.alphabet)
@@ -108,7 +108,7 @@ states nfa dense_depth table text h t =
           let known = h.known i i_in (met-stands start anchored i i_met) in
           let dead = zero i e in
           ap (λ (s : StateParts). s.matches) (at i i_in) ∙ known.lists.none (omega (arith, dead)));
-      few = λ anchored. each anchored (λ sid. length (parts sid).matches ≤ GREATEST + 1) (λ i i_in i_met.
+      few = λ anchored. each anchored (λ sid. length (parts sid).matches ≤ greatest_number + 1) (λ i i_in i_met.
           let known = h.known i i_in (met-stands start anchored i i_met) in
           let same = ap (λ (s : StateParts). length s.matches) (at i i_in) in
           let few = known.lists.few in

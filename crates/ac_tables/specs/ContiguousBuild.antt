@@ -1,6 +1,7 @@
 -- How the words of a contiguous automaton are made, state by state.
 use Rattle.std.specs.Prelude.{◌≡◌, ◌≢◌, ℕ, ◌<◌, ◌≤◌, Bool, List, ◌++◌, map, take, drop, length, slice_index, ◌==◌, if◌then◌else◌}
-use Rattle.ac_input.specs.declared.primitives.number.TheConstants.{GREATEST}
+use Rattle.ac_automaton.specs.Named.{nowhere}
+use Rattle.ac_input.specs.Number.{greatest_number}
 use Rattle.ac_input.specs.Alphabet.{alphabet_len, IsClasses}
 use Rattle.ac_noncontiguous.specs.declared.error.BuildErrorKind.{BuildErrorKind}
 use Rattle.ac_noncontiguous.specs.declared.error.BuildErrorKind.TheVariants.{StateIDOverflow, PatternIDOverflow, PatternTooLong, Memory}
@@ -23,15 +24,15 @@ IsLen alphabet shallow transitions matches len = (s : StateParts) → s.shallow 
 pub record ArePlacesOf (nfa : NFA) (dense_depth : ℕ) (classes : List ℕ) (n : ℕ) (places : List ℕ) : Type 0 where
   pub counted : length places ≡ n
   pub at : (sid : ℕ) → sid < n → slice_index places sid ≡ place_in nfa dense_depth classes sid
-  pub fits : (sid : ℕ) → sid < n → place_in nfa dense_depth classes sid ≤ GREATEST
+  pub fits : (sid : ℕ) → sid < n → place_in nfa dense_depth classes sid ≤ greatest_number
 
 -- the place of a state, if the states before it have this many words
 abbrev pub IsPlaceAfter : ℕ → ℕ → ℕ → Type 0
-IsPlaceAfter sid before place = (place ≤ GREATEST) × (place ≡ (if sid == 1 then 1 else before))
+IsPlaceAfter sid before place = (place ≤ greatest_number) × (place ≡ (if sid == nowhere then nowhere else before))
 
 -- such a place is too great
 abbrev pub IsPlaceTooGreat : ℕ → ℕ → BuildErrorKind → Type 0
-IsPlaceTooGreat sid before error = (sid ≢ 1) × (GREATEST < before) × (error ≡ StateIDOverflow GREATEST before)
+IsPlaceTooGreat sid before error = (sid ≢ nowhere) × (greatest_number < before) × (error ≡ StateIDOverflow greatest_number before)
 
 -- The places of the states are such.
 abbrev pub ArePlacesIn : NFA → ℕ → List ℕ → List ℕ → Type 0
@@ -39,7 +40,7 @@ ArePlacesIn nfa dense_depth classes places = ArePlacesOf nfa dense_depth classes
 
 -- Why there are no such words: some place is too great, or memory ends.
 abbrev pub IsRefusedFor : NFA → ℕ → List ℕ → BuildErrorKind → Type 0
-IsRefusedFor nfa dense_depth classes (StateIDOverflow max requested) = (max ≡ GREATEST) × (max < requested) × ArePlacesTooGreat nfa dense_depth classes
+IsRefusedFor nfa dense_depth classes (StateIDOverflow max requested) = (max ≡ greatest_number) × (max < requested) × ArePlacesTooGreat nfa dense_depth classes
 IsRefusedFor nfa dense_depth classes (PatternIDOverflow max requested) = ⊥
 IsRefusedFor nfa dense_depth classes (PatternTooLong pattern len) = ⊥
 IsRefusedFor nfa dense_depth classes Memory = Unit {0}
@@ -54,7 +55,7 @@ pub record IsKnown (nfa : NFA) (sid : ℕ) : Type 0 where
 
 -- and about the first n, except the fail state
 abbrev pub AreKnown : NFA → ℕ → Type 0
-AreKnown nfa n = (sid : ℕ) → sid < n → sid ≢ 1 → IsKnown nfa sid
+AreKnown nfa n = (sid : ℕ) → sid < n → sid ≢ nowhere → IsKnown nfa sid
 
 -- ---- the table
 
@@ -71,7 +72,7 @@ pub record IsWordTableOf (nfa : NFA) (dense_depth : ℕ) (table : Table) : Type 
 -- the words of a state were put after the others, and the read calls describe it
 pub record IsWritten (nfa : NFA) (dense_depth : ℕ) (classes : List ℕ) (sid : ℕ) (before after : List ℕ) : Type 0 where
   pub words : after ≡ before ++ words_at nfa dense_depth classes sid
-  pub known : sid ≢ 1 → IsKnown nfa sid
+  pub known : sid ≢ nowhere → IsKnown nfa sid
 
 -- all of them were
 abbrev pub AreReadBy : NFA → List ℕ → List ℕ → ℕ → List (ℕ × ℕ) → Type 0

@@ -1,7 +1,7 @@
 -- The settings of a builder of contiguous automata, and what is built.
 use Rattle.std.specs.Prelude.{◌≡◌, ◌⊎◌, ℕ, ◌<◌, Bool, true, List}
 use Rattle.std.specs.Borrow.{Bor}
-use Rattle.ac_input.specs.declared.primitives.number.TheConstants.{GREATEST}
+use Rattle.ac_input.specs.Number.{greatest_number}
 use Rattle.ac_input.specs.declared.search.MatchKind.{MatchKind}
 use Rattle.ac_input.specs.declared.search.MatchKind.TheVariants.{Standard}
 use Rattle.ac_input.specs.Same.{IsUnpaired}
@@ -27,12 +27,16 @@ pub record ContiguousSettings : Type 0 where
   pub dense_depth : ℕ
   pub byte_classes : Bool
 
+-- to which depth states are dense where nothing else is set: the starts, and those of one byte
+abbrev pub contiguous_default_dense_depth : ℕ
+contiguous_default_dense_depth = 2
+
 -- what they are at first
 pub record AreContiguousFirst (s : ContiguousSettings) : Type 0 where
   pub kind : s.kind ≡ Standard
   pub pairing : IsUnpaired s.pairing
   pub prefilter : s.prefilter ≡ true
-  pub dense_depth : s.dense_depth ≡ 2
+  pub dense_depth : s.dense_depth ≡ contiguous_default_dense_depth
   pub byte_classes : s.byte_classes ≡ true
 
 -- the settings of the noncontiguous automaton, which keeps no rows
@@ -59,7 +63,7 @@ pub record IsMadeFrom (s : ContiguousSettings) (from : Noncontiguous) (made : NF
 
 -- Why none was made: the first word of a state would stand too far on, or memory ended.
 abbrev pub IsRefusedFrom : ContiguousSettings → Noncontiguous → BuildErrorKind → Type 0
-IsRefusedFrom s from (StateIDOverflow max requested) = (max ≡ GREATEST) × (max < requested) × (classes : List ℕ) × AreClassesFor from s.byte_classes classes × ArePlacesTooGreat from s.dense_depth classes
+IsRefusedFrom s from (StateIDOverflow max requested) = (max ≡ greatest_number) × (max < requested) × (classes : List ℕ) × AreClassesFor from s.byte_classes classes × ArePlacesTooGreat from s.dense_depth classes
 IsRefusedFrom s from (PatternIDOverflow max requested) = ⊥
 IsRefusedFrom s from (PatternTooLong pattern len) = ⊥
 IsRefusedFrom s from Memory = Unit {0}

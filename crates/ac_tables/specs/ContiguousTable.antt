@@ -1,13 +1,13 @@
 -- What the words of a contiguous automaton hold.
 use Rattle.std.specs.Prelude.{◌≡◌, ◌≢◌, ◌↔◌, ◌⊎◌, ℕ, zero, suc, ◌+◌, ◌<◌, ◌≤◌, nat_lt, ◌==◌, Bool, true, IsTrue, if◌then◌else◌, map, List, [], ◌++◌, length, slice_get, Option, Some, None}
-use Rattle.ac_input.specs.declared.primitives.number.TheConstants.{GREATEST}
+use Rattle.ac_input.specs.Number.{greatest_number}
 use Rattle.ac_input.specs.Alphabet.{class, alphabet_len}
 use Rattle.ac_input.specs.Candidate.{Filter}
 use Rattle.ac_input.specs.Dictionary.{Dictionary}
 use Rattle.ac_input.specs.Failure.{IsList}
 use Rattle.ac_input.specs.Limits.{IsWithinLimits}
 use Rattle.ac_input.specs.Pairing.{IsPairing}
-use Rattle.ac_automaton.specs.Named.{Naming, AreLinked, IsFirst}
+use Rattle.ac_automaton.specs.Named.{nowhere, Naming, AreLinked, IsFirst}
 use Rattle.ac_noncontiguous.specs.declared.nfa.NFA.{NFA}
 use Rattle.ac_noncontiguous.specs.Nfa.{IsHeldFor}
 use Rattle.ac_noncontiguous.specs.ReadCalls.{state_len, fail_in, depth_in, edges_in}
@@ -32,20 +32,20 @@ parts_of nfa dense_depth classes place sid = record {
 
 -- how many words a state has; the fail state has none
 abbrev pub len_at : NFA → ℕ → List ℕ → ℕ → ℕ
-len_at nfa dense_depth classes sid = if sid == 1 then 0 else length (words_of (alphabet_len classes) (parts_of nfa dense_depth classes (λ i. i) sid))
+len_at nfa dense_depth classes sid = if sid == nowhere then 0 else length (words_of (alphabet_len classes) (parts_of nfa dense_depth classes (λ i. i) sid))
 
 -- how many words the first n states have
 abbrev pub len_before : NFA → ℕ → List ℕ → ℕ → ℕ
 len_before nfa dense_depth classes zero = 0
 len_before nfa dense_depth classes (suc i) = len_before nfa dense_depth classes i + len_at nfa dense_depth classes i
 
--- The place of a state is that of its first word. The fail state's is 1, where nothing begins.
+-- The place of a state is that of its first word. The fail state's is its number, where nothing begins.
 abbrev pub place_in : NFA → ℕ → List ℕ → ℕ → ℕ
-place_in nfa dense_depth classes sid = if sid == 1 then 1 else len_before nfa dense_depth classes sid
+place_in nfa dense_depth classes sid = if sid == nowhere then nowhere else len_before nfa dense_depth classes sid
 
 -- the words of a state of the automaton; the fail state has none
 abbrev pub words_at : NFA → ℕ → List ℕ → ℕ → List ℕ
-words_at nfa dense_depth classes sid = if sid == 1 then [] else words_of (alphabet_len classes) (parts_of nfa dense_depth classes (place_in nfa dense_depth classes) sid)
+words_at nfa dense_depth classes sid = if sid == nowhere then [] else words_of (alphabet_len classes) (parts_of nfa dense_depth classes (place_in nfa dense_depth classes) sid)
 
 -- the words of the first n states, one state after another
 abbrev pub words_before : NFA → ℕ → List ℕ → ℕ → List ℕ
@@ -58,7 +58,7 @@ AreWordsOf nfa dense_depth classes words = words ≡ words_before nfa dense_dept
 
 -- the first word of some state would stand past the greatest number
 abbrev pub ArePlacesTooGreat : NFA → ℕ → List ℕ → Type 0
-ArePlacesTooGreat nfa dense_depth classes = (sid : ℕ) × (sid < state_len nfa) × (GREATEST < place_in nfa dense_depth classes sid)
+ArePlacesTooGreat nfa dense_depth classes = (sid : ℕ) × (sid < state_len nfa) × (greatest_number < place_in nfa dense_depth classes sid)
 
 -- ---- the words as a search reads them
 
@@ -66,7 +66,7 @@ ArePlacesTooGreat nfa dense_depth classes = (sid : ℕ) × (sid < state_len nfa)
 pub record AreStates (m : Dictionary) (table : Table) (names : Naming) (parts : ℕ → StateParts) : Type 0 where
   pub alphabet : table.alphabet_len ≡ alphabet_len table.classes
   pub few_classes : table.alphabet_len ≤ 256
-  pub small : (anchored : Bool) (sid : ℕ) → IsTrue (names.met anchored sid) → sid ≤ GREATEST
+  pub small : (anchored : Bool) (sid : ℕ) → IsTrue (names.met anchored sid) → sid ≤ greatest_number
   pub stand : (anchored : Bool) (sid : ℕ) → IsTrue (names.met anchored sid) → AreWordsAt table.words.items sid (words_of table.alphabet_len (parts sid))
   pub fits : (anchored : Bool) (sid k : ℕ) (edge : ℕ × ℕ) → IsTrue (names.met anchored sid) → slice_get (parts sid).edges k ≡ Some edge → edge.0 < table.alphabet_len
   pub linked : AreLinked m names table.start (λ sid byte. next_by (parts sid).edges (class table.classes byte)) (λ sid. (parts sid).fail)
@@ -76,7 +76,7 @@ pub record AreStates (m : Dictionary) (table : Table) (names : Naming) (parts : 
   pub starting : (anchored : Bool) (sid : ℕ) → IsTrue (names.met anchored sid) → (names.text sid ≡ Some []) ↔ ((sid ≡ table.start) ⊎ (sid ≡ table.start_anchored))
   pub lists : (anchored : Bool) (sid : ℕ) (text : List ℕ) → IsTrue (names.met anchored sid) → names.text sid ≡ Some text → IsList m text (parts sid).matches
   pub none : (anchored : Bool) (sid : ℕ) → IsTrue (names.met anchored sid) → sid ≡ 0 → (parts sid).matches ≡ []
-  pub few : (anchored : Bool) (sid : ℕ) → IsTrue (names.met anchored sid) → length (parts sid).matches ≤ GREATEST + 1
+  pub few : (anchored : Bool) (sid : ℕ) → IsTrue (names.met anchored sid) → length (parts sid).matches ≤ greatest_number + 1
   pub matching : (anchored : Bool) (sid : ℕ) → IsTrue (names.met anchored sid) → sid ≢ 0 → ((parts sid).matches ≢ []) ↔ (sid ≤ table.max_match)
   pub greatest : (table.max_match < table.start) ⊎ (table.max_match ≡ table.start_anchored)
   pub before : (anchored : Bool) (sid : ℕ) → IsTrue (names.met anchored sid) → sid ≢ 0 → sid < table.start → sid ≤ table.max_match

@@ -1,7 +1,7 @@
 -- The settings of a builder of DFAs, and what is built.
 use Rattle.std.specs.Prelude.{◌≡◌, ◌⊎◌, ℕ, ◌/◌, ◌<◌, Bool, true, List, length}
 use Rattle.std.specs.Borrow.{Bor}
-use Rattle.ac_input.specs.declared.primitives.number.TheConstants.{GREATEST}
+use Rattle.ac_input.specs.Number.{greatest_number}
 use Rattle.ac_input.specs.declared.search.MatchKind.{MatchKind}
 use Rattle.ac_input.specs.declared.search.MatchKind.TheVariants.{Standard}
 use Rattle.ac_input.specs.declared.search.StartKind.{StartKind}
@@ -76,7 +76,7 @@ pub record IsDfaOf (s : DfaSettings) (nfa : NFA) (dfa : DFA) : Type 0 where
 
 -- the table of a dictionary would be too large, or memory has ended
 abbrev pub IsTooLargeOr : DfaSettings → Dictionary → (BuildErrorKind → Type 0) → BuildErrorKind → Type 0
-IsTooLargeOr s m other (StateIDOverflow max requested) = ((max ≡ GREATEST) × (max < requested) × ∥ IsDfaTooLarge m s.start_kind s.byte_classes ∥₁) ⊎ other (StateIDOverflow max requested)
+IsTooLargeOr s m other (StateIDOverflow max requested) = ((max ≡ greatest_number) × (max < requested) × ∥ IsDfaTooLarge m s.start_kind s.byte_classes ∥₁) ⊎ other (StateIDOverflow max requested)
 IsTooLargeOr s m other (PatternIDOverflow max requested) = other (PatternIDOverflow max requested)
 IsTooLargeOr s m other (PatternTooLong pattern len) = other (PatternTooLong pattern len)
 IsTooLargeOr s m other Memory = Unit {0}

@@ -2,7 +2,7 @@
 use Rattle.std.specs.Prelude.{◌≡◌, ℕ, ◌+◌, ◌<◌, ◌≤◌, Bool, true, false}
 use Rattle.ac_input.specs.declared.search.StartKind.{StartKind}
 use Rattle.ac_input.specs.Alphabet.{alphabet_len, IsLeastExponent}
-use Rattle.ac_input.specs.declared.primitives.number.TheConstants.{GREATEST}
+use Rattle.ac_input.specs.Number.{greatest_number}
 use Rattle.ac_input.specs.Dfa.{IsDfaTooLarge}
 use Rattle.ac_noncontiguous.specs.declared.error.BuildErrorKind.{BuildErrorKind}
 use Rattle.ac_noncontiguous.specs.declared.error.BuildErrorKind.TheVariants.{StateIDOverflow, PatternIDOverflow, PatternTooLong, Memory}
@@ -47,7 +47,7 @@ pub record IsTableFor (nfa : NFA) (start_kind : StartKind) (classed : Bool) (tab
 
 -- why there is no such table: it would be too large, or memory has ended
 abbrev pub IsTableRefused : NFA → StartKind → Bool → BuildErrorKind → Type 0
-IsTableRefused nfa kind classed (StateIDOverflow max requested) = (max ≡ GREATEST) × (max < requested) × ∥ IsDfaTooLarge (dictionary nfa) kind classed ∥₁
+IsTableRefused nfa kind classed (StateIDOverflow max requested) = (max ≡ greatest_number) × (max < requested) × ∥ IsDfaTooLarge (dictionary nfa) kind classed ∥₁
 IsTableRefused nfa kind classed (PatternIDOverflow max requested) = ⊥
 IsTableRefused nfa kind classed (PatternTooLong pattern len) = ⊥
 IsTableRefused nfa kind classed Memory = Unit {0}

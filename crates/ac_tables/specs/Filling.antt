@@ -1,6 +1,6 @@
 -- How the rows of a DFA are filled.
 use Rattle.std.specs.Prelude.{◌≡◌, ◌≢◌, ◌⊎◌, ℕ, ◌+◌, ◌-◌, ◌*◌, ◌<◌, ◌≤◌, ◌==◌, if◌then◌else◌, Bool, true, false, List, length, slice_get, slice_index, Some}
-use Rattle.ac_input.specs.declared.primitives.number.TheConstants.{GREATEST}
+use Rattle.ac_input.specs.Number.{greatest_number}
 use Rattle.ac_input.specs.declared.search.Anchored.{Anchored}
 use Rattle.ac_input.specs.declared.search.Anchored.TheVariants.{No, Yes}
 use Rattle.ac_input.specs.declared.search.StartKind.{StartKind}
@@ -19,7 +19,7 @@ use Rattle.ac_tables.specs.DfaTable.{dfa_number_of, IsCell}
 
 -- an error since the number of the last state is past the greatest
 abbrev pub IsOverflow : ℕ → BuildErrorKind → Type 0
-IsOverflow last (StateIDOverflow max requested) = (max ≡ GREATEST) × (max < requested) × (GREATEST < last)
+IsOverflow last (StateIDOverflow max requested) = (max ≡ greatest_number) × (max < requested) × (greatest_number < last)
 IsOverflow last (PatternIDOverflow max requested) = ⊥
 IsOverflow last (PatternTooLong pattern len) = ⊥
 IsOverflow last Memory = ⊥
@@ -55,7 +55,7 @@ pub record IsFit (p : RowPlan) : Type 0 where
   pub wide : p.stride ≤ 256
   pub letters : (byte : ℕ) → byte < 256 → class p.classes byte < p.stride
   pub finer : (b c : ℕ) → b < 256 → c < 256 → class p.classes b ≡ class p.classes c → class (classes_in p.nfa) b ≡ class (classes_in p.nfa) c
-  pub few : (dfa_states p.kind (state_len p.nfa) - 1) * p.stride ≤ GREATEST
+  pub few : (dfa_states p.kind (state_len p.nfa) - 1) * p.stride ≤ greatest_number
 
 -- ---- one row
 

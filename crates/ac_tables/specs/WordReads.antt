@@ -2,10 +2,10 @@
 use Rattle.std.specs.Prelude.{◌≡◌, ◌≢◌, ℕ, ◌+◌, ◌-◌, ◌/◌, ◌%◌, ◌<◌, ◌≤◌, ◌==◌, ◌&&◌, nat_le, not, if◌then◌else◌, List, [], ◌∷◌, length, take, drop, slice_get, slice_index, Option, Some, None}
 use Rattle.std.specs.Int.{w32, to_le_bytes}
 use Rattle.std.specs.List.{flat_map}
-use Rattle.ac_input.specs.declared.primitives.number.TheConstants.{GREATEST}
+use Rattle.ac_input.specs.Number.{greatest_number}
 use Rattle.ac_input.specs.Alphabet.{class, alphabet_len}
 use Rattle.ac_tables.specs.declared.contiguous.table.Table.{Table}
-use Rattle.ac_tables.specs.Words.{StateParts, next_by, one_pattern, words_of, AreWordsAt}
+use Rattle.ac_tables.specs.Words.{StateParts, dense_kind, one_kind, kind_count, head_len, next_by, one_pattern, words_of, AreWordsAt}
 
 -- ---- classes packed in words
 
@@ -26,7 +26,7 @@ pub record IsStateAt (table : Table) (sid : ℕ) (s : StateParts) : Type 0 where
   pub alphabet : table.alphabet_len ≡ alphabet_len table.classes
   pub few_classes : table.alphabet_len ≤ 256
   pub fits : (k : ℕ) (edge : ℕ × ℕ) → slice_get s.edges k ≡ Some edge → edge.0 < table.alphabet_len
-  pub nexts : (byte : ℕ) → byte < 256 → next_by s.edges (class table.classes byte) ≤ GREATEST
+  pub nexts : (byte : ℕ) → byte < 256 → next_by s.edges (class table.classes byte) ≤ greatest_number
 
 -- some state stands there
 abbrev pub HoldsState : Table → ℕ → Type 0
@@ -34,9 +34,9 @@ HoldsState table sid = ∥ ((s : StateParts) × IsStateAt table sid s) ∥₁
 
 -- the state there has this many transitions, with their classes packed: its kind says how many
 pub record IsSparseAt (table : Table) (sid len : ℕ) : Type 0 where
-  pub kind : slice_index table.words.items sid % 256 ≡ len
-  pub dense : len ≢ 255
-  pub one : len ≢ 254
+  pub kind : slice_index table.words.items sid % kind_count ≡ len
+  pub dense : len ≢ dense_kind
+  pub one : len ≢ one_kind
 
 -- where a class leads from a state by its transitions
 abbrev pub ClassLeadsTo : Table → ℕ → ℕ → ℕ → Type 0
@@ -57,11 +57,11 @@ IsFailOf table sid fail = (s : StateParts) → IsStateAt table sid s → fail �
 
 -- how many words the transitions of a state have, by its kind
 abbrev pub transitions_len : ℕ → ℕ → ℕ
-transitions_len alphabet kind = if kind == 255 then alphabet else if kind == 254 then 1 else kind + (kind + 3) / 4
+transitions_len alphabet kind = if kind == dense_kind then alphabet else if kind == one_kind then 1 else kind + (kind + 3) / 4
 
 -- where the patterns of a state begin
 abbrev pub list_place : Table → ℕ → ℕ
-list_place table sid = sid + 2 + transitions_len table.alphabet_len (slice_index table.words.items sid % 256)
+list_place table sid = sid + head_len + transitions_len table.alphabet_len (slice_index table.words.items sid % kind_count)
 
 -- the patterns whose words begin at a place
 abbrev pub list_from : List ℕ → ℕ → List ℕ

@@ -4,7 +4,8 @@
 -- its patterns where it has some.
 use Rattle.std.specs.Prelude.{◌≡◌, ℕ, zero, suc, ◌+◌, ◌*◌, ◌<◌, ◌≤◌, nat_lt, ◌==◌, ◌&&◌, ◌||◌, Bool, if◌then◌else◌, map, List, [], ◌∷◌, ◌++◌, length, take, drop}
 use Rattle.std.specs.List.{All, range_with_len}
-use Rattle.ac_input.specs.declared.primitives.number.TheConstants.{GREATEST}
+use Rattle.ac_automaton.specs.Named.{nowhere}
+use Rattle.ac_input.specs.Number.{greatest_number}
 
 -- What is known of a state: whether it is so shallow that it keeps an entry for each class, the place of the state to which it fails,
 -- for each byte that leads on the class and the place of the next state, and the patterns that match.
@@ -30,9 +31,9 @@ is_single s = (length s.edges == 1) && (length s.matches == 0)
 abbrev pub form_of : StateParts → Form
 form_of s = if s.shallow || nat_lt most_sparse (length s.edges) then Dense else if is_single s then One else Sparse
 
--- where a class leads by the transitions: the first that has it; 1 where none has
+-- where a class leads by the transitions: the first that has it
 abbrev pub next_by : List (ℕ × ℕ) → ℕ → ℕ
-next_by [] wanted = 1
+next_by [] wanted = nowhere
 next_by (edge ∷ edges) wanted = if edge.0 == wanted then edge.1 else next_by edges wanted
 
 -- four classes in one word, the first in its lowest bits
@@ -65,10 +66,21 @@ abbrev pub first_class : List (ℕ × ℕ) → ℕ
 first_class [] = 0
 first_class (edge ∷ edges) = edge.0
 
--- the kind of a state, in the low eight bits; with a single transition its class stands above it
+-- the kind of a dense state, and that of one with a single transition; that of a sparse state is how many transitions it has
+abbrev pub dense_kind : ℕ
+dense_kind = 255
+
+abbrev pub one_kind : ℕ
+one_kind = 254
+
+-- how many kinds there may be: the kind of a state stands in the low eight bits of its first word
+abbrev pub kind_count : ℕ
+kind_count = 256
+
+-- the first word of a state: its kind; with a single transition its class stands above that
 abbrev pub kind_word : Form → List (ℕ × ℕ) → ℕ
-kind_word Dense edges = 255
-kind_word One edges = 254 + 256 * first_class edges
+kind_word Dense edges = dense_kind
+kind_word One edges = one_kind + kind_count * first_class edges
 kind_word Sparse edges = length edges
 
 -- the words of the transitions, with their classes where they are sparse
@@ -95,6 +107,10 @@ match_words (n ∷ o ∷ ns) = length (n ∷ o ∷ ns) ∷ n ∷ o ∷ ns
 abbrev pub words_of : ℕ → StateParts → List ℕ
 words_of alphabet s = kind_word (form_of s) s.edges ∷ s.fail ∷ (transition_words (form_of s) alphabet s.edges ++ match_words s.matches)
 
+-- how many words stand before the transitions: the kind and the failure
+abbrev pub head_len : ℕ
+head_len = 2
+
 -- the words of a state but for its patterns
 abbrev pub leading_words : ℕ → StateParts → List ℕ
 leading_words alphabet s = kind_word (form_of s) s.edges ∷ s.fail ∷ transition_words (form_of s) alphabet s.edges
@@ -102,7 +118,7 @@ leading_words alphabet s = kind_word (form_of s) s.edges ∷ s.fail ∷ transiti
 -- Its words can be written: each transition's class is one of the alphabet, and the patterns can be counted.
 pub record CanBeWritten (alphabet : ℕ) (s : StateParts) : Type 0 where
   pub fits : All (λ edge. edge.0 < alphabet) s.edges
-  pub few : length s.matches ≤ GREATEST + 1
+  pub few : length s.matches ≤ greatest_number + 1
 
 -- such words stand at a place
 abbrev pub AreWordsAt : List ℕ → ℕ → List ℕ → Type 0

@@ -6,6 +6,7 @@
 //! its first bytes; where few bytes lead out of the start, it finds the next of these by `memchr`.
 ghost use Rattle.std.specs.Prelude.{false};
 ghost use Rattle.ac_automaton.specs.Automaton.{IsReached};
+ghost use Rattle.ac_automaton.specs.Named.{nowhere};
 ghost use Rattle.ac_input.specs.Input.{is_anchored};
 ghost use Rattle.ac_tables.specs.ContiguousReads.{contiguous_built_as, IsContiguousRead, IsMet, LooksUp};
 ghost use Rattle.ac_tables.specs.WordReads.{ByteLeadsTo, IsFailOf};
@@ -37,7 +38,7 @@ impl NFA {
     #[inline(never)]
     fn follow(&self, sid: StateID, byte: u8, steps: &mut Steps) -> StateID
         requires met { IsMet self.now false sid }
-        requires stuck { ByteLeadsTo self.now.table sid byte 1 }
+        requires stuck { ByteLeadsTo self.now.table sid byte nowhere }
         ensures { LooksUp self.now false 1 sid byte result steps.old steps.new }
     {
         let mut from = sid;

@@ -108,7 +108,8 @@ impl Default for Builder {
 }
 
 impl Builder {
-    /// Standard matches, no byte paired, a prefilter wanted, dense states of less than two bytes, and bytes put into classes.
+    /// Standard matches, no byte paired, a prefilter wanted, dense states of less than two bytes, and bytes put into classes. It
+    /// takes no memory.
     /// A caller: `uses::callers::tables::contiguous_plain`.
     pub fn new() -> Builder
         ensures { AreContiguousFirst result }
@@ -158,7 +159,7 @@ impl Builder {
         self
     }
 
-    /// Sets whether searches have a prefilter, if one serves. It changes no result.
+    /// Sets whether searches have a prefilter, if one serves. At first they have. It changes no result.
     /// A caller: `uses::callers::tables::contiguous_plain`.
     pub fn prefilter(&mut self, yes: bool) -> &mut Builder
         ensures same { result.ghost_name ≡ self.entry.ghost_name }
@@ -168,8 +169,11 @@ impl Builder {
         self
     }
 
-    /// Sets to which depth states are dense: those to which fewer bytes lead. A dense state has an entry for each class of bytes,
-    /// so that a look-up there takes two loads. It changes no result.
+    /// Sets to which depth states are dense: those to which fewer bytes lead. At first it is 2.
+    ///
+    /// It changes no result. A dense state has an entry of four bytes for each class of bytes, so that a look-up there takes two
+    /// loads. Any depth is accepted. A great one makes nearly all states dense: then the automaton is about as large as a DFA,
+    /// and its build may fail as that of a DFA does.
     /// A caller: `uses::callers::tables::contiguous_form`.
     pub fn dense_depth(&mut self, depth: usize) -> &mut Builder
         ensures same { result.ghost_name ≡ self.entry.ghost_name }
@@ -179,8 +183,8 @@ impl Builder {
         self
     }
 
-    /// Sets whether bytes are put into classes that no state distinguishes. Without them a dense state has 256 entries. It changes
-    /// no result.
+    /// Sets whether bytes that no state distinguishes are put into one class. At first they are. It changes no result. Without
+    /// classes a dense state has 256 entries, 1 KiB.
     /// A caller: `uses::callers::tables::contiguous_form`.
     pub fn byte_classes(&mut self, yes: bool) -> &mut Builder
         ensures same { result.ghost_name ≡ self.entry.ghost_name }
@@ -190,10 +194,20 @@ impl Builder {
         self
     }
 
-    /// The contiguous automaton that finds what this one finds, and has its prefilter.
+    /// Builds the contiguous automaton that finds what this one finds, and has its prefilter.
     ///
-    /// Of the settings only [`Builder::dense_depth`] and [`Builder::byte_classes`] count here. Returns an error if the first word
-    /// of a state would be past the greatest number, before memory for the words is taken, or if memory runs out.
+    /// Of the settings only [`Builder::dense_depth`] and [`Builder::byte_classes`] count here.
+    ///
+    /// # Errors
+    ///
+    /// Returns an error if the first word of a state would be past the greatest number, before memory for the words is taken, or
+    /// if memory runs out; for no other reason.
+    ///
+    /// # Cost
+    ///
+    /// Time and memory are in proportion to the words. A state takes two words of four bytes, and one for each pattern that
+    /// matches. A sparse state takes five more bytes for each transition, rounded up to whole words; a dense one a word for each
+    /// class. Before the words, the places of all states are laid out, four bytes each, and freed at the end.
     /// A caller: `uses::callers::tables::contiguous_form`.
     pub fn build_from_noncontiguous(&self, alloc: Global, nfa: &nfa::NFA) -> Result<NFA, BuildError>
         ensures made { IfOk result (IsMadeFrom self.now nfa.now) }
@@ -220,10 +234,20 @@ impl Builder {
         builder
     }
 
-    /// The automaton of the patterns, which are numbered from 0 in this order.
+    /// Builds the automaton of the patterns, which are numbered from 0 in this order.
+    ///
+    /// It takes the least memory of the three. There is no condition on the patterns: there may be none, and they may be empty or
+    /// equal.
+    ///
+    /// # Errors
     ///
     /// Returns an error if a noncontiguous automaton of the patterns can't be built, or if the first word of a state would be past
     /// the greatest number.
+    ///
+    /// # Cost
+    ///
+    /// It makes a noncontiguous automaton without rows first, and frees it at the end: until then both take memory. So a build
+    /// costs what [that one](ac_noncontiguous::builder) costs and what [`Builder::build_from_noncontiguous`] does.
     /// A caller: `uses::callers::tables::contiguous_plain`.
     pub fn build(&self, alloc: Global, patterns: &[&[u8]]) -> Result<NFA, BuildError>
         ensures built { IfOk result (IsContiguousBuilt self.now patterns.now) }
@@ -235,7 +259,9 @@ impl Builder {
 }
 
 impl NFA {
-    /// The automaton of the patterns by the settings that a builder has at first: standard matches, no byte paired.
+    /// Builds the automaton of the patterns by the settings that a builder has at first: standard matches, no byte paired.
+    ///
+    /// Its errors and its cost are those of [`Builder::build`].
     /// A caller: `uses::callers::tables::contiguous_of_bytes`.
     pub fn new(alloc: Global, patterns: &[&[u8]]) -> Result<NFA, BuildError>
         ensures built { IfOk result (IsContiguousBuiltAtFirst patterns.now) }
@@ -244,7 +270,7 @@ impl NFA {
         Builder::new().build(alloc, patterns)
     }
 
-    /// A builder with the settings that it has at first.
+    /// A builder with the settings that it has at first. It takes no memory.
     /// A caller: `uses::callers::tables::contiguous_folded`.
     pub fn builder() -> Builder
         ensures { AreContiguousFirst result }

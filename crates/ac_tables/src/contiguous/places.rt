@@ -3,36 +3,33 @@
 //! All places are known before the first word is written, so each state is written with its final numbers, and a build that would
 //! need too great a number fails before memory for the words is taken.
 ghost use Rattle.std.specs.Prelude.{◌≡◌, ◌≢◌, ℕ, ◌+◌, ◌<◌, ◌≤◌, ◌==◌, ◌++◌, ◌∷◌, [], if◌then◌else◌, length, IfOk, IfErr};
-ghost use Rattle.ac_input.specs.declared.primitives.number.TheConstants.{GREATEST};
+ghost use Rattle.ac_input.specs.Number.{greatest_number};
 ghost use Rattle.ac_noncontiguous.specs.ReadCalls.{state_len, edges_in};
 ghost use Rattle.ac_tables.specs.ContiguousTable.{len_at};
 ghost use Rattle.ac_tables.specs.ContiguousBuild.{IsLen, ArePlacesIn, IsPlaceAfter, IsPlaceTooGreat, IsRefusedFor};
 
-use crate::contiguous::layout::MOST_SPARSE;
+use crate::contiguous::layout::{HEAD, MOST_SPARSE};
 use ac_input::alphabet::ByteClasses;
 use ac_input::primitives::{GREATEST, StateID};
 use ac_noncontiguous::error::{BuildError, BuildErrorKind};
-use ac_noncontiguous::nfa::NFA;
+use ac_noncontiguous::nfa::{FAIL, NFA};
 use std::alloc::{AllocError, Global};
-
-/// The fail state, which has no words.
-pub(super) const FAIL: usize = 1;
 
 /// How many words a state with this many transitions and patterns takes.
 fn words_len(shallow: bool, transitions: usize, matches: usize, alphabet_len: usize) -> usize
     requires alphabet { alphabet_len ≤ 256 }
-    requires matches { matches ≤ GREATEST + 1 }
+    requires matches { matches ≤ greatest_number + 1 }
     ensures len { IsLen alphabet_len shallow transitions matches result }
-    ensures fits { result ≤ GREATEST + 300 }
+    ensures fits { result ≤ greatest_number + 300 }
 {
     let list = if matches > 1 { matches + 1 } else { matches };
     if shallow || transitions > MOST_SPARSE {
-        return 2 + alphabet_len + list;
+        return HEAD + alphabet_len + list;
     }
     if transitions == 1 && matches == 0 {
-        return 3;
+        return HEAD + 1;
     }
-    2 + (transitions + 3) / 4 + transitions + list
+    HEAD + (transitions + 3) / 4 + transitions + list
 }
 
 /// How many transitions the state has.
@@ -43,11 +40,11 @@ fn trans_len(nfa: &NFA, sid: StateID) -> usize
     nfa.iter_trans(sid).count()
 }
 
-/// How many words the state takes.
+/// How many words the state takes. The fail state has none.
 fn len_of(nfa: &NFA, sid: StateID, dense_depth: usize, classes: &ByteClasses) -> usize
     requires { sid < state_len nfa.now }
     ensures len { result ≡ len_at nfa.now dense_depth classes.now sid }
-    ensures fits { result ≤ GREATEST + 300 }
+    ensures fits { result ≤ greatest_number + 300 }
 {
     if sid.as_usize() == FAIL {
         return 0;

@@ -1,6 +1,6 @@
 //! Look-ups in the words of a contiguous automaton.
 ghost use Rattle.std.specs.Prelude.{◌≡◌, ◌<◌, ◌≤◌, ℕ, ◌+◌, length, take, drop, slice_get, Some};
-ghost use Rattle.ac_input.specs.declared.primitives.number.TheConstants.{GREATEST};
+ghost use Rattle.ac_input.specs.Number.{greatest_number};
 ghost use Rattle.ac_automaton.specs.Starters.{SkipsIdle};
 ghost use Rattle.ac_tables.specs.WordReads.{unpacked, IsFirstPlace, HoldsState, IsSparseAt, ClassLeadsTo, ByteLeadsTo, IsIdleAt, HasWordList, list_place, listed_at, transitions_len};
 
@@ -151,7 +151,7 @@ impl Table {
     pub(super) fn match_pattern(&self, sid: StateID, index: usize) -> PatternID
         requires list { HasWordList self.now sid }
         requires within { index < length (listed_at self.now sid) }
-        requires known { (k n : ℕ) → slice_get (listed_at self.now sid) k ≡ Some n → n ≤ GREATEST }
+        requires known { (k n : ℕ) → slice_get (listed_at self.now sid) k ≡ Some n → n ≤ greatest_number }
         ensures { slice_get (listed_at self.now sid) index ≡ Some result }
     {
         let at = self.list_place(sid);

@@ -3,11 +3,10 @@ ghost use Rattle.std.specs.Prelude.{◌≡◌, ◌<◌, length, IfOk};
 ghost use Rattle.ac_noncontiguous.specs.ReadCalls.{state_len, EdgesLeadIn};
 ghost use Rattle.ac_tables.specs.ContiguousBuild.{ArePlacesIn, AreReadBy, IsWritten, AreAllWritten};
 
-use crate::contiguous::places::FAIL;
 use crate::contiguous::words::{Parts, push_state};
 use ac_input::alphabet::ByteClasses;
 use ac_input::primitives::StateID;
-use ac_noncontiguous::nfa::NFA;
+use ac_noncontiguous::nfa::{FAIL, NFA};
 use std::alloc::{AllocError, Global};
 
 /// Reads the transitions of the state, each with its byte's class and the place of the next state, in place of what was there.

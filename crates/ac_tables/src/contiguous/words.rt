@@ -4,10 +4,10 @@
 //! Nothing is changed afterwards.
 ghost use Rattle.std.specs.Prelude.{◌≡◌, ℕ, ◌+◌, ◌<◌, ◌≤◌, ◌++◌, ◌∷◌, [], length, IfOk};
 ghost use Rattle.std.specs.List.{All};
-ghost use Rattle.ac_input.specs.declared.primitives.number.TheConstants.{GREATEST};
+ghost use Rattle.ac_input.specs.Number.{greatest_number};
 ghost use Rattle.ac_tables.specs.Words.{AppendsRow, packed, near, classes_of, nexts_of, match_words, words_of, leading_words, CanBeWritten};
 
-use crate::contiguous::layout::{DENSE, MOST_SPARSE, NOWHERE, ONE, ONE_PATTERN};
+use crate::contiguous::layout::{DENSE, KIND, MOST_SPARSE, NOWHERE, ONE, ONE_PATTERN};
 use ac_input::primitives::{PatternID, StateID};
 use std::alloc::AllocError;
 use std::marker::Model;
@@ -124,7 +124,7 @@ fn push_numbers(matches: &[PatternID], words: &mut Vec<u32>) -> Result<(), Alloc
 
 /// Puts the patterns of a state after the words: of one its number with the highest bit set, of several first how many.
 fn push_matches(matches: &[PatternID], words: &mut Vec<u32>) -> Result<(), AllocError>
-    requires { length matches.now ≤ GREATEST + 1 }
+    requires { length matches.now ≤ greatest_number + 1 }
     ensures { IfOk result (λ _. words.new.items ≡ words.old.items ++ match_words matches.now) }
 {
     match matches {
@@ -163,7 +163,7 @@ fn push_transitions(
         return push_row(edges, alphabet, words);
     }
     if edges.len() == 1 && parts.matches.len() == 0 {
-        push_head(ONE + 256 * (edges[0].0 as u32), parts.fail, words)?;
+        push_head(ONE + (KIND + 1) * (edges[0].0 as u32), parts.fail, words)?;
         return push_nexts(edges, words);
     }
     push_head(edges.len() as u32, parts.fail, words)?;

@@ -109,7 +109,8 @@ impl Table {
 }
 
 impl Builder {
-    /// Standard matches, no byte paired, a prefilter wanted, a start for unanchored searches alone, and bytes in classes.
+    /// Standard matches, no byte paired, a prefilter wanted, a start for unanchored searches alone, and bytes in classes. It takes
+    /// no memory.
     /// A caller: `uses::callers::tables::dfa_plain`.
     pub fn new() -> Builder
         ensures { AreDfaFirst result }
@@ -159,7 +160,7 @@ impl Builder {
         self
     }
 
-    /// Sets whether searches have a prefilter, if one serves. It changes no result.
+    /// Sets whether searches have a prefilter, if one serves. At first they have. It changes no result.
     /// A caller: `uses::callers::tables::dfa_plain`.
     pub fn prefilter(&mut self, yes: bool) -> &mut Builder
         ensures same { result.ghost_name ≡ self.entry.ghost_name }
@@ -169,7 +170,8 @@ impl Builder {
         self
     }
 
-    /// Sets for which searches there is a start. With both the table is about twice as large.
+    /// Sets for which searches there is a start. At first it is unanchored ones alone. A search of the other anchoring is refused.
+    /// With both the table is about twice as large.
     /// A caller: `uses::callers::tables::dfa_plain`.
     pub fn start_kind(&mut self, kind: StartKind) -> &mut Builder
         ensures same { result.ghost_name ≡ self.entry.ghost_name }
@@ -179,8 +181,8 @@ impl Builder {
         self
     }
 
-    /// Sets whether bytes that lead alike share an entry of each row. Without, a row has 256 entries, and a look-up doesn't load
-    /// the byte's class. It changes no result.
+    /// Sets whether bytes that lead alike share an entry of each row. At first they do. It changes no result. Without classes a row
+    /// has 256 entries, 1 KiB, and a look-up doesn't load the byte's class.
     /// A caller: `uses::callers::tables::dfa_form`.
     pub fn byte_classes(&mut self, yes: bool) -> &mut Builder
         ensures same { result.ghost_name ≡ self.entry.ghost_name }
@@ -190,11 +192,21 @@ impl Builder {
         self
     }
 
-    /// The DFA of a noncontiguous automaton. Of the settings only [`Builder::start_kind`] and [`Builder::byte_classes`] count; kind,
-    /// pairing and prefilter are those of the automaton.
+    /// Builds the DFA of a noncontiguous automaton. Of the settings only [`Builder::start_kind`] and [`Builder::byte_classes`]
+    /// count; kind, pairing and prefilter are those of the automaton.
+    ///
+    /// # Errors
     ///
     /// Returns an error if the last row would begin past [`GREATEST`](ac_input::primitives::GREATEST), before it takes any memory,
     /// or if memory runs out; for no other reason.
+    ///
+    /// # Cost
+    ///
+    /// Time and memory are in proportion to the table: a row for each state, twice that with both starts. A row takes four bytes
+    /// for each class of bytes, rounded up to a power of two of classes: 1 KiB if the patterns have many different bytes. There is
+    /// a state for each byte of the patterns that doesn't stand in a beginning which they share. So a hundred patterns of a
+    /// thousand bytes may take 100,000 rows, some 100 MB. The limit alone allows a table of 8 GiB: bound the bytes of patterns that
+    /// come from a stranger, or take a contiguous automaton.
     /// A caller: `uses::callers::tables::dfa_form`.
     pub fn build_from_noncontiguous(&self, alloc: Global, nfa: &NFA) -> Result<DFA, BuildError>
         ensures built { IfOk result (IsDfaOf self.now nfa.now) }
@@ -227,9 +239,20 @@ impl Builder {
         builder
     }
 
-    /// The DFA of the patterns, which are numbered from 0 in this order.
+    /// Builds the DFA of the patterns, which are numbered from 0 in this order.
+    ///
+    /// It searches fastest of the three, takes the most memory, and is built slowest. There is no condition on the patterns: there
+    /// may be none, and they may be empty or equal.
+    ///
+    /// # Errors
     ///
     /// Returns an error if the noncontiguous automaton can't be built, or if the table would be too large.
+    ///
+    /// # Cost
+    ///
+    /// It makes a noncontiguous automaton without rows first, and frees it at the end: until then both take memory. So a build
+    /// costs what [that one](ac_noncontiguous::builder) costs and what [`Builder::build_from_noncontiguous`] does, which is far more
+    /// where the patterns are long.
     /// A caller: `uses::callers::tables::dfa_plain`.
     pub fn build(&self, alloc: Global, patterns: &[&[u8]]) -> Result<DFA, BuildError>
         ensures built { IfOk result (IsDfaBuilt self.now patterns.now) }
@@ -241,7 +264,10 @@ impl Builder {
 }
 
 impl DFA {
-    /// The DFA of the patterns by the settings that a builder has at first: standard matches, no byte paired, unanchored searches.
+    /// Builds the DFA of the patterns by the settings that a builder has at first: standard matches, no byte paired, unanchored
+    /// searches.
+    ///
+    /// Its errors and its cost are those of [`Builder::build`].
     /// A caller: `uses::callers::tables::dfa_of_bytes`.
     pub fn new(alloc: Global, patterns: &[&[u8]]) -> Result<DFA, BuildError>
         ensures built { IfOk result (IsDfaBuiltAtFirst patterns.now) }
@@ -250,7 +276,7 @@ impl DFA {
         Builder::new().build(alloc, patterns)
     }
 
-    /// A builder with the settings that it has at first.
+    /// A builder with the settings that it has at first. It takes no memory.
     /// A caller: `uses::callers::tables::dfa_folded`.
     pub fn builder() -> Builder
         ensures { AreDfaFirst result }

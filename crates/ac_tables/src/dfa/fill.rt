@@ -14,11 +14,8 @@ use crate::dfa::numbers::Numbers;
 use ac_input::alphabet::ByteClasses;
 use ac_input::primitives::StateID;
 use ac_input::search::{Anchored, StartKind};
-use ac_noncontiguous::nfa::NFA;
+use ac_noncontiguous::nfa::{FAIL, NFA};
 use std::alloc::{AllocError, Global};
-
-/// The number of the fail state of the noncontiguous automaton, which stands where a byte leads nowhere.
-const FAIL: usize = 1;
 
 /// What the rows are filled from.
 #[derive(Clone, Copy)]

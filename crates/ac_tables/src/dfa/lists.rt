@@ -3,11 +3,11 @@ ghost use Rattle.std.specs.Prelude.{IfOk};
 ghost use Rattle.ac_tables.specs.DfaLists.{IsListAdded, AreListsOf};
 
 use ac_input::primitives::{PatternID, StateID};
-use ac_noncontiguous::nfa::NFA;
+use ac_noncontiguous::nfa::{FAIL, NFA};
 use std::alloc::{AllocError, Global};
 
 /// The number of the first state of the noncontiguous automaton that may match.
-const FIRST: usize = 2;
+const FIRST: usize = FAIL + 1;
 
 /// The lists, one after another.
 #[derive(Drop)]

@@ -4,7 +4,7 @@
 //! either anchoring; only the dead state, the fail state and the two starts have one. So the rows of the states that match stay in
 //! front, the two starts come next, and a number is computed, not looked up.
 ghost use Rattle.std.specs.Prelude.{◌≡◌, ◌+◌, ◌-◌, ◌*◌, ◌≤◌, OnOk, IfErr};
-ghost use Rattle.ac_input.specs.declared.primitives.number.TheConstants.{GREATEST};
+ghost use Rattle.ac_input.specs.Number.{greatest_number};
 ghost use Rattle.ac_input.specs.Dfa.{dfa_states};
 ghost use Rattle.ac_input.specs.Input.{is_anchored};
 ghost use Rattle.ac_tables.specs.DfaNumbers.{number_at};
@@ -18,7 +18,7 @@ use ac_noncontiguous::error::{BuildError, BuildErrorKind};
 /// How many rows there are for this many states of the noncontiguous automaton.
 pub(super) fn rows(kind: StartKind, states: usize) -> usize
     requires some { 2 ≤ states }
-    requires few { states ≤ GREATEST + 1 }
+    requires few { states ≤ greatest_number + 1 }
     ensures { result ≡ dfa_states kind states }
 {
     match kind {
@@ -30,7 +30,7 @@ pub(super) fn rows(kind: StartKind, states: usize) -> usize
 /// Fails if the number of the last of this many rows of this length would be past the greatest.
 pub(super) fn check_size(rows: usize, stride: usize) -> Result<(), BuildError>
     requires { 1 ≤ rows }
-    ensures fits { OnOk result ((rows - 1) * stride ≤ GREATEST) }
+    ensures fits { OnOk result ((rows - 1) * stride ≤ greatest_number) }
     ensures refused { IfErr result (IsOverflow ((rows - 1) * stride)) }
 {
     let last = (rows - 1).checked_mul(stride).unwrap_or(usize::MAX);
@@ -77,7 +77,7 @@ impl Numbers {
     /// Where the row of a state begins, which is its number.
     #[inline]
     pub(super) fn number(&self, anchored: Anchored, sid: StateID) -> StateID
-        requires { number_at self.now anchored sid ≤ GREATEST }
+        requires { number_at self.now anchored sid ≤ greatest_number }
         ensures { result ≡ number_at self.now anchored sid }
     {
         StateID::must(self.row(anchored, sid) * self.stride)

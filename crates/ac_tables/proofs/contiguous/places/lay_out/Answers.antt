@@ -1,7 +1,7 @@
 -- One more place, or one that is too great.
 use Rattle.std.proofs.Common.{◌+◌, refl, sym, subst, arith, rules}
 use Rattle.std.proofs.lemmas.Result.{err_from_is_err_and}
-use Rattle.ac_input.specs.declared.primitives.number.TheConstants.{GREATEST}
+use Rattle.ac_input.specs.Number.{greatest_number}
 use Rattle.ac_noncontiguous.specs.declared.error.BuildErrorKind.TheVariants.{StateIDOverflow}
 use Rattle.ac_tables.specs.ContiguousBuild.{ArePlacesOf, IsRefusedFor}
 use Rattle.ac_tables.proofs.LenLemmas.{places-more, before-more, place-too_great}
@@ -11,7 +11,7 @@ pub returns-in_err-place_of-clause-refused : goal.returns-in_err-place_of-clause
 returns-in_err-place_of-clause-refused c =
     let p = err_from_is_err_and c.from_residual-in_err-place_of.result c.from_residual-in_err-place_of.ensures.1 in
     let r = c.in_err-place_of.ensures.refused in
-    let refused : IsRefusedFor c.args.nfa.now c.args.dense_depth c.args.classes.now (StateIDOverflow GREATEST c.loop-state.before) = (refl, r.1, place-too_great c.args.nfa.now c.args.dense_depth c.args.classes.now c.loop-state.state c.loop-state.before (omega arith) r.0 r.1 c.loop-state.invariant.before) in
+    let refused : IsRefusedFor c.args.nfa.now c.args.dense_depth c.args.classes.now (StateIDOverflow greatest_number c.loop-state.before) = (refl, r.1, place-too_great c.args.nfa.now c.args.dense_depth c.args.classes.now c.loop-state.state c.loop-state.before (omega arith) r.0 r.1 c.loop-state.invariant.before) in
     rw (p.1, p.2) (subst (IsRefusedFor c.args.nfa.now c.args.dense_depth c.args.classes.now) (sym r.2) refused)
 
 pub loop-state-preserved : goal.loop-state-preserved

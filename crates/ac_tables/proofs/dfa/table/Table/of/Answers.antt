@@ -1,7 +1,7 @@
 -- The table of an automaton.
 use Rattle.std.proofs.Common.{◌≡◌, ◌+◌, ◌-◌, ◌*◌, ◌≤◌, ◌<◌, ℕ, true, false, ⊎_elim, ap, ap₂, subst, ◌∙◌, arith}
 use Rattle.std.proofs.lemmas.Result.{err_from_is_err_and}
-use Rattle.ac_input.specs.declared.primitives.number.TheConstants.{GREATEST}
+use Rattle.ac_input.specs.Number.{greatest_number}
 use Rattle.ac_input.specs.declared.search.Anchored.TheVariants.{No, Yes}
 use Rattle.ac_input.specs.Dfa.{dfa_states}
 use Rattle.ac_noncontiguous.specs.declared.nfa.read.Special.{Special}
@@ -29,7 +29,7 @@ returns-in_err-check_size-clause-refused c =
 pub invariant_of-filler : goal.invariant_of-filler
 invariant_of-filler c =
     let rows : c.rows-rows.result ≡ dfa_states c.args.kind (state_len c.args.nfa.now) = c.rows-rows.ensures ∙ ap (dfa_states c.args.kind) c.state_len.ensures.value in
-    let fits = subst (λ (n : ℕ). (n - 1) * c.stride-stride.result ≤ GREATEST) rows c.in_ok-check_size.ensures.fits in
+    let fits = subst (λ (n : ℕ). (n - 1) * c.stride-stride.result ≤ greatest_number) rows c.in_ok-check_size.ensures.fits in
     record {
       starts = ap (λ (s : Special). s.start_unanchored_id) c.special-special.ensures.value;
       fit = chosen-fit c.args.classed c.args.nfa.now c.args.kind c.in_ok-classes.classes c.stride-stride.result c.special-special.ensures.whole c.in_ok-classes.ensures.classes c.stride-stride.ensures.value c.stride-stride.ensures.fits fits;
@@ -40,7 +40,7 @@ number-requires c =
     let nfa = c.args.nfa.now in
     let s = (source-of nfa c.special-special.ensures.whole).starts in
     let rows : c.rows-rows.result ≡ dfa_states c.args.kind (state_len nfa) = c.rows-rows.ensures ∙ ap (dfa_states c.args.kind) c.state_len.ensures.value in
-    let fits = subst (λ (n : ℕ). (n - 1) * c.stride-stride.result ≤ GREATEST) rows c.in_ok-check_size.ensures.fits in
+    let fits = subst (λ (n : ℕ). (n - 1) * c.stride-stride.result ≤ greatest_number) rows c.in_ok-check_size.ensures.fits in
     let fit = chosen-fit c.args.classed nfa c.args.kind c.in_ok-classes.classes c.stride-stride.result c.special-special.ensures.whole c.in_ok-classes.ensures.classes c.stride-stride.ensures.value c.stride-stride.ensures.fits fits in
     let start : c.special-special.result.start_unanchored_id ≡ nfa_start_of nfa = ap (λ (x : Special). x.start_unanchored_id) c.special-special.ensures.value in
     number-kept _ No c.special-special.result.start_unanchored_id c.special-special.result.start_unanchored_id fit start (omega (arith, start, s.1))
@@ -50,7 +50,7 @@ number-requires-2 c =
     let nfa = c.args.nfa.now in
     let s = (source-of nfa c.special-special.ensures.whole).starts in
     let rows : c.rows-rows.result ≡ dfa_states c.args.kind (state_len nfa) = c.rows-rows.ensures ∙ ap (dfa_states c.args.kind) c.state_len.ensures.value in
-    let fits = subst (λ (n : ℕ). (n - 1) * c.stride-stride.result ≤ GREATEST) rows c.in_ok-check_size.ensures.fits in
+    let fits = subst (λ (n : ℕ). (n - 1) * c.stride-stride.result ≤ greatest_number) rows c.in_ok-check_size.ensures.fits in
     let fit = chosen-fit c.args.classed nfa c.args.kind c.in_ok-classes.classes c.stride-stride.result c.special-special.ensures.whole c.in_ok-classes.ensures.classes c.stride-stride.ensures.value c.stride-stride.ensures.fits fits in
     let start : c.special-special.result.start_unanchored_id ≡ nfa_start_of nfa = ap (λ (x : Special). x.start_unanchored_id) c.special-special.ensures.value in
     let next : c.special-special.result.start_anchored_id ≡ nfa_start_of nfa + 1 = ap (λ (x : Special). x.start_anchored_id) c.special-special.ensures.value in
@@ -61,7 +61,7 @@ number-requires-3 c =
     let nfa = c.args.nfa.now in
     let s = (source-of nfa c.special-special.ensures.whole).starts in
     let rows : c.rows-rows.result ≡ dfa_states c.args.kind (state_len nfa) = c.rows-rows.ensures ∙ ap (dfa_states c.args.kind) c.state_len.ensures.value in
-    let fits = subst (λ (n : ℕ). (n - 1) * c.stride-stride.result ≤ GREATEST) rows c.in_ok-check_size.ensures.fits in
+    let fits = subst (λ (n : ℕ). (n - 1) * c.stride-stride.result ≤ greatest_number) rows c.in_ok-check_size.ensures.fits in
     let fit = chosen-fit c.args.classed nfa c.args.kind c.in_ok-classes.classes c.stride-stride.result c.special-special.ensures.whole c.in_ok-classes.ensures.classes c.stride-stride.ensures.value c.stride-stride.ensures.fits fits in
     let start : c.special-special.result.start_unanchored_id ≡ nfa_start_of nfa = ap (λ (x : Special). x.start_unanchored_id) c.special-special.ensures.value in
     let last : c.special-special.result.max_match_id ≡ (special_in nfa).max_match_id = ap (λ (x : Special). x.max_match_id) c.special-special.ensures.value in
@@ -74,7 +74,7 @@ returns-clause-made c =
     let kind = c.args.kind in
     let stride = c.stride-stride.result in
     let rows : c.rows-rows.result ≡ dfa_states kind (state_len nfa) = c.rows-rows.ensures ∙ ap (dfa_states kind) c.state_len.ensures.value in
-    let fits = subst (λ (n : ℕ). (n - 1) * stride ≤ GREATEST) rows c.in_ok-check_size.ensures.fits in
+    let fits = subst (λ (n : ℕ). (n - 1) * stride ≤ greatest_number) rows c.in_ok-check_size.ensures.fits in
     let fit = chosen-fit c.args.classed nfa kind c.in_ok-classes.classes stride c.special-special.ensures.whole c.in_ok-classes.ensures.classes c.stride-stride.ensures.value c.stride-stride.ensures.fits fits in
     let start : c.special-special.result.start_unanchored_id ≡ nfa_start_of nfa = ap (λ (x : Special). x.start_unanchored_id) c.special-special.ensures.value in
     let next : c.special-special.result.start_anchored_id ≡ nfa_start_of nfa + 1 = ap (λ (x : Special). x.start_anchored_id) c.special-special.ensures.value in

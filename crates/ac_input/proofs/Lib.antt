@@ -6,7 +6,9 @@ pub mod BestLemmas
 pub mod WalkLemmas
 pub mod ListingLemmas
 pub mod TextLemmas
+pub mod RuleOrderLemmas
 pub mod RuleLemmas
+pub mod TextRuleLemmas
 pub mod BeginningLemmas
 pub mod CutLemmas
 pub mod SameLemmas

@@ -1,6 +1,7 @@
 -- Laws of the rule file's grammar.
-use Rattle.std.proofs.Common.{◌≡◌, ◌≢◌, ℕ, ◌+◌, ◌*◌, ◌≤◌, List, [], ◌∷◌, ◌++◌, length, refl, sym, ap, ◌∙◌, subst, append_assoc, length-append, arith}
-use Rattle.ac_input.specs.Rules.{IsDigit, Spells, Rule, BeginsWithRule, IsRuleFile, FirstBadLine, BeginsWithNoRule}
+use Rattle.std.proofs.Common.{◌≡◌, ◌≢◌, ℕ, ◌+◌, ◌<◌, List, [], ◌∷◌, ◌++◌, length, refl, sym, ap, ◌∙◌, subst, append_assoc, length-append, arith}
+use Rattle.ac_input.specs.Rules.{IsDigit, Spells, Rule, BeginsWithAll, BeginsWithRule, IsRuleFile, FirstBadLine, BeginsWithNoRule}
+use Rattle.ac_input.proofs.RuleOrderLemmas.{Without, all-one_until, split_one}
 
 -- ---- digits and what they spell
 
@@ -11,11 +12,6 @@ IsDigit-one c v w p q = grind arith
 -- a digit is neither TAB nor LF
 pub IsDigit-apart : (c v : ℕ) → IsDigit c v → (c ≢ 9) × (c ≢ 10)
 IsDigit-apart c v p = grind arith
-
--- a byte is not in a list
-abbrev pub Without : ℕ → List ℕ → Type 0
-Without b [] = Unit {0}
-Without b (x ∷ xs) = (x ≢ b) × Without b xs
 
 -- a text spells one list of bytes at most
 pub Spells-one : (text one other : List ℕ) → Spells text one → Spells text other → one ≡ other
@@ -47,14 +43,6 @@ Spells-apart (h ∷ l ∷ text) (x ∷ xs) p =
 
 -- ---- one rule
 
--- the first place of a byte splits a text in one way
-pub split_one : (b : ℕ) (p q r s : List ℕ) → Without b p → Without b r → p ++ b ∷ q ≡ r ++ b ∷ s → (p ≡ r) × (q ≡ s)
-split_one b [] q [] s hp hr e = (refl, cc)
-split_one b [] q (y ∷ r) s hp hr e = absurd (hr.0 (cc))
-split_one b (x ∷ p) q [] s hp hr e = absurd (hp.0 (cc))
-split_one b (x ∷ p) q (y ∷ r) s hp hr e =
-    let ih = split_one b p q r s hp.1 hr.1 (cc) in (cc, ih.1)
-
 -- a text begins with one rule and one rest at most
 pub BeginsWithRule-one : (text : List ℕ) (one other : Rule) (m n : List ℕ) → BeginsWithRule text one m → BeginsWithRule text other n → (one ≡ other) × (m ≡ n)
 BeginsWithRule-one text one other m n p q =
@@ -74,8 +62,8 @@ append_cons-filled (x ∷ p) b q e = cc
 pub BeginsWithRule-filled : (text : List ℕ) (rule : Rule) (more : List ℕ) → BeginsWithRule text rule more → text ≢ []
 BeginsWithRule-filled text rule more p e = append_cons-filled p.0 9 (p.1 ++ 10 ∷ more) (sym p.4 ∙ e)
 
--- a rule takes at least two bytes
-pub BeginsWithRule-length : (text : List ℕ) (rule : Rule) (more : List ℕ) → BeginsWithRule text rule more → length more + 2 ≤ length text
+-- a rule takes bytes
+pub BeginsWithRule-length : (text : List ℕ) (rule : Rule) (more : List ℕ) → BeginsWithRule text rule more → length more < length text
 BeginsWithRule-length text rule more p = omega (arith, simp length-append at (ap length p.4))
 
 -- more after a text that begins with a rule
@@ -86,19 +74,7 @@ BeginsWithRule-append text rule more after p = (p.0, p.1, p.2, p.3, ap (λ (t : 
 
 -- the text begins with these rules, in their order, and goes on with this
 abbrev pub BeginsWithRules : List ℕ → List Rule → List ℕ → Type 0
-BeginsWithRules text [] more = text ≡ more
-BeginsWithRules text (rule ∷ rules) more = (rest : List ℕ) × BeginsWithRule text rule rest × BeginsWithRules rest rules more
-
--- a rule more
-pub BeginsWithRules-push : (text : List ℕ) (rules : List Rule) (more : List ℕ) (rule : Rule) (rest : List ℕ) → BeginsWithRules text rules more → BeginsWithRule more rule rest → BeginsWithRules text (rules ++ rule ∷ []) rest
-BeginsWithRules-push text [] more rule rest p q = (rest, rw p q, refl)
-BeginsWithRules-push text (r ∷ rules) more rule rest p q = (p.0, p.1, BeginsWithRules-push p.0 rules more rule rest p.2 q)
-
--- rules take at least two bytes each
-pub BeginsWithRules-length : (text : List ℕ) (rules : List Rule) (more : List ℕ) → BeginsWithRules text rules more → length more + 2 * length rules ≤ length text
-BeginsWithRules-length text [] more p = omega (arith, ap length p)
-BeginsWithRules-length text (r ∷ rules) more p =
-    omega (arith, BeginsWithRule-length text r p.0 p.1, BeginsWithRules-length p.0 rules more p.2)
+BeginsWithRules = BeginsWithAll BeginsWithRule
 
 -- a text that its rules use up is a rule file
 pub IsRuleFile-from_rules : (text : List ℕ) (rules : List Rule) → BeginsWithRules text rules [] → IsRuleFile text rules
@@ -127,16 +103,6 @@ front_of_rules text (r ∷ rules) more p =
 
 -- ---- whole files
 
--- rules one after another, twice over: both go on, or one ends where the other begins with no rule
-rules_one_until : (text : List ℕ) (one other : List Rule) (m n : List ℕ) → BeginsWithRules text one m → BeginsWithRules text other n → BeginsWithNoRule m → BeginsWithNoRule n → (one ≡ other) × (m ≡ n)
-rules_one_until text [] [] m n p q x y = (refl, sym p ∙ q)
-rules_one_until text [] (s ∷ other) m n p q x y = absurd (x s q.0 (rw p at q.1))
-rules_one_until text (r ∷ one) [] m n p q x y = absurd (y r p.0 (rw q at p.1))
-rules_one_until text (r ∷ one) (s ∷ other) m n p q x y =
-    let same = BeginsWithRule-one text r s p.0 q.0 p.1 q.1 in
-    let ih = rules_one_until p.0 one other m n p.2 (rw (← same.1) at q.2) x y in
-    (cc, ih.1)
-
 -- nothing begins with no rule
 pub BeginsWithNoRule-nil : BeginsWithNoRule []
 BeginsWithNoRule-nil rule rest p = BeginsWithRule-filled [] rule rest p refl
@@ -149,21 +115,21 @@ BeginsWithRules-from_file text (r ∷ rules) p = (p.0, p.1, BeginsWithRules-from
 -- a text is a rule file in one way at most
 pub IsRuleFile-one : (text : List ℕ) (one other : List Rule) → IsRuleFile text one → IsRuleFile text other → one ≡ other
 IsRuleFile-one text one other p q =
-    (rules_one_until text one other [] [] (BeginsWithRules-from_file text one p) (BeginsWithRules-from_file text other q) BeginsWithNoRule-nil BeginsWithNoRule-nil).0
+    (all-one_until BeginsWithRule BeginsWithRule-one text one other [] [] (BeginsWithRules-from_file text one p) (BeginsWithRules-from_file text other q) BeginsWithNoRule-nil BeginsWithNoRule-nil).0
 
 -- a text has one first bad line at most
 pub FirstBadLine-one : (text : List ℕ) (one other : ℕ) → FirstBadLine text one → FirstBadLine text other → one ≡ other
 FirstBadLine-one text one other p q =
     let first = BeginsWithRules-append p.0 p.2 p.1 p.4 in
     let second = BeginsWithRules-append q.0 q.2 q.1 q.4 in
-    let same = rules_one_until text p.2 q.2 p.1 q.1 (rw p.3 first) (rw q.3 second) p.7 q.7 in
+    let same = all-one_until BeginsWithRule BeginsWithRule-one text p.2 q.2 p.1 q.1 (rw p.3 first) (rw q.3 second) p.7 q.7 in
     p.5 ∙ ap (λ (rs : List Rule). length rs + 1) same.0 ∙ sym q.5
 
 -- a rule file has no bad line
 pub FirstBadLine-none : (text : List ℕ) (n : ℕ) (rules : List Rule) → IsRuleFile text rules → ¬ FirstBadLine text n
 FirstBadLine-none text n rules p q =
     let second = BeginsWithRules-append q.0 q.2 q.1 q.4 in
-    let same = rules_one_until text rules q.2 [] q.1 (BeginsWithRules-from_file text rules p) (rw q.3 second) BeginsWithNoRule-nil q.7 in
+    let same = all-one_until BeginsWithRule BeginsWithRule-one text rules q.2 [] q.1 (BeginsWithRules-from_file text rules p) (rw q.3 second) BeginsWithNoRule-nil q.7 in
     q.6 (sym same.1)
 
 -- where a text begins with rules, and what follows is something that begins with none, the line after them is the first bad one
@@ -174,5 +140,5 @@ FirstBadLine-from_rules text rules more p filled none =
 -- in a rule file, the rules that come before something that begins with none are all of them
 pub IsRuleFile-from_none : (text : List ℕ) (all rules : List Rule) (more : List ℕ) → IsRuleFile text all → BeginsWithRules text rules more → BeginsWithNoRule more → IsRuleFile text rules
 IsRuleFile-from_none text all rules more p q none =
-    let same = rules_one_until text all rules [] more (BeginsWithRules-from_file text all p) q BeginsWithNoRule-nil none in
+    let same = all-one_until BeginsWithRule BeginsWithRule-one text all rules [] more (BeginsWithRules-from_file text all p) q BeginsWithNoRule-nil none in
     subst (λ (rs : List Rule). IsRuleFile text rs) same.0 p

@@ -9,7 +9,7 @@ use Rattle.ac_input.specs.Best.{preference, IsBest}
 use Rattle.ac_input.specs.Walk.{IsPick, IsWalk}
 use Rattle.ac_input.specs.Listing.{IsListing}
 use Rattle.ac_input.specs.Text.{replaced_from, listed}
-use Rattle.ac_input.specs.Rules.{Rule, IsRuleFile, FirstBadLine}
+use Rattle.ac_input.specs.Rules.{FirstBadLine, FirstBadTextLine, IsRuleFile, IsTextRuleFile, Rule}
 use Rattle.ac_input.specs.Computed.{occurrences, best_of, pick_of, walk_after, walk_of, listing_of}
 
 -- Each begins where the one before it ended or later, and later than that one began; none is empty exactly where the one before it
@@ -99,6 +99,13 @@ abbrev pub BadLineIsOne : Type 0
 BadLineIsOne =
     ((text : List ℕ) (one other : ℕ) → FirstBadLine text one → FirstBadLine text other → one ≡ other)
     × ((text : List ℕ) (n : ℕ) (rules : List Rule) → IsRuleFile text rules → ¬ FirstBadLine text n)
+
+-- A text of plain rules has at most one list of rules, and at most one first bad line, and not both.
+abbrev pub TextRulesAreOne : Type 0
+TextRulesAreOne =
+    ((text : List ℕ) (one other : List Rule) → IsTextRuleFile text one → IsTextRuleFile text other → one ≡ other)
+    × ((text : List ℕ) (one other : ℕ) → FirstBadTextLine text one → FirstBadTextLine text other → one ≡ other)
+    × ((text : List ℕ) (n : ℕ) (rules : List Rule) → IsTextRuleFile text rules → ¬ FirstBadTextLine text n)
 
 -- Pairings that pair nothing search alike: the best is the same, and so are the walks.
 abbrev pub UnpairedSearchAlike : Type 0

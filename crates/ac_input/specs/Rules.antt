@@ -1,5 +1,5 @@
--- The rule file: lines of `hex TAB hex LF`.
-use Rattle.std.specs.Prelude.{◌≡◌, ◌≢◌, ℕ, ◌+◌, ◌*◌, ◌<◌, ◌≤◌, List, [], ◌∷◌, ◌++◌, length, ◌⊎◌}
+-- The rule file: lines of `hex TAB hex LF`, or lines of plain text.
+use Rattle.std.specs.Prelude.{◌≡◌, ◌≢◌, ℕ, ◌+◌, ◌*◌, ◌<◌, ◌≤◌, List, [], ◌∷◌, ◌++◌, length, ◌⊎◌, Contains}
 
 -- a hex digit of either case, and its value
 abbrev pub IsDigit : ℕ → ℕ → Type 0
@@ -31,3 +31,42 @@ IsRuleFile text (rule ∷ rules) = (more : List ℕ) × BeginsWithRule text rule
 -- The number of the first line that is no rule, counted from 1: rules up to it, and then a rest that begins with none.
 abbrev pub FirstBadLine : List ℕ → ℕ → Type 0
 FirstBadLine text n = (front more : List ℕ) × (rules : List Rule) × (text ≡ front ++ more) × IsRuleFile front rules × (n ≡ length rules + 1) × (more ≢ []) × BeginsWithNoRule more
+
+-- ---- plain text: a line is `pattern TAB replacement`, or a pattern alone
+
+-- The text begins with a line that is written so, and goes on with the rest. LF ends a line, or the end of the text does.
+abbrev pub BeginsWithWritten : List ℕ → List ℕ → List ℕ → Type 0
+BeginsWithWritten text written more = ¬ Contains written 10 × ((text ≡ written ++ 10 ∷ more) ⊎ ((text ≡ written) × (more ≡ [])))
+
+-- the line is what is written, but for one CR at its end
+abbrev pub IsWrittenAs : List ℕ → List ℕ → Type 0
+IsWrittenAs line written = (written ≡ line ++ 13 ∷ []) ⊎ ((written ≡ line) × ((front : List ℕ) → written ≢ front ++ 13 ∷ []))
+
+-- The sides of a line: what stands before its first TAB, and what after it; with no TAB, the line and nothing.
+abbrev pub AreSidesOf : List ℕ → Rule → Type 0
+AreSidesOf line rule = ¬ Contains rule.0 9 × ((line ≡ rule.0 ++ 9 ∷ rule.1) ⊎ ((line ≡ rule.0) × (rule.1 ≡ [])))
+
+-- The line is a rule in plain text: its sides, of which the pattern is not empty and the replacement has no TAB.
+abbrev pub IsTextRule : List ℕ → Rule → Type 0
+IsTextRule line rule = AreSidesOf line rule × (rule.0 ≢ []) × ¬ Contains rule.1 9
+
+-- the text begins with a line that is this rule; the rest follows
+abbrev pub BeginsWithTextRule : List ℕ → Rule → List ℕ → Type 0
+BeginsWithTextRule text rule more = (written line : List ℕ) × BeginsWithWritten text written more × IsWrittenAs line written × IsTextRule line rule
+
+-- the text begins with no line that is a rule
+abbrev pub BeginsWithNoTextRule : List ℕ → Type 0
+BeginsWithNoTextRule text = (rule : Rule) (more : List ℕ) → ¬ BeginsWithTextRule text rule more
+
+-- rules one after another: each begins what the one before it left, and the last leaves this
+abbrev pub BeginsWithAll : (List ℕ → Rule → List ℕ → Type 0) → List ℕ → List Rule → List ℕ → Type 0
+BeginsWithAll begins text [] more = text ≡ more
+BeginsWithAll begins text (rule ∷ rules) more = (rest : List ℕ) × begins text rule rest × BeginsWithAll begins rest rules more
+
+-- a whole rule file of plain text, and its rules in their order
+abbrev pub IsTextRuleFile : List ℕ → List Rule → Type 0
+IsTextRuleFile text rules = BeginsWithAll BeginsWithTextRule text rules []
+
+-- The number of the first line of plain text that is no rule, counted from 1: rules up to it, and then a rest that begins with none.
+abbrev pub FirstBadTextLine : List ℕ → ℕ → Type 0
+FirstBadTextLine text n = (rules : List Rule) × (more : List ℕ) × BeginsWithAll BeginsWithTextRule text rules more × (n ≡ length rules + 1) × (more ≢ []) × BeginsWithNoTextRule more

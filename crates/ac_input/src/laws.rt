@@ -4,7 +4,7 @@
 //! The definitions alone fix the best, the next pick, the walk and the listing of a search, and each can be computed. These
 //! functions do nothing: each states one law as its contract, and checking it proves the law. A caller who needs the law calls the
 //! function, at no cost.
-ghost use Rattle.ac_input.specs.Laws.{PreferenceIsOrder, PreferenceTellsApart, OccurrencesAreListed, BestIsOne, PickIsOne, WalkIsOne, WalkIsApart, WalkLiesWithin, WalkOccurs, ListingIsOne, ListingIsComputed, ListingHasEachOnce, PicksAreListed, ReplacingByItselfChangesNothing, NoRulesChangeNothing, RulesAreOne, BadLineIsOne, UnpairedSearchAlike};
+ghost use Rattle.ac_input.specs.Laws.{PreferenceIsOrder, PreferenceTellsApart, OccurrencesAreListed, BestIsOne, PickIsOne, WalkIsOne, WalkIsApart, WalkLiesWithin, WalkOccurs, ListingIsOne, ListingIsComputed, ListingHasEachOnce, PicksAreListed, ReplacingByItselfChangesNothing, NoRulesChangeNothing, RulesAreOne, BadLineIsOne, TextRulesAreOne, UnpairedSearchAlike};
 
 /// The preference of each kind is a total order.
 pub fn preference_is_order()
@@ -89,6 +89,11 @@ pub fn rules_are_one()
 /// A text has one first bad line at most, and none where it is a rule file.
 pub fn bad_line_is_one()
     ensures { BadLineIsOne }
+{}
+
+/// The same of rules in plain text: a text has one list of rules at most, one first bad line at most, and not both.
+pub fn text_rules_are_one()
+    ensures { TextRulesAreOne }
 {}
 
 /// Pairings that pair nothing search alike, whatever their tables.

@@ -3,7 +3,8 @@ use Rattle.std.proofs.Common.{◌≡◌, ◌≢◌, ℕ, suc, ◌+◌, ◌*◌, 
 use Rattle.std.proofs.lemmas.List.Elements.{Contains-append_right}
 use Rattle.std.proofs.lemmas.List.{map_push, length_push, nil_from_length}
 use Rattle.ac_input.specs.Rules.{Rule, Spells, BeginsWithRule, IsRuleFile, FirstBadLine, BeginsWithNoRule}
-use Rattle.ac_input.proofs.RuleLemmas.{Without, Spells-apart, split_one, BeginsWithRules, BeginsWithRules-push, BeginsWithRules-length, IsRuleFile-from_rules, FirstBadLine-from_rules}
+use Rattle.ac_input.proofs.RuleOrderLemmas.{Contains-between, Without-from_missing, all-length, all-push, split_one}
+use Rattle.ac_input.proofs.RuleLemmas.{BeginsWithRule-length, Spells-apart, BeginsWithRules, IsRuleFile-from_rules, FirstBadLine-from_rules}
 use Rattle.acsub.specs.declared.rules.Sides.{Sides}
 use Rattle.acsub.specs.Sides.{rule_of, rules_of}
 use Rattle.acsub.specs.Lines.{IsSpelling, BeginsWithLine}
@@ -11,16 +12,6 @@ use Rattle.acsub.specs.Lines.{IsSpelling, BeginsWithLine}
 -- the text begins with so many rules, and goes on with this
 abbrev pub BeginsWithRuleCount : List ℕ → ℕ → List ℕ → Type 0
 BeginsWithRuleCount text count more = (rules : List Rule) × (count ≡ length rules) × BeginsWithRules text rules more
-
--- a byte that is not found in a list is apart from each of its bytes
-Without-from_missing : (b : ℕ) (xs : List ℕ) → ¬ Contains xs b → Without b xs
-Without-from_missing b [] p = tt
-Without-from_missing b (x ∷ xs) p =
-    (λ e. p (0, omega arith, e), Without-from_missing b xs (λ q. p (suc q.0, omega arith, q.2)))
-
--- the byte between two lists is found in them
-Contains-between : (b : ℕ) (front after : List ℕ) → Contains (front ++ b ∷ after) b
-Contains-between b front after = Contains-append_right front (b ∷ after) b (0, omega arith, refl)
 
 -- with no TAB there is no rule
 pub BeginsWithNoRule-no_tab : (text : List ℕ) → ¬ Contains text 9 → BeginsWithNoRule text
@@ -51,18 +42,18 @@ BeginsWithRule-from_line text pattern replacement more one other p a b = (patter
 -- one rule more is read and kept
 pub BeginsWithRules-keep : (text rest pattern replacement more : List ℕ) (kept : List Sides) (sides : Sides) → BeginsWithRules text (rules_of kept) rest → BeginsWithLine rest pattern replacement more → Spells pattern sides.pattern.items → Spells replacement sides.replacement.items → BeginsWithRules text (rules_of (kept ++ sides ∷ [])) more
 BeginsWithRules-keep text rest pattern replacement more kept sides p q a b =
-    rw (map_push rule_of kept sides) (BeginsWithRules-push text (rules_of kept) rest (rule_of sides) more p (BeginsWithRule-from_line rest pattern replacement more sides.pattern.items sides.replacement.items q a b))
+    rw (map_push rule_of kept sides) (all-push BeginsWithRule text (rules_of kept) rest (rule_of sides) more p (BeginsWithRule-from_line rest pattern replacement more sides.pattern.items sides.replacement.items q a b))
 
 -- one rule more is read and counted
 pub BeginsWithRules-count : (text rest pattern replacement more : List ℕ) (count : ℕ) → BeginsWithRuleCount text count rest → BeginsWithLine rest pattern replacement more → BeginsWithRuleCount text (count + 1) more
 BeginsWithRules-count text rest pattern replacement more count p q =
     let rule : Rule = (q.0.0, q.1.0) in
     let line = BeginsWithRule-from_line rest pattern replacement more q.0.0 q.1.0 q q.0.1 q.1.1 in
-    (p.0 ++ rule ∷ [], omega (arith, p.1, length_push p.0 rule), BeginsWithRules-push text p.0 rest rule more p.2 line)
+    (p.0 ++ rule ∷ [], omega (arith, p.1, length_push p.0 rule), all-push BeginsWithRule text p.0 rest rule more p.2 line)
 
--- so many rules take twice as many bytes at least
-pub BeginsWithRuleCount-bound : (text rest : List ℕ) (count : ℕ) → BeginsWithRuleCount text count rest → length rest + 2 * count ≤ length text
-BeginsWithRuleCount-bound text rest count p = omega (arith, p.1, BeginsWithRules-length text p.0 rest p.2)
+-- so many rules take as many bytes at least
+pub BeginsWithRuleCount-bound : (text rest : List ℕ) (count : ℕ) → BeginsWithRuleCount text count rest → length rest + count ≤ length text
+BeginsWithRuleCount-bound text rest count p = omega (arith, p.1, all-length BeginsWithRule BeginsWithRule-length text p.0 rest p.2)
 
 -- with nothing left, the rules that were counted are the file's
 pub IsRuleFile-from_count : (text rest : List ℕ) (count : ℕ) → BeginsWithRuleCount text count rest → length rest ≡ 0 → (rules : List Rule) × IsRuleFile text rules × (count ≡ length rules)

@@ -14,6 +14,7 @@ pub mod OverlappingStateLemmas
 pub mod CandidateLemmas
 pub mod ShowLemmas
 pub mod ReplaceLemmas
+pub mod ItemsLemmas
 pub mod ReplacerLemmas
 pub mod BufferLemmas
 pub mod OutputLemmas
@@ -29,6 +30,7 @@ pub mod MovedLemmas
 pub mod StreamReplaceLemmas
 pub mod StreamSearchLemmas
 pub mod StreamIterLemmas
+pub mod StreamLeftLemmas
 pub mod StreamAnswerLemmas
 pub mod WriterChainLemmas
 pub mod StreamWithLemmas

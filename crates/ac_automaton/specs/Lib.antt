@@ -29,6 +29,7 @@ pub mod Overlapping
 pub mod OverlappingSearch
 pub mod OverlappingIter
 pub mod Replace
+pub mod Items
 pub mod Buffer
 pub mod Stream
 pub mod StreamSearch

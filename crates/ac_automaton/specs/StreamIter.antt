@@ -1,5 +1,5 @@
 -- What the matches of a stream, as an iterator, return and read.
-use Rattle.std.specs.Prelude.{◌≡◌, ◌≢◌, ◌⊎◌, ℕ, ◌-◌, ◌<◌, ◌≤◌, true, List, [], ◌∷◌, ◌++◌, length, take, Option, None, Some, Result, Ok, Err}
+use Rattle.std.specs.Prelude.{◌≡◌, ◌≢◌, ◌⊎◌, ℕ, ◌+◌, ◌-◌, ◌<◌, ◌≤◌, Bool, true, nat_le, if◌then◌else◌, List, [], ◌∷◌, ◌++◌, length, take, Option, None, Some, Result, Ok, Err}
 use Rattle.std.specs.Borrow.{Fml, GName, MutBor, RattleType, RestsIfErr}
 use Rattle.std.specs.Io.KnownBytes.{IsAtEnd}
 use Rattle.std.specs.List.{concat}
@@ -90,6 +90,15 @@ TurnGives remaining s t before after (Failed Position) = (piece : List ℕ) × T
 
 -- ---- the iterator
 
+-- How many items are left at most, where so many bytes were read and so many of them searched. Matches end at different places
+-- that were not searched: among those that were read, if the reader has ended; else, up to the last that can be counted, and then
+-- an error may come too. None is left where places can't be counted.
+abbrev pub items_left : ℕ → ℕ → Bool → ℕ
+items_left read searched ended =
+    if nat_le read 18446744073709551615
+    then (if ended then read - searched else 18446744073709551615 - searched + 1)
+    else 0
+
 module _ {A R : Type 0} where
   -- how far its search has come
   abbrev pub progress_of : StreamFindIter A R → StreamProgress
@@ -102,6 +111,10 @@ module _ {A R : Type 0} where
   -- the ghost name of the reference to the reader
   abbrev pub reader_name : StreamFindIter A R → GName
   reader_name i = i.reader.ghost_name
+
+  -- how many items are left at most
+  abbrev pub most_left : StreamFindIter A R → ℕ
+  most_left i = items_left (length (read_by (progress_of i))) (progress_of i).at (has_ended (reader_of i))
 
   -- the reader is the same, by the same reference
   abbrev pub KeepsReader : StreamFindIter A R → StreamFindIter A R → Type 0

@@ -50,7 +50,8 @@ pub trait Automaton {
     ghost use Rattle.ac_automaton.specs.Automaton.{Built, IsReached, IsState, AtEach, Leads, IsReadCost, TellsDead, TellsStart, IsSpecial, Advances, AdvancesToMatch, OwnsPrefilter, AnswersStart, AnswersFind, CostsFind};
     ghost use Rattle.ac_automaton.specs.Iter.{AnswersFindIter};
     ghost use Rattle.ac_automaton.specs.Overlapping.{CameFrom, IsOverlappingCost, AnswersOverlapping, sums_of};
-    ghost use Rattle.ac_automaton.specs.OverlappingIter.{AnswersOverlappingIter};
+    ghost use Rattle.ac_automaton.specs.OverlappingIter.{AnswersOverlappingIter, rest_of};
+    ghost use Rattle.ac_automaton.specs.Items.{AreFew, AreFewForEach, AreInOrder, EachLiesWithin, FindsWithin};
     ghost use Rattle.ac_automaton.specs.StreamIter.{AnswersStreamIter};
     ghost use Rattle.ac_automaton.specs.StreamReplace.{AcceptsReplacing, CostsStream, ReplacesStream};
     ghost use Rattle.ac_automaton.specs.StreamReplaceWith.{ReplacesStreamWith};
@@ -267,7 +268,8 @@ pub trait Automaton {
     final fn try_find(&self, input: &Input<'_>) -> Result<Option<Match>, MatchError>
     where
         Self: Search,
-        ensures { AnswersFind (built self.now) (supports self.now) input.now result }
+        ensures answer { AnswersFind (built self.now) (supports self.now) input.now result }
+        ensures within { FindsWithin (built self.now) input.now result }
     {
         let mut steps = Steps::new();
         self.try_find_counted(input, &mut steps)
@@ -283,20 +285,23 @@ pub trait Automaton {
     where
         Self: Search,
         ensures answer { AnswersFind (built self.now) (supports self.now) input.now result }
+        ensures within { FindsWithin (built self.now) input.now result }
         ensures cost { CostsFind (built self.now) input.now steps.old steps.new result }
     {
         self.search(input, steps)
     }
 
     /// All matches of the input, one after another: see [`FindIter`]. Returns an error where `try_find` does.
-    /// A caller: `uses::callers::iterate::all_matches`.
+    /// Callers: `uses::callers::iterate::all_matches`; `uses::callers::plain::texts`, which needs no proof file.
     final fn try_find_iter<'a, 'h>(
         &'a self,
         input: Input<'h>,
     ) -> Result<FindIter<'a, 'h, Self>, MatchError>
     where
         Self: Sized + Search,
-        ensures { AnswersFindIter (built self.now) (supports self.now) input.entry result }
+        ensures answer { AnswersFindIter (built self.now) (supports self.now) input.entry result }
+        ensures few { IfOk result (AreFew input.entry) }
+        ensures lie { IfOk result (AreInOrder (built self.now) input.entry) }
     {
         iter::find_iter(self, input)
     }
@@ -330,14 +335,17 @@ pub trait Automaton {
     /// All occurrences in the input, one after another; see [`FindOverlappingIter`].
     ///
     /// Returns an error where `try_find_overlapping` does, and also if the input is anchored.
-    /// A caller: `uses::callers::overlap::all_occurrences`.
+    /// Callers: `uses::callers::overlap::all_occurrences`; `uses::callers::plain::overlapping_texts`, which needs no proof file.
     final fn try_find_overlapping_iter<'a, 'h>(
         &'a self,
         input: Input<'h>,
     ) -> Result<FindOverlappingIter<'a, 'h, Self>, MatchError>
     where
         Self: Sized + Search,
-        ensures { AnswersOverlappingIter (built self.now) (supports self.now) input.entry result }
+        ensures answer { AnswersOverlappingIter (built self.now) (supports self.now) input.entry
+            result }
+        ensures few { IfOk result (AreFewForEach (built self.now) input.entry) }
+        ensures lie { IfOk result (EachLiesWithin rest_of (built self.now) input.entry) }
     {
         overlapping::iter::find_overlapping_iter(self, input)
     }
@@ -348,7 +356,7 @@ pub trait Automaton {
     /// Returns an error if the automaton has no start for a search that isn't anchored, isn't of the standard kind, or has an
     /// empty pattern, checked in that order, and then if there is no memory for the buffer. Nothing was read then: this call does
     /// not require [`Read`], so it can't read.
-    /// A caller: `uses::callers::stream::all_matches`.
+    /// Callers: `uses::callers::stream::all_matches`; `uses::callers::plain::places_in_stream`, which needs no proof file.
     final fn try_stream_find_iter<'a, R>(
         &'a self,
         alloc: Global,

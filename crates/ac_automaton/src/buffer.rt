@@ -10,6 +10,7 @@ ghost use Rattle.ac_input.specs.Steps.{Done};
 ghost use Rattle.ac_automaton.specs.Buffer.{Fills, IsRollPaid, kept_for, nothing_held, rolled};
 ghost use Rattle.ac_automaton.specs.Watched.{has_ended};
 
+use crate::stream::LEAST_ROOM;
 use crate::watched::Watched;
 use ac_input::history::Count;
 use ac_input::steps::Steps;
@@ -17,9 +18,6 @@ use std::alloc::{AllocError, Global};
 use std::io;
 use std::io::Read;
 use std::marker::Model;
-
-/// How many bytes a buffer has room for, at least.
-const LEAST_ROOM: usize = 65536;
 
 /// How often a buffer has room for what is kept, at least.
 const SHARE: usize = 8;

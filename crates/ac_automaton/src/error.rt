@@ -4,7 +4,7 @@
 //! automaton's kind. A [`MatchError`] says which. A search of a stream can stop also because reading, writing or memory failed. A
 //! [`StreamError`] distinguishes these, so that a caller knows which side of a copy failed.
 ghost use Rattle.std.specs.Prelude.{◌≡◌, Some};
-ghost use Rattle.ac_automaton.specs.declared.error.StreamError.TheVariants.{Memory};
+ghost use Rattle.ac_automaton.specs.declared.error.StreamError.TheVariants.{Config, Memory};
 ghost use Rattle.ac_automaton.specs.declared.error.ReplaceError.TheVariants.{Match, Memory as NoMemory};
 ghost use Rattle.ac_automaton.specs.Errors.{match_error_text, replace_error_text, stream_error_text};
 
@@ -17,7 +17,8 @@ use std::{fmt, io};
 /// Why a search returns an error.
 #[derive(Clone, Copy, Debug, PartialEq, Eq)]
 pub enum MatchErrorKind {
-    /// An anchored search, by an automaton that was built only for unanchored ones.
+    /// An anchored search, by an automaton that was built only for unanchored ones; or an anchored input for an iterator over
+    /// overlapping matches, which takes none.
     InvalidInputAnchored,
     /// An unanchored search, by an automaton that was built only for anchored ones.
     InvalidInputUnanchored,
@@ -185,6 +186,14 @@ pub enum StreamError {
     Memory,
     /// The input is longer than places can be counted.
     Position,
+}
+
+impl From<MatchError> for StreamError {
+    ghost from_gives = { λ refused error. error ≡ Config refused };
+
+    fn from(refused: MatchError) -> StreamError {
+        StreamError::Config(refused)
+    }
 }
 
 impl From<AllocError> for StreamError {

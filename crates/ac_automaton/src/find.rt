@@ -17,6 +17,7 @@ ghost use Rattle.std.specs.Prelude.{◌≡◌, ◌≢◌, ◌↔◌, ℕ, ◌<�
 ghost use Rattle.ac_automaton.specs.Automaton.{AnswersFind, CostsFind, IsFindCost, IsFound, IsState, kind_asked};
 ghost use Rattle.ac_automaton.specs.Cursor.{IsFirstAt, IsReachedWithin, IsTaken, IsWholeTaken, ReadsFurther, StandsIn};
 ghost use Rattle.ac_automaton.specs.Find.{BackIsEmpty, CandidateEnds, IsCandidateCost, IsSearchCost, IsUsable, IsWalkCost, WalkSays};
+ghost use Rattle.ac_automaton.specs.Items.{FindsWithin};
 
 use crate::automaton::Automaton;
 use crate::cursor::{Cursor, End, read_on, read_to_match};
@@ -284,11 +285,13 @@ pub fn find<A: Automaton>(
     steps: &mut Steps,
 ) -> Result<Option<Match>, MatchError>
     ensures answer { AnswersFind (A.built automaton.now) (A.supports automaton.now) input.now result }
+    ensures within { FindsWithin (A.built automaton.now) input.now result }
     ensures cost { CostsFind (A.built automaton.now) input.now steps.old steps.new result }
 {
     let anchored = input.get_anchored();
     let start = automaton.start_state(anchored)?;
-    if input.is_done() {
+    // as `is_done`, but `end` says also that the span ends within the haystack
+    if input.start() > input.end() {
         return Ok(None);
     }
     let prefilter = usable_prefilter(automaton, anchored, start);

@@ -7,11 +7,12 @@
 //! [`FindIter`] is the walk as an iterator. It holds two references and a few numbers, and takes no memory. Under the standard
 //! kind it reads on from the end of each match, so it reads each byte of the span once. Under a leftmost kind it has to read past
 //! a match, by as much as the longest pattern, before it knows that it is the one; it reads those bytes again.
-ghost use Rattle.std.specs.Prelude.{◌↔◌, ◌≤◌, IfSome, IsTrue};
+ghost use Rattle.std.specs.Prelude.{◌↔◌, ◌≤◌, IfOk, IfSome, IsTrue};
 ghost use Rattle.std.specs.Iterator.{YieldsFirst, item_count};
 ghost use Rattle.ac_input.specs.Walk.{Repeats};
 ghost use Rattle.ac_automaton.specs.Automaton.{IsFound, IsFindCost};
 ghost use Rattle.ac_automaton.specs.Iter.{AnswersFindIter, GivesPick, CostsPick, left_of, IsPickOf, IsPickCost, IsRestOf, IsOnItsWay};
+ghost use Rattle.ac_automaton.specs.Items.{AreFew, AreInOrder};
 
 use crate::automaton::Automaton;
 use crate::error::MatchError;
@@ -51,7 +52,10 @@ pub fn find_iter<'a, 'h, A: Search>(
     automaton: &'a A,
     input: Input<'h>,
 ) -> Result<FindIter<'a, 'h, A>, MatchError>
-    ensures { AnswersFindIter (A.built automaton.now) (A.supports automaton.now) input.entry result }
+    ensures answer { AnswersFindIter (A.built automaton.now) (A.supports automaton.now) input.entry
+        result }
+    ensures few { IfOk result (AreFew input.entry) }
+    ensures lie { IfOk result (AreInOrder (A.built automaton.now) input.entry) }
 {
     automaton.start_state(input.get_anchored())?;
     let first = Count::zero().more(&input.start());

@@ -16,17 +16,15 @@
 //! and no other error. Nothing is tried again. Of the bytes held back and sent, a front part was written then; the rest is
 //! dropped, and nothing is held back any more.
 ghost use Rattle.std.specs.Prelude.{◌≡◌, ◌+◌, ◌≤◌, [], ◌++◌, length, IfOk};
-ghost use Rattle.ac_automaton.specs.declared.output.TheConstants.{ROOM};
+ghost use Rattle.ac_automaton.specs.Buffer.{least_room};
 ghost use Rattle.ac_automaton.specs.Output.{Sends};
 
 use crate::error::StreamError;
+use crate::stream::LEAST_ROOM;
 use crate::watched::{Watched, write_whole};
 use std::alloc::{AllocError, Global};
 use std::io::Write;
 use std::marker::Model;
-
-/// How many bytes are held back at most.
-const ROOM: usize = 65536;
 
 /// Bytes on their way to a writer. A contract sees those that are held back.
 ///
@@ -39,14 +37,14 @@ pub struct Output {
 
 impl Model for Output {
     ghost use Rattle.std.specs.Prelude.{◌≡◌, ℕ, ◌≤◌, List, take, vec_len};
-    ghost use Rattle.ac_automaton.specs.declared.output.TheConstants.{ROOM};
+    ghost use Rattle.ac_automaton.specs.Buffer.{least_room};
 
     ghost Value = { List ℕ };
 
     ghost view = { λ output. take output.filled output.bytes.items };
 
     // The room that was taken doesn't change, and the bytes held back fit into it.
-    ghost invariant = { λ output. (vec_len output.bytes ≡ ROOM) × (output.filled ≤ ROOM) };
+    ghost invariant = { λ output. (vec_len output.bytes ≡ least_room) × (output.filled ≤ least_room) };
 }
 
 impl Output {
@@ -56,7 +54,7 @@ impl Output {
         ensures { IfOk result (λ output. output ≡ []) }
     {
         let mut bytes = Vec::new(alloc);
-        bytes.resize(ROOM, 0)?;
+        bytes.resize(LEAST_ROOM, 0)?;
         Ok(Output { bytes, filled: 0 })
     }
 
@@ -70,12 +68,12 @@ impl Output {
         ensures sent { Sends W.contents bytes.now writer.old writer.new self.old self.new
             result }
     {
-        if bytes.len() <= ROOM - self.filled {
+        if bytes.len() <= LEAST_ROOM - self.filled {
             self.hold_back(bytes);
             return Ok(());
         }
         self.send_held(writer)?;
-        if bytes.len() <= ROOM {
+        if bytes.len() <= LEAST_ROOM {
             self.hold_back(bytes);
             return Ok(());
         }
@@ -84,7 +82,7 @@ impl Output {
 
     /// Holds the bytes back. There is room for them.
     fn hold_back(&mut self, bytes: &[u8])
-        requires { length self.old + length bytes.now ≤ ROOM }
+        requires { length self.old + length bytes.now ≤ least_room }
         ensures { self.new ≡ self.old ++ bytes.now }
     {
         let filled = self.filled + bytes.len();

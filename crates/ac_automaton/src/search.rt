@@ -19,6 +19,7 @@ pub trait Search: Automaton {
     ghost use Rattle.std.specs.Prelude.{◌≡◌, []};
     ghost use Rattle.ac_input.specs.declared.search.MatchKind.TheVariants.{Standard};
     ghost use Rattle.ac_automaton.specs.Automaton.{AnswersFind, CostsFind};
+    ghost use Rattle.ac_automaton.specs.Items.{FindsWithin};
     ghost use Rattle.ac_automaton.specs.OverlappingSearch.{HasLeft, KeepsPaying, ShowsNextAt};
     ghost use Rattle.ac_automaton.specs.StreamWalk.{MayWalk, WalksOn};
 
@@ -26,6 +27,7 @@ pub trait Search: Automaton {
     /// A caller: `uses::callers::find::found_by_search`.
     fn search(&self, input: &Input<'_>, steps: &mut Steps) -> Result<Option<Match>, MatchError>
         ensures answer { AnswersFind (Self.built self.now) (Self.supports self.now) input.now result }
+        ensures within { FindsWithin (Self.built self.now) input.now result }
         ensures cost { CostsFind (Self.built self.now) input.now steps.old steps.new result }
     {
         find::find(self, input, steps)

@@ -31,10 +31,17 @@ pub use search::{Progress, Searched};
 use std::alloc::Global;
 use std::io::Read;
 
+/// How much room a buffer for the bytes of a stream has at least: 64 KiB.
+pub const LEAST_ROOM: usize = 65536;
+
 /// The remaining matches of a stream. From
 /// [`try_stream_find_iter`](crate::automaton::Automaton::try_stream_find_iter).
 ///
 /// After its first error, and after its first `None`, it always returns `None`, and never calls the reader again.
+///
+/// It ends, so a `for` may go over it. Its items can be one more than a `usize` counts: a match at each place, and an error. So
+/// count them in a loop, and not by `count`.
+/// A caller: `uses::callers::plain::places_in_stream`.
 #[derive(Drop)]
 pub struct StreamFindIter<'a, A: Search, R> {
     stream: StreamSearch<'a, A>,
@@ -135,12 +142,15 @@ impl<'a, A: Search, R: Read> StreamFindIter<'a, A, R> {
 }
 
 impl<'a, A: Search, R: Read> Iterator for StreamFindIter<'a, A, R> {
+    ghost use Rattle.std.specs.Iterator.{at_most};
     ghost use Rattle.ac_automaton.specs.Stream.{IsOnCourse};
-    ghost use Rattle.ac_automaton.specs.StreamIter.{GivesItem, progress_of};
+    ghost use Rattle.ac_automaton.specs.StreamIter.{GivesItem, most_left, progress_of};
 
     type Item = Result<Match, StreamError>;
 
     ghost next_gives = { λ s r t. GivesItem R.remaining s t r × IsOnCourse (progress_of t) };
+
+    ghost remaining = { λ s. at_most (most_left s) };
 
     fn next(&mut self) -> Option<Result<Match, StreamError>> {
         let mut steps = Steps::new();

@@ -2,7 +2,9 @@
 //!
 //! [`FindOverlappingIter`] holds an automaton, an input, and where the search began and stands. It takes no memory, and looks at
 //! the states of one walk over the span, however many matches it returns.
+ghost use Rattle.std.specs.Prelude.{IfOk};
 ghost use Rattle.std.specs.Iterator.{YieldsFirst, item_count};
+ghost use Rattle.ac_automaton.specs.Items.{AreFewForEach, EachLiesWithin};
 ghost use Rattle.ac_automaton.specs.OverlappingIter.{AnswersOverlappingIter, GivesFirst, RunCounts, IsWithinOneWalk, rest_of};
 
 use crate::error::MatchError;
@@ -56,8 +58,10 @@ pub fn find_overlapping_iter<'a, 'h, A: Search>(
     automaton: &'a A,
     input: Input<'h>,
 ) -> Result<FindOverlappingIter<'a, 'h, A>, MatchError>
-    ensures { AnswersOverlappingIter (A.built automaton.now) (A.supports automaton.now) input.entry
-        result }
+    ensures answer { AnswersOverlappingIter (A.built automaton.now) (A.supports automaton.now)
+        input.entry result }
+    ensures few { IfOk result (AreFewForEach (A.built automaton.now) input.entry) }
+    ensures lie { IfOk result (EachLiesWithin rest_of (A.built automaton.now) input.entry) }
 {
     let beginning = begin(automaton, &input)?;
     match input.get_anchored() {

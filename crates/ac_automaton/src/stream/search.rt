@@ -160,10 +160,7 @@ impl<'a, A: Search> StreamSearch<'a, A> {
     pub fn new(automaton: &'a A, alloc: Global) -> Result<StreamSearch<'a, A>, StreamError>
         ensures { AnswersNew (A.built automaton.now) (A.supports automaton.now) result }
     {
-        let start = match configured(automaton) {
-            Ok(start) => start,
-            Err(error) => return Err(StreamError::Config(error)),
-        };
+        let start = configured(automaton)?;
         let buffer = Buffer::new(alloc, automaton.max_pattern_len())?;
         Ok(StreamSearch {
             automaton,

@@ -10,5 +10,5 @@ use Rattle.uses.proofs.callers.build.occurs_in.Goals as goal
 pub returns : goal.returns
 returns c =
     let b = built_as c.in_ok-nfa.nfa in
-    let found = found-for b (λ anchored. Unit {0}) _ (whole_of c.args.text.now) _ _ c.try_find.ensures c.unwrap.ensures c.new-2.ensures in
+    let found = found-for b (λ anchored. Unit {0}) _ (whole_of c.args.text.now) _ _ c.try_find.ensures.answer c.unwrap.ensures c.new-2.ensures in
     (b.dictionary, first-bytes c.args.patterns.now b c.in_ok-nfa.ensures.built, best-some b.dictionary.kind (whole b.dictionary c.args.text.now false) _ _ found c.is_some.ensures)

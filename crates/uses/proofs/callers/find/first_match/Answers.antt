@@ -5,4 +5,4 @@ use Rattle.uses.proofs.callers.find.first_match.Goals as goal
 pub returns : goal.returns
 returns g c =
     let b = g.A.Automaton.built c.args.automaton.now in
-    found-first b c.args.text.now _ (found-for b (g.A.Automaton.supports c.args.automaton.now) _ (whole_of c.args.text.now) _ _ c.try_find.ensures c.unwrap.ensures c.new.ensures)
+    found-first b c.args.text.now _ (found-for b (g.A.Automaton.supports c.args.automaton.now) _ (whole_of c.args.text.now) _ _ c.try_find.ensures.answer c.unwrap.ensures c.new.ensures)

@@ -12,6 +12,6 @@ pub returns : goal.returns
 returns g c =
     let b = g.A.Automaton.built c.args.automaton.now in
     let x = c.args.text.now in
-    let left = left-listing b (g.A.Automaton.supports c.args.automaton.now) x _ _ _ c.try_find_overlapping_iter.ensures c.unwrap.ensures c.new.ensures in
+    let left = left-listing b (g.A.Automaton.supports c.args.automaton.now) x _ _ _ c.try_find_overlapping_iter.ensures.answer c.unwrap.ensures c.new.ensures in
     let all = items_from_collect c.collect.result c.collect.ensures.ran (YieldsList-from_first (λ y. y) rest_of (listing_in b (whole_of x)) left) in
     IfOk-weaker c.collect.result _ _ (λ v is. collected-listing b x v.items is) all

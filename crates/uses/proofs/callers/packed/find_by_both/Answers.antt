@@ -7,4 +7,4 @@ pub returns : goal.returns
 returns g c =
     let b = g.A.Automaton.built c.args.automaton.now in
     packed-alike c.args.searcher.now b.dictionary c.args.text.now _ _ c.requires.kind c.requires.same c.requires.unpaired c.find.ensures.best
-    (found-for b (g.A.Automaton.supports c.args.automaton.now) _ (whole_of c.args.text.now) _ _ c.try_find.ensures c.unwrap-found.ensures c.new.ensures)
+    (found-for b (g.A.Automaton.supports c.args.automaton.now) _ (whole_of c.args.text.now) _ _ c.try_find.ensures.answer c.unwrap-found.ensures c.new.ensures)

@@ -10,9 +10,9 @@ pub invariant_of-result : goal.invariant_of-result
 invariant_of-result g c =
     let a = c.args.automaton.now in
     let b = g.A.Automaton.built a in
-    let start = c.in-Ok.start in
-    let can = c.in-Ok.ensures.can in
-    let begins = c.in-Ok.ensures.start in
+    let start = c.in_ok-start.start in
+    let can = c.in_ok-start.ensures.can in
+    let begins = c.in_ok-start.ensures.start in
     let view = fresh-view b c.empty.result.items c.zero.result.value start c.max_pattern_len.result c.in_ok-buffer.buffer c.new-2.result c.empty.ensures c.zero.ensures c.in_ok-buffer.ensures.fresh c.new-2.ensures in
     subst (λ (t : StreamProgress). IsStreamSearch (g.A.Automaton.Reaches a No) t start start c.zero.result.value c.in_ok-buffer.buffer false) (sym view)
     (fresh-right b (g.A.Automaton.Reaches a No) start c.max_pattern_len.result c.zero.result.value c.in_ok-buffer.buffer can.1 can.2 begins (g.met.A.Automaton.lives a No [] start begins) c.max_pattern_len.ensures c.zero.ensures c.in_ok-buffer.ensures.fresh c.in_ok-buffer.ensures.paid)
@@ -21,9 +21,9 @@ pub returns : goal.returns
 returns g c =
     let a = c.args.automaton.now in
     let b = g.A.Automaton.built a in
-    let start = c.in-Ok.start in
-    let can = c.in-Ok.ensures.can in
-    let begins = c.in-Ok.ensures.start in
+    let start = c.in_ok-start.start in
+    let can = c.in_ok-start.ensures.can in
+    let begins = c.in_ok-start.ensures.start in
     let view = fresh-view b c.empty.result.items c.zero.result.value start c.max_pattern_len.result c.in_ok-buffer.buffer c.new-2.result c.empty.ensures c.zero.ensures c.in_ok-buffer.ensures.fresh c.new-2.ensures in
     let right = fresh-right b (g.A.Automaton.Reaches a No) start c.max_pattern_len.result c.zero.result.value c.in_ok-buffer.buffer can.1 can.2 begins (g.met.A.Automaton.lives a No [] start begins) c.max_pattern_len.ensures c.zero.ensures c.in_ok-buffer.ensures.fresh c.in_ok-buffer.ensures.paid in
     (can, view, subst IsOnCourse (sym view) right.stands.course)

@@ -13,6 +13,7 @@ pub use Rattle.ac_input.specs.Walk
 pub use Rattle.ac_input.specs.Work
 pub use Rattle.ac_literal.specs.Packed
 pub use Rattle.ac_automaton.specs.Automaton
+pub use Rattle.ac_automaton.specs.Items
 pub use Rattle.ac_automaton.specs.Iter
 pub use Rattle.ac_automaton.specs.Overlapping
 pub use Rattle.ac_automaton.specs.OverlappingIter

@@ -5,11 +5,12 @@
 //! The calls with `try_` return an error if the automaton has no start for the input's anchoring, and those for overlapping
 //! matches also if its kind isn't the standard one. The others require that neither is so, and then do the same. None of them
 //! takes memory.
-ghost use Rattle.std.specs.Prelude.{◌≡◌, ◌↔◌, IsTrue};
+ghost use Rattle.std.specs.Prelude.{◌≡◌, ◌↔◌, IfOk, IfSome, IsTrue};
 ghost use Rattle.ac_automaton.specs.Automaton.{AnswersFind, CostsFind, IsFound, searched};
 ghost use Rattle.ac_automaton.specs.Iter.{AnswersFindIter};
 ghost use Rattle.ac_automaton.specs.Overlapping.{ShowsNext, AnswersOverlapping, IsOverlappingCost, sums_of};
-ghost use Rattle.ac_automaton.specs.OverlappingIter.{AnswersOverlappingIter};
+ghost use Rattle.ac_automaton.specs.OverlappingIter.{AnswersOverlappingIter, rest_of};
+ghost use Rattle.ac_automaton.specs.Items.{AreFew, AreFewForEach, AreInOrder, EachLiesWithin, FindsWithin, LiesWithin};
 ghost use Rattle.aho_corasick.specs.AhoCorasick.{as_built, kind_of, supported_by, CameFromCalls, HasOccurrence, IsWalkOver, IsRunOver};
 
 use super::{AhoCorasick, FindIter, FindOverlappingIter};
@@ -54,6 +55,7 @@ impl AhoCorasick {
     pub fn find(&self, input: Input<'_>) -> Option<Match>
         requires { supported_by self.now input.anchored }
         ensures found { IsFound (as_built self.now) input.entry result }
+        ensures within { IfSome result (LiesWithin (as_built self.now) input.entry) }
     {
         self.try_find(input).unwrap()
     }
@@ -91,6 +93,8 @@ impl AhoCorasick {
     pub fn find_iter<'a, 'h>(&'a self, input: Input<'h>) -> FindIter<'a, 'h>
         requires { supported_by self.now input.anchored }
         ensures over { IsWalkOver (as_built self.now) input.entry result }
+        ensures few { AreFew input.entry result }
+        ensures lie { AreInOrder (as_built self.now) input.entry result }
     {
         self.try_find_iter(input).unwrap()
     }
@@ -106,6 +110,8 @@ impl AhoCorasick {
         requires standard { kind_of self.now ≡ MatchKind.Standard }
         requires anywhere { input.anchored ≡ Anchored.No }
         ensures over { IsRunOver (as_built self.now) input.entry result }
+        ensures few { AreFewForEach (as_built self.now) input.entry result }
+        ensures lie { EachLiesWithin rest_of (as_built self.now) input.entry result }
     {
         self.try_find_overlapping_iter(input).unwrap()
     }
@@ -117,6 +123,7 @@ impl AhoCorasick {
     /// A caller: `uses::callers::front_find::begins_with_any`.
     pub fn try_find(&self, input: Input<'_>) -> Result<Option<Match>, MatchError>
         ensures answer { AnswersFind (as_built self.now) (supported_by self.now) input.entry result }
+        ensures within { FindsWithin (as_built self.now) input.entry result }
     {
         Automaton::try_find(self, &input)
     }
@@ -130,6 +137,7 @@ impl AhoCorasick {
         steps: &mut Steps,
     ) -> Result<Option<Match>, MatchError>
         ensures answer { AnswersFind (as_built self.now) (supported_by self.now) input.entry result }
+        ensures within { FindsWithin (as_built self.now) input.entry result }
         ensures cost { CostsFind (as_built self.now) input.entry steps.old steps.new result }
     {
         Automaton::try_find_counted(self, &input, steps)
@@ -173,6 +181,8 @@ impl AhoCorasick {
     pub fn try_find_iter<'a, 'h>(&'a self, input: Input<'h>) -> Result<FindIter<'a, 'h>, MatchError>
         ensures answer { AnswersFindIter (as_built self.now) (supported_by self.now) input.entry
             result }
+        ensures few { IfOk result (AreFew input.entry) }
+        ensures lie { IfOk result (AreInOrder (as_built self.now) input.entry) }
     {
         Automaton::try_find_iter(self, input)
     }
@@ -188,6 +198,8 @@ impl AhoCorasick {
     ) -> Result<FindOverlappingIter<'a, 'h>, MatchError>
         ensures answer { AnswersOverlappingIter (as_built self.now) (supported_by self.now)
             input.entry result }
+        ensures few { IfOk result (AreFewForEach (as_built self.now) input.entry) }
+        ensures lie { IfOk result (EachLiesWithin rest_of (as_built self.now) input.entry) }
     {
         Automaton::try_find_overlapping_iter(self, input)
     }

@@ -1,26 +1,24 @@
 -- What the front builds for settings and rules, or why not.
 use Rattle.std.proofs.Common.{◌≡◌, ◌≢◌, ℕ, List, inl, inr, refl, sym, ap, ◌∙◌, subst}
-use Rattle.std.specs.Borrow.{Bor}
 use Rattle.ac_input.specs.Dfa.{Serves}
 use Rattle.ac_input.specs.Dictionary.{Dictionary}
 use Rattle.ac_input.specs.Limits.{IsWithinLimits}
 use Rattle.ac_input.specs.Rules.{Rule}
 use Rattle.ac_input.specs.declared.search.Anchored.TheVariants.{No}
 use Rattle.ac_input.specs.declared.search.StartKind.{StartKind}
-use Rattle.ac_literal.specs.Packed.{bytes_of}
 use Rattle.ac_noncontiguous.specs.Reads.{dictionary}
 use Rattle.ac_noncontiguous.specs.declared.error.BuildErrorKind.{BuildErrorKind}
 use Rattle.ac_noncontiguous.specs.declared.error.BuildErrorKind.TheVariants as limits
 use Rattle.ac_noncontiguous.specs.declared.nfa.NFA.{NFA}
-use Rattle.aho_corasick.specs.AhoCorasick.{as_built, serving_engine, supported_by}
-use Rattle.ac_noncontiguous.specs.Builder.{dictionary_by}
-use Rattle.aho_corasick.specs.Builder.{FrontSettings, noncontiguous_by}
+use Rattle.aho_corasick.specs.AhoCorasick.{as_built, serving_engine, start_kind_of, supported_by}
+use Rattle.aho_corasick.specs.Builder.{FrontSettings, front_dictionary}
 use Rattle.aho_corasick.specs.Engine.{kind_served}
 use Rattle.aho_corasick.specs.Served.{IsFrontBuilt, IsDictionaryRefused, IsFrontBuildRefused, IsServed, IsServedBy, ServesUnnamed, TakesDfa}
 use Rattle.aho_corasick.specs.declared.ahocorasick.AhoCorasick.{AhoCorasick}
 use Rattle.aho_corasick.specs.declared.ahocorasick.AhoCorasickKind.{AhoCorasickKind}
 use Rattle.aho_corasick.specs.declared.ahocorasick.AhoCorasickKind.TheVariants as kinds
 use Rattle.aho_corasick.proofs.EngineLemmas.{dfa-deterministic}
+use Rattle.aho_corasick.proofs.ServedLemmas.{made-follows}
 use Rattle.acsub.specs.Finder.{FailsToBuild, IsServing, not_built}
 use Rattle.acsub.specs.Served.{IsAutomatonFor, IsBuildable, IsServedByDfa, automaton_named, builder_settings, dictionary_for}
 use Rattle.acsub.specs.Sides.{patterns_of}
@@ -44,12 +42,12 @@ served-dfa settings rules from kind is served (inr (auto, takes)) =
     (subst (TakesDfa (builder_settings settings)) (sym is) takes)
     (subst (λ (e : Engine). IsServedBy (automaton_named e) (builder_settings settings) from kind) auto served)
 
-module _ (settings : Settings) (rules : List Rule) (patterns : List (Bor (List ℕ))) (same : bytes_of patterns ≡ patterns_of rules) where
+module _ (settings : Settings) (rules : List Rule) (patterns : List (List ℕ)) (same : patterns ≡ patterns_of rules) where
   -- the patterns that a builder is given are those of the rules
-  handed : dictionary_by (noncontiguous_by (builder_settings settings)) patterns ≡ dictionary_for settings rules
+  handed : front_dictionary (builder_settings settings) patterns ≡ dictionary_for settings rules
   handed = ap (λ (ps : List (List ℕ)). record (dictionary_for settings rules) { patterns = ps }) same
 
-  module _ (ac : AhoCorasick) (built : IsFrontBuilt (builder_settings settings) patterns ac) where
+  module _ (ac : AhoCorasick) (starts : start_kind_of ac ≡ (builder_settings settings).start_kind) (built : IsFrontBuilt (builder_settings settings) patterns ac) where
     abbrev from : NFA
     from = built.served.0
 
@@ -59,9 +57,9 @@ module _ (settings : Settings) (rules : List Rule) (patterns : List (Bor (List �
     -- what was built serves
     pub built-serves : IsServing (record { settings = settings; rules = rules }) (as_built ac) (supported_by ac)
     built-serves = record {
-      dictionary = built.served.2.0.dictionary ∙ made;
+      dictionary = (made-follows (builder_settings settings) from (serving_engine ac) built.served.2.0).dictionary ∙ made;
       looks = λ by_dfa. dfa-deterministic (serving_engine ac) (served-dfa settings rules from (kind_served (serving_engine ac)) made built.served.2.1 by_dfa);
-      start = subst (λ (k : StartKind). Serves k No) (sym built.start_kind) refl;
+      start = subst (λ (k : StartKind). Serves k No) (sym starts) refl;
     }
 
     -- it is of the kind that the settings ask for

@@ -1,12 +1,14 @@
 -- What is made of a noncontiguous NFA follows it, and is the automaton that serves.
-use Rattle.std.specs.Prelude.{◌≡◌, ◌≢◌, ℕ, ◌≤◌, length, Option, None, Some, Result, Ok, Err, IfOk, IfErr}
-use Rattle.std.proofs.Common.{subst, sym, ap, refl, inl, inr}
+use Rattle.std.specs.Prelude.{◌≡◌, ◌≢◌, ℕ, ◌≤◌, List, length, Option, None, Some, Result, Ok, Err, IfOk, IfErr}
+use Rattle.std.proofs.Common.{subst, sym, ap, ◌∙◌, refl, inl, inr}
 use Rattle.std.proofs.Math.Logic.{∥∥₁_elim}
 use Rattle.ac_input.specs.declared.search.StartKind.{StartKind}
 use Rattle.ac_input.specs.declared.search.StartKind.TheVariants.{Both}
+use Rattle.ac_input.specs.Candidate.{Filter}
 use Rattle.ac_input.specs.Dfa.{Serves}
 use Rattle.ac_automaton.specs.Automaton.{Built}
-use Rattle.ac_noncontiguous.specs.Reads.{dictionary}
+use Rattle.ac_noncontiguous.specs.Builder.{IsBuiltBy, IsHeld}
+use Rattle.ac_noncontiguous.specs.Reads.{built_as, dictionary}
 use Rattle.ac_noncontiguous.specs.declared.error.BuildErrorKind.{BuildErrorKind}
 use Rattle.ac_noncontiguous.specs.declared.error.BuildErrorKind.TheVariants.{StateIDOverflow, PatternIDOverflow, PatternTooLong, Memory}
 use Rattle.ac_noncontiguous.specs.declared.nfa.NFA.{NFA}
@@ -14,36 +16,46 @@ use Rattle.ac_tables.specs.declared.contiguous.NFA.{NFA as ContiguousNFA}
 use Rattle.ac_tables.specs.declared.dfa.DFA.{DFA}
 use Rattle.ac_tables.specs.ContiguousBuilder.{IsMadeFrom, IsRefusedFrom, ContiguousSettings}
 use Rattle.ac_tables.specs.DfaBuild.{IsDfaOf, IsDfaRefused, DfaSettings}
+use Rattle.aho_corasick.specs.declared.ahocorasick.AhoCorasick.{AhoCorasick}
 use Rattle.aho_corasick.specs.declared.ahocorasick.AhoCorasickKind.{AhoCorasickKind}
 use Rattle.aho_corasick.specs.declared.ahocorasick.AhoCorasickKind.TheVariants as kinds
-use Rattle.aho_corasick.specs.declared.ahocorasick.builder.TheConstants.{MOST_FOR_DFA}
 use Rattle.aho_corasick.specs.declared.engine.Engine.{Engine}
-use Rattle.aho_corasick.specs.declared.engine.Engine.TheVariants.{Contiguous, Dfa}
-use Rattle.aho_corasick.specs.Builder.{FrontSettings}
-use Rattle.aho_corasick.specs.Engine.{engine_supported_by, HasStarts}
-use Rattle.aho_corasick.specs.Served.{contiguous_by, dfa_by, TakesDfa, IsContiguousTooLargeFor, IsContiguousWithinFor, IsTriedDfa, IsServedBy, IsTriedContiguous, IsEngineOf, IsNamedRefused, Follows, IsFitting}
+use Rattle.aho_corasick.specs.declared.engine.Engine.TheVariants.{Noncontiguous, Contiguous, Dfa}
+use Rattle.aho_corasick.specs.AhoCorasick.{as_built, serving_engine}
+use Rattle.aho_corasick.specs.Builder.{FrontSettings, front_dictionary, noncontiguous_by}
+use Rattle.aho_corasick.specs.Engine.{engine_built_as, engine_supported_by, HasStarts}
+use Rattle.aho_corasick.specs.Served.{contiguous_by, dfa_by, most_for_dfa, TakesDfa, IsContiguousTooLargeFor, IsContiguousWithinFor, IsTriedDfa, IsServedBy, IsTriedContiguous, IsEngineOf, IsNamedRefused, IsMadeBy, IsFrontBuilt, IsFrontMadeOf, IsFitting}
 
--- the contiguous NFA that is made of it
-pub follows-contiguous : (s : FrontSettings) (from : NFA) (made : ContiguousNFA) → IsMadeFrom (contiguous_by s) from made → Follows s from (Contiguous made)
-follows-contiguous s from made is =
+-- An automaton finds what the noncontiguous NFA does, and has the starts that the settings ask for.
+pub record Follows (s : FrontSettings) (from : NFA) (engine : Engine) : Type 0 where
+  pub dictionary : (engine_built_as engine).dictionary ≡ dictionary from
+  pub prefilter : (engine_built_as engine).prefilter ≡ (built_as from).prefilter
+  pub starts : HasStarts s.start_kind engine
+
+-- one that is made by the settings does
+pub made-follows : (s : FrontSettings) (from : NFA) (engine : Engine) → IsMadeBy s from engine → Follows s from engine
+made-follows s from (Noncontiguous nfa) is =
+    record {
+      dictionary = ap (λ (n : NFA). (built_as n).dictionary) is;
+      prefilter = ap (λ (n : NFA). (built_as n).prefilter) is;
+      starts = λ anchored serves. ∣ tt ∣₁;
+    }
+made-follows s from (Contiguous made) is =
     record {
       dictionary = ap (λ (b : Built). b.dictionary) is.built;
       prefilter = ap (λ (b : Built). b.prefilter) is.built;
       starts = λ anchored serves. ∣ tt ∣₁;
     }
-
--- it is within its limit
-pub within-contiguous : (s : FrontSettings) (from : NFA) (made : ContiguousNFA) → IsMadeFrom (contiguous_by s) from made → IsContiguousWithinFor s from
-within-contiguous s from made is = (is.laid.classes, is.laid.serve, is.laid.within)
-
--- the DFA that is made of it
-pub follows-dfa : (s : FrontSettings) (from : NFA) (dfa : DFA) → IsDfaOf (dfa_by s) from dfa → Follows s from (Dfa dfa)
-follows-dfa s from dfa is =
+made-follows s from (Dfa dfa) is =
     record {
       dictionary = ap (λ (b : Built). b.dictionary) is.built;
       prefilter = ap (λ (b : Built). b.prefilter) is.built;
       starts = λ anchored serves. ∣ subst (λ (k : StartKind). Serves k anchored) (sym is.starts) serves ∣₁;
     }
+
+-- a contiguous NFA that was made is within its limit
+pub within-contiguous : (s : FrontSettings) (from : NFA) (made : ContiguousNFA) → IsMadeFrom (contiguous_by s) from made → IsContiguousWithinFor s from
+within-contiguous s from made is = (is.laid.classes, is.laid.serve, is.laid.within)
 
 -- if the DFA is too large, none is taken
 pub refused-dfa : (s : FrontSettings) (from : NFA) (max requested : ℕ) → IsDfaRefused (dfa_by s) from (StateIDOverflow max requested) → ¬ TakesDfa s (dictionary from)
@@ -65,7 +77,7 @@ refused-contiguous s from max requested refused = (refused.2, refused.3, refused
 
 -- what a try of the DFA gives
 pub tried-dfa : (s : FrontSettings) (from : NFA) (b : DfaSettings) (made : Result DFA BuildErrorKind) (r : Option DFA) → b ≡ dfa_by s
-    → s.start_kind ≢ Both → length (dictionary from).patterns ≤ MOST_FOR_DFA
+    → s.start_kind ≢ Both → length (dictionary from).patterns ≤ most_for_dfa
     → IfOk made (IsDfaOf b from) → IfErr made (IsDfaRefused b from) → IsFitting made (Ok r) → IsTriedDfa s from r
 tried-dfa s from b made (Some dfa) by one few built refused fits =
     (one, few, subst (λ (t : DfaSettings). IsDfaOf t from dfa) by (subst (λ (m : Result DFA BuildErrorKind). IfOk m (IsDfaOf b from)) fits built))
@@ -74,7 +86,7 @@ tried-dfa s from b made None by one few built refused fits =
 
 -- so of each result of the try
 pub tries-dfa : (s : FrontSettings) (from : NFA) (b : DfaSettings) (made : Result DFA BuildErrorKind) (r : Result (Option DFA) BuildErrorKind) → b ≡ dfa_by s
-    → s.start_kind ≢ Both → length (dictionary from).patterns ≤ MOST_FOR_DFA
+    → s.start_kind ≢ Both → length (dictionary from).patterns ≤ most_for_dfa
     → IfOk made (IsDfaOf b from) → IfErr made (IsDfaRefused b from) → IsFitting made r → IfOk r (IsTriedDfa s from)
 tries-dfa s from b made (Ok tried) by one few built refused fits = tried-dfa s from b made tried by one few built refused fits
 tries-dfa s from b made (Err error) by one few built refused fits = tt
@@ -102,21 +114,32 @@ pub served-contiguous : (s : FrontSettings) (from : NFA) (b : ContiguousSettings
     → IsMadeFrom b from made → IsEngineOf s from (Contiguous made)
 served-contiguous s from b made is by ok =
     let of_s = subst (λ (t : ContiguousSettings). IsMadeFrom t from made) by ok in
-    (follows-contiguous s from made of_s, subst (λ (k : Option AhoCorasickKind). IsServedBy k s from kinds.ContiguousNFA) (sym is) (refl, within-contiguous s from made of_s))
+    (of_s, subst (λ (k : Option AhoCorasickKind). IsServedBy k s from kinds.ContiguousNFA) (sym is) (refl, within-contiguous s from made of_s))
 
 -- the DFA serves where it was named
 pub served-dfa : (s : FrontSettings) (from : NFA) (b : DfaSettings) (dfa : DFA) → s.kind ≡ Some kinds.DFA → b ≡ dfa_by s
     → IsDfaOf b from dfa → IsEngineOf s from (Dfa dfa)
 served-dfa s from b dfa is by ok =
     let of_s = subst (λ (t : DfaSettings). IsDfaOf t from dfa) by ok in
-    (follows-dfa s from dfa of_s, subst (λ (k : Option AhoCorasickKind). IsServedBy k s from kinds.DFA) (sym is) (refl, of_s.within))
+    (of_s, subst (λ (k : Option AhoCorasickKind). IsServedBy k s from kinds.DFA) (sym is) (refl, of_s.within))
 
 -- ---- built
 
 -- over it there are the starts that the settings ask for
-pub starts-shared : (s : FrontSettings) (from : NFA) (kind : StartKind) (engine shared : Engine) → kind ≡ s.start_kind → Follows s from engine → shared ≡ engine → HasStarts kind shared
-starts-shared s from kind engine shared is follows same =
-    λ anchored serves. subst (λ (e : Engine). ∥ engine_supported_by e anchored ∥₁) (sym same) (follows.starts anchored (subst (λ (k : StartKind). Serves k anchored) is serves))
+pub starts-shared : (s : FrontSettings) (from : NFA) (kind : StartKind) (engine shared : Engine) → kind ≡ s.start_kind → IsMadeBy s from engine → shared ≡ engine → HasStarts kind shared
+starts-shared s from kind engine shared is made same =
+    λ anchored serves. subst (λ (e : Engine). ∥ engine_supported_by e anchored ∥₁) (sym same) ((made-follows s from engine made).starts anchored (subst (λ (k : StartKind). Serves k anchored) is serves))
+
+-- what is made of an NFA that was built of the patterns has their dictionary, and is built of them
+pub front-dictionary : (s : FrontSettings) (patterns : List (List ℕ)) (from : NFA) (ac : AhoCorasick) → IsBuiltBy (noncontiguous_by s) (front_dictionary s patterns) (built_as from) → IsFrontMadeOf s from ac → (as_built ac).dictionary ≡ front_dictionary s patterns
+front-dictionary s patterns from ac own made = (made-follows s from (serving_engine ac) made.1.0).dictionary ∙ own.dictionary
+
+pub front-built : (s : FrontSettings) (patterns : List (List ℕ)) (from : NFA) (ac : AhoCorasick) → IsBuiltBy (noncontiguous_by s) (front_dictionary s patterns) (built_as from) → IsFrontMadeOf s from ac → IsFrontBuilt s patterns ac
+front-built s patterns from ac own made =
+    record {
+      prefilter = subst (λ (held : Option Filter). IsHeld s.prefilter (front_dictionary s patterns) held) (sym (made-follows s from (serving_engine ac) made.1.0).prefilter) own.prefilter;
+      served = (from, own, made.1);
+    }
 
 -- out of memory is an error whichever was named
 pub named-memory : (kind : Option AhoCorasickKind) (s : FrontSettings) (from : NFA) → IsNamedRefused kind s from Memory

@@ -1,6 +1,8 @@
 -- What an automaton of the front was built as, and what its searches return when they can't fail.
 use Rattle.std.specs.Prelude.{◌≡◌, ℕ, Bool, List, length}
 use Rattle.ac_input.specs.declared.search.Anchored.{Anchored}
+use Rattle.ac_input.specs.declared.search.MatchKind.{MatchKind}
+use Rattle.ac_input.specs.declared.search.StartKind.{StartKind}
 use Rattle.ac_input.specs.Dfa.{Serves}
 use Rattle.ac_input.specs.Input.{Asked}
 use Rattle.ac_input.specs.Occurrence.{Search, Occurrence, Occurs}
@@ -21,9 +23,27 @@ serving_engine ac = ac.engine.value
 abbrev pub as_built : AhoCorasick → Built
 as_built ac = engine_built_as (serving_engine ac)
 
--- for which searches it has a start: those of the start kind that was set, whichever automaton serves
+-- its patterns, by number, and how many there are
+abbrev pub patterns_of : AhoCorasick → List (List ℕ)
+patterns_of ac = (as_built ac).dictionary.patterns
+
+abbrev pub pattern_count : AhoCorasick → ℕ
+pattern_count ac = length (patterns_of ac)
+
+-- which of several overlapping occurrences is the match
+abbrev pub kind_of : AhoCorasick → MatchKind
+kind_of ac = (as_built ac).dictionary.kind
+
+-- which bytes stand for one another
+abbrev pub pairing_of : AhoCorasick → List ℕ
+pairing_of ac = (as_built ac).dictionary.pairing
+
+-- the start kind that was set, whichever automaton serves; and for which searches that gives a start
+abbrev pub start_kind_of : AhoCorasick → StartKind
+start_kind_of ac = ac.start_kind
+
 abbrev pub supported_by : AhoCorasick → Anchored → Type 0
-supported_by ac anchored = Serves ac.start_kind anchored
+supported_by ac anchored = Serves (start_kind_of ac) anchored
 
 -- a number is read by a search
 abbrev pub IsFrontRead : AhoCorasick → Anchored → List ℕ → ℕ → Type 0
@@ -41,10 +61,6 @@ is_front_start_at ac sid = is_engine_start_at (serving_engine ac) sid
 abbrev pub is_front_special_at : AhoCorasick → ℕ → Bool
 is_front_special_at ac sid = is_engine_special_at (serving_engine ac) sid
 
--- how many patterns it was made from
-abbrev pub pattern_count : AhoCorasick → ℕ
-pattern_count ac = length (as_built ac).dictionary.patterns
-
 -- an overlapping state is fresh, or came from earlier calls with this automaton and input alone
 abbrev pub CameFromCalls : AhoCorasick → Asked → OverlappingState → Type 0
 CameFromCalls ac asked state = overlapping.CameFrom (as_built ac) (IsFrontRead ac) (front_matches_at ac) asked state
@@ -52,7 +68,7 @@ CameFromCalls ac asked state = overlapping.CameFrom (as_built ac) (IsFrontRead a
 -- one means the same as another: the same automaton serves both, for the same searches
 pub record MeansSame (ac other : AhoCorasick) : Type 0 where
   pub engine : serving_engine other ≡ serving_engine ac
-  pub starts : other.start_kind ≡ ac.start_kind
+  pub starts : start_kind_of other ≡ start_kind_of ac
 
 -- some pattern occurs in the search
 abbrev pub HasOccurrence : Search → Type 0

@@ -1,10 +1,9 @@
 -- Which automaton serves by the settings of a builder, and what is built or why not.
 use Rattle.std.specs.Prelude.{◌≡◌, ◌≢◌, ◌⊎◌, ℕ, ◌≤◌, length, List, Option, None, Some, Result, Ok, Err}
-use Rattle.std.specs.Borrow.{Bor}
 use Rattle.ac_input.specs.declared.search.StartKind.TheVariants.{Both}
 use Rattle.ac_input.specs.Dfa.{IsDfaTooLarge}
 use Rattle.ac_input.specs.Dictionary.{Dictionary}
-use Rattle.ac_noncontiguous.specs.Builder.{IsHeld, IsBuiltOf, dictionary_by}
+use Rattle.ac_noncontiguous.specs.Builder.{IsHeld, IsBuiltBy}
 use Rattle.ac_noncontiguous.specs.Reads.{dictionary, built_as}
 use Rattle.ac_noncontiguous.specs.Standing.{IsBuildRefused}
 use Rattle.ac_noncontiguous.specs.declared.error.BuildErrorKind.{BuildErrorKind}
@@ -19,11 +18,11 @@ use Rattle.ac_tables.specs.declared.dfa.DFA.{DFA as Deterministic}
 use Rattle.aho_corasick.specs.declared.ahocorasick.AhoCorasick.{AhoCorasick}
 use Rattle.aho_corasick.specs.declared.ahocorasick.AhoCorasickKind.{AhoCorasickKind}
 use Rattle.aho_corasick.specs.declared.ahocorasick.AhoCorasickKind.TheVariants.{NoncontiguousNFA, ContiguousNFA, DFA}
-use Rattle.aho_corasick.specs.declared.ahocorasick.builder.TheConstants.{MOST_FOR_DFA}
 use Rattle.aho_corasick.specs.declared.engine.Engine.{Engine}
-use Rattle.aho_corasick.specs.AhoCorasick.{serving_engine}
-use Rattle.aho_corasick.specs.Builder.{FrontSettings, AreFrontFirst, noncontiguous_by, depth_or}
-use Rattle.aho_corasick.specs.Engine.{engine_built_as, kind_served, HasStarts}
+use Rattle.aho_corasick.specs.declared.engine.Engine.TheVariants as engines
+use Rattle.aho_corasick.specs.AhoCorasick.{as_built, serving_engine, start_kind_of}
+use Rattle.aho_corasick.specs.Builder.{FrontSettings, AreFrontFirst, noncontiguous_by, depth_or, front_dictionary}
+use Rattle.aho_corasick.specs.Engine.{kind_served}
 
 -- ---- the settings of each automaton
 
@@ -46,9 +45,13 @@ IsContiguousTooLargeFor s from = (classes : List ℕ) × AreClassesFor from s.by
 abbrev pub IsContiguousWithinFor : FrontSettings → NFA → Type 0
 IsContiguousWithinFor s from = (classes : List ℕ) × AreClassesFor from s.byte_classes classes × ¬ ArePlacesTooGreat from (contiguous_by s).dense_depth classes
 
+-- for how many patterns at most a DFA is taken, where none is named
+abbrev pub most_for_dfa : ℕ
+most_for_dfa = 100
+
 -- a DFA is taken where none is named: for one start kind and few patterns, where it isn't too large
 abbrev pub TakesDfa : FrontSettings → Dictionary → Type 0
-TakesDfa s m = (s.start_kind ≢ Both) × (length m.patterns ≤ MOST_FOR_DFA) × ¬ IsDfaTooLargeFor s m
+TakesDfa s m = (s.start_kind ≢ Both) × (length m.patterns ≤ most_for_dfa) × ¬ IsDfaTooLargeFor s m
 
 -- which automaton serves where none is named: the DFA where one is taken, else the contiguous NFA where it isn't too large, else the
 -- noncontiguous one
@@ -59,7 +62,7 @@ ServesUnnamed s from NoncontiguousNFA = (¬ TakesDfa s (dictionary from)) × IsC
 
 -- what a try of the DFA gives: one is taken, or none is
 abbrev pub IsTriedDfa : FrontSettings → NFA → Option Deterministic → Type 0
-IsTriedDfa s from (Some dfa) = (s.start_kind ≢ Both) × (length (dictionary from).patterns ≤ MOST_FOR_DFA) × IsDfaOf (dfa_by s) from dfa
+IsTriedDfa s from (Some dfa) = (s.start_kind ≢ Both) × (length (dictionary from).patterns ≤ most_for_dfa) × IsDfaOf (dfa_by s) from dfa
 IsTriedDfa s from None = ¬ TakesDfa s (dictionary from)
 
 -- what a try of the contiguous NFA gives: one that is made of the automaton, or none where it is too large
@@ -84,31 +87,29 @@ IsServed s from kind = IsServedBy s.kind s from kind
 
 -- ---- what is built
 
--- an automaton finds what another does, and has the starts that the settings ask for
-pub record Follows (s : FrontSettings) (from : NFA) (engine : Engine) : Type 0 where
-  pub dictionary : (engine_built_as engine).dictionary ≡ dictionary from
-  pub prefilter : (engine_built_as engine).prefilter ≡ (built_as from).prefilter
-  pub starts : HasStarts s.start_kind engine
+-- An automaton is made by the settings: it is the noncontiguous NFA, or a contiguous one or a DFA that is made of it.
+abbrev pub IsMadeBy : FrontSettings → NFA → Engine → Type 0
+IsMadeBy s from (engines.Noncontiguous nfa) = nfa ≡ from
+IsMadeBy s from (engines.Contiguous made) = IsMadeFrom (contiguous_by s) from made
+IsMadeBy s from (engines.Dfa dfa) = IsDfaOf (dfa_by s) from dfa
 
--- it is the one that serves, made of the noncontiguous NFA
+-- it is the one that serves
 abbrev pub IsEngineOf : FrontSettings → NFA → Engine → Type 0
-IsEngineOf s from engine = Follows s from engine × IsServed s from (kind_served engine)
+IsEngineOf s from engine = IsMadeBy s from engine × IsServed s from (kind_served engine)
 
 -- it is the one that is taken where none is named
 abbrev pub IsEngineTaken : FrontSettings → NFA → Engine → Type 0
-IsEngineTaken s from engine = Follows s from engine × ServesUnnamed s from (kind_served engine)
+IsEngineTaken s from engine = IsMadeBy s from engine × ServesUnnamed s from (kind_served engine)
 
 -- the automaton is made over the one that serves
 abbrev pub IsFrontMadeOf : FrontSettings → NFA → AhoCorasick → Type 0
-IsFrontMadeOf s from ac = (ac.start_kind ≡ s.start_kind) × IsEngineOf s from (serving_engine ac)
+IsFrontMadeOf s from ac = (start_kind_of ac ≡ s.start_kind) × IsEngineOf s from (serving_engine ac)
 
--- The automaton is built of the patterns: it has their dictionary, a prefilter as one is wanted, and the start kind; and one serves
--- that is made of a noncontiguous NFA that was built of them.
-pub record IsFrontBuilt (s : FrontSettings) (patterns : List (Bor (List ℕ))) (ac : AhoCorasick) : Type 0 where
-  pub dictionary : (engine_built_as (serving_engine ac)).dictionary ≡ dictionary_by (noncontiguous_by s) patterns
-  pub prefilter : IsHeld s.prefilter (dictionary_by (noncontiguous_by s) patterns) (engine_built_as (serving_engine ac)).prefilter
-  pub start_kind : ac.start_kind ≡ s.start_kind
-  pub served : (from : NFA) × IsBuiltOf (noncontiguous_by s) patterns (built_as from) × IsEngineOf s from (serving_engine ac)
+-- The automaton is built of the patterns: it holds a prefilter as one is wanted; and one serves that is made of a noncontiguous NFA
+-- that was built of them.
+pub record IsFrontBuilt (s : FrontSettings) (patterns : List (List ℕ)) (ac : AhoCorasick) : Type 0 where
+  pub prefilter : IsHeld s.prefilter (front_dictionary s patterns) (as_built ac).prefilter
+  pub served : (from : NFA) × IsBuiltBy (noncontiguous_by s) (front_dictionary s patterns) (built_as from) × IsEngineOf s from (serving_engine ac)
 
 -- ---- errors
 
@@ -124,14 +125,14 @@ abbrev pub IsDictionaryRefused : FrontSettings → Dictionary → BuildErrorKind
 IsDictionaryRefused s m error = IsBuildRefused m error ⊎ ((from : NFA) × (dictionary from ≡ m) × IsNamedRefused s.kind s from error)
 
 -- why none is built of these patterns
-abbrev pub IsFrontBuildRefused : FrontSettings → List (Bor (List ℕ)) → BuildErrorKind → Type 0
-IsFrontBuildRefused s patterns error = IsDictionaryRefused s (dictionary_by (noncontiguous_by s) patterns) error
+abbrev pub IsFrontBuildRefused : FrontSettings → List (List ℕ) → BuildErrorKind → Type 0
+IsFrontBuildRefused s patterns error = IsDictionaryRefused s (front_dictionary s patterns) error
 
 -- so it is by the settings that a builder has at first
-abbrev pub IsFrontBuiltAtFirst : List (Bor (List ℕ)) → AhoCorasick → Type 0
+abbrev pub IsFrontBuiltAtFirst : List (List ℕ) → AhoCorasick → Type 0
 IsFrontBuiltAtFirst patterns ac = (s : FrontSettings) × AreFrontFirst s × IsFrontBuilt s patterns ac
 
-abbrev pub IsFrontRefusedAtFirst : List (Bor (List ℕ)) → BuildErrorKind → Type 0
+abbrev pub IsFrontRefusedAtFirst : List (List ℕ) → BuildErrorKind → Type 0
 IsFrontRefusedAtFirst patterns error = (s : FrontSettings) × AreFrontFirst s × IsFrontBuildRefused s patterns error
 
 -- ---- trying the next

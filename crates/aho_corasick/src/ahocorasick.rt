@@ -15,6 +15,7 @@ use ac_automaton::{iter, overlapping, stream as streams};
 use ac_input::search::{MatchKind, StartKind};
 pub use builder::AhoCorasickBuilder;
 use std::alloc::{AllocError, Global};
+use std::fmt::{self, Debug, Formatter};
 use std::rc::Rc;
 
 /// Which automaton serves.
@@ -30,21 +31,30 @@ pub enum AhoCorasickKind {
 
 /// An automaton that searches for many patterns at once.
 ///
-/// It is built once and searches as often as needed. Building it takes time and memory in proportion to the bytes of the patterns;
-/// a search takes time in proportion to the bytes that it reads, however many patterns there are.
+/// It is built once ([`AhoCorasick::new`], or a builder) and searches as often as needed. Building it takes time and memory in
+/// proportion to the bytes of the patterns; a search takes time in proportion to the bytes that it reads, however many patterns
+/// there are.
 ///
-/// A search returns an error only for its configuration, never for what the haystack holds: for an anchoring that the start kind
-/// doesn't serve, or for a stream or overlapping matches under a leftmost kind. A caller who knows the configuration uses the
-/// calls that require it, such as [`AhoCorasick::find`]; the others, such as [`AhoCorasick::try_find`], return a `MatchError`.
+/// A search returns an error only for its configuration, never for what the haystack holds:
+///
+/// - for an anchoring that the start kind doesn't have;
+/// - for a stream or overlapping matches under a leftmost kind;
+/// - for a stream where a pattern is empty;
+/// - for an iterator over overlapping matches of an anchored input.
+///
+/// Each call has two forms. Those with `try_`, such as [`AhoCorasick::try_find`], return a `MatchError` then. The others, such
+/// as [`AhoCorasick::find`], require that the configuration has the search, where the Rust crate panics. By the settings at first
+/// every search has it that isn't anchored. A struct that holds an automaton says so in two ghost fields, by `start_kind_of` and
+/// `kind_of`.
 ///
 /// ```text
-/// let ac = AhoCorasick::new(alloc, &[b"apple", b"maple", b"Snapple"])?;
+/// let ac = AhoCorasick::from_patterns(alloc, &["apple", "maple", "Snapple"])?;
 /// for found in ac.find_iter(Input::from("Nobody likes maple in their apple flavored Snapple.")) {
 ///     // patterns 1, 0 and 2, at 13..18, 28..33 and 43..50
 /// }
 /// ```
 ///
-/// A clone shares the automaton, and takes no memory for another.
+/// A clone shares the automaton, and takes no memory for another. Its `Debug` shows the kinds and how many patterns there are.
 #[derive(Drop)]
 pub struct AhoCorasick {
     engine: Rc<Engine>,
@@ -63,8 +73,19 @@ pub type FindOverlappingIter<'a, 'h> = overlapping::FindOverlappingIter<'a, 'h, 
 /// The remaining matches of a stream. From [`AhoCorasick::stream_find_iter`].
 pub type StreamFindIter<'a, R> = streams::StreamFindIter<'a, AhoCorasick, R>;
 
+impl Debug for AhoCorasick {
+    fn fmt<W: fmt::Write>(&self, f: &mut Formatter<W>) -> fmt::Result {
+        f.debug_struct("AhoCorasick")
+            .field("kind", &self.kind())
+            .field("match_kind", &self.match_kind())
+            .field("start_kind", &self.start_kind())
+            .field("patterns_len", &self.patterns_len())
+            .finish_non_exhaustive()
+    }
+}
+
 impl AhoCorasick {
-    ghost use Rattle.aho_corasick.specs.AhoCorasick.{MeansSame, serving_engine, as_built, pattern_count};
+    ghost use Rattle.aho_corasick.specs.AhoCorasick.{MeansSame, serving_engine, as_built, kind_of, start_kind_of, patterns_of, pattern_count};
 
     /// Another that means the same. They share one automaton.
     ///
@@ -78,7 +99,9 @@ impl AhoCorasick {
         })
     }
 
-    /// Which automaton serves.
+    /// Which automaton serves: the one that was named, or the one that the builder took. It changes time and memory, and no
+    /// result. For a byte a DFA looks at one state, and an NFA at two at most. A DFA takes 4 bytes for each class of bytes in each
+    /// state; a contiguous NFA takes the least memory.
     ///
     /// A caller: `uses::callers::front::named`.
     pub fn kind(&self) -> AhoCorasickKind
@@ -96,7 +119,7 @@ impl AhoCorasick {
     ///
     /// A caller: `uses::callers::front::serves`.
     pub fn start_kind(&self) -> StartKind
-        ensures { result ≡ self.now.start_kind }
+        ensures { result ≡ start_kind_of self.now }
     {
         self.start_kind
     }
@@ -105,7 +128,7 @@ impl AhoCorasick {
     ///
     /// A caller: `uses::callers::front::can_list`.
     pub fn match_kind(&self) -> MatchKind
-        ensures { result ≡ (as_built self.now).dictionary.kind }
+        ensures { result ≡ kind_of self.now }
     {
         Automaton::match_kind(self)
     }
@@ -114,7 +137,7 @@ impl AhoCorasick {
     ///
     /// A caller: `uses::callers::front::may_match`.
     pub fn min_pattern_len(&self) -> usize
-        ensures { result ≡ shortest (as_built self.now).dictionary.patterns }
+        ensures { result ≡ shortest (patterns_of self.now) }
     {
         Automaton::min_pattern_len(self)
     }
@@ -123,7 +146,7 @@ impl AhoCorasick {
     ///
     /// A caller: `uses::callers::front::most_bytes`.
     pub fn max_pattern_len(&self) -> usize
-        ensures { result ≡ longest (as_built self.now).dictionary.patterns }
+        ensures { result ≡ longest (patterns_of self.now) }
     {
         Automaton::max_pattern_len(self)
     }

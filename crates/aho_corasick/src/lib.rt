@@ -12,7 +12,7 @@
 //! that searches by any of them asks for [`automaton::Search`]. [`packed`] is another way to search, for a few patterns.
 #![tactic(auto)]
 
-pub mod ahocorasick;
+mod ahocorasick;
 pub mod automaton;
 pub mod dfa;
 mod engine;
@@ -23,8 +23,12 @@ pub mod packed;
 pub use ac_automaton::error::{MatchError, MatchErrorKind, ReplaceError, StreamError};
 pub use ac_automaton::overlapping::OverlappingState;
 pub use ac_automaton::watched::{Watched, write_whole};
+pub use ac_input::alphabet::{
+    ByteClassElementRanges, ByteClassElements, ByteClassIter, ByteClassSet, ByteClasses, ByteSet,
+    opposite_ascii_case,
+};
 pub use ac_input::pairing::{Pairing, PairingError};
-pub use ac_input::primitives::{PatternID, PatternIDError};
+pub use ac_input::primitives::{PatternID, PatternIDError, SmallIndex, SmallIndexError};
 pub use ac_input::search::{Anchored, Input, Match, MatchKind, Span, StartKind};
 pub use ac_input::steps::Steps;
 pub use ac_noncontiguous::error::{BuildError, BuildErrorKind};

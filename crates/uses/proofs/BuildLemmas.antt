@@ -10,7 +10,7 @@ use Rattle.ac_input.specs.Same.{IsUnpaired}
 use Rattle.ac_automaton.specs.Automaton.{Built}
 use Rattle.ac_noncontiguous.specs.Builder.{IsBuiltAtFirst}
 use Rattle.aho_corasick.specs.AhoCorasick.{HasOccurrence}
-use Rattle.uses.specs.Callers.{FindsBytes}
+use Rattle.aho_corasick.specs.Callers.{FindsBytes}
 
 -- by the first settings the patterns are found byte for byte
 pub first-bytes : (patterns : List (Bor (List ℕ))) (b : Built) → IsBuiltAtFirst patterns b → FindsBytes (map (λ p. p.now) patterns) b.dictionary

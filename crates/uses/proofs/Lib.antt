@@ -1,10 +1,6 @@
 pub mod BuildLemmas
-pub mod FindLemmas
-pub mod FrontLemmas
 pub mod NfaLemmas
-pub mod OverlapLemmas
 pub mod PackedLemmas
-pub mod ReplaceLemmas
 pub mod StateLemmas
 pub mod StreamLemmas
 pub mod TableLemmas

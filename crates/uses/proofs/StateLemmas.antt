@@ -14,7 +14,7 @@ use Rattle.ac_input.proofs.ContainsLemmas.{Contains-head, Contains-nil}
 use Rattle.ac_input.proofs.BeginningLemmas.{longer-occurs, occurs-longer}
 use Rattle.ac_automaton.specs.Automaton.{AnswersStart, Leads, PassesPlain, has_some, is_matching}
 use Rattle.ac_automaton.specs.declared.error.MatchErrorKind.{MatchErrorKind}
-use Rattle.uses.specs.Callers.{EndsWithPattern, IsFirstEnd}
+use Rattle.aho_corasick.specs.Callers.{EndsWithPattern, IsFirstEnd}
 
 -- under the standard kind some pattern is listed where one ends the text
 pub tells-ends : (kind : MatchKind) (m : Dictionary) (text ns : List ℕ) → kind ≡ Standard → TellsUnanchored kind m text ns → (ns ≢ []) ↔ EndsWithPattern m text

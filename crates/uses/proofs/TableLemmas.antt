@@ -7,7 +7,7 @@ use Rattle.ac_automaton.specs.Automaton.{Built}
 use Rattle.ac_tables.specs.declared.dfa.DFA.{DFA}
 use Rattle.ac_tables.specs.DfaBuild.{IsDfaBuiltAtFirst}
 use Rattle.ac_tables.specs.DfaReads.{dfa_built_as}
-use Rattle.uses.specs.Callers.{FindsBytes}
+use Rattle.aho_corasick.specs.Callers.{FindsBytes}
 
 -- by the first settings the patterns are found byte for byte
 pub first-dfa : (patterns : List (Bor (List ℕ))) (dfa : DFA) → IsDfaBuiltAtFirst patterns dfa → FindsBytes (map (λ p. p.now) patterns) (dfa_built_as dfa).dictionary

@@ -5,9 +5,12 @@
 //!
 //! A build makes a noncontiguous NFA of the patterns, and from that the automaton that serves. Where none was named it makes a DFA
 //! for few patterns and one start kind; else a contiguous NFA; and it goes on to the next only where one would be too large.
-ghost use Rattle.std.specs.Prelude.{◌≡◌, Some, IfOk, IfErr};
+ghost use Rattle.std.specs.Prelude.{◌≡◌, Some, map, IfOk, IfErr};
 ghost use Rattle.ac_input.specs.Pairing.{IsFolded};
+ghost use Rattle.ac_input.specs.Same.{IsUnpaired};
+ghost use Rattle.ac_literal.specs.Packed.{bytes_of};
 ghost use Rattle.ac_noncontiguous.specs.declared.error.BuildErrorKind.TheVariants.{Memory};
+ghost use Rattle.aho_corasick.specs.AhoCorasick.{kind_of, pairing_of, patterns_of, start_kind_of};
 ghost use Rattle.aho_corasick.specs.Builder.{AreFrontFirst, noncontiguous_by};
 ghost use Rattle.aho_corasick.specs.Served.{IsFitting, contiguous_by, dfa_by, IsTriedDfa, IsTriedContiguous, IsEngineTaken, IsEngineOf, IsFrontMadeOf, IsNamedRefused, IsFrontBuilt, IsFrontBuildRefused, IsFrontBuiltAtFirst, IsFrontRefusedAtFirst};
 
@@ -21,7 +24,8 @@ use ac_noncontiguous::error::{BuildError, BuildErrorKind};
 use ac_noncontiguous::nfa::NFA;
 use ac_tables::dfa::DFA;
 use ac_tables::{contiguous, dfa};
-use std::alloc::Global;
+use std::alloc::{AllocError, Global};
+use std::convert::AsSlice;
 use std::marker::Model;
 use std::rc::Rc;
 
@@ -41,13 +45,27 @@ fn fitting<T>(made: Result<T, BuildError>) -> Result<Option<T>, BuildError>
     }
 }
 
-/// The settings of an automaton. A builder may build several times.
+/// The bytes of each pattern.
+fn slices_of<P: AsSlice<u8>>(alloc: Global, patterns: &[P]) -> Result<Vec<&[u8]>, AllocError>
+    ensures { IfOk result (λ slices. bytes_of slices.items ≡ map P.items patterns.now) }
+{
+    let mut slices = Vec::new(alloc);
+    for pattern in patterns {
+        slices.push(pattern.as_slice())?;
+    }
+    Ok(slices)
+}
+
+/// The settings of an automaton. A builder may build several times, and takes no memory itself.
 ///
 /// ```text
-/// let mut builder = AhoCorasick::builder();
-/// builder.match_kind(MatchKind::LeftmostFirst).ascii_case_insensitive(true);
-/// let ac = builder.build(alloc, &[b"samwise", b"sam"])?;
+/// let ac = AhoCorasick::builder()
+///     .match_kind(MatchKind::LeftmostFirst)
+///     .ascii_case_insensitive(true)
+///     .build(alloc, &[b"samwise", b"sam"])?;
 /// ```
+///
+/// Examples: `uses::examples::build`.
 #[derive(Clone, Drop)]
 pub struct AhoCorasickBuilder {
     match_kind: MatchKind,
@@ -112,7 +130,8 @@ impl AhoCorasickBuilder {
         }
     }
 
-    /// Sets which of several overlapping occurrences is the match. Streams and overlapping matches need the standard kind.
+    /// Sets which of several overlapping occurrences is the match: at first the standard one, which ends first. Streams and
+    /// overlapping matches need the standard kind; under another the calls for them return an error.
     ///
     /// A caller: `uses::callers::front::folded`.
     pub fn match_kind(&mut self, kind: MatchKind) -> &mut AhoCorasickBuilder
@@ -123,8 +142,8 @@ impl AhoCorasickBuilder {
         self
     }
 
-    /// Sets which searches are served; others return an error, whichever automaton serves. A DFA for both kinds takes about twice
-    /// the memory and time to build. Replacement and streams are unanchored.
+    /// Sets which searches are served, at first unanchored ones; others return an error, whichever automaton serves. A DFA for both
+    /// kinds takes about twice the memory and time to build. Replacement and streams are unanchored.
     ///
     /// A caller: `uses::callers::front::thrifty`.
     pub fn start_kind(&mut self, kind: StartKind) -> &mut AhoCorasickBuilder
@@ -165,6 +184,9 @@ impl AhoCorasickBuilder {
 
     /// Sets which automaton serves. With none, which is so at first, the builder takes a DFA for up to 100 patterns and one start
     /// kind, else a contiguous NFA, where it isn't too large. It changes no result.
+    ///
+    /// A DFA searches fastest. It takes 4 bytes for each class of bytes in each state, and each byte of a pattern may add a state:
+    /// a hundred patterns of 1000 bytes each may take 100 MB. For patterns from a stranger name the contiguous NFA.
     ///
     /// A caller: `uses::callers::front::named`.
     pub fn kind(&mut self, kind: Option<AhoCorasickKind>) -> &mut AhoCorasickBuilder
@@ -324,34 +346,89 @@ impl AhoCorasickBuilder {
         }
     }
 
-    /// The automaton of the patterns, which are numbered from 0 in this order.
+    /// The automaton of the patterns, which are numbered from 0 in this order. Any bytes will do, also none: an empty pattern occurs
+    /// at every place. No two calls depend on each other.
     ///
-    /// Returns an error exactly if the patterns pass a limit of the noncontiguous NFA, if the automaton that was named would be
-    /// too large, or if memory runs out.
+    /// Returns an error exactly if the patterns pass a limit of the noncontiguous NFA (2147483647 states, 2147483647 patterns,
+    /// 2147483646 bytes a pattern), if the automaton that was named would be too large, or if memory runs out.
     ///
+    /// Time and memory are in proportion to the bytes of the patterns; for a DFA times the classes of bytes, at most 256. While the
+    /// automaton that serves is made, the noncontiguous NFA is held too.
+    ///
+    /// Examples: `uses::examples::build`.
     /// A caller: `uses::callers::front::folded`.
     pub fn build(&self, alloc: Global, patterns: &[&[u8]]) -> Result<AhoCorasick, BuildError>
-        ensures built { IfOk result (IsFrontBuilt self.now patterns.now) }
-        ensures refused { IfErr result (IsFrontBuildRefused self.now patterns.now) }
+        ensures patterns { IfOk result (λ ac. patterns_of ac ≡ bytes_of patterns.now) }
+        ensures kind { IfOk result (λ ac. kind_of ac ≡ self.now.match_kind) }
+        ensures pairing { IfOk result (λ ac. pairing_of ac ≡ self.now.pairing) }
+        ensures starts { IfOk result (λ ac. start_kind_of ac ≡ self.now.start_kind) }
+        ensures served { IfOk result (IsFrontBuilt self.now (bytes_of patterns.now)) }
+        ensures refused { IfErr result (IsFrontBuildRefused self.now (bytes_of patterns.now)) }
     {
         let nfa = self.noncontiguous().build(alloc, patterns)?;
         self.share(alloc, nfa)
+    }
+
+    /// The same of patterns of any type that lends its bytes, such as `&str`, `String` or `Vec<u8>`. It allocates 16 bytes for each
+    /// pattern first, and releases them after the build.
+    ///
+    /// A caller: `uses::callers::front::of_texts`.
+    pub fn build_from_patterns<P: AsSlice<u8>>(
+        &self,
+        alloc: Global,
+        patterns: &[P],
+    ) -> Result<AhoCorasick, BuildError>
+        ensures patterns { IfOk result (λ ac. patterns_of ac ≡ map P.items patterns.now) }
+        ensures kind { IfOk result (λ ac. kind_of ac ≡ self.now.match_kind) }
+        ensures pairing { IfOk result (λ ac. pairing_of ac ≡ self.now.pairing) }
+        ensures starts { IfOk result (λ ac. start_kind_of ac ≡ self.now.start_kind) }
+        ensures served { IfOk result (IsFrontBuilt self.now (map P.items patterns.now)) }
+        ensures refused { IfErr result (IsFrontBuildRefused self.now (map P.items patterns.now)) }
+    {
+        match slices_of(alloc, patterns) {
+            Ok(slices) => self.build(alloc, &slices),
+            Err(_) => Err(BuildError::from(BuildErrorKind::Memory)),
+        }
     }
 }
 
 impl AhoCorasick {
     /// The automaton of the patterns by the settings that a builder has at first: standard matches, unanchored searches, no byte
-    /// paired.
+    /// paired. Patterns are numbered from 0 in this order.
     ///
-    /// A caller: `uses::callers::front::of_bytes`.
+    /// Returns an error if the patterns pass a limit or memory runs out, and costs what [`AhoCorasickBuilder::build`] does. For up to
+    /// 100 patterns that is a DFA: see [`AhoCorasickBuilder::kind`].
+    ///
+    /// Examples: `uses::examples::build`. A caller: `uses::callers::front::of_bytes`.
     pub fn new(alloc: Global, patterns: &[&[u8]]) -> Result<AhoCorasick, BuildError>
-        ensures built { IfOk result (IsFrontBuiltAtFirst patterns.now) }
-        ensures refused { IfErr result (IsFrontRefusedAtFirst patterns.now) }
+        ensures patterns { IfOk result (λ ac. patterns_of ac ≡ bytes_of patterns.now) }
+        ensures kind { IfOk result (λ ac. kind_of ac ≡ MatchKind.Standard) }
+        ensures pairing { IfOk result (λ ac. IsUnpaired (pairing_of ac)) }
+        ensures starts { IfOk result (λ ac. start_kind_of ac ≡ StartKind.Unanchored) }
+        ensures served { IfOk result (IsFrontBuiltAtFirst (bytes_of patterns.now)) }
+        ensures refused { IfErr result (IsFrontRefusedAtFirst (bytes_of patterns.now)) }
     {
         AhoCorasickBuilder::new().build(alloc, patterns)
     }
 
-    /// A builder with the settings that it has at first.
+    /// The same of patterns of any type that lends its bytes: see [`AhoCorasickBuilder::build_from_patterns`].
+    ///
+    /// A caller: `redactor::Redactor::new`.
+    pub fn from_patterns<P: AsSlice<u8>>(
+        alloc: Global,
+        patterns: &[P],
+    ) -> Result<AhoCorasick, BuildError>
+        ensures patterns { IfOk result (λ ac. patterns_of ac ≡ map P.items patterns.now) }
+        ensures kind { IfOk result (λ ac. kind_of ac ≡ MatchKind.Standard) }
+        ensures pairing { IfOk result (λ ac. IsUnpaired (pairing_of ac)) }
+        ensures starts { IfOk result (λ ac. start_kind_of ac ≡ StartKind.Unanchored) }
+        ensures served { IfOk result (IsFrontBuiltAtFirst (map P.items patterns.now)) }
+        ensures refused { IfErr result (IsFrontRefusedAtFirst (map P.items patterns.now)) }
+    {
+        AhoCorasickBuilder::new().build_from_patterns(alloc, patterns)
+    }
+
+    /// A builder with the settings that it has at first: those of [`AhoCorasick::new`].
     ///
     /// A caller: `uses::callers::front::folded`.
     pub fn builder() -> AhoCorasickBuilder

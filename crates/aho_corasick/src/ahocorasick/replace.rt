@@ -1,8 +1,10 @@
 //! Replacement in memory.
 //!
 //! It takes the matches of a whole haystack, by an unanchored search. The calls with `try_` return an error if the automaton has
-//! no start for one; the others require that it has. All return an error if memory runs out.
+//! no start for one; the others require that it has, where the Rust crate panics. All return an error if memory runs out. They
+//! allocate their result alone, and cost what the walk over all matches does.
 ghost use Rattle.std.specs.Prelude.{◌≡◌, length, IfOk};
+ghost use Rattle.ac_literal.specs.Packed.{bytes_of};
 ghost use Rattle.ac_automaton.specs.declared.error.ReplaceError.TheVariants.{Memory};
 ghost use Rattle.ac_automaton.specs.Replace.{IsForMatches, ReplacesText, ReplacesBytes, ReplacesTextWith, ReplacesBytesWith};
 ghost use Rattle.aho_corasick.specs.AhoCorasick.{as_built, supported_by, pattern_count};
@@ -27,13 +29,15 @@ fn out_of_memory(error: ReplaceError) -> AllocError
 impl AhoCorasick {
     /// The text with each match replaced by the replacement of its pattern: see [`AhoCorasick::try_replace_all`].
     ///
+    /// It requires a start for unanchored searches, which every start kind has but `Anchored`, and one replacement for each pattern.
+    ///
     /// ```text
     /// let ac = AhoCorasick::new(alloc, &[b"fox", b"brown", b"quick"])?;
     /// let text = ac.replace_all(alloc, "The quick brown fox.", &["sloth", "grey", "slow"])?;
-    /// assert_eq!(text.as_str(), "The slow grey sloth.");
+    /// // "The slow grey sloth."
     /// ```
     ///
-    /// A caller: `uses::callers::front_replace::replaced_text`.
+    /// Examples: `uses::examples::replace`. A caller: `uses::callers::front_replace::replaced_text`.
     pub fn replace_all(
         &self,
         alloc: Global,
@@ -43,7 +47,7 @@ impl AhoCorasick {
         requires can { supported_by self.now Anchored.No }
         requires one_each { length replacements.now ≡ pattern_count self.now }
         ensures { IfOk result
-            (IsReplacedText self.now haystack.now replacements.now) }
+            (IsReplacedText self.now haystack.now (bytes_of replacements.now)) }
     {
         match self.try_replace_all(alloc, haystack, replacements) {
             Ok(text) => Ok(text),
@@ -63,7 +67,7 @@ impl AhoCorasick {
         requires can { supported_by self.now Anchored.No }
         requires one_each { length replacements.now ≡ pattern_count self.now }
         ensures { IfOk result
-            (AreReplacedBytes self.now haystack.now replacements.now) }
+            (AreReplacedBytes self.now haystack.now (bytes_of replacements.now)) }
     {
         match self.try_replace_all_bytes(alloc, haystack, replacements) {
             Ok(bytes) => Ok(bytes),
@@ -72,8 +76,10 @@ impl AhoCorasick {
     }
 
     /// Appends the text to the destination, and in place of each match what the closure appends: see
-    /// [`AhoCorasick::try_replace_all_with`].
+    /// [`AhoCorasick::try_replace_all_with`], also for what it requires of the closure. It requires a start for unanchored searches,
+    /// too.
     ///
+    /// Examples: `uses::examples::replace`.
     /// A caller: `uses::callers::front_replace::append_first_replaced`.
     pub fn replace_all_with<F>(
         &self,
@@ -118,8 +124,11 @@ impl AhoCorasick {
         }
     }
 
-    /// The text with each match replaced by the replacement of its pattern. There is one replacement for each pattern. A match
-    /// that begins or ends within a character is skipped: its bytes stay.
+    /// The text with each match replaced by the replacement of its pattern. A match that begins or ends within a character is
+    /// skipped: its bytes stay.
+    ///
+    /// It requires one replacement for each pattern: as many as [`patterns_len`](AhoCorasick::patterns_len). Returns
+    /// `InvalidInputUnanchored` if the automaton has no start for unanchored searches, and `Memory` if memory runs out.
     ///
     /// A caller: `uses::callers::front_replace::try_replaced_text`.
     pub fn try_replace_all(
@@ -129,8 +138,10 @@ impl AhoCorasick {
         replacements: &[&str],
     ) -> Result<String, ReplaceError>
         requires { length replacements.now ≡ pattern_count self.now }
-        ensures { ReplacesText (as_built self.now) (supported_by self.now) haystack.now
+        ensures answer { ReplacesText (as_built self.now) (supported_by self.now) haystack.now
             replacements.now result }
+        ensures replaced { IfOk result
+            (IsReplacedText self.now haystack.now (bytes_of replacements.now)) }
     {
         Automaton::try_replace_all(self, alloc, haystack, replacements)
     }
@@ -145,8 +156,10 @@ impl AhoCorasick {
         replacements: &[&[u8]],
     ) -> Result<Vec<u8>, ReplaceError>
         requires { length replacements.now ≡ pattern_count self.now }
-        ensures { ReplacesBytes (as_built self.now) (supported_by self.now) haystack.now
+        ensures answer { ReplacesBytes (as_built self.now) (supported_by self.now) haystack.now
             replacements.now result }
+        ensures replaced { IfOk result
+            (AreReplacedBytes self.now haystack.now (bytes_of replacements.now)) }
     {
         Automaton::try_replace_all_bytes(self, alloc, haystack, replacements)
     }
@@ -155,7 +168,12 @@ impl AhoCorasick {
     /// and the destination. A match that begins or ends within a character is skipped. A closure that returns `false` is not
     /// called again, and the rest is copied.
     ///
-    /// If memory runs out, what was appended stays. The destination grows with the allocator that it was made with.
+    /// It requires of the closure that it may be called with every match of a pattern below
+    /// [`patterns_len`](AhoCorasick::patterns_len), whatever else it is given, and that after such a call it may be called so again.
+    ///
+    /// Returns `InvalidInputUnanchored` if the automaton has no start for unanchored searches; the destination is then unchanged. If
+    /// memory runs out, also in the closure, what was appended stays. The destination grows with the allocator that it was made
+    /// with.
     ///
     /// A caller: `uses::callers::front_replace::try_append_first_replaced`.
     pub fn try_replace_all_with<F>(

@@ -1,32 +1,39 @@
 //! Searches for one match, and for one after another.
 //!
+//! Each takes an [`Input`]: a text or bytes by `Input::from`, a part of them by [`Input::span`].
+//!
 //! The calls with `try_` return an error if the automaton has no start for the input's anchoring, and those for overlapping
-//! matches also if its kind isn't the standard one. The others require that neither is so.
-ghost use Rattle.std.specs.Prelude.{◌↔◌, IsTrue};
+//! matches also if its kind isn't the standard one. The others require that neither is so, and then do the same. None of them
+//! takes memory.
+ghost use Rattle.std.specs.Prelude.{◌≡◌, ◌↔◌, IfOk, IfSome, IsTrue};
 ghost use Rattle.ac_automaton.specs.Automaton.{AnswersFind, CostsFind, IsFound, searched};
 ghost use Rattle.ac_automaton.specs.Iter.{AnswersFindIter};
-ghost use Rattle.ac_automaton.specs.Overlapping.{CanOverlap, ShowsNext, AnswersOverlapping, IsOverlappingCost, sums_of};
-ghost use Rattle.ac_automaton.specs.OverlappingIter.{CanRun, AnswersOverlappingIter};
-ghost use Rattle.aho_corasick.specs.AhoCorasick.{as_built, supported_by, CameFromCalls, HasOccurrence, IsWalkOver, IsRunOver};
+ghost use Rattle.ac_automaton.specs.Overlapping.{ShowsNext, AnswersOverlapping, IsOverlappingCost, sums_of};
+ghost use Rattle.ac_automaton.specs.OverlappingIter.{AnswersOverlappingIter, rest_of};
+ghost use Rattle.ac_automaton.specs.Items.{AreFew, AreFewForEach, AreInOrder, EachLiesWithin, FindsWithin, LiesWithin};
+ghost use Rattle.aho_corasick.specs.AhoCorasick.{as_built, kind_of, supported_by, CameFromCalls, HasOccurrence, IsWalkOver, IsRunOver};
 
 use super::{AhoCorasick, FindIter, FindOverlappingIter};
 use ac_automaton::automaton::Automaton;
 use ac_automaton::error::MatchError;
 use ac_automaton::overlapping::OverlappingState;
-use ac_input::search::{Input, Match};
+use ac_input::search::{Anchored, Input, Match, MatchKind};
 use ac_input::steps::Steps;
 
 impl AhoCorasick {
-    /// Whether some pattern occurs in the input. Under a leftmost kind it may read less than [`AhoCorasick::find`], since the first
-    /// end of a match that it meets will do.
+    /// Whether some pattern occurs in the input. It serves to filter haystacks: under a leftmost kind it may read less than
+    /// [`AhoCorasick::find`], since the first end of a match that it meets will do.
+    ///
+    /// It requires that the start kind has the input's anchoring; where that isn't known, use [`AhoCorasick::try_find`]. It looks
+    /// at two states for each byte that it reads at most, or at one with a DFA.
     ///
     /// ```text
     /// let ac = AhoCorasick::new(alloc, &[b"foo", b"bar", b"quux", b"baz"])?;
-    /// assert!(ac.is_match(Input::from("xxx bar xxx")));
-    /// assert!(!ac.is_match(Input::from("xxx qux xxx")));
+    /// ac.is_match(Input::from("xxx bar xxx")) // true
+    /// ac.is_match(Input::from("xxx qux xxx")) // false
     /// ```
     ///
-    /// A caller: `uses::callers::front_find::contains_any`.
+    /// Examples: `uses::examples::find`. A caller: `uses::callers::front_find::contains_any`.
     pub fn is_match(&self, input: Input<'_>) -> bool
         requires { supported_by self.now input.anchored }
         ensures { IsTrue result ↔ HasOccurrence (searched (as_built self.now) input.entry) }
@@ -36,21 +43,33 @@ impl AhoCorasick {
 
     /// The match of the input, if it has one: the best of the automaton's kind, or of the standard one in an earliest search.
     ///
-    /// A caller: `uses::callers::front_find::first_match`.
+    /// It requires that the start kind has the input's anchoring; where that isn't known, use [`AhoCorasick::try_find`]. It looks
+    /// at two states for each byte of the span at most, or at one with a DFA. Under the standard kind it reads no further than
+    /// the match ends.
+    ///
+    /// ```text
+    /// let found = ac.find(Input::from("foo abcd")); // an Option<Match>
+    /// ```
+    ///
+    /// Examples: `uses::examples::find`. A caller: `uses::callers::front_find::first_match`.
     pub fn find(&self, input: Input<'_>) -> Option<Match>
         requires { supported_by self.now input.anchored }
-        ensures { IsFound (as_built self.now) input.entry result }
+        ensures found { IsFound (as_built self.now) input.entry result }
+        ensures within { IfSome result (LiesWithin (as_built self.now) input.entry) }
     {
         self.try_find(input).unwrap()
     }
 
     /// Shows the next occurrence of the input: see [`AhoCorasick::try_find_overlapping`].
     ///
+    /// It requires that the start kind has the input's anchoring, and that the kind is the standard one. The state is fresh, or
+    /// came only from calls with this automaton and this input. [`AhoCorasick::find_overlapping_iter`] keeps the state itself.
+    ///
     /// A caller: `uses::callers::front_find::occurrence`.
     pub fn find_overlapping(&self, input: Input<'_>, state: &mut OverlappingState)
-        requires can { CanOverlap (as_built self.now) (supported_by self.now) input }
-        requires came { CameFromCalls self.now input
-            state.old }
+        requires can { supported_by self.now input.anchored }
+        requires standard { kind_of self.now ≡ MatchKind.Standard }
+        requires came { CameFromCalls self.now input state.old }
         ensures came { CameFromCalls self.now input.entry state.new }
         ensures shows { ShowsNext (as_built self.now) input.entry state.old state.new }
         ensures cost { IsOverlappingCost (as_built self.now) input.entry (sums_of state.new) }
@@ -58,31 +77,53 @@ impl AhoCorasick {
         self.try_find_overlapping(input, state).unwrap()
     }
 
-    /// All matches of the input, one after another: see [`FindIter`].
+    /// All matches of the input, one after another, none of which overlap: see [`FindIter`].
     ///
-    /// A caller: `uses::callers::front_find::all_matches`.
+    /// It requires that the start kind has the input's anchoring; where that isn't known, use [`AhoCorasick::try_find_iter`].
+    /// Under the standard kind all matches together cost two looks at states for each byte of the span, or one with a DFA; under
+    /// a leftmost kind bytes after a match are read again.
+    ///
+    /// ```text
+    /// for found in ac.find_iter(Input::from("append the app to the appendage")) {
+    ///     found.pattern().as_usize() // and found.range()
+    /// }
+    /// ```
+    ///
+    /// Examples: `uses::examples::iterate`. A caller: `uses::callers::front_find::all_matches`.
     pub fn find_iter<'a, 'h>(&'a self, input: Input<'h>) -> FindIter<'a, 'h>
         requires { supported_by self.now input.anchored }
-        ensures { IsWalkOver (as_built self.now) input.entry result }
+        ensures over { IsWalkOver (as_built self.now) input.entry result }
+        ensures few { AreFew input.entry result }
+        ensures lie { AreInOrder (as_built self.now) input.entry result }
     {
         self.try_find_iter(input).unwrap()
     }
 
-    /// All occurrences in the input, one after another: see [`FindOverlappingIter`]. The input isn't anchored.
+    /// All occurrences in the input, one after another: see [`FindOverlappingIter`].
     ///
-    /// A caller: `uses::callers::front_find::all_occurrences`.
+    /// It requires that the input isn't anchored, that the start kind has unanchored searches, and that the kind is the standard
+    /// one. However many occurrences there are, it looks at two states for each byte of the span at most, or at one with a DFA.
+    ///
+    /// Examples: `uses::examples::iterate`. A caller: `uses::callers::front_find::all_occurrences`.
     pub fn find_overlapping_iter<'a, 'h>(&'a self, input: Input<'h>) -> FindOverlappingIter<'a, 'h>
-        requires { CanRun (as_built self.now) (supported_by self.now) input }
-        ensures { IsRunOver (as_built self.now) input.entry result }
+        requires can { supported_by self.now Anchored.No }
+        requires standard { kind_of self.now ≡ MatchKind.Standard }
+        requires anywhere { input.anchored ≡ Anchored.No }
+        ensures over { IsRunOver (as_built self.now) input.entry result }
+        ensures few { AreFewForEach (as_built self.now) input.entry result }
+        ensures lie { EachLiesWithin rest_of (as_built self.now) input.entry result }
     {
         self.try_find_overlapping_iter(input).unwrap()
     }
 
-    /// The match of the input, if it has one: the best of the automaton's kind, or of the standard one in an earliest search.
+    /// The match of the input, if it has one: see [`AhoCorasick::find`].
+    ///
+    /// Returns `InvalidInputAnchored` or `InvalidInputUnanchored` if the start kind doesn't have the input's anchoring.
     ///
     /// A caller: `uses::callers::front_find::begins_with_any`.
     pub fn try_find(&self, input: Input<'_>) -> Result<Option<Match>, MatchError>
-        ensures { AnswersFind (as_built self.now) (supported_by self.now) input.entry result }
+        ensures answer { AnswersFind (as_built self.now) (supported_by self.now) input.entry result }
+        ensures within { FindsWithin (as_built self.now) input.entry result }
     {
         Automaton::try_find(self, &input)
     }
@@ -96,6 +137,7 @@ impl AhoCorasick {
         steps: &mut Steps,
     ) -> Result<Option<Match>, MatchError>
         ensures answer { AnswersFind (as_built self.now) (supported_by self.now) input.entry result }
+        ensures within { FindsWithin (as_built self.now) input.entry result }
         ensures cost { CostsFind (as_built self.now) input.entry steps.old steps.new result }
     {
         Automaton::try_find_counted(self, &input, steps)
@@ -103,7 +145,12 @@ impl AhoCorasick {
 
     /// Finds the next occurrence of the input, in the order of end, start and number, and stores it in the state; each comes once,
     /// and after the last one the state holds none. The state is fresh before the first call, and belongs to this automaton and
-    /// this input from then on. If the call returns an error, it is unchanged.
+    /// this input from then on.
+    ///
+    /// Returns `InvalidInputAnchored` or `InvalidInputUnanchored` if the start kind doesn't have the input's anchoring, and then
+    /// `UnsupportedOverlapping` if the kind isn't the standard one. The state is unchanged then.
+    ///
+    /// All calls together look at two states for each byte of the span at most, or at one with a DFA.
     ///
     /// ```text
     /// let mut state = OverlappingState::start();
@@ -111,14 +158,13 @@ impl AhoCorasick {
     /// let first = state.get_match();
     /// ```
     ///
-    /// A caller: `uses::callers::front_find::first_occurrence`.
+    /// Examples: `uses::examples::iterate`. A caller: `uses::callers::front_find::first_occurrence`.
     pub fn try_find_overlapping(
         &self,
         input: Input<'_>,
         state: &mut OverlappingState,
     ) -> Result<(), MatchError>
-        requires { CameFromCalls self.now input
-            state.old }
+        requires { CameFromCalls self.now input state.old }
         ensures came { CameFromCalls self.now input.entry state.new }
         ensures answer { AnswersOverlapping (as_built self.now) (supported_by self.now) input.entry
             state.old state.new result }
@@ -127,24 +173,33 @@ impl AhoCorasick {
         Automaton::try_find_overlapping(self, &input, state)
     }
 
-    /// All matches of the input, one after another: see [`FindIter`].
+    /// All matches of the input, one after another: see [`AhoCorasick::find_iter`].
+    ///
+    /// Returns `InvalidInputAnchored` or `InvalidInputUnanchored` if the start kind doesn't have the input's anchoring.
     ///
     /// A caller: `uses::callers::front_find::count_matches`.
     pub fn try_find_iter<'a, 'h>(&'a self, input: Input<'h>) -> Result<FindIter<'a, 'h>, MatchError>
-        ensures { AnswersFindIter (as_built self.now) (supported_by self.now) input.entry result }
+        ensures answer { AnswersFindIter (as_built self.now) (supported_by self.now) input.entry
+            result }
+        ensures few { IfOk result (AreFew input.entry) }
+        ensures lie { IfOk result (AreInOrder (as_built self.now) input.entry) }
     {
         Automaton::try_find_iter(self, input)
     }
 
-    /// All occurrences in the input, one after another: see [`FindOverlappingIter`]. An anchored input is an error, too.
+    /// All occurrences in the input, one after another: see [`AhoCorasick::find_overlapping_iter`].
+    ///
+    /// Returns an error as [`AhoCorasick::try_find_overlapping`] does, and then `InvalidInputAnchored` if the input is anchored.
     ///
     /// A caller: `uses::callers::front_find::has_listing`.
     pub fn try_find_overlapping_iter<'a, 'h>(
         &'a self,
         input: Input<'h>,
     ) -> Result<FindOverlappingIter<'a, 'h>, MatchError>
-        ensures { AnswersOverlappingIter (as_built self.now) (supported_by self.now) input.entry
-            result }
+        ensures answer { AnswersOverlappingIter (as_built self.now) (supported_by self.now)
+            input.entry result }
+        ensures few { IfOk result (AreFewForEach (as_built self.now) input.entry) }
+        ensures lie { IfOk result (EachLiesWithin rest_of (as_built self.now) input.entry) }
     {
         Automaton::try_find_overlapping_iter(self, input)
     }

@@ -3,7 +3,8 @@
 //! A stream is searched under the standard kind, by an unanchored search, without an empty pattern. The calls with `try_` return
 //! an error if that isn't so; [`AhoCorasick::stream_find_iter`] requires it. One buffer is allocated before the first read, and no
 //! memory after it.
-ghost use Rattle.std.specs.Prelude.{◌≡◌, false, length, map, IfOk};
+ghost use Rattle.std.specs.Prelude.{◌≡◌, false, length, IfOk, OnOk};
+ghost use Rattle.ac_literal.specs.Packed.{bytes_of};
 ghost use Rattle.ac_automaton.specs.declared.error.StreamError.TheVariants.{Memory};
 ghost use Rattle.ac_automaton.specs.Replace.{IsForMatches};
 ghost use Rattle.ac_automaton.specs.Stream.{CanStream};
@@ -12,7 +13,7 @@ ghost use Rattle.ac_automaton.specs.StreamReplace.{AcceptsReplacing, CostsStream
 ghost use Rattle.ac_automaton.specs.StreamReplaceWith.{ReplacesStreamWith};
 ghost use Rattle.ac_automaton.specs.Watched.{has_ended};
 ghost use Rattle.aho_corasick.specs.AhoCorasick.{as_built, supported_by, pattern_count};
-ghost use Rattle.aho_corasick.specs.Streamed.{IsStreamOver};
+ghost use Rattle.aho_corasick.specs.Streamed.{IsStreamOver, IsStreamReplaced};
 
 use super::{AhoCorasick, StreamFindIter};
 use ac_automaton::automaton::Automaton;
@@ -36,6 +37,9 @@ fn out_of_memory(error: StreamError) -> AllocError
 impl AhoCorasick {
     /// All matches of a stream, one after another: see [`AhoCorasick::try_stream_find_iter`].
     ///
+    /// It requires that the reader has not ended, that the start kind has unanchored searches, that the kind is the standard one, and
+    /// that no pattern is empty. Returns an error only if memory runs out.
+    ///
     /// A caller: `uses::callers::front_stream::search_of`.
     pub fn stream_find_iter<'a, R>(
         &'a self,
@@ -53,12 +57,12 @@ impl AhoCorasick {
     }
 
     /// All matches of a stream, one after another: see [`StreamFindIter`]. Their places are counted from the first byte that is
-    /// read. It allocates one buffer of `max(65536, 8 * max(1, longest))` bytes.
+    /// read. It allocates one buffer of `max(65536, 8 * max(1, longest))` bytes. It requires that the reader has not ended.
     ///
     /// Returns an error if the automaton has no start for an unanchored search, isn't of the standard kind, or has an empty
     /// pattern, checked in that order, and then if there is no memory for the buffer. Nothing was read then.
     ///
-    /// A caller: `uses::callers::front_stream::all_matches`.
+    /// Examples: `uses::examples::streams`. A caller: `uses::callers::front_stream::all_matches`.
     pub fn try_stream_find_iter<'a, R>(
         &'a self,
         alloc: Global,
@@ -71,14 +75,17 @@ impl AhoCorasick {
         Automaton::try_stream_find_iter(self, alloc, reader)
     }
 
-    /// Writes the input with each match replaced by the replacement of its pattern; there is one for each pattern. The input ends
-    /// at its first empty read. Before each read everything is written that no later byte can change; it holds back at most as
-    /// many bytes as the longest pattern has. The writer isn't flushed.
+    /// Writes the input with each match replaced by the replacement of its pattern. The input ends at its first empty read. Before
+    /// each read everything is written that no later byte can change; it holds back at most as many bytes as the longest pattern
+    /// has. The writer isn't flushed.
+    ///
+    /// It requires that the reader has not ended, and one replacement for each pattern. It takes the buffer of
+    /// [`AhoCorasick::try_stream_find_iter`] and one of 64 KiB for what is written, and looks at two states for each byte at most.
     ///
     /// Returns an error where [`AhoCorasick::try_stream_find_iter`] does; the reader and the writer are then unchanged. Where a
     /// read or a write fails, nothing is tried again.
     ///
-    /// A caller: `uses::callers::front_stream::replaced`.
+    /// Examples: `uses::examples::streams`. A caller: `uses::callers::front_stream::replaced`.
     pub fn try_stream_replace_all<R: Read, W: Write>(
         &self,
         alloc: Global,
@@ -88,8 +95,10 @@ impl AhoCorasick {
     ) -> Result<(), StreamError>
         requires open { has_ended reader.old ≡ false }
         requires one_each { length replacements.now ≡ pattern_count self.now }
-        ensures replaced { ReplacesStream R.remaining W.contents (as_built self.now)
-            (map (λ r. r.now) replacements.now) reader.old reader.new writer.old writer.new result }
+        ensures replaced { OnOk result (IsStreamReplaced R.remaining W.contents self.now
+            (bytes_of replacements.now) reader.old reader.new writer.old writer.new) }
+        ensures moved { ReplacesStream R.remaining W.contents (as_built self.now)
+            (bytes_of replacements.now) reader.old reader.new writer.old writer.new result }
         ensures accepted { AcceptsReplacing (as_built self.now) (supported_by self.now)
             reader.old reader.new writer.old writer.new result }
     {
@@ -109,8 +118,10 @@ impl AhoCorasick {
     ) -> Result<(), StreamError>
         requires open { has_ended reader.old ≡ false }
         requires one_each { length replacements.now ≡ pattern_count self.now }
-        ensures replaced { ReplacesStream R.remaining W.contents (as_built self.now)
-            (map (λ r. r.now) replacements.now) reader.old reader.new writer.old writer.new result }
+        ensures replaced { OnOk result (IsStreamReplaced R.remaining W.contents self.now
+            (bytes_of replacements.now) reader.old reader.new writer.old writer.new) }
+        ensures moved { ReplacesStream R.remaining W.contents (as_built self.now)
+            (bytes_of replacements.now) reader.old reader.new writer.old writer.new result }
         ensures accepted { AcceptsReplacing (as_built self.now) (supported_by self.now)
             reader.old reader.new writer.old writer.new result }
         ensures cost { CostsStream (as_built self.now) reader.old reader.new
@@ -120,8 +131,10 @@ impl AhoCorasick {
     }
 
     /// Writes the input, and in place of each match what the closure writes. The closure takes the match, its bytes and the
-    /// writer, which has taken everything before the match. The closure must accept every pattern number below
-    /// [`patterns_len`](AhoCorasick::patterns_len), also after each call.
+    /// writer, which has taken everything before the match.
+    ///
+    /// It requires that the reader has not ended, and of the closure that it may be called with every match of a pattern below
+    /// [`patterns_len`](AhoCorasick::patterns_len), whatever else it is given, and that after such a call it may be called so again.
     ///
     /// It reads, writes and fails as [`AhoCorasick::try_stream_replace_all`] does. The closure's first error ends the call and is
     /// returned unchanged.

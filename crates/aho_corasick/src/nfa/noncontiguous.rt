@@ -1,3 +1,4 @@
 //! The noncontiguous NFA: built soonest, and what the others are built from.
 pub use ac_noncontiguous::builder::Builder;
 pub use ac_noncontiguous::nfa::NFA;
+pub use ac_noncontiguous::nfa::read::{MatchIter, Special, TransIter};

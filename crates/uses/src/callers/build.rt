@@ -4,7 +4,7 @@ ghost use Rattle.ac_input.specs.Dictionary.{Dictionary};
 ghost use Rattle.ac_literal.specs.Packed.{bytes_of};
 ghost use Rattle.ac_noncontiguous.specs.Reads.{built_as};
 ghost use Rattle.ac_noncontiguous.specs.declared.error.BuildErrorKind.TheVariants.{Memory};
-ghost use Rattle.uses.specs.Callers.{FindsBytes, FindsFolded, IsPlain, OccursIn};
+ghost use Rattle.aho_corasick.specs.Callers.{FindsBytes, FindsFolded, IsPlain, OccursIn};
 
 use ac_automaton::automaton::Automaton;
 use ac_input::pairing::Pairing;

@@ -4,7 +4,8 @@ ghost use Rattle.ac_input.specs.declared.search.MatchKind.TheVariants.{Standard}
 ghost use Rattle.ac_input.specs.Dictionary.{whole};
 ghost use Rattle.ac_input.specs.Input.{IsSpanOf};
 ghost use Rattle.ac_input.specs.Steps.{looked_of};
-ghost use Rattle.uses.specs.Callers.{BeginsWithPattern, IsFirstEnd, IsMostBytes, LiesIn, OccursIn, first_in};
+ghost use Rattle.aho_corasick.specs.Callers.{BeginsWithPattern, IsFirstEnd, IsMostBytes, OccursIn, first_in};
+ghost use Rattle.uses.specs.Callers.{LiesIn};
 
 use ac_automaton::automaton::Automaton;
 use ac_automaton::error::MatchError;

@@ -1,10 +1,11 @@
 //! The front: how it is built, and what it says of itself.
-ghost use Rattle.std.specs.Prelude.{◌≡◌, ◌≢◌, ◌↔◌, ◌<◌, Some, None, false, IfOk, IfSome, IsTrue};
+ghost use Rattle.std.specs.Prelude.{◌≡◌, ◌≢◌, ◌↔◌, ◌<◌, Some, None, false, true, IfOk, IfSome, IsTrue};
+ghost use Rattle.ac_input.specs.Pairing.{IsFolded};
 ghost use Rattle.ac_literal.specs.Packed.{bytes_of};
-ghost use Rattle.ac_input.specs.declared.search.MatchKind.TheVariants.{Standard};
+ghost use Rattle.ac_input.specs.declared.search.MatchKind.TheVariants.{Standard, LeftmostFirst, LeftmostLongest};
 ghost use Rattle.ac_input.specs.declared.search.StartKind.TheVariants.{Unanchored};
-ghost use Rattle.aho_corasick.specs.AhoCorasick.{MeansSame, as_built, supported_by, pattern_count};
-ghost use Rattle.uses.specs.Callers.{FindsBytes, FindsFolded, IsMostBytes, IsPlain, OccursIn};
+ghost use Rattle.aho_corasick.specs.AhoCorasick.{MeansSame, as_built, kind_of, pairing_of, pattern_count, patterns_of, start_kind_of, supported_by};
+ghost use Rattle.aho_corasick.specs.Callers.{FindsBytes, IsMostBytes, IsPlain, OccursIn};
 
 use ac_input::pairing::Pairing;
 use ac_input::primitives::PatternID;
@@ -16,15 +17,26 @@ use std::alloc::{AllocError, Global};
 pub fn of_bytes(alloc: Global, patterns: &[&[u8]]) -> Result<AhoCorasick, BuildError>
     ensures dictionary { IfOk result
         (λ ac. FindsBytes (bytes_of patterns.now) (as_built ac).dictionary) }
-    ensures starts { IfOk result (λ ac. ac.start_kind ≡ Unanchored) }
+    ensures starts { IfOk result (λ ac. start_kind_of ac ≡ Unanchored) }
 {
     AhoCorasick::new(alloc, patterns)
 }
 
+/// The automaton of texts that prefers the longest of those that start first.
+pub fn of_texts(alloc: Global, texts: &[&str]) -> Result<AhoCorasick, BuildError>
+    ensures patterns { IfOk result (λ ac. patterns_of ac ≡ bytes_of texts.now) }
+    ensures kind { IfOk result (λ ac. kind_of ac ≡ LeftmostLongest) }
+{
+    let mut builder = AhoCorasick::builder();
+    builder.match_kind(MatchKind::LeftmostLongest);
+    builder.build_from_patterns(alloc, texts)
+}
+
 /// One that prefers the pattern that was given first, and takes the two cases of an ASCII letter for the same.
 pub fn folded(alloc: Global, patterns: &[&[u8]]) -> Result<AhoCorasick, BuildError>
-    ensures { IfOk result
-        (λ ac. FindsFolded (bytes_of patterns.now) (as_built ac).dictionary) }
+    ensures patterns { IfOk result (λ ac. patterns_of ac ≡ bytes_of patterns.now) }
+    ensures kind { IfOk result (λ ac. kind_of ac ≡ LeftmostFirst) }
+    ensures folded { IfOk result (λ ac. IsFolded true (pairing_of ac)) }
 {
     let mut builder = AhoCorasick::builder();
     builder
@@ -42,7 +54,7 @@ pub fn thrifty(
 ) -> Result<AhoCorasick, BuildError>
     ensures plain { IfOk result
         (λ ac. IsPlain (bytes_of patterns.now) pairing Standard (as_built ac)) }
-    ensures starts { IfOk result (λ ac. ac.start_kind ≡ starts) }
+    ensures starts { IfOk result (λ ac. start_kind_of ac ≡ starts) }
 {
     let mut builder = AhoCorasickBuilder::new();
     builder
@@ -96,7 +108,7 @@ pub fn serves(ac: &AhoCorasick, anchored: Anchored) -> bool
 
 /// Whether the automaton is of the kind that can show all occurrences.
 pub fn can_list(ac: &AhoCorasick) -> bool
-    ensures { IsTrue result ↔ ((as_built ac.now).dictionary.kind ≡ Standard) }
+    ensures { IsTrue result ↔ (kind_of ac.now ≡ Standard) }
 {
     matches!(ac.match_kind(), MatchKind::Standard)
 }

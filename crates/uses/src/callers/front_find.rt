@@ -10,7 +10,7 @@ ghost use Rattle.ac_literal.specs.Packed.{search_kind};
 ghost use Rattle.ac_automaton.specs.Automaton.{listing_in};
 ghost use Rattle.ac_automaton.specs.Replace.{matches_in};
 ghost use Rattle.aho_corasick.specs.AhoCorasick.{as_built, supported_by};
-ghost use Rattle.uses.specs.Callers.{BeginsWithPattern, OccursIn, first_in};
+ghost use Rattle.aho_corasick.specs.Callers.{BeginsWithPattern, OccursIn, first_in};
 
 use ac_input::search::{Anchored, Input, Match};
 use ac_input::steps::Steps;

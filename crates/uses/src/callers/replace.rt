@@ -2,7 +2,8 @@
 ghost use Rattle.std.specs.Prelude.{◌≡◌, ◌++◌, length, map, IfOk, OnOk};
 ghost use Rattle.std.specs.String.{string_bytes};
 ghost use Rattle.ac_input.specs.Same.{IsUnpaired};
-ghost use Rattle.uses.specs.Callers.{AppendsOne, KeepsUnmatched};
+ghost use Rattle.aho_corasick.specs.Callers.{KeepsUnmatched};
+ghost use Rattle.uses.specs.Callers.{AppendsOne};
 
 use ac_automaton::error::ReplaceError;
 use ac_automaton::search::Search;

@@ -6,7 +6,7 @@ ghost use Rattle.ac_input.specs.Steps.{looked_of};
 ghost use Rattle.ac_automaton.specs.Automaton.{IsDead, IsReached, IsState, PassesPlain};
 ghost use Rattle.ac_automaton.specs.Stream.{NothingIsLive};
 ghost use Rattle.ac_noncontiguous.specs.ReadCalls.{EdgesLeadIn, edges_in, state_len};
-ghost use Rattle.uses.specs.Callers.{EndsWithPattern, IsFirstEnd};
+ghost use Rattle.aho_corasick.specs.Callers.{EndsWithPattern, IsFirstEnd};
 
 use ac_automaton::automaton::Automaton;
 use ac_input::primitives::{PatternID, StateID};

@@ -10,7 +10,7 @@ ghost use Rattle.ac_tables.specs.ContiguousReads.{contiguous_dictionary, contigu
 ghost use Rattle.ac_tables.specs.ContiguousTable.{AreWordsOf};
 ghost use Rattle.ac_tables.specs.DfaBuild.{determined, start_kind_in, states_in, transitions_in};
 ghost use Rattle.ac_tables.specs.DfaReads.{dfa_dictionary, dfa_built_as, dfa_supported_by};
-ghost use Rattle.uses.specs.Callers.{FindsBytes, FindsFolded, IsPlain};
+ghost use Rattle.aho_corasick.specs.Callers.{FindsBytes, FindsFolded, IsPlain};
 
 use ac_input::pairing::Pairing;
 use ac_input::search::{MatchKind, StartKind};

@@ -4,7 +4,7 @@ use Rattle.ac_input.specs.Dictionary.{whole}
 use Rattle.ac_input.specs.Input.{whole_of}
 use Rattle.ac_noncontiguous.specs.Reads.{built_as}
 use Rattle.uses.proofs.BuildLemmas.{best-some, first-bytes}
-use Rattle.uses.proofs.FindLemmas.{found-for}
+use Rattle.aho_corasick.proofs.FindLemmas.{found-for}
 use Rattle.uses.proofs.callers.build.occurs_in.Goals as goal
 
 pub returns : goal.returns

@@ -2,7 +2,7 @@
 use Rattle.std.proofs.Common.{ℕ, ◌-◌, [], length, get_or, Some, ap, sym, ◌∙◌}
 use Rattle.std.specs.Prelude.{option_map}
 use Rattle.ac_input.specs.Occurrence.{Occurrence}
-use Rattle.uses.proofs.FindLemmas.{first-known}
+use Rattle.aho_corasick.proofs.FindLemmas.{first-known}
 use Rattle.uses.proofs.callers.find.match_len.Goals as goal
 
 pub pattern_len-requires : goal.pattern_len-requires

@@ -1,10 +1,7 @@
 -- By the first settings.
-use Rattle.std.proofs.lemmas.Result.{IfOk-weaker}
-use Rattle.uses.proofs.FrontLemmas.{front-bytes, front-starts}
+use Rattle.ac_literal.specs.Packed.{bytes_of}
+use Rattle.aho_corasick.proofs.FrontLemmas.{front-bytes}
 use Rattle.uses.proofs.callers.front.of_bytes.Goals as goal
 
 pub returns-clause-dictionary : goal.returns-clause-dictionary
-returns-clause-dictionary c = IfOk-weaker c.new.result _ _ (λ ac built. front-bytes c.args.patterns.now ac built) c.new.ensures.built
-
-pub returns-clause-starts : goal.returns-clause-starts
-returns-clause-starts c = IfOk-weaker c.new.result _ _ (λ ac built. front-starts c.args.patterns.now ac built) c.new.ensures.built
+returns-clause-dictionary c = front-bytes (bytes_of c.args.patterns.now) c.new.result c.new.ensures.patterns c.new.ensures.kind c.new.ensures.pairing

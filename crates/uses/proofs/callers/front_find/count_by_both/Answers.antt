@@ -6,13 +6,13 @@ use Rattle.ac_literal.specs.Packed.{matches_of}
 use Rattle.ac_automaton.specs.Automaton.{walk_in}
 use Rattle.ac_automaton.specs.Iter.{left_of}
 use Rattle.aho_corasick.specs.AhoCorasick.{as_built}
-use Rattle.uses.proofs.WalkLemmas.{matches-few}
+use Rattle.aho_corasick.proofs.WalkLemmas.{matches-few}
 use Rattle.uses.proofs.callers.front_find.count_by_both.Goals as goal
 
 pub count-found-requires-clause-fits : goal.count-found-requires-clause-fits
 count-found-requires-clause-fits c =
     let b = as_built c.args.ac.now in
-    let left = ap length (c.find_iter.ensures.1 ∙ ap (walk_in b) c.new.ensures) in
+    let left = ap length (c.find_iter.ensures.over.1 ∙ ap (walk_in b) c.new.ensures) in
     let few = matches-few b c.args.text.now in
     inl (omega arith)
 
@@ -28,7 +28,7 @@ pub returns : goal.returns
 returns c =
     let b = as_built c.args.ac.now in
     let alike = c.packed_walks_alike.ensures c.args.searcher.now b c.args.text.now (sym c.requires.same) (sym c.requires.kind) c.requires.unpaired in
-    let left = c.find_iter.ensures.1 ∙ ap (walk_in b) c.new.ensures in
+    let left = c.find_iter.ensures.over.1 ∙ ap (walk_in b) c.new.ensures in
     let walked = count_from_yields_List c.find_iter.result c.count-found.result c.count-found.ensures.ran (YieldsList-from_first (λ y. y) left_of (walk_in b (whole_of c.args.text.now)) left) in
     let packed = count_from_yields_List c.find_iter-2.result c.count.result c.count.ensures.ran (YieldsList-from_first (λ y. y) (λ rest. rest) (matches_of c.args.searcher.now c.args.text.now) c.find_iter-2.ensures) in
     packed ∙ ap length alike ∙ sym walked

@@ -1,12 +1,11 @@
-use Rattle.std.proofs.Common.{map, ◌∙◌}
+use Rattle.std.proofs.Common.{◌∙◌}
 use Rattle.std.proofs.lemmas.Result.{IfOk-weaker}
-use Rattle.ac_automaton.specs.Replace.{matches_in}
-use Rattle.aho_corasick.specs.AhoCorasick.{as_built, supported_by}
-use Rattle.uses.proofs.ReplaceLemmas.{if-replaced, replaced-same}
+use Rattle.ac_literal.specs.Packed.{bytes_of}
+use Rattle.aho_corasick.specs.AhoCorasick.{as_built}
+use Rattle.aho_corasick.proofs.ReplaceLemmas.{replaced-same}
 use Rattle.uses.proofs.callers.front_replace.try_replaced_by_itself.Goals as goal
 
 pub returns : goal.returns
 returns c =
-    let b = as_built c.args.ac.now in
-    let same = replaced-same b c.args.bytes.now (map (λ p. p.now) c.args.patterns.now) c.requires.unpaired c.requires.same in
-    IfOk-weaker c.try_replace_all_bytes.result _ _ (λ v is. is ∙ same) (if-replaced (λ v. v.items) matches_in b (supported_by c.args.ac.now) c.args.bytes.now c.args.patterns.now c.try_replace_all_bytes.result c.try_replace_all_bytes.ensures)
+    let same = replaced-same (as_built c.args.ac.now) c.args.bytes.now (bytes_of c.args.patterns.now) c.requires.unpaired c.requires.same in
+    IfOk-weaker c.try_replace_all_bytes.result _ _ (λ v is. is ∙ same) c.try_replace_all_bytes.ensures.replaced

@@ -1,13 +1,11 @@
-use Rattle.std.proofs.Common.{map, ◌∙◌}
+use Rattle.std.proofs.Common.{◌∙◌}
 use Rattle.std.proofs.lemmas.Result.{IfOk-weaker}
-use Rattle.std.specs.String.{string_bytes}
-use Rattle.ac_automaton.specs.Replace.{text_matches_in}
-use Rattle.aho_corasick.specs.AhoCorasick.{as_built, supported_by}
-use Rattle.uses.proofs.ReplaceLemmas.{if-replaced, replaced-none}
+use Rattle.ac_literal.specs.Packed.{bytes_of}
+use Rattle.aho_corasick.specs.AhoCorasick.{as_built}
+use Rattle.aho_corasick.proofs.ReplaceLemmas.{replaced-none}
 use Rattle.uses.proofs.callers.front_replace.try_replaced_text.Goals as goal
 
 pub returns : goal.returns
 returns c =
-    let b = as_built c.args.ac.now in
-    let same = replaced-none b c.args.text.now (map (λ p. p.now) c.args.replacements.now) in
-    IfOk-weaker c.try_replace_all.result _ _ (λ t is none. is ∙ same none) (if-replaced string_bytes text_matches_in b (supported_by c.args.ac.now) c.args.text.now c.args.replacements.now c.try_replace_all.result c.try_replace_all.ensures)
+    let same = replaced-none (as_built c.args.ac.now) c.args.text.now (bytes_of c.args.replacements.now) in
+    IfOk-weaker c.try_replace_all.result _ _ (λ t is none. is ∙ same none) c.try_replace_all.ensures.replaced

@@ -1,6 +1,6 @@
 -- The matches are one more than the bytes at most.
 use Rattle.std.proofs.Common.{ap, inl, length, arith}
-use Rattle.uses.proofs.WalkLemmas.{left-all, matches-few}
+use Rattle.aho_corasick.proofs.WalkLemmas.{left-all, matches-few}
 use Rattle.uses.proofs.callers.iterate.count_matches.Goals as goal
 
 pub count-requires-clause-fits : goal.count-requires-clause-fits

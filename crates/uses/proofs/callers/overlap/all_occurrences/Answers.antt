@@ -5,7 +5,7 @@ use Rattle.std.proofs.lemmas.Result.{IfOk-weaker}
 use Rattle.ac_input.specs.Input.{whole_of}
 use Rattle.ac_automaton.specs.Automaton.{listing_in}
 use Rattle.ac_automaton.specs.OverlappingIter.{rest_of}
-use Rattle.uses.proofs.OverlapLemmas.{collected-listing, left-listing}
+use Rattle.aho_corasick.proofs.OverlapLemmas.{collected-listing, left-listing}
 use Rattle.uses.proofs.callers.overlap.all_occurrences.Goals as goal
 
 pub returns : goal.returns

@@ -1,5 +1,5 @@
 use Rattle.ac_input.specs.Input.{whole_of}
-use Rattle.uses.proofs.FindLemmas.{found-for}
+use Rattle.aho_corasick.proofs.FindLemmas.{found-for}
 use Rattle.uses.proofs.PackedLemmas.{packed-alike}
 use Rattle.uses.proofs.callers.packed.find_by_both.Goals as goal
 

@@ -3,7 +3,7 @@ use Rattle.std.proofs.Common.{◌≤◌, arith, rules, length}
 use Rattle.std.specs.Prelude.{◌≢◌}
 use Rattle.ac_input.specs.declared.search.StartKind.TheVariants.{Both}
 use Rattle.ac_noncontiguous.specs.Reads.{dictionary}
-use Rattle.aho_corasick.specs.declared.ahocorasick.builder.TheConstants.{MOST_FOR_DFA}
+use Rattle.aho_corasick.specs.Served.{most_for_dfa}
 use Rattle.aho_corasick.proofs.ServedLemmas.{tries-dfa}
 use Rattle.aho_corasick.proofs.ahocorasick.builder.AhoCorasickBuilder.try_dfa.Goals as goal
 
@@ -12,5 +12,5 @@ returns-clause-tried c =
     let s = c.args.self.now in
     let nfa = c.args.nfa.now in
     let one : s.start_kind ≢ Both = search rules in
-    let few : length (dictionary nfa).patterns ≤ MOST_FOR_DFA = omega (arith, c.patterns_len.ensures) in
+    let few : length (dictionary nfa).patterns ≤ most_for_dfa = omega (arith, c.patterns_len.ensures) in
     tries-dfa s nfa c.dfa.result c.build_from_noncontiguous.result c.fitting.result c.dfa.ensures one few c.build_from_noncontiguous.ensures.built c.build_from_noncontiguous.ensures.refused c.fitting.ensures

@@ -20,7 +20,7 @@ use Rattle.ac_automaton.specs.Automaton.{Built, AnswersFind, IsFound}
 use Rattle.ac_automaton.specs.declared.error.MatchErrorKind.{MatchErrorKind}
 use Rattle.ac_automaton.proofs.IterLemmas.{shortest-le}
 use Rattle.aho_corasick.specs.AhoCorasick.{HasOccurrence}
-use Rattle.uses.specs.Callers.{BeginsWithPattern, IsFirstEnd, first_in}
+use Rattle.aho_corasick.specs.Callers.{BeginsWithPattern, IsFirstEnd, first_in}
 
 -- the result of such a search
 pub found-for : (b : Built) (supports : Anchored → Type 0) (asked known : Asked) (result : Result (Option Occurrence) MatchErrorKind) (r : Option Occurrence) → AnswersFind b supports asked result → result ≡ Ok r → asked ≡ known → IsFound b known r

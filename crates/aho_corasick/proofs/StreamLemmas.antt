@@ -1,0 +1,150 @@
+-- What streams over texts in memory read and write.
+use Rattle.std.proofs.Common.{◌≡◌, ℕ, ◌≤◌, false, List, [], ◌∷◌, ◌++◌, length, take, Option, Some, None, Result, Ok, Err, inl, inr, refl, sym, ap, ◌∙◌, subst, append_assoc, length-append, arith}
+use Rattle.std.specs.Prelude.{slice_range, OnOk}
+use Rattle.std.specs.Borrow.{Bor, MutBor}
+use Rattle.std.specs.Fn.{Called}
+use Rattle.std.specs.Io.KnownBytes.{Appends, Consumes, IsAtEnd}
+use Rattle.std.specs.List.{concat}
+use Rattle.std.proofs.KnownBytes.{Consumes-whole}
+use Rattle.std.proofs.Math.Seq.{take-length}
+use Rattle.std.proofs.lemmas.Grind.{common_steps}
+use Rattle.std.proofs.lemmas.Bool.{false≢true}
+use Rattle.std.proofs.lemmas.List.{append-nil}
+use Rattle.std.proofs.lemmas.List.Folds.{concat-append}
+use Rattle.ac_input.specs.declared.search.Anchored.{Anchored}
+use Rattle.ac_input.specs.Occurrence.{Occurrence}
+use Rattle.ac_automaton.specs.Automaton.{Built}
+use Rattle.ac_automaton.specs.Moved.{AreFilled}
+use Rattle.ac_automaton.specs.Replace.{LieInOrder, matches_in}
+use Rattle.ac_automaton.specs.Stream.{StreamProgress, read_by}
+use Rattle.ac_automaton.specs.StreamIter.{HasGained, NextGives}
+use Rattle.ac_automaton.specs.StreamReplace.{ReplacesStream, replaced_in}
+use Rattle.ac_automaton.specs.StreamReplaceWith.{IsWriterChain, ReplacesStreamWith, StreamReplacer}
+use Rattle.ac_automaton.specs.Watched.{has_ended, inner_of, taken_of}
+use Rattle.ac_automaton.specs.declared.error.StreamError.{StreamError}
+use Rattle.ac_automaton.specs.declared.watched.Watched.{Watched}
+use Rattle.ac_automaton.proofs.CursorLemmas.{slice_range-split}
+use Rattle.ac_automaton.proofs.MovedLemmas.{turns-filled}
+use Rattle.ac_automaton.proofs.ReplaceLemmas.{matches-lie}
+use Rattle.aho_corasick.specs.declared.ahocorasick.AhoCorasick.{AhoCorasick}
+use Rattle.aho_corasick.specs.AhoCorasick.{as_built}
+use Rattle.aho_corasick.specs.Streamed.{IsStreamReplaced}
+
+-- ---- texts that are read to their end
+
+-- a text of which nothing is left was read whole
+pub consumed-whole : (old new : Option (List ℕ)) (text bytes : List ℕ) → old ≡ Some text → Consumes old new bytes → IsAtEnd new → text ≡ bytes
+consumed-whole old new text bytes is consumes ended = by new (subst (λ (known : Option (List ℕ)). Consumes known new bytes) is consumes) ended
+  where
+    by : (left : Option (List ℕ)) → Consumes (Some text) left bytes → IsAtEnd left → text ≡ bytes
+    by None consumes ended = absurd consumes
+    by (Some rest) consumes ended = consumes ∙ ap (λ (t : List ℕ). bytes ++ t) ended ∙ append-nil bytes
+
+-- what was read of a text, and what is left of it, is the text
+stream-read : {R : Type 0} (rest : R → List ℕ) (text : List ℕ) (s t : StreamProgress) (before after : Watched R) (gained : List (List ℕ)) (failed : ℕ) → text ≡ read_by s ++ rest (inner_of before) → HasGained (λ r. Some (rest r)) s t before after gained failed → text ≡ read_by t ++ rest (inner_of after)
+stream-read rest text s t before after gained failed is gains =
+    is
+    ∙ ap (λ (u : List ℕ). read_by s ++ u) gains.read.device
+    ∙ sym (append_assoc (read_by s) (concat gained) (rest (inner_of after)))
+    ∙ ap (λ (u : List ℕ). u ++ rest (inner_of after)) (sym (ap concat gains.pieces ∙ concat-append s.pieces gained))
+
+-- A search of a text stands somewhere: what it read, and what it gave.
+pub record HasFound {R : Type 0} (rest : R → List ℕ) (b : Built) (text : List ℕ) (s : StreamProgress) (reader : Watched R) (found : List Occurrence) : Type 0 where
+  pub built : s.built ≡ b
+  pub unended : has_ended reader ≡ false
+  pub read : text ≡ read_by s ++ rest (inner_of reader)
+  pub given : found ≡ s.given
+
+-- it gave one more match
+pub found-more : {R : Type 0} (rest : R → List ℕ) (b : Built) (text : List ℕ) (s t : StreamProgress) (before after : Watched R) (found more : List Occurrence) (o : Occurrence) → HasFound rest b text s before found → NextGives (λ r. Some (rest r)) s t before after (Some (Ok o)) → more ≡ found ++ o ∷ [] → HasFound rest b text t after more
+found-more rest b text s t before after found more o has gives is =
+    record {
+      built = gives.1.built ∙ has.built;
+      unended = turns-filled (has_ended before) (has_ended after) gives.0 gives.1.read.turns gives.2 ∙ has.unended;
+      read = stream-read rest text s t before after gives.0 0 has.read gives.1;
+      given = is ∙ ap (λ (os : List Occurrence). os ++ o ∷ []) has.given ∙ sym gives.3;
+    }
+
+-- it gave all matches
+pub found-all : {R : Type 0} (rest : R → List ℕ) (b : Built) (text : List ℕ) (s t : StreamProgress) (before after : Watched R) (found : List Occurrence) → length text ≤ 18446744073709551615 → HasFound rest b text s before found → NextGives (λ r. Some (rest r)) s t before after None → found ≡ matches_in b text
+found-all rest b text s t before after found few has gives =
+    let read = stream-read rest text s t before after gives.0 0 has.read gives.1 in
+    elim gives.2 [
+      | inl none ↦
+          let unended : has_ended after ≡ false = turns-filled (has_ended before) (has_ended after) gives.0 gives.1.read.turns (subst AreFilled (sym none) tt) ∙ has.unended in
+          let count = simp length-append at (ap length read) in
+          elim gives.4 [
+            | inl (stopped, all) ↦ absurd (false≢true (sym unended ∙ stopped))
+            | inr long ↦ absurd (long (omega (arith, count, few)))
+          ]
+      | inr (whole, all, ended) ↦
+          let same : text ≡ read_by t = read ∙ ap (λ (u : List ℕ). read_by t ++ u) ended ∙ append-nil (read_by t) in
+          has.given ∙ sym gives.3 ∙ all.all ∙ ap (λ (c : Built). matches_in c (read_by t)) (gives.1.built ∙ has.built) ∙ ap (matches_in b) (sym same)
+    ]
+
+-- ---- closures that write what matched
+
+-- three parts of a text, one after another
+joined-slices : (x old : List ℕ) (at start end to : ℕ) → at ≤ start → start ≤ end → end ≤ to → ((old ++ slice_range x at start) ++ slice_range x start end) ++ slice_range x end to ≡ old ++ slice_range x at to
+joined-slices x old at start end to first second third =
+    append_assoc (old ++ slice_range x at start) (slice_range x start end) (slice_range x end to)
+    ∙ append_assoc old (slice_range x at start) (slice_range x start end ++ slice_range x end to)
+    ∙ ap (λ (t : List ℕ). old ++ (slice_range x at start ++ t)) (sym (slice_range-split x start end to second third))
+    ∙ ap (λ (t : List ℕ). old ++ t) (sym (slice_range-split x at start to first (omega arith)))
+
+-- what is said of a closure's calls: that if one is Ok, the writer holds what matched after what it held
+abbrev pub WritesMatched : {F W : Type 0} → (W → List ℕ) → StreamReplacer F W → Type 0
+WritesMatched {F} {W} items g = (f after : F) (found : Bor Occurrence) (text : Bor (List ℕ)) (dst left : MutBor (Watched W)) → Called g f (found, (text, (dst, tt))) (Ok tt, (left, tt)) after → items (inner_of left.now) ≡ items (inner_of dst.now) ++ text.now
+
+-- so the result is the text unchanged
+chain-writes : {F W : Type 0} (items : W → List ℕ) (g : StreamReplacer F W) (x : List ℕ) (patterns at : ℕ) (os : List Occurrence) (to : ℕ) (f : F) (old : Watched W) (last : F) (new : Watched W) → WritesMatched items g
+    → LieInOrder patterns to at os → IsWriterChain (λ w. Some (items w)) g x at os to f old last new → items (inner_of new) ≡ items (inner_of old) ++ slice_range x at to
+chain-writes items g x patterns at [] to f old last new writes lies chain = chain.1.device
+chain-writes items g x patterns at (o ∷ os) to f old last new writes lies chain =
+    let replies = chain.4 in
+    let said = writes f chain.2 replies.found replies.text replies.dst replies.left replies.called in
+    let matched : items (inner_of chain.1) ≡ items (inner_of chain.0) ++ slice_range x o.start o.end =
+    ap (λ (w : Watched _). items (inner_of w)) (sym replies.leaves) ∙ said
+    ∙ ap (λ (w : Watched _). items (inner_of w) ++ replies.text.now) replies.shows.2
+    ∙ ap (λ (t : List ℕ). items (inner_of chain.0) ++ t) replies.shows.1 in
+    let rest = chain-writes items g x patterns o.end os to chain.2 chain.1 last new writes lies.4 chain.5 in
+    rest
+    ∙ ap (λ (t : List ℕ). t ++ slice_range x o.end to) (matched ∙ ap (λ (t : List ℕ). t ++ slice_range x o.start o.end) chain.3.device)
+    ∙ joined-slices x (items (inner_of old)) at o.start o.end to lies.1 lies.2 lies.3
+
+-- the whole of a stream
+pub stream-writes : {F W R : Type 0} (remaining : R → Option (List ℕ)) (items : W → List ℕ) (g : StreamReplacer F W) (b : Built) (supports : Anchored → Type 0) (f : F) (text : List ℕ) (reader_before reader_after : Watched R) (old new : Watched W) (result : Result (Unit {0}) StreamError) → remaining (inner_of reader_before) ≡ Some text → WritesMatched items g
+    → ReplacesStreamWith (λ w. Some (items w)) g remaining b supports f reader_before reader_after old new result → OnOk result (items (inner_of new) ≡ items (inner_of old) ++ text)
+stream-writes remaining items g b supports f text reader_before reader_after old new (Ok done) is writes replaces =
+    let pieces = replaces.1.0 in
+    let given = replaces.1.2 in
+    let whole = replaces.1.4.1 in
+    let x = concat pieces in
+    let read = consumed-whole _ _ text x is given.device (given.at_end replaces.1.4.0 whole.whole) in
+    let written = chain-writes items g x (length b.dictionary.patterns) 0 (matches_in b x) (length x) f old whole.last new writes (matches-lie b x) whole.chain in
+    let all : slice_range x 0 (length x) ≡ x = let front : slice_range x 0 (length x) ≡ take (length x) x = grind (arith, common_steps) in front ∙ take-length x in
+    written ∙ ap (λ (t : List ℕ). items (inner_of old) ++ t) (all ∙ sym read)
+stream-writes remaining items g b supports f text reader_before reader_after old new (Err error) is writes replaces = tt
+
+-- ---- replacements
+
+-- the text of the whole stream is written, replaced
+pub stream-replaces : {W R : Type 0} (remaining : R → Option (List ℕ)) (items : W → List ℕ) (b : Built) (replacements : List (List ℕ)) (text : List ℕ) (reader_before reader_after : Watched R) (old new : Watched W) (result : Result (Unit {0}) StreamError) → remaining (inner_of reader_before) ≡ Some text
+    → ReplacesStream remaining (λ w. Some (items w)) b replacements reader_before reader_after old new result → OnOk result (items (inner_of new) ≡ items (inner_of old) ++ replaced_in b replacements text)
+stream-replaces remaining items b replacements text reader_before reader_after old new (Ok done) is (m, moved, fit, whole) =
+    let read = consumed-whole _ _ text (concat m.pieces) is moved.reader.device (moved.reader.at_end whole.failed.0 whole.whole) in
+    moved.writer.device ∙ ap (λ (t : List ℕ). items (inner_of old) ++ t) (whole.written ∙ ap (replaced_in b replacements) (sym read))
+stream-replaces remaining items b replacements text reader_before reader_after old new (Err error) is replaces = tt
+
+-- so reads returned all that there was, and the writer took it, replaced
+pub stream-replaced : {R W : Type 0} (remaining : R → Option (List ℕ)) (contents : W → Option (List ℕ)) (ac : AhoCorasick) (replacements : List (List ℕ)) (reader_before reader_after : Watched R) (writer_before writer_after : Watched W) (result : Result (Unit {0}) StreamError)
+    → ReplacesStream remaining contents (as_built ac) replacements reader_before reader_after writer_before writer_after result → OnOk result (IsStreamReplaced remaining contents ac replacements reader_before reader_after writer_before writer_after)
+stream-replaced remaining contents ac replacements reader_before reader_after writer_before writer_after (Ok done) (m, moved, fit, whole) =
+    record {
+      pieces = m.pieces;
+      read = moved.reader.pieces;
+      whole = Consumes-whole (remaining (inner_of reader_before)) (remaining (inner_of reader_after)) (concat m.pieces) (λ text. text ≡ concat m.pieces) moved.reader.device (moved.reader.at_end whole.failed.0 whole.whole) refl;
+      taken = moved.writer.taken ∙ ap (λ (bytes : List ℕ). taken_of writer_before ++ bytes) whole.written;
+      device = subst (Appends (contents (inner_of writer_before)) (contents (inner_of writer_after))) whole.written moved.writer.device;
+    }
+stream-replaced remaining contents ac replacements reader_before reader_after writer_before writer_after (Err error) replaces = tt

@@ -1,0 +1,18 @@
+-- The builder has the settings that it has at first.
+use Rattle.std.proofs.Common.{sym, subst, ◌∙◌}
+use Rattle.std.proofs.lemmas.Result.{IfOk-weaker, IfErr-weaker}
+use Rattle.ac_input.specs.Same.{IsUnpaired}
+use Rattle.aho_corasick.proofs.ahocorasick.AhoCorasick.from_patterns.Goals as goal
+
+pub returns : goal.returns
+returns g c =
+    let made = c.build_from_patterns.result in
+    let first = c.new.ensures in
+    record {
+      patterns = c.build_from_patterns.ensures.patterns;
+      kind = IfOk-weaker made _ _ (λ ac is. is ∙ first.match_kind) c.build_from_patterns.ensures.kind;
+      pairing = IfOk-weaker made _ _ (λ ac is. subst IsUnpaired (sym is) first.pairing) c.build_from_patterns.ensures.pairing;
+      starts = IfOk-weaker made _ _ (λ ac is. is ∙ first.start_kind) c.build_from_patterns.ensures.starts;
+      served = IfOk-weaker made _ _ (λ ac built. (c.new.result, first, built)) c.build_from_patterns.ensures.served;
+      refused = IfErr-weaker made _ _ (λ error refused. (c.new.result, first, refused)) c.build_from_patterns.ensures.refused;
+    }

@@ -1,0 +1,9 @@
+-- A replacement that succeeds has replaced all matches.
+use Rattle.ac_automaton.specs.Replace.{matches_in}
+use Rattle.aho_corasick.specs.AhoCorasick.{as_built, supported_by}
+use Rattle.aho_corasick.proofs.ReplaceLemmas.{if-replaced}
+use Rattle.aho_corasick.proofs.ahocorasick.AhoCorasick.try_replace_all_bytes.Goals as goal
+
+pub returns-clause-replaced : goal.returns-clause-replaced
+returns-clause-replaced c =
+    if-replaced (λ v. v.items) matches_in (as_built c.args.self.now) (supported_by c.args.self.now) c.args.haystack.now c.args.replacements.now c.try_replace_all_bytes.result c.try_replace_all_bytes.ensures

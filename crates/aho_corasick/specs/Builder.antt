@@ -6,7 +6,7 @@ use Rattle.ac_input.specs.declared.search.StartKind.{StartKind}
 use Rattle.ac_input.specs.declared.search.StartKind.TheVariants.{Unanchored}
 use Rattle.ac_input.specs.Dictionary.{Dictionary, dictionary_of}
 use Rattle.ac_input.specs.Same.{IsUnpaired}
-use Rattle.ac_noncontiguous.specs.Builder.{Settings}
+use Rattle.ac_noncontiguous.specs.Builder.{Settings, default_dense_depth}
 use Rattle.aho_corasick.specs.declared.ahocorasick.AhoCorasickKind.{AhoCorasickKind}
 
 -- Which of several overlapping occurrences is the match, which searches are served, which bytes are paired, which automaton serves
@@ -38,7 +38,7 @@ depth_or (Some depth) other = depth
 
 -- the settings of the noncontiguous NFA, from which the others are made
 abbrev pub noncontiguous_by : FrontSettings → Settings
-noncontiguous_by s = record { kind = s.match_kind; pairing = s.pairing; dense_depth = depth_or s.dense_depth 3; prefilter = s.prefilter }
+noncontiguous_by s = record { kind = s.match_kind; pairing = s.pairing; dense_depth = depth_or s.dense_depth default_dense_depth; prefilter = s.prefilter }
 
 -- the dictionary of patterns by the settings
 abbrev pub front_dictionary : FrontSettings → List (List ℕ) → Dictionary

@@ -9,7 +9,7 @@ use Rattle.ac_noncontiguous.specs.Standing.{IsBuildRefused}
 use Rattle.ac_noncontiguous.specs.declared.error.BuildErrorKind.{BuildErrorKind}
 use Rattle.ac_noncontiguous.specs.declared.error.BuildErrorKind.TheVariants.{StateIDOverflow, Memory}
 use Rattle.ac_noncontiguous.specs.declared.nfa.NFA.{NFA}
-use Rattle.ac_tables.specs.ContiguousBuilder.{ContiguousSettings, IsMadeFrom, IsRefusedFrom}
+use Rattle.ac_tables.specs.ContiguousBuilder.{ContiguousSettings, IsMadeFrom, IsRefusedFrom, contiguous_default_dense_depth}
 use Rattle.ac_tables.specs.ContiguousTable.{ArePlacesTooGreat}
 use Rattle.ac_tables.specs.DfaBuild.{DfaSettings, IsDfaOf, IsDfaRefused}
 use Rattle.ac_tables.specs.TableClasses.{AreClassesFor}
@@ -27,7 +27,7 @@ use Rattle.aho_corasick.specs.Engine.{kind_served}
 -- ---- the settings of each automaton
 
 abbrev pub contiguous_by : FrontSettings → ContiguousSettings
-contiguous_by s = record { kind = s.match_kind; pairing = s.pairing; prefilter = s.prefilter; dense_depth = depth_or s.dense_depth 2; byte_classes = s.byte_classes }
+contiguous_by s = record { kind = s.match_kind; pairing = s.pairing; prefilter = s.prefilter; dense_depth = depth_or s.dense_depth contiguous_default_dense_depth; byte_classes = s.byte_classes }
 
 abbrev pub dfa_by : FrontSettings → DfaSettings
 dfa_by s = record { kind = s.match_kind; pairing = s.pairing; prefilter = s.prefilter; start_kind = s.start_kind; byte_classes = s.byte_classes }

@@ -5,10 +5,10 @@
 //! The calls with `try_` return an error if the automaton has no start for the input's anchoring, and those for overlapping
 //! matches also if its kind isn't the standard one. The others require that neither is so, and then do the same. None of them
 //! takes memory.
-ghost use Rattle.std.specs.Prelude.{◌≡◌, ◌↔◌, IfOk, IfSome, IsTrue};
+ghost use Rattle.std.specs.Prelude.{◌≡◌, ◌↔◌, IfOk, IfSome, IsTrue, OnOk};
 ghost use Rattle.ac_automaton.specs.Automaton.{AnswersFind, CostsFind, IsFound, searched};
 ghost use Rattle.ac_automaton.specs.Iter.{AnswersFindIter};
-ghost use Rattle.ac_automaton.specs.Overlapping.{ShowsNext, AnswersOverlapping, IsOverlappingCost, sums_of};
+ghost use Rattle.ac_automaton.specs.Overlapping.{CountsShown, ShowsNext, AnswersOverlapping, IsOverlappingCost, sums_of};
 ghost use Rattle.ac_automaton.specs.OverlappingIter.{AnswersOverlappingIter, rest_of};
 ghost use Rattle.ac_automaton.specs.Items.{AreFew, AreFewForEach, AreInOrder, EachLiesWithin, FindsWithin, LiesWithin};
 ghost use Rattle.aho_corasick.specs.AhoCorasick.{as_built, kind_of, supported_by, CameFromCalls, HasOccurrence, IsWalkOver, IsRunOver};
@@ -73,6 +73,7 @@ impl AhoCorasick {
         ensures came { CameFromCalls self.now input.entry state.new }
         ensures shows { ShowsNext (as_built self.now) input.entry state.old state.new }
         ensures cost { IsOverlappingCost (as_built self.now) input.entry (sums_of state.new) }
+        ensures counted { CountsShown (as_built self.now) input.entry state.new }
     {
         self.try_find_overlapping(input, state).unwrap()
     }
@@ -169,6 +170,7 @@ impl AhoCorasick {
         ensures answer { AnswersOverlapping (as_built self.now) (supported_by self.now) input.entry
             state.old state.new result }
         ensures cost { IsOverlappingCost (as_built self.now) input.entry (sums_of state.new) }
+        ensures counted { OnOk result (CountsShown (as_built self.now) input.entry state.new) }
     {
         Automaton::try_find_overlapping(self, &input, state)
     }

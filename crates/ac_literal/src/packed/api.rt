@@ -101,7 +101,7 @@ impl Config {
 
 /// Collects the patterns of a searcher.
 ///
-/// There may be 1 to 128 of them ([`PATTERN_LIMIT`]), none empty. An empty one, or one too many, drops all of them and makes the builder inert: it
+/// There may be 1 to 128 of them, none empty. An empty one, or one too many, drops all of them and makes the builder inert: it
 /// takes no more patterns, and builds nothing. A builder without patterns builds nothing either. Each pattern is copied into
 /// memory from the allocator that the builder was made with.
 #[derive(Drop)]

@@ -2,10 +2,10 @@
 //!
 //! The calls with `try_` return an error if the automaton has no start for the input's anchoring, and those for overlapping
 //! matches also if its kind isn't the standard one. The others require that neither is so.
-ghost use Rattle.std.specs.Prelude.{◌↔◌, IsTrue};
+ghost use Rattle.std.specs.Prelude.{◌↔◌, IsTrue, OnOk};
 ghost use Rattle.ac_automaton.specs.Automaton.{AnswersFind, CostsFind, IsFound, searched};
 ghost use Rattle.ac_automaton.specs.Iter.{AnswersFindIter};
-ghost use Rattle.ac_automaton.specs.Overlapping.{CanOverlap, ShowsNext, AnswersOverlapping, IsOverlappingCost, sums_of};
+ghost use Rattle.ac_automaton.specs.Overlapping.{CanOverlap, CountsShown, ShowsNext, AnswersOverlapping, IsOverlappingCost, sums_of};
 ghost use Rattle.ac_automaton.specs.OverlappingIter.{CanRun, AnswersOverlappingIter};
 ghost use Rattle.aho_corasick.specs.AhoCorasick.{as_built, supported_by, CameFromCalls, HasOccurrence, IsWalkOver, IsRunOver};
 
@@ -54,6 +54,7 @@ impl AhoCorasick {
         ensures came { CameFromCalls self.now input.entry state.new }
         ensures shows { ShowsNext (as_built self.now) input.entry state.old state.new }
         ensures cost { IsOverlappingCost (as_built self.now) input.entry (sums_of state.new) }
+        ensures counted { CountsShown (as_built self.now) input.entry state.new }
     {
         self.try_find_overlapping(input, state).unwrap()
     }
@@ -123,6 +124,7 @@ impl AhoCorasick {
         ensures answer { AnswersOverlapping (as_built self.now) (supported_by self.now) input.entry
             state.old state.new result }
         ensures cost { IsOverlappingCost (as_built self.now) input.entry (sums_of state.new) }
+        ensures counted { OnOk result (CountsShown (as_built self.now) input.entry state.new) }
     {
         Automaton::try_find_overlapping(self, &input, state)
     }

@@ -64,8 +64,6 @@ fn slices_of<P: AsSlice<u8>>(alloc: Global, patterns: &[P]) -> Result<Vec<&[u8]>
 ///     .ascii_case_insensitive(true)
 ///     .build(alloc, &[b"samwise", b"sam"])?;
 /// ```
-///
-/// Examples: `uses::examples::build`.
 #[derive(Clone, Drop)]
 pub struct AhoCorasickBuilder {
     match_kind: MatchKind,
@@ -355,7 +353,6 @@ impl AhoCorasickBuilder {
     /// Time and memory are in proportion to the bytes of the patterns; for a DFA times the classes of bytes, at most 256. While the
     /// automaton that serves is made, the noncontiguous NFA is held too.
     ///
-    /// Examples: `uses::examples::build`.
     /// A caller: `uses::callers::front::folded`.
     pub fn build(&self, alloc: Global, patterns: &[&[u8]]) -> Result<AhoCorasick, BuildError>
         ensures patterns { IfOk result (λ ac. patterns_of ac ≡ bytes_of patterns.now) }
@@ -399,7 +396,7 @@ impl AhoCorasick {
     /// Returns an error if the patterns pass a limit or memory runs out, and costs what [`AhoCorasickBuilder::build`] does. For up to
     /// 100 patterns that is a DFA: see [`AhoCorasickBuilder::kind`].
     ///
-    /// Examples: `uses::examples::build`. A caller: `uses::callers::front::of_bytes`.
+    /// A caller: `uses::callers::front::of_bytes`.
     pub fn new(alloc: Global, patterns: &[&[u8]]) -> Result<AhoCorasick, BuildError>
         ensures patterns { IfOk result (λ ac. patterns_of ac ≡ bytes_of patterns.now) }
         ensures kind { IfOk result (λ ac. kind_of ac ≡ MatchKind.Standard) }

@@ -37,7 +37,7 @@ impl AhoCorasick {
     /// // "The slow grey sloth."
     /// ```
     ///
-    /// Examples: `uses::examples::replace`. A caller: `uses::callers::front_replace::replaced_text`.
+    /// A caller: `uses::callers::front_replace::replaced_text`.
     pub fn replace_all(
         &self,
         alloc: Global,
@@ -79,7 +79,6 @@ impl AhoCorasick {
     /// [`AhoCorasick::try_replace_all_with`], also for what it requires of the closure. It requires a start for unanchored searches,
     /// too.
     ///
-    /// Examples: `uses::examples::replace`.
     /// A caller: `uses::callers::front_replace::append_first_replaced`.
     pub fn replace_all_with<F>(
         &self,

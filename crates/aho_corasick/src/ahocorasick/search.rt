@@ -33,7 +33,7 @@ impl AhoCorasick {
     /// ac.is_match(Input::from("xxx qux xxx")) // false
     /// ```
     ///
-    /// Examples: `uses::examples::find`. A caller: `uses::callers::front_find::contains_any`.
+    /// A caller: `uses::callers::front_find::contains_any`.
     pub fn is_match(&self, input: Input<'_>) -> bool
         requires { supported_by self.now input.anchored }
         ensures { IsTrue result ↔ HasOccurrence (searched (as_built self.now) input.entry) }
@@ -51,7 +51,7 @@ impl AhoCorasick {
     /// let found = ac.find(Input::from("foo abcd")); // an Option<Match>
     /// ```
     ///
-    /// Examples: `uses::examples::find`. A caller: `uses::callers::front_find::first_match`.
+    /// A caller: `uses::callers::front_find::first_match`.
     pub fn find(&self, input: Input<'_>) -> Option<Match>
         requires { supported_by self.now input.anchored }
         ensures found { IsFound (as_built self.now) input.entry result }
@@ -90,7 +90,7 @@ impl AhoCorasick {
     /// }
     /// ```
     ///
-    /// Examples: `uses::examples::iterate`. A caller: `uses::callers::front_find::all_matches`.
+    /// A caller: `uses::callers::front_find::all_matches`.
     pub fn find_iter<'a, 'h>(&'a self, input: Input<'h>) -> FindIter<'a, 'h>
         requires { supported_by self.now input.anchored }
         ensures over { IsWalkOver (as_built self.now) input.entry result }
@@ -105,7 +105,7 @@ impl AhoCorasick {
     /// It requires that the input isn't anchored, that the start kind has unanchored searches, and that the kind is the standard
     /// one. However many occurrences there are, it looks at two states for each byte of the span at most, or at one with a DFA.
     ///
-    /// Examples: `uses::examples::iterate`. A caller: `uses::callers::front_find::all_occurrences`.
+    /// A caller: `uses::callers::front_find::all_occurrences`.
     pub fn find_overlapping_iter<'a, 'h>(&'a self, input: Input<'h>) -> FindOverlappingIter<'a, 'h>
         requires can { supported_by self.now Anchored.No }
         requires standard { kind_of self.now ≡ MatchKind.Standard }
@@ -159,7 +159,7 @@ impl AhoCorasick {
     /// let first = state.get_match();
     /// ```
     ///
-    /// Examples: `uses::examples::iterate`. A caller: `uses::callers::front_find::first_occurrence`.
+    /// A caller: `uses::callers::front_find::first_occurrence`.
     pub fn try_find_overlapping(
         &self,
         input: Input<'_>,

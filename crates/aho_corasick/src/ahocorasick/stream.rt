@@ -62,7 +62,7 @@ impl AhoCorasick {
     /// Returns an error if the automaton has no start for an unanchored search, isn't of the standard kind, or has an empty
     /// pattern, checked in that order, and then if there is no memory for the buffer. Nothing was read then.
     ///
-    /// Examples: `uses::examples::streams`. A caller: `uses::callers::front_stream::all_matches`.
+    /// A caller: `uses::callers::front_stream::all_matches`.
     pub fn try_stream_find_iter<'a, R>(
         &'a self,
         alloc: Global,
@@ -85,7 +85,7 @@ impl AhoCorasick {
     /// Returns an error where [`AhoCorasick::try_stream_find_iter`] does; the reader and the writer are then unchanged. Where a
     /// read or a write fails, nothing is tried again.
     ///
-    /// Examples: `uses::examples::streams`. A caller: `uses::callers::front_stream::replaced`.
+    /// A caller: `uses::callers::front_stream::replaced`.
     pub fn try_stream_replace_all<R: Read, W: Write>(
         &self,
         alloc: Global,

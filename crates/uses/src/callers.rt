@@ -1,7 +1,8 @@
 //! Callers of the libraries, each with a contract that says what a user can conclude.
 //!
 //! Each is a few lines that call one part of the library. Its contract follows from that part's contract alone, in the words of the
-//! definitions. So a reader sees how a call is used, and what is known after it.
+//! definitions. So a reader sees how a call is used, and what is known after it. Those of [`plain`] have none: they show what needs no
+//! proof file.
 pub mod build;
 pub mod find;
 pub mod front;
@@ -12,6 +13,7 @@ pub mod iterate;
 pub mod nfa;
 pub mod overlap;
 pub mod packed;
+pub mod plain;
 pub mod replace;
 pub mod states;
 pub mod stream;

@@ -53,10 +53,55 @@ const REFUSALS: [(MatchErrorKind, &str); 5] = [
     ),
 ];
 
+/// Asserts that each maker of a search error makes that of its kind, in the order of the table.
+fn makers_make<T: Abort>(rt: &T) {
+    let made = [
+        MatchError::invalid_input_anchored(),
+        MatchError::invalid_input_unanchored(),
+        MatchError::unsupported_stream(MatchKind::LeftmostFirst),
+        MatchError::unsupported_overlapping(MatchKind::LeftmostLongest),
+        MatchError::unsupported_empty(),
+    ];
+    let kinds = made.map(|error| *error.kind());
+    assert_eq!(rt; kinds, REFUSALS.map(|(kind, _)| kind));
+}
+
 /// Asserts the error of the number past the greatest one.
 fn past_says<T: Abort, E: Display + Drop>(rt: &T, alloc: Global, refused: Option<E>) {
     let error = refused.expect(rt, "it is past the greatest number");
     says(rt, alloc, &error, "number 2147483647 is past 2147483646");
+}
+
+/// Asserts what a build says that meets a limit. The limits are too far away for a test to meet.
+fn limit_says<T: Abort>(rt: &T, alloc: Global) {
+    let max = 2147483646;
+    let limits = [
+        (
+            BuildErrorKind::StateIDOverflow {
+                max,
+                requested_max: 2147483647,
+            },
+            "state number 2147483647 is past 2147483646",
+        ),
+        (
+            BuildErrorKind::PatternIDOverflow {
+                max,
+                requested_max: 4294967296,
+            },
+            "pattern number 4294967296 is past 2147483646",
+        ),
+        (
+            BuildErrorKind::PatternTooLong {
+                pattern: PatternID::must(7),
+                len: 2147483648,
+            },
+            "pattern 7 has 2147483648 bytes, more than 2147483646",
+        ),
+        (BuildErrorKind::Memory, "out of memory"),
+    ];
+    for (kind, text) in limits {
+        says(rt, alloc, &BuildError::from(kind), text);
+    }
 }
 
 /// Asserts what a stream says that stopped, also with an error of the system in it.
@@ -78,6 +123,8 @@ fn what_errors_say(rt: HostRuntime) {
     }
     stopped_says(&rt, alloc);
     says(&rt, alloc, &ReplaceError::Memory, "out of memory");
+    makers_make(&rt);
+    limit_says(&rt, alloc);
     says(&rt, alloc, &BuildError::from(AllocError), "out of memory");
     says(
         &rt,

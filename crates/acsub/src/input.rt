@@ -10,7 +10,7 @@ use std::alloc::{AllocError, Global};
 use std::io::Read;
 
 /// How many bytes a read has room for, at least.
-const PIECE: usize = 65536;
+const PIECE: usize = ac_automaton::stream::LEAST_ROOM;
 
 /// Reads up to the first empty read, each read with room for 64 KiB. That room is taken before the read, so that nothing is taken
 /// after the empty one.

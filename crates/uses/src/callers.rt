@@ -11,6 +11,7 @@ pub mod front_stream;
 pub mod iterate;
 pub mod nfa;
 pub mod overlap;
+pub mod owner;
 pub mod packed;
 pub mod replace;
 pub mod states;

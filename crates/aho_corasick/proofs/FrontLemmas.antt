@@ -28,10 +28,10 @@ dictionary-parts m patterns pairing kind same by paired =
     ap (λ (ps : List (List ℕ)). dictionary_of ps m.pairing m.kind) same ∙ ap (λ (bytes : List ℕ). dictionary_of patterns bytes m.kind) paired ∙ ap (dictionary_of patterns pairing) by
 
 -- by settings that want no prefilter there is none
-pub front-plain : (s : FrontSettings) (patterns : List (List ℕ)) (pairing : List ℕ) (kind : MatchKind) (r : Result AhoCorasick BuildErrorKind) → s.prefilter ≡ false
-    → IfOk r (λ ac. patterns_of ac ≡ patterns) → IfOk r (λ ac. kind_of ac ≡ kind) → IfOk r (λ ac. pairing_of ac ≡ pairing) → IfOk r (IsFrontBuilt s patterns) → IfOk r (λ ac. IsPlain patterns pairing kind (as_built ac))
-front-plain s patterns pairing kind (Ok ac) off same by paired built = (dictionary-parts (as_built ac).dictionary patterns pairing kind same by paired, built.prefilter.off off)
-front-plain s patterns pairing kind (Err error) off same by paired built = tt
+pub front-plain : (s : FrontSettings) (patterns : List (List ℕ)) (pairing : List ℕ) (kind : MatchKind) (r : Result AhoCorasick BuildErrorKind) → IfOk r (IsFrontBuilt s patterns) → s.prefilter ≡ false
+    → IfOk r (λ ac. patterns_of ac ≡ patterns) → IfOk r (λ ac. kind_of ac ≡ kind) → IfOk r (λ ac. pairing_of ac ≡ pairing) → IfOk r (λ ac. IsPlain patterns pairing kind (as_built ac))
+front-plain s patterns pairing kind (Ok ac) built off same by paired = (dictionary-parts (as_built ac).dictionary patterns pairing kind same by paired, built.prefilter.off off)
+front-plain s patterns pairing kind (Err error) built off same by paired = tt
 
 -- what a replacement that succeeds has appended
 pub if-appended : {F : Type 0} (g : MemoryReplacer F (Vec ℕ)) (ac : AhoCorasick) (bytes : List ℕ) (f : F) (old new : Vec ℕ) (r : Result (Unit {0}) AllocError) → AppendsBytes g ac bytes f old new r → OnOk r (IsReplacedWith (λ v. v.items) g bytes (matches_in (as_built ac) bytes) f old new)

@@ -12,6 +12,7 @@ pub mod front_stream;
 pub mod iterate;
 pub mod nfa;
 pub mod overlap;
+pub mod owner;
 pub mod packed;
 pub mod plain;
 pub mod replace;

@@ -6,12 +6,10 @@ use Rattle.std.proofs.lemmas.List.{append-nil}
 use Rattle.ac_input.specs.Dictionary.{Dictionary}
 use Rattle.ac_input.specs.Input.{Asked, whole_of}
 use Rattle.ac_input.specs.Occurrence.{Occurrence}
-use Rattle.ac_input.specs.Rules.{Rule, IsRuleFile}
 use Rattle.ac_input.specs.Steps.{looked_of}
 use Rattle.ac_input.specs.Work.{lookups_per_byte}
 use Rattle.ac_input.specs.declared.search.Anchored.{Anchored}
 use Rattle.ac_input.specs.declared.steps.Steps.{Steps}
-use Rattle.ac_input.proofs.RuleLemmas.{IsRuleFile-one}
 use Rattle.ac_automaton.specs.Automaton.{Built}
 use Rattle.ac_automaton.specs.Iter.{AnswersFindIter, IsWalkAfter, IsWithinBudget, Walk, WalkCounts, fresh_walk, passed}
 use Rattle.ac_automaton.specs.OverlappingIter.{AnswersOverlappingIter, IsRunAfter, IsWithinOneWalk, Run, RunCounts, fresh_run}
@@ -209,10 +207,3 @@ streamed-cost plan b supports r r' before after result serves streamed (pieces, 
       whole = λ _. whole;
       whole_input = λ held. absurd (held streamed);
     }
-
--- the cost of what was prepared is the cost of a run by the rules of the file
-pub cost_prepared : {R : Type 0} (settings : Settings) (file : List ℕ) (plan : Plan) (r r' : Watched R) (before after : Steps) (result : Result (Unit {0}) RunError) → plan.settings ≡ settings → IsRuleFile file plan.rules → CostsRun plan r r' before after result
-    → (rules : List Rule) → IsRuleFile file rules → CostsRun (record { settings = settings; rules = rules }) r r' before after result
-cost_prepared settings file plan r r' before after result same prepared cost rules grammar =
-    subst (λ (s : Settings). CostsRun (record { settings = s; rules = rules }) r r' before after result) same
-    (subst (λ (rs : List Rule). CostsRun (record { settings = plan.settings; rules = rs }) r r' before after result) (IsRuleFile-one file plan.rules rules prepared grammar) cost)

@@ -1,5 +1,6 @@
 pub mod SpellingLemmas
 pub mod LineLemmas
+pub mod TextLineLemmas
 pub mod InputLemmas
 pub mod RewriteLemmas
 pub mod RunLemmas
@@ -16,3 +17,4 @@ pub mod BuiltLemmas
 pub mod StreamListLemmas
 pub mod StreamedLemmas
 pub mod OutcomeLemmas
+pub mod FileLemmas

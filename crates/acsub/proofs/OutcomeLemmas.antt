@@ -12,7 +12,7 @@ use Rattle.acsub.specs.Outcome.{AnswersFile, AnswersHelp, Collects, EndsProgram,
 use Rattle.acsub.specs.Tool.{status_of}
 use Rattle.acsub.specs.declared.error.RunError.{RunError}
 use Rattle.acsub.specs.declared.error.RunError.TheVariants as errors
-use Rattle.acsub.specs.declared.settings.Settings.{Settings}
+use Rattle.acsub.specs.declared.words.Words.{Words}
 use Rattle.acsub.specs.declared.tool.Fault.{Fault}
 use Rattle.acsub.specs.declared.tool.Fault.TheVariants as faults
 use Rattle.acsub.specs.declared.words.WordsFault.TheVariants.{Memory}
@@ -48,15 +48,15 @@ help-finished contents before between after text (Err e) (Ok none) writes flush 
 help-finished contents before between after text (Err e) (Err fault) writes (told, inl flush) = subst (λ (f : Fault). AnswersHelp contents before after (Err f)) (sym told) (inl (text, between, writes, flush))
 help-finished contents before between after text (Err e) (Err fault) writes (told, inr flush) = subst (λ (f : Fault). AnswersHelp contents before after (Err f)) (sym told) (inr (inl (text, between, writes, flush)))
 
-module _ {F R W : Type 0} (held : F → Option (List ℕ)) (remaining : R → Option (List ℕ)) (contents : W → Option (List ℕ)) (settings : Settings) where
+module _ {F R W : Type 0} (held : F → Option (List ℕ)) (remaining : R → Option (List ℕ)) (contents : W → Option (List ℕ)) (asked : Words) where
   -- of a run
   pub run-finished : (r r' : Watched R) (before between after : Watched W) (answer : Result (Unit {0}) RunError) (outcome : Result (Unit {0}) Fault)
-      → RanFile held remaining contents settings r r' before between answer → Finishes contents answer between after outcome → AnswersFile held remaining contents settings r r' before after outcome
+      → RanFile held remaining contents asked r r' before between answer → Finishes contents answer between after outcome → AnswersFile held remaining contents asked r r' before after outcome
   run-finished r r' before between after (Ok done) (Ok none) ran flush = (between, ran, flush)
-  run-finished r r' before between after (Ok done) (Err fault) ran flush = subst (λ (f : Fault). AnswersFile held remaining contents settings r r' before after (Err f)) (sym flush.0) (between, ran, flush.1)
+  run-finished r r' before between after (Ok done) (Err fault) ran flush = subst (λ (f : Fault). AnswersFile held remaining contents asked r r' before after (Err f)) (sym flush.0) (between, ran, flush.1)
   run-finished r r' before between after (Err e) (Ok none) ran flush = absurd flush
-  run-finished r r' before between after (Err e) (Err fault) ran (told, inl flush) = subst (λ (f : Fault). AnswersFile held remaining contents settings r r' before after (Err f)) (sym told) (inl (between, ran, flush))
-  run-finished r r' before between after (Err e) (Err fault) ran (told, inr flush) = subst (λ (f : Fault). AnswersFile held remaining contents settings r r' before after (Err f)) (sym told) (inr (inl (between, ran, flush)))
+  run-finished r r' before between after (Err e) (Err fault) ran (told, inl flush) = subst (λ (f : Fault). AnswersFile held remaining contents asked r r' before after (Err f)) (sym told) (inl (between, ran, flush))
+  run-finished r r' before between after (Err e) (Err fault) ran (told, inr flush) = subst (λ (f : Fault). AnswersFile held remaining contents asked r r' before after (Err f)) (sym told) (inr (inl (between, ran, flush)))
 
 -- ---- the words
 

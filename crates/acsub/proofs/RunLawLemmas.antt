@@ -20,8 +20,8 @@ output-alike settings other rules input alike =
 
 pub runs_write_alike : RunsWriteAlike
 runs_write_alike settings other file m n alike same ran again =
-    ran.written
-    ∙ ap (λ (rules : List Rule). output_of settings rules (concat m.pieces)) (IsRuleFile-one file ran.rules again.rules ran.grammar again.grammar)
-    ∙ ap (output_of settings again.rules) same
-    ∙ output-alike settings other again.rules (concat n.pieces) alike
-    ∙ sym again.written
+    ran.2.written
+    ∙ ap (λ (rules : List Rule). output_of settings rules (concat m.pieces)) (IsRuleFile-one file ran.0 again.0 ran.1 again.1)
+    ∙ ap (output_of settings again.0) same
+    ∙ output-alike settings other again.0 (concat n.pieces) alike
+    ∙ sym again.2.written

@@ -9,11 +9,10 @@ use Rattle.ac_input.specs.Computed.{walk_of}
 use Rattle.ac_input.specs.Cut.{IsCut}
 use Rattle.ac_input.specs.Dictionary.{Dictionary}
 use Rattle.ac_input.specs.Input.{search_in, whole_of}
-use Rattle.ac_input.specs.Rules.{Rule, IsRuleFile}
+use Rattle.ac_input.specs.Rules.{Rule}
 use Rattle.ac_input.specs.Text.{replaced_from}
 use Rattle.ac_input.specs.Work.{longest, shortest}
 use Rattle.ac_input.proofs.CutLemmas.{cut-final}
-use Rattle.ac_input.proofs.RuleLemmas.{IsRuleFile-one}
 use Rattle.ac_automaton.specs.Automaton.{Built}
 use Rattle.ac_automaton.specs.Buffer.{kept_for, room_for}
 use Rattle.ac_automaton.specs.Moved.{AllFit, AreFilled, Moved, but_last}
@@ -32,8 +31,8 @@ use Rattle.acsub.specs.declared.settings.Mode.TheVariants as modes
 use Rattle.acsub.specs.declared.settings.Settings.{Settings}
 use Rattle.acsub.specs.Finder.{whole_search}
 use Rattle.acsub.specs.Served.{dictionary_for}
-use Rattle.acsub.specs.Run.{AnswersRun, IsReadByBuffer, IsRefusal, RanRules, RanToFailedWrite, ReadsWithin}
-use Rattle.acsub.specs.Plan.{Plan}
+use Rattle.acsub.specs.Run.{AnswersRules, IsRefusal, RanPrepared, RanToFailedWrite, ReadsByBuffer, ReadsWithin}
+use Rattle.acsub.specs.Plan.{Plan, plan_for}
 use Rattle.acsub.specs.Settings.{HasEmptyPattern, IsAccepted}
 use Rattle.acsub.specs.Sides.{patterns_of, replacements_of}
 use Rattle.acsub.specs.Stream.{IsReturnedAs, Streams}
@@ -128,61 +127,48 @@ pieces-within b settings rules m is short = subst (λ (d : Dictionary). AllFit (
 
 -- what was replaced over a stream
 pub streams-replaced : {R W : Type 0} (remaining : R → Option (List ℕ)) (contents : W → Option (List ℕ)) (b : Built) (settings : Settings) (rules : List Rule) (texts : List (List ℕ)) (r r' : Watched R) (w w' : Watched W) (searched : Result (Unit {0}) StreamError) (result : Result (Unit {0}) RunError) → b.dictionary ≡ dictionary_for settings rules → settings.mode ≡ modes.Replace → texts ≡ replacements_of rules → IsReturnedAs searched result
-    → ReplacesStream remaining contents b texts r r' w w' searched → Streams remaining contents r r' w w' (record { settings = settings; rules = rules }) result
+    → ReplacesStream remaining contents b texts r r' w w' searched → Streams remaining contents r r' w w' (plan_for settings rules) result
 streams-replaced remaining contents b settings rules texts r r' w w' searched result is mode same returned (m, moved, short, a) =
     let alike = answers-alike (replaced_in b (replacements_of rules)) (output_of settings rules) (IsReplacedFront b (replacements_of rules)) (IsOutputFront settings rules) (λ x. replaced-output b settings rules x is mode) (λ x text. replaced-front b settings rules x text is mode) in
     (m, moved, pieces-within b settings rules m is short, searched, returned, alike m searched (subst (λ (ts : List (List ℕ)). AnswersWriting (replaced_in b ts) (IsReplacedFront b ts) m searched) same a))
 
 -- there was no memory before anything was read
-pub streams-nothing : {R W : Type 0} (remaining : R → Option (List ℕ)) (contents : W → Option (List ℕ)) (settings : Settings) (rules : List Rule) (r : Watched R) (w : Watched W) → Streams remaining contents r r w w (record { settings = settings; rules = rules }) (Err errors.Memory)
+pub streams-nothing : {R W : Type 0} (remaining : R → Option (List ℕ)) (contents : W → Option (List ℕ)) (settings : Settings) (rules : List Rule) (r : Watched R) (w : Watched W) → Streams remaining contents r r w w (plan_for settings rules) (Err errors.Memory)
 streams-nothing remaining contents settings rules r w = (nothing, HasMoved-nothing remaining contents r w, λ k d lt. absurd (omega arith), Err stream.Memory, refl, record { pieces = refl; taken = refl; failed = (refl, refl, refl) })
 
 -- ---- what a run says of it
 
 module _ (settings : Settings) (rules : List Rule) (m : Moved) (accepted : IsAccepted settings rules) (streamed : IsStreamed settings rules) where
   -- a write that stopped
-  streamed_failed : (stalls : ℕ) → WroteToFailedWrite (output_of settings rules) (IsOutputFront settings rules) m stalls → (file : List ℕ) → IsRuleFile file rules → RanToFailedWrite settings file m stalls
-  streamed_failed stalls h file grammar =
-      record { rules = rules; grammar = grammar; accepted = accepted; streamed = λ _. h.at_least; whole_input = λ held. absurd (held streamed); written = h.at_most; failed = h.failed }
+  streamed_failed : (stalls : ℕ) → WroteToFailedWrite (output_of settings rules) (IsOutputFront settings rules) m stalls → RanToFailedWrite (plan_for settings rules) m stalls
+  streamed_failed stalls h =
+      record { accepted = accepted; streamed = λ _. h.at_least; whole_input = λ held. absurd (held streamed); written = h.at_most; failed = h.failed }
 
   -- a run says this where it returns the result of its search
   abbrev Says : Result (Unit {0}) RunError → Type 0
-  Says result = ¬ IsRefusal result × ((file : List ℕ) → IsRuleFile file rules → AnswersRun settings file m result)
+  Says result = ¬ IsRefusal result × AnswersRules (plan_for settings rules) m result
 
   pub streamed-says : (searched : Result (Unit {0}) StreamError) (result : Result (Unit {0}) RunError) → IsReturnedAs searched result → AnswersWriting (output_of settings rules) (IsOutputFront settings rules) m searched → Says result
-  streamed-says (Ok done) result is a = subst Says (sym is) (λ refusal. refusal, λ file grammar. record { rules = rules; grammar = grammar; accepted = accepted; whole = a.whole; written = a.written; failed = a.failed })
+  streamed-says (Ok done) result is a = subst Says (sym is) (λ refusal. refusal, record { accepted = accepted; whole = a.whole; written = a.written; failed = a.failed })
   streamed-says (Err (stream.Config error)) result is a = absurd is
-  streamed-says (Err (stream.Read error)) result is a = subst Says (sym is) (λ refusal. refusal, λ file grammar. record { rules = rules; grammar = grammar; accepted = accepted; streamed = λ _. a.written; whole_input = λ held. absurd (held streamed); written = front-begins settings rules (concat m.pieces) m.taken settings.mode refl streamed a.written; failed = a.failed })
+  streamed-says (Err (stream.Read error)) result is a = subst Says (sym is) (λ refusal. refusal, record { accepted = accepted; streamed = λ _. a.written; whole_input = λ held. absurd (held streamed); written = front-begins settings rules (concat m.pieces) m.taken settings.mode refl streamed a.written; failed = a.failed })
   streamed-says (Err (stream.Write error)) result is a = subst Says (sym is) (λ refusal. refusal, streamed_failed 0 a)
   streamed-says (Err stream.WriteZero) result is a = subst Says (sym is) (λ refusal. refusal, streamed_failed 1 a)
-  streamed-says (Err stream.Memory) result is a = subst Says (sym is) (λ refusal. refusal, λ file grammar. record { rules = rules; grammar = grammar; accepted = λ some. absurd (some a.pieces); streamed = λ _. a.pieces; filled = subst AreFilled (sym a.pieces) tt; written = a.taken; failed = a.failed })
-  streamed-says (Err stream.Position) result is a = subst Says (sym is) (λ refusal. refusal, λ file grammar. record { rules = rules; grammar = grammar; accepted = accepted; long = a.long; written = a.written; failed = a.failed })
+  streamed-says (Err stream.Memory) result is a = subst Says (sym is) (λ refusal. refusal, record { accepted = λ some. absurd (some a.pieces); streamed = λ _. a.pieces; filled = subst AreFilled (sym a.pieces) tt; written = a.taken; failed = a.failed })
+  streamed-says (Err stream.Position) result is a = subst Says (sym is) (λ refusal. refusal, record { accepted = accepted; long = a.long; written = a.written; failed = a.failed })
 
 -- the result of a run that writes while it reads
 pub streamed_answer : {R W : Type 0} (remaining : R → Option (List ℕ)) (contents : W → Option (List ℕ)) (settings : Settings) (rules : List Rule) (r r' : Watched R) (w w' : Watched W) (result : Result (Unit {0}) RunError) → IsAccepted settings rules → IsStreamed settings rules
-    → Streams remaining contents r r' w w' (record { settings = settings; rules = rules }) result → RanRules remaining contents r r' w w' (record { settings = settings; rules = rules }) result
+    → Streams remaining contents r r' w w' (plan_for settings rules) result → RanPrepared remaining contents r r' w w' (plan_for settings rules) result
 streamed_answer remaining contents settings rules r r' w w' result accepted streamed (m, moved, short, searched, returned, a) =
     let says = streamed-says settings rules m accepted streamed searched result returned a in
     (m, moved, says.0, says.1)
 
 -- no read gave more than the buffer has room for
 pub streamed_short : {R W : Type 0} (remaining : R → Option (List ℕ)) (contents : W → Option (List ℕ)) (settings : Settings) (rules : List Rule) (r r' : Watched R) (w w' : Watched W) (result : Result (Unit {0}) RunError)
-    → Streams remaining contents r r' w w' (record { settings = settings; rules = rules }) result → ReadsWithin (stream_room rules) r r'
+    → Streams remaining contents r r' w w' (plan_for settings rules) result → ReadsWithin (stream_room rules) r r'
 streamed_short remaining contents settings rules r r' w w' result (m, moved, short, searched, returned, a) = (m.pieces, moved.reader.pieces, short)
 
--- the same, where the rules are those of a file of which that was prepared
-pub short_prepared : {R : Type 0} (settings : Settings) (file : List ℕ) (plan : Plan) (r r' : Watched R) → plan.settings ≡ settings → IsRuleFile file plan.rules → (IsStreamed plan.settings plan.rules → ReadsWithin (stream_room plan.rules) r r') → IsReadByBuffer settings file r r'
-short_prepared settings file plan r r' same prepared short rules grammar streamed =
-    let one = IsRuleFile-one file plan.rules rules prepared grammar in
-    subst (λ (rs : List Rule). ReadsWithin (stream_room rs) r r') one (short (subst (λ (s : Settings). IsStreamed s plan.rules) (sym same) (subst (IsStreamed settings) (sym one) streamed)))
-
 -- nothing was read
-pub nothing_short : {R : Type 0} (settings : Settings) (file : List ℕ) (r : Watched R) → IsReadByBuffer settings file r r
-nothing_short settings file r rules grammar streamed = ([], sym (append-nil (pieces_of r)), λ k d lt. absurd (omega arith))
-
--- ---- the rules of a file
-
--- what is streamed for the rules of a file is streamed for those that were prepared of it
-pub streamed_prepared : (settings : Settings) (file : List ℕ) (plan : Plan) (rules : List Rule) → plan.settings ≡ settings → IsRuleFile file plan.rules → IsRuleFile file rules → IsStreamed settings rules → IsStreamed plan.settings plan.rules
-streamed_prepared settings file plan rules same prepared grammar streamed =
-    subst (λ (s : Settings). IsStreamed s plan.rules) (sym same) (subst (IsStreamed settings) (IsRuleFile-one file rules plan.rules grammar prepared) streamed)
+pub nothing_short : {R : Type 0} (plan : Plan) (r : Watched R) → ReadsByBuffer plan r r
+nothing_short plan r streamed = ([], sym (append-nil (pieces_of r)), λ k d lt. absurd (omega arith))

@@ -1,5 +1,5 @@
 -- The command line of the program, as data.
-use Rattle.std.specs.Prelude.{◌≡◌, List, [], ◌∷◌, Some, true, codes, map}
+use Rattle.std.specs.Prelude.{◌≡◌, ℕ, List, [], ◌∷◌, Some, true, codes, map}
 use Rattle.std.specs.Borrow.{Bor}
 use Rattle.clap.specs.Words.{App, Rule, Text, app_of, items_of, new_app, new_rule, with_rule}
 use Rattle.clap.specs.Walk.{texts}
@@ -7,7 +7,6 @@ use Rattle.clap.specs.declared.builder.action.ArgAction.TheVariants.{Set, SetTru
 use Rattle.clap.specs.declared.builder.arg.Arg.{Arg}
 use Rattle.clap.specs.declared.builder.command.Command.{Command}
 use Rattle.clap.specs.declared.builder.value_parser.ValueParser.TheVariants as parser
-use Rattle.acsub.specs.declared.words.TheConstants.{MOST_DEPTH}
 
 -- the values that three of the arguments take
 abbrev pub mode_names : List Text
@@ -64,8 +63,12 @@ kind_rule names = choice (codes "kind") names (codes "standard")
 abbrev pub engine_rule : Names → Rule
 engine_rule names = choice (codes "engine") names (codes "auto")
 
+-- the greatest depth that `--dense-depth` takes
+abbrev pub greatest_depth : ℕ
+greatest_depth = 2147483646
+
 abbrev pub depth_rule : Rule
-depth_rule = record (option (codes "dense-depth")) { parser = Some (parser.Unsigned 0 MOST_DEPTH) }
+depth_rule = record (option (codes "dense-depth")) { parser = Some (parser.Unsigned 0 greatest_depth) }
 
 -- an application, with the options that say what a match is
 abbrev pub with_matching : Names → App → App
@@ -76,11 +79,15 @@ abbrev pub with_engine : Names → App → App
 with_engine engines a =
     with_rule (with_rule (with_rule (with_rule a (engine_rule engines)) (flag (codes "no-prefilter"))) depth_rule) (flag (codes "no-byte-classes"))
 
+-- the program's name, and a version
+abbrev pub versioned : App
+versioned = record (new_app (codes "acsub")) { top = record (new_app (codes "acsub")).top { has_version = true } }
+
 abbrev pub command_with : Lists → App
 command_with lists =
-    with_engine lists.engines (with_matching lists.kinds (with_rule (with_rule (new_app (codes "acsub")) (mode_rule lists.modes)) (placed (codes "rules"))))
+    with_engine lists.engines (with_matching lists.kinds (with_rule (with_rule (with_rule versioned (mode_rule lists.modes)) (placed (codes "rules"))) (flag (codes "text"))))
 
--- acsub MODE RULES [--kind K] [--fold] [--pairs HEX] [--engine E] [--no-prefilter] [--dense-depth N] [--no-byte-classes]
+-- acsub MODE RULES [--text] [--kind K] [--fold] [--pairs HEX] [--engine E] [--no-prefilter] [--dense-depth N] [--no-byte-classes]
 abbrev pub command : App
 command = command_with (record { modes = as_names mode_names; kinds = as_names kind_names; engines = as_names engine_names })
 

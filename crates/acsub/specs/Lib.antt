@@ -1,4 +1,5 @@
 pub mod Lines
+pub mod File
 pub mod Sides
 pub mod Settings
 pub mod Input

@@ -1,6 +1,6 @@
 -- What stands at the head of a text of rules.
 use Rattle.std.specs.Prelude.{◌≡◌, ℕ, List, [], ◌∷◌, ◌++◌, length, slice_index_or, Contains}
-use Rattle.ac_input.specs.Rules.{Rule, Spells, IsRuleFile}
+use Rattle.ac_input.specs.Rules.{BeginsWithTextRule, IsRuleFile, IsTextRuleFile, Rule, Spells}
 use Rattle.acsub.specs.declared.rules.Line.{Line}
 
 -- the text spells some bytes
@@ -26,6 +26,22 @@ IsFirstLine text line = BeginsWithLine text line.pattern.now line.replacement.no
 -- the text is a rule file of so many rules
 abbrev pub HasCount : List ℕ → ℕ → Type 0
 HasCount text count = (rules : List Rule) × IsRuleFile text rules × (count ≡ length rules)
+
+-- ---- the same of plain text
+
+-- the text is a rule file of plain text
+abbrev pub HasTextRules : List ℕ → Type 0
+HasTextRules text = (rules : List Rule) × IsTextRuleFile text rules
+
+-- the text begins with this line, which is a rule in plain text
+abbrev pub IsFirstTextRule : List ℕ → Line → Type 0
+IsFirstTextRule text line = BeginsWithTextRule text (line.pattern.now, line.replacement.now) line.rest.now
+
+-- the text is a rule file of plain text, of so many rules
+abbrev pub HasTextCount : List ℕ → ℕ → Type 0
+HasTextCount text count = (rules : List Rule) × IsTextRuleFile text rules × (count ≡ length rules)
+
+-- ---- rules
 
 -- the rule of a number
 abbrev pub rule_at : List Rule → ℕ → Rule

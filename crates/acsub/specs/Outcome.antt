@@ -12,20 +12,19 @@ use Rattle.ac_automaton.specs.declared.error.StreamError.{StreamError}
 use Rattle.ac_automaton.specs.declared.watched.Watched.{Watched}
 use Rattle.acsub.specs.declared.error.RunError.{RunError}
 use Rattle.acsub.specs.declared.error.RunError.TheVariants as errors
-use Rattle.acsub.specs.declared.settings.Settings.{Settings}
 use Rattle.acsub.specs.declared.tool.Fault.{Fault}
 use Rattle.acsub.specs.declared.tool.Fault.TheVariants as faults
 use Rattle.acsub.specs.declared.words.Words.{Words}
 use Rattle.acsub.specs.declared.words.WordsFault.{WordsFault}
 use Rattle.acsub.specs.declared.words.WordsFault.TheVariants.{Help, Bad, Memory, Pairing}
-use Rattle.acsub.specs.Run.{Ran, Refuses}
+use Rattle.acsub.specs.Run.{RanIn, RefusesIn}
 use Rattle.acsub.specs.Stream.{IsReturnedAs}
 use Rattle.acsub.specs.Tool.{IsFaultOf, exit_of, status_of}
 use Rattle.acsub.specs.Words.{Reads}
 
 -- ---- the rule file
 
--- some opened file gave all these bytes, where its contents are known
+-- A file of these bytes. No word says which file it is, and where no contents are known, any bytes are those of one.
 abbrev pub IsFile : {F : Type 0} → (F → Option (List ℕ)) → List ℕ → Type 0
 IsFile {F} held bytes = (file : F) × IfSome (held file) (λ all. bytes ≡ all)
 
@@ -74,18 +73,18 @@ module _ {W : Type 0} (contents : W → Option (List ℕ)) where
 
 -- ---- the whole program
 
--- The rule file held these bytes, and for them `run` returned this.
-pub record RanFile {F R W : Type 0} (held : F → Option (List ℕ)) (remaining : R → Option (List ℕ)) (contents : W → Option (List ℕ)) (settings : Settings) (reader_before reader_after : Watched R) (writer_before writer_after : Watched W) (answer : Result (Unit {0}) RunError) : Type 0 where
+-- The rule file held these bytes, in the form that was asked for, and a run by them returned this.
+pub record RanFile {F R W : Type 0} (held : F → Option (List ℕ)) (remaining : R → Option (List ℕ)) (contents : W → Option (List ℕ)) (asked : Words) (reader_before reader_after : Watched R) (writer_before writer_after : Watched W) (answer : Result (Unit {0}) RunError) : Type 0 where
   pub file : List ℕ
   pub is_file : IsFile held file
-  pub ran : Ran remaining contents reader_before reader_after writer_before writer_after settings file answer
-  pub fault : Refuses settings file reader_before reader_after writer_before writer_after answer
+  pub ran : RanIn asked.text remaining contents reader_before reader_after writer_before writer_after asked.settings file answer
+  pub fault : RefusesIn asked.text asked.settings file reader_before reader_after writer_before writer_after answer
 
 module _ {F R W : Type 0} (held : F → Option (List ℕ)) (remaining : R → Option (List ℕ)) (contents : W → Option (List ℕ)) where
-  module _ (settings : Settings) (reader_before reader_after : Watched R) (writer_before writer_after : Watched W) where
-    -- `run` returned this for the rule file; then the writer was flushed, and this many flushes failed.
+  module _ (asked : Words) (reader_before reader_after : Watched R) (writer_before writer_after : Watched W) where
+    -- A run by the rule file returned this; then the writer was flushed, and this many flushes failed.
     abbrev pub RanAndFlushed : Result (Unit {0}) RunError → ℕ → Type 0
-    RanAndFlushed answer failed = (between : Watched W) × RanFile held remaining contents settings reader_before reader_after writer_before between answer × Flushes contents between writer_after failed
+    RanAndFlushed answer failed = (between : Watched W) × RanFile held remaining contents asked reader_before reader_after writer_before between answer × Flushes contents between writer_after failed
 
     -- What an outcome says of the run that was asked for.
     abbrev pub AnswersFile : Result (Unit {0}) Fault → Type 0
@@ -99,7 +98,7 @@ module _ {F R W : Type 0} (held : F → Option (List ℕ)) (remaining : R → Op
   module _ (words : List Text) (reader_before reader_after : Watched R) (writer_before writer_after : Watched W) (outcome : Result (Unit {0}) Fault) where
     -- what an outcome says where the words are read so
     abbrev pub AnswersRead : Result Words WordsFault → Type 0
-    AnswersRead (Ok asked) = AnswersFile asked.settings reader_before reader_after writer_before writer_after outcome
+    AnswersRead (Ok asked) = AnswersFile asked reader_before reader_after writer_before writer_after outcome
     AnswersRead (Err (Help help)) = (reader_after ≡ reader_before) × AnswersHelp contents writer_before writer_after outcome
     AnswersRead (Err Bad) = (outcome ≡ Err faults.Words) × NoneTouched reader_before reader_after writer_before writer_after
     AnswersRead (Err Memory) = (outcome ≡ Err (faults.Run errors.Memory)) × NoneTouched reader_before reader_after writer_before writer_after

@@ -7,3 +7,6 @@ use Rattle.acsub.specs.declared.settings.Settings.{Settings}
 pub record Plan : Type 0 where
   pub settings : Settings
   pub rules : List Rule
+
+abbrev pub plan_for : Settings → List Rule → Plan
+plan_for settings rules = record { settings = settings; rules = rules }

@@ -7,7 +7,6 @@ use Rattle.acsub.specs.Lines.{rule_at}
 use Rattle.acsub.specs.declared.settings.Settings.{Settings}
 use Rattle.acsub.specs.declared.settings.Mode.TheVariants.{Overlap}
 use Rattle.acsub.specs.declared.settings.Engine.TheVariants.{Packed}
-use Rattle.acsub.specs.declared.settings.TheConstants.{MOST_PACKED}
 use Rattle.acsub.specs.declared.settings.SettingError.{SettingError}
 use Rattle.acsub.specs.declared.settings.SettingError.TheVariants.{OverlapLeftmost, PackedStandard, PackedFold, PackedEmpty, PackedCount}
 
@@ -15,13 +14,17 @@ use Rattle.acsub.specs.declared.settings.SettingError.TheVariants.{OverlapLeftmo
 abbrev pub HasEmptyPattern : List Rule → Type 0
 HasEmptyPattern rules = (i : ℕ) × (i < length rules) × ((rule_at rules i).0 ≡ [])
 
+-- the most patterns that packed search takes
+abbrev pub most_packed : ℕ
+most_packed = 128
+
 -- what excludes settings, with these rules
 abbrev pub IsExcluded : Settings → List Rule → SettingError → Type 0
 IsExcluded s rules OverlapLeftmost = (s.mode ≡ Overlap) × (s.kind ≢ Standard)
 IsExcluded s rules PackedStandard = (s.engine ≡ Packed) × (s.kind ≡ Standard)
 IsExcluded s rules PackedFold = (s.engine ≡ Packed) × ¬ IsUnpaired s.pairing
 IsExcluded s rules PackedEmpty = (s.engine ≡ Packed) × HasEmptyPattern rules
-IsExcluded s rules PackedCount = (s.engine ≡ Packed) × ((length rules ≡ 0) ⊎ (MOST_PACKED < length rules))
+IsExcluded s rules PackedCount = (s.engine ≡ Packed) × ((length rules ≡ 0) ⊎ (most_packed < length rules))
 
 -- the order in which reasons are reported
 abbrev pub place_of : SettingError → ℕ

@@ -22,10 +22,12 @@ setting_text PackedFold = codes "packed keeps case"
 setting_text PackedEmpty = codes "packed takes no empty pattern"
 setting_text PackedCount = codes "packed takes 1 to 128 patterns"
 
+-- a run returns `Line` alone, so the other text is never printed
 abbrev pub rule_text : RuleError → List ℕ
 rule_text (rule_errors.Line n) = codes "line " ++ decimal n
 rule_text rule_errors.Memory = codes "out of memory"
 
+-- a run returns no `Memory` here, so that text is never printed
 abbrev pub build_text : BuildErrorKind → List ℕ
 build_text (limits.StateIDOverflow max requested) = codes "too many states"
 build_text (limits.PatternIDOverflow max requested) = codes "too many patterns"

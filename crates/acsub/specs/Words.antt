@@ -17,12 +17,11 @@ use Rattle.ac_input.specs.declared.pairing.PairingError.{PairingError}
 use Rattle.ac_input.specs.declared.pairing.PairingError.TheVariants.{Twice}
 use Rattle.ac_input.specs.declared.search.MatchKind.{MatchKind}
 use Rattle.ac_input.specs.declared.search.MatchKind.TheVariants.{Standard, LeftmostFirst, LeftmostLongest}
-use Rattle.acsub.specs.Command.{command}
+use Rattle.acsub.specs.Command.{command, greatest_depth}
 use Rattle.acsub.specs.declared.settings.Mode.{Mode}
 use Rattle.acsub.specs.declared.settings.Mode.TheVariants as mode
 use Rattle.acsub.specs.declared.settings.Engine.{Engine}
 use Rattle.acsub.specs.declared.settings.Engine.TheVariants as engine
-use Rattle.acsub.specs.declared.words.TheConstants.{MOST_DEPTH}
 use Rattle.acsub.specs.declared.words.Words.{Words}
 use Rattle.acsub.specs.declared.words.WordsFault.{WordsFault}
 use Rattle.acsub.specs.declared.words.WordsFault.TheVariants.{Help, Bad, Memory, Pairing}
@@ -136,10 +135,11 @@ Misspells hex (Pairing e) = ⊥
 
 -- ---- the result
 
--- the settings and the path are those that the matches give
+-- the settings, the path and the form of the rule file are those that the matches give
 pub record AsksFor (rows : List Row) (w : Words) : Type 0 where
   pub mode : mode_of rows ≡ Some w.settings.mode
   pub rules : rules_path rows ≡ Some w.rules.now
+  pub text : w.text ≡ is_given (codes "text") rows
   pub kind : match_kind_of rows ≡ Some w.settings.kind
   pub pairing : IsPairedBy rows w.settings.pairing
   pub engine : engine_of rows ≡ Some w.settings.engine
@@ -153,22 +153,26 @@ pub record IsTyped (rows : List Row) : Type 0 where
   pub rules : is_some (rules_path rows) ≡ true
   pub kind : is_some (match_kind_of rows) ≡ true
   pub engine : is_some (engine_of rows) ≡ true
-  pub dense_depth : (text : Text) → one_of (codes "dense-depth") rows ≡ Some text → IsUnsignedIn 0 MOST_DEPTH text
+  pub dense_depth : (text : Text) → one_of (codes "dense-depth") rows ≡ Some text → IsUnsignedIn 0 greatest_depth text
 
 -- the result where these are the matches
 abbrev pub ReadsMatches : List Row → Result Words WordsFault → Type 0
 ReadsMatches rows (Ok w) = AsksFor rows w
 ReadsMatches rows (Err fault) = Unpairs rows fault
 
--- clap finds a fault with the words, and help was not asked for
+-- the kind of an error that is a text to show: the help, or the version
+abbrev pub IsShown : ErrorKind → Type 0
+IsShown k = (k ≡ kind.DisplayHelp) ⊎ (k ≡ kind.DisplayVersion)
+
+-- clap finds a fault with the words, and it is no text to show
 abbrev pub IsRefused : Kinds → Type 0
-IsRefused kinds = (k : ErrorKind) × IsAmong k kinds × (k ≢ kind.DisplayHelp)
+IsRefused kinds = (k : ErrorKind) × IsAmong k kinds × ¬ IsShown k
 
 -- What the program returns for the words. clap takes them exactly where it finds no fault with them; then the result is
 -- that of their matches. There may be too little memory for any words.
 abbrev pub Reads : List Text → Result Words WordsFault → Type 0
 Reads words (Ok w) = (fault_of command words ≡ []) × AsksFor (matches_of command words) w
-Reads words (Err (Help e)) = (kind_of e ≡ kind.DisplayHelp) × IsAmong kind.DisplayHelp (fault_of command words)
+Reads words (Err (Help e)) = IsShown (kind_of e) × IsAmong (kind_of e) (fault_of command words)
 Reads words (Err Bad) = IsRefused (fault_of command words) ⊎ ((fault_of command words ≡ []) × Unpairs (matches_of command words) Bad)
 Reads words (Err Memory) = Unit {0}
 Reads words (Err (Pairing e)) = (fault_of command words ≡ []) × Unpairs (matches_of command words) (Pairing e)
@@ -176,7 +180,7 @@ Reads words (Err (Pairing e)) = (fault_of command words ≡ []) × Unpairs (matc
 -- the same of clap's part
 abbrev pub Parses : List Text → Result ArgMatches WordsFault → Type 0
 Parses words (Ok m) = (fault_of command words ≡ []) × (rows_of (found_of m) ≡ matches_of command words) × IsTyped (matches_of command words)
-Parses words (Err (Help e)) = (kind_of e ≡ kind.DisplayHelp) × IsAmong kind.DisplayHelp (fault_of command words)
+Parses words (Err (Help e)) = IsShown (kind_of e) × IsAmong (kind_of e) (fault_of command words)
 Parses words (Err Bad) = IsRefused (fault_of command words)
 Parses words (Err Memory) = Unit {0}
 Parses words (Err (Pairing e)) = ⊥
@@ -188,7 +192,7 @@ hex_fault OutOfMemory = Memory
 hex_fault _ = Bad
 
 abbrev pub IsWordsFault : Error → WordsFault → Type 0
-IsWordsFault error (Help e) = (e ≡ error) × (kind_of error ≡ kind.DisplayHelp)
-IsWordsFault error Bad = (kind_of error ≢ kind.DisplayHelp) × (kind_of error ≢ kind.OutOfMemory)
+IsWordsFault error (Help e) = (e ≡ error) × IsShown (kind_of error)
+IsWordsFault error Bad = ¬ IsShown (kind_of error) × (kind_of error ≢ kind.OutOfMemory)
 IsWordsFault error Memory = kind_of error ≡ kind.OutOfMemory
 IsWordsFault error (Pairing e) = ⊥

@@ -11,14 +11,16 @@ use std::error::Error;
 use std::{fmt, io};
 
 /// Why a run stopped.
+///
+/// No run returns `Rule(RuleError::Memory)` or `Build(BuildErrorKind::Memory)`: out of memory is [`RunError::Memory`]. So the texts
+/// `rules: out of memory` and `build: out of memory` are never printed.
 #[derive(Debug, Drop)]
 pub enum RunError {
-    /// The rules are no rule file. Out of memory is [`RunError::Memory`], and stands in no other kind.
+    /// The rules are no rule file.
     Rule(RuleError),
     /// The settings exclude one another, or don't go with the rules.
     Setting(SettingError),
-    /// No automaton can be built of the patterns: it would have too many states, they are too many, or one is too long. Out of
-    /// memory is [`RunError::Memory`] here too.
+    /// No automaton can be built of the patterns: it would have too many states, they are too many, or one is too long.
     Build(BuildErrorKind),
     /// A read failed.
     Read(io::Error),

@@ -6,6 +6,7 @@
 #![tactic(auto)]
 
 mod error;
+mod hint;
 mod input;
 mod line;
 mod matches;
@@ -18,25 +19,33 @@ mod scripted;
 mod settings;
 mod stream;
 mod tool;
+mod version;
 mod words;
 
 use ac_automaton::watched::Watched;
 use std::env;
-use std::io::{Stderr, Stdin, Stdout};
+use std::io::{IsTerminal, Stderr, Stdin, Stdout};
 use std::process::ExitCode;
 
 /// Gives [`tool::program`] the words and the standard streams, which their types keep apart: no contract can say which is which.
+/// Where a person reads the line of a fault, on a terminal, a hint follows it.
 fn main(rt: HostRuntime) -> ExitCode {
     let mut reader: Watched<Stdin> = Watched::new(rt.stdin());
     let mut writer: Watched<Stdout> = Watched::new(rt.stdout());
     let mut errors: Stderr = rt.stderr();
     let alloc = rt.alloc();
-    tool::program(
+    let code = tool::program(
         &rt,
         alloc,
         env::args(&rt),
         &mut reader,
         &mut writer,
         &mut errors,
-    )
+    );
+    if code != ExitCode::SUCCESS && errors.is_terminal() {
+        if let Some(words) = tool::collected(alloc, env::args(&rt)) {
+            hint::write_hint(&rt, alloc, words.as_slice(), &mut errors);
+        }
+    }
+    code
 }

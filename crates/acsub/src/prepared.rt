@@ -9,6 +9,7 @@ ghost use Rattle.ac_input.specs.declared.search.MatchKind.TheVariants.{Standard}
 ghost use Rattle.ac_literal.specs.Packed.{AreServed, bytes_of, search_kind};
 ghost use Rattle.acsub.specs.Finder.{Builds, BuildsAutomaton, IsFinderOf, IsPackedFor, IsServing, whole_listing, whole_walk};
 ghost use Rattle.acsub.specs.Matches.{IsUncounted, left_in};
+ghost use Rattle.acsub.specs.Plan.{plan_for};
 ghost use Rattle.acsub.specs.Served.{automaton_named, builder_settings};
 ghost use Rattle.acsub.specs.Settings.{IsAccepted};
 ghost use Rattle.acsub.specs.Sides.{patterns_of};
@@ -40,28 +41,28 @@ enum Finder<A> {
 
 /// What is settled before the input is read. A contract sees the settings and the rules.
 #[derive(Drop)]
-pub struct Prepared<A: Search> {
+pub struct Prepared<'r, A: Search> {
     settings: Settings,
-    rules: Rules,
+    rules: &'r Rules,
     finder: Finder<A>,
 }
 
-impl<A: Search> Model for Prepared<A> {
+impl<'r, A: Search> Model for Prepared<'r, A> {
     ghost use Rattle.acsub.specs.Finder.{IsFinderOf};
     ghost use Rattle.acsub.specs.Plan.{Plan};
 
     ghost Value = { Plan };
 
-    ghost view = { λ p. record { settings = p.settings; rules = p.rules } };
+    ghost view = { λ p. record { settings = p.settings; rules = p.rules.now } };
 
-    ghost invariant = { λ p. IsFinderOf A.built A.supports p.settings p.rules p.finder };
+    ghost invariant = { λ p. IsFinderOf A.built A.supports p.settings p.rules.now p.finder };
 }
 
-impl<A: Search> Prepared<A> {
+impl<'r, A: Search> Prepared<'r, A> {
     /// The settings and rules, and what was made for them.
-    fn new(settings: &Settings, rules: Rules, finder: Finder<A>) -> Prepared<A>
-        requires { IsFinderOf A.built A.supports settings.now rules finder }
-        ensures { result ≡ record { settings = settings.now; rules = rules } }
+    fn new(settings: &Settings, rules: &'r Rules, finder: Finder<A>) -> Prepared<'r, A>
+        requires { IsFinderOf A.built A.supports settings.now rules.now finder }
+        ensures { result ≡ plan_for settings.now rules.entry.now }
     {
         Prepared {
             settings: *settings,
@@ -81,7 +82,7 @@ impl<A: Search> Prepared<A> {
     pub fn rules(&self) -> &Rules
         ensures { result.now ≡ self.now.rules }
     {
-        &self.rules
+        self.rules
     }
 
     /// The automaton that finds the matches of what is read, where the text is written while the input is read.
@@ -91,7 +92,7 @@ impl<A: Search> Prepared<A> {
     {
         match &self.finder {
             Finder::Automaton(automaton) => {
-                if is_streamed(&self.settings, &self.rules) {
+                if is_streamed(&self.settings, self.rules) {
                     Some(automaton)
                 } else {
                     None
@@ -132,15 +133,19 @@ impl<A: Search> Prepared<A> {
 }
 
 /// Makes all that a run has before it reads, of rules that go with the settings.
-pub fn build(alloc: Global, settings: &Settings, rules: Rules) -> Result<Prepared<Chosen>, RunError>
-    requires { IsAccepted settings.now rules }
-    ensures { Builds settings.now rules result }
+pub fn build<'r>(
+    alloc: Global,
+    settings: &Settings,
+    rules: &'r Rules,
+) -> Result<Prepared<'r, Chosen>, RunError>
+    requires { IsAccepted settings.now rules.now }
+    ensures { Builds settings.now rules.entry.now result }
 {
     if settings.engine == Engine::Packed {
-        let searcher = packed_for(alloc, settings.kind, &rules)?;
+        let searcher = packed_for(alloc, settings.kind, rules)?;
         Ok(Prepared::new(settings, rules, Finder::Packed(searcher)))
     } else {
-        let automaton = automaton_for(alloc, settings, &rules)?;
+        let automaton = automaton_for(alloc, settings, rules)?;
         Ok(Prepared::new(settings, rules, Finder::Automaton(automaton)))
     }
 }

@@ -1,6 +1,6 @@
-//! The rule file, and its reader.
+//! The rule file, and its readers: of hex here, of plain text in [`text`].
 //!
-//! A rule file is text: each line is `pattern TAB replacement LF`, both sides in hex, two digits of either case a byte.
+//! In a rule file of hex each line is `pattern TAB replacement LF`, two digits of either case a byte on both sides.
 //! Either side may be empty. Anything else, as CR, a space, an empty line, a third column or a last line without LF,
 //! makes the line a bad one.
 //!
@@ -10,6 +10,7 @@
 
 ghost use Rattle.std.specs.Prelude.{◌≡◌, ◌↔◌, ◌==◌, ◌<◌, ℕ, length, Contains, IsTrue, IfNone, IfOk, IfErr, IfSome, MatchOption, MatchResult};
 ghost use Rattle.ac_input.specs.Rules.{Spells, IsRuleFile, FirstBadLine, BeginsWithNoRule};
+ghost use Rattle.acsub.specs.File.{ReadsRules};
 ghost use Rattle.acsub.specs.Lines.{HasCount, HasRules, IsFirstLine, IsSpelling, IsSplitAt, rule_at};
 ghost use Rattle.ac_literal.specs.Packed.{bytes_of};
 ghost use Rattle.acsub.specs.Sides.{patterns_of, replacements_of};
@@ -20,6 +21,10 @@ use std::alloc::{AllocError, AllocFailed, Global};
 use std::error::Error;
 use std::fmt;
 use std::marker::Model;
+
+mod text;
+
+pub use text::read_text_rules;
 
 /// Why bytes were not read as a rule file.
 #[derive(Clone, Copy, Debug, PartialEq, Eq)]
@@ -149,6 +154,17 @@ pub fn read_rules(alloc: Global, bytes: &[u8]) -> Result<Rules, RuleError>
     match count_rules(bytes) {
         Ok(count) => decode_rules(alloc, bytes, count),
         Err(line) => Err(RuleError::Line(line)),
+    }
+}
+
+/// The rules of a rule file of plain text, or of hex.
+pub fn read_rules_in(alloc: Global, text: bool, bytes: &[u8]) -> Result<Rules, RuleError>
+    ensures { ReadsRules text bytes.now result }
+{
+    if text {
+        read_text_rules(alloc, bytes)
+    } else {
+        read_rules(alloc, bytes)
     }
 }
 

@@ -1,5 +1,7 @@
 //! A run: rules and settings in, an input read to its end, its text written.
 //!
+//! [`run`] reads the rules from a file of hex, and [`run_rules`] takes rules that have been read, from whichever form.
+//!
 //! Under the standard kind no later byte can change a match. So a run that replaces or lists such matches, none of them empty,
 //! writes while it reads. Everything that is decided is written before each read; at most as many bytes are held back as the
 //! longest pattern has.
@@ -13,7 +15,8 @@
 ghost use Rattle.std.specs.Prelude.{◌≡◌, List, [], false, length};
 ghost use Rattle.ac_automaton.specs.Watched.{has_ended};
 ghost use Rattle.acsub.specs.Matches.{IsHeldCost};
-ghost use Rattle.acsub.specs.Run.{Accepts, CostsFile, CostsRun, IsReadByBuffer, Prepares, Ran, RanRules, ReadsByBuffer, Refuses, RunsOutFirst};
+ghost use Rattle.acsub.specs.Plan.{plan_for};
+ghost use Rattle.acsub.specs.Run.{CostsFile, CostsIn, CostsRun, IsReadByBuffer, Prepares, Ran, RanIn, RanPrepared, RanRules, ReadsByBuffer, Refuses, RefusesIn, RefusesRules, RunsOutFirst, not_read};
 ghost use Rattle.acsub.specs.RunLaws.{RunsWriteAlike};
 ghost use Rattle.acsub.specs.Sending.{SendsText};
 ghost use Rattle.acsub.specs.Settings.{IsAccepted};
@@ -23,7 +26,7 @@ use crate::error::RunError;
 use crate::input::read_whole;
 use crate::prepared::{Chosen, Prepared, build};
 use crate::rewrite::{send_list, send_replaced};
-use crate::rules::{RuleError, Rules, read_rules};
+use crate::rules::{RuleError, Rules, read_rules_in};
 use crate::settings::{Mode, Settings, check};
 use crate::stream::{stream_text, told};
 use ac_automaton::error::StreamError;
@@ -77,6 +80,70 @@ pub fn run_counted<R: Read, W: Write>(
     ensures cost { CostsFile settings.now rules.now reader.old reader.new
         steps.old steps.new result }
 {
+    run_in(alloc, settings, false, rules, reader, writer, steps)
+}
+
+/// The same, by a rule file of plain text or of hex.
+pub fn run_in<R: Read, W: Write>(
+    alloc: Global,
+    settings: &Settings,
+    text: bool,
+    file: &[u8],
+    reader: &mut Watched<R>,
+    writer: &mut Watched<W>,
+    steps: &mut Steps,
+) -> Result<(), RunError>
+    requires { has_ended reader.old ≡ false }
+    ensures answered { RanIn text R.remaining W.contents
+        reader.old reader.new writer.old writer.new settings.now file.now result }
+    ensures fault { RefusesIn text settings.now file.now
+        reader.old reader.new writer.old writer.new result }
+    ensures cost { CostsIn text settings.now file.now reader.old reader.new
+        steps.old steps.new result }
+{
+    match read_rules_in(alloc, text, file) {
+        Ok(rules) => run_rules_counted(alloc, settings, &rules, reader, writer, steps),
+        Err(error) => Err(unread(error)),
+    }
+}
+
+/// Reads the input to its end, and writes the text that settings and rules make of it: [`run`], by rules that have been read.
+pub fn run_rules<R: Read, W: Write>(
+    alloc: Global,
+    settings: &Settings,
+    rules: &Rules,
+    reader: &mut Watched<R>,
+    writer: &mut Watched<W>,
+) -> Result<(), RunError>
+    requires { has_ended reader.old ≡ false }
+    ensures answered { RanRules R.remaining W.contents reader.old reader.new writer.old writer.new
+        (plan_for settings.now rules.now) result }
+    ensures fault { RefusesRules (plan_for settings.now rules.now)
+        reader.old reader.new writer.old writer.new result }
+    ensures short { ReadsByBuffer (plan_for settings.now rules.now) reader.old reader.new }
+{
+    let mut steps = Steps::new();
+    run_rules_counted(alloc, settings, rules, reader, writer, &mut steps)
+}
+
+/// The same, and counts what it does. Packed search counts nothing.
+pub fn run_rules_counted<R: Read, W: Write>(
+    alloc: Global,
+    settings: &Settings,
+    rules: &Rules,
+    reader: &mut Watched<R>,
+    writer: &mut Watched<W>,
+    steps: &mut Steps,
+) -> Result<(), RunError>
+    requires { has_ended reader.old ≡ false }
+    ensures answered { RanRules R.remaining W.contents reader.old reader.new writer.old writer.new
+        (plan_for settings.now rules.now) result }
+    ensures fault { RefusesRules (plan_for settings.now rules.now)
+        reader.old reader.new writer.old writer.new result }
+    ensures short { ReadsByBuffer (plan_for settings.now rules.now) reader.old reader.new }
+    ensures cost { CostsRun (plan_for settings.now rules.now) reader.old reader.new
+        steps.old steps.new result }
+{
     match prepare(alloc, settings, rules) {
         Ok(prepared) => transform(alloc, &prepared, reader, writer, steps),
         Err(error) => Err(error),
@@ -89,25 +156,26 @@ pub fn runs_write_alike()
     ensures { RunsWriteAlike }
 {}
 
-/// All that is settled before the input is read.
-fn prepare(alloc: Global, settings: &Settings, bytes: &[u8]) -> Result<Prepared<Chosen>, RunError>
-    ensures { Prepares settings.now bytes.now result }
+/// The error of a run that has no rules.
+fn unread(error: RuleError) -> RunError
+    ensures { result ≡ not_read error }
 {
-    let rules = accept(alloc, settings, bytes)?;
-    build(alloc, settings, rules)
+    match error {
+        RuleError::Line(line) => RunError::Rule(RuleError::Line(line)),
+        RuleError::Memory => RunError::Memory,
+    }
 }
 
-/// The rules, where the settings go with them.
-fn accept(alloc: Global, settings: &Settings, bytes: &[u8]) -> Result<Rules, RunError>
-    ensures { Accepts settings.now bytes.now result }
+/// All that is settled before the input is read.
+fn prepare<'r>(
+    alloc: Global,
+    settings: &Settings,
+    rules: &'r Rules,
+) -> Result<Prepared<'r, Chosen>, RunError>
+    ensures { Prepares (plan_for settings.now rules.entry.now) result }
 {
-    let rules = match read_rules(alloc, bytes) {
-        Ok(rules) => rules,
-        Err(RuleError::Line(line)) => return Err(RunError::Rule(RuleError::Line(line))),
-        Err(RuleError::Memory) => return Err(RunError::Memory),
-    };
-    match check(settings, &rules) {
-        Ok(()) => Ok(rules),
+    match check(settings, rules) {
+        Ok(()) => build(alloc, settings, rules),
         Err(error) => Err(RunError::Setting(error)),
     }
 }
@@ -115,14 +183,14 @@ fn accept(alloc: Global, settings: &Settings, bytes: &[u8]) -> Result<Rules, Run
 /// Reads the input, and writes its text, while it reads where that may be.
 fn transform<A: Search, R: Read, W: Write>(
     alloc: Global,
-    prepared: &Prepared<A>,
+    prepared: &Prepared<'_, A>,
     reader: &mut Watched<R>,
     writer: &mut Watched<W>,
     steps: &mut Steps,
 ) -> Result<(), RunError>
     requires open { has_ended reader.old ≡ false }
     requires accepted { IsAccepted prepared.now.settings prepared.now.rules }
-    ensures ran { RanRules R.remaining W.contents reader.old reader.new writer.old writer.new
+    ensures ran { RanPrepared R.remaining W.contents reader.old reader.new writer.old writer.new
         prepared.now result }
     ensures memory { RunsOutFirst prepared.now reader.old reader.new writer.old writer.new result }
     ensures short { ReadsByBuffer prepared.now reader.old reader.new }
@@ -137,7 +205,7 @@ fn transform<A: Search, R: Read, W: Write>(
 /// Reads the whole input, and writes its text then.
 fn transform_held<A: Search, R: Read, W: Write>(
     alloc: Global,
-    prepared: &Prepared<A>,
+    prepared: &Prepared<'_, A>,
     reader: &mut Watched<R>,
     writer: &mut Watched<W>,
     steps: &mut Steps,
@@ -145,7 +213,7 @@ fn transform_held<A: Search, R: Read, W: Write>(
     requires open { has_ended reader.old ≡ false }
     requires accepted { IsAccepted prepared.now.settings prepared.now.rules }
     requires held { ¬ IsStreamed prepared.now.settings prepared.now.rules }
-    ensures ran { RanRules R.remaining W.contents reader.old reader.new writer.old writer.new
+    ensures ran { RanPrepared R.remaining W.contents reader.old reader.new writer.old writer.new
         prepared.now result }
     ensures cost { CostsRun prepared.now reader.old reader.new steps.old steps.new result }
 {
@@ -159,7 +227,7 @@ fn transform_held<A: Search, R: Read, W: Write>(
 
 /// Writes the text of an input.
 fn write_text<A: Search, W: Write>(
-    prepared: &Prepared<A>,
+    prepared: &Prepared<'_, A>,
     input: &[u8],
     output: &mut Output,
     writer: &mut Watched<W>,
@@ -176,7 +244,7 @@ fn write_text<A: Search, W: Write>(
 
 /// Sends the text that a mode makes of the whole input.
 fn send_text<A: Search, W: Write>(
-    prepared: &Prepared<A>,
+    prepared: &Prepared<'_, A>,
     input: &[u8],
     output: &mut Output,
     writer: &mut Watched<W>,

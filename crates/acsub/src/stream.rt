@@ -30,7 +30,7 @@ use list::stream_list;
 /// Reads the input, and writes its text while it reads.
 pub fn stream_text<A: Search, R: Read, W: Write>(
     alloc: Global,
-    prepared: &Prepared<A>,
+    prepared: &Prepared<'_, A>,
     engine: &A,
     reader: &mut Watched<R>,
     writer: &mut Watched<W>,
@@ -56,7 +56,7 @@ pub fn stream_text<A: Search, R: Read, W: Write>(
 /// Writes the input with each match replaced.
 pub(crate) fn stream_replaced<A: Search, R: Read, W: Write>(
     alloc: Global,
-    prepared: &Prepared<A>,
+    prepared: &Prepared<'_, A>,
     engine: &A,
     reader: &mut Watched<R>,
     writer: &mut Watched<W>,

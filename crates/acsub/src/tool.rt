@@ -1,7 +1,7 @@
 //! The whole program: words in, a status out.
 //!
 //! [`program`] takes the words as the system gives them, and [`tool`] does the rest. It reads the words, then the whole rule file,
-//! then runs over a reader and a writer, and flushes the writer. Requested help is written and flushed like the text of a run.
+//! then runs over a reader and a writer, and flushes the writer. Requested help, or the version, is written and flushed like the text of a run.
 //!
 //! A fault is reported by one line on the error stream, and by the status. Faults are found in this order: words, rule file, run,
 //! flush. After a fault of the run the writer is still flushed, and the fault of the run is the one that is reported.
@@ -13,11 +13,12 @@ ghost use Rattle.acsub.specs.Outcome.{AnswersFile, AnswersHelp, AnswersTool, Col
 ghost use Rattle.acsub.specs.Tool.{IsFaultOf, WritesLine, status_of};
 
 use crate::error::RunError;
-use crate::run::run;
+use crate::run::run_in;
 use crate::stream::told;
 use crate::words::{Words, WordsFault, read_words};
 use ac_automaton::watched::{Watched, write_whole};
 use ac_input::pairing::PairingError;
+use ac_input::steps::Steps;
 use std::alloc::Global;
 use std::env::Args;
 use std::io::{ErrorKind, Read, Write};
@@ -115,6 +116,11 @@ fn collect(alloc: Global, words: io::Result<Args>) -> Result<Vec<String>, Fault>
     }
 }
 
+/// The words in their order, for a hint, if they can be had.
+pub fn collected(alloc: Global, words: io::Result<Args>) -> Option<Vec<String>> {
+    words.ok()?.collect(alloc).ok()
+}
+
 /// Runs the program, of which the first word is the name, and returns its status. A fault is one line on the error stream; where
 /// that can't be written, the status stands alone.
 pub fn tool<F: Files, R: Read, W: Write, E: Write>(
@@ -184,15 +190,24 @@ fn run_file<F: Files, R: Read, W: Write>(
     writer: &mut Watched<W>,
 ) -> Result<(), Fault>
     requires { has_ended reader.old ≡ false }
-    ensures { AnswersFile F.File.remaining R.remaining W.contents words.now.settings
+    ensures { AnswersFile F.File.remaining R.remaining W.contents words.now
         reader.old reader.new writer.old writer.new result }
 {
     let rules = read_file(rt, alloc, words.rules)?;
-    let ran = run(alloc, &words.settings, rules.as_slice(), reader, writer);
+    let mut steps = Steps::new();
+    let ran = run_in(
+        alloc,
+        &words.settings,
+        words.text,
+        rules.as_slice(),
+        reader,
+        writer,
+        &mut steps,
+    );
     finish(ran, writer)
 }
 
-/// Shows the help, and flushes. No contract of clap says which text it is.
+/// Shows the help or the version, and flushes. No contract of clap says which text it is.
 fn show_help<W: Write>(
     alloc: Global,
     help: &clap::Error,

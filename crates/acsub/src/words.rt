@@ -1,6 +1,6 @@
 //! The words of the command line.
 //!
-//! `acsub MODE RULES [--kind K] [--fold] [--pairs HEX] [--engine E] [--no-prefilter] [--dense-depth N] [--no-byte-classes]`
+//! `acsub MODE RULES [--text] [--kind K] [--fold] [--pairs HEX] [--engine E] [--no-prefilter] [--dense-depth N] [--no-byte-classes]`
 //!
 //! clap splits the words, names the values that an argument takes and writes the help; what a value means is said here. The
 //! command stands as data in `specs/Command.antt`. So the contract of `read_words` says of all words what comes of them. It goes
@@ -12,6 +12,7 @@ ghost use Rattle.acsub.specs.Words.{AreTwoByTwo, ReadsMatches, IsWordsFault, IsT
 ghost use Rattle.acsub.specs.Words.{engine_named, engine_of, hex_fault, is_given, kind_named, match_kind_of, mode_named, mode_of};
 
 use crate::settings::{Engine, Mode, Settings};
+use crate::version::VERSION;
 use ac_input::pairing::{Pairing, PairingError};
 use ac_input::primitives::GREATEST;
 use ac_input::search::MatchKind;
@@ -30,8 +31,18 @@ static ENGINES: [&str; 5] = ["auto", "noncontiguous", "contiguous", "dfa", "pack
 /// The greatest number that `--dense-depth` takes.
 const MOST_DEPTH: u64 = GREATEST as u64;
 
-/// The end of the help: what each mode writes, which match each kind takes, the form of a rule file, an example, and the statuses.
+/// The end of the short help: an example.
 static AFTER_HELP: &str = "\
+Example:
+  printf 'fox\\tsloth\\n' > words.tsv
+  echo 'The fox ran.' | acsub replace words.tsv --text    # The sloth ran.
+
+--help says more: modes, kinds, rule files and statuses.
+";
+
+/// The end of the long help: what each mode writes, which match each kind takes, the forms of a rule file, an example, and the
+/// statuses.
+static AFTER_LONG_HELP: &str = "\
 Modes:
   replace  The input, with each match replaced
   list     A line 'number start end' for each match: pattern and places from 0, in bytes
@@ -42,11 +53,14 @@ Kinds:
   leftmost-first    The one that starts first, and of those the first in the rule file
   leftmost-longest  The one that starts first, and of those the longest
 
-The rule file has a line 'hex TAB hex' for each pattern and its replacement, two hex digits a byte.
+Rule files:
+  hex     A line 'hex TAB hex' for each pattern and its replacement, two hex digits a byte
+  --text  A line 'pattern TAB replacement', or 'pattern' alone, which is replaced by nothing;
+          CR LF ends a line as LF does, and no byte has another meaning
 
 Example:
-  printf '666f78\\t736c6f7468\\n' > rules.txt
-  echo 'The fox ran.' | acsub replace rules.txt    # The sloth ran.
+  printf 'fox\\tsloth\\n' > words.tsv
+  echo 'The fox ran.' | acsub replace words.tsv --text    # The sloth ran.
 
 Status:
   0 done, 2 words or settings, 3 the rule file, 4 a limit of a build, 5 a read failed,
@@ -57,6 +71,8 @@ Status:
 #[derive(Clone, Copy)]
 pub struct Words<'a> {
     pub settings: Settings,
+    /// Whether the rule file is of plain text, and not of hex.
+    pub text: bool,
     /// The path of the rule file.
     pub rules: &'a str,
 }
@@ -64,7 +80,7 @@ pub struct Words<'a> {
 /// Why a command line asks for no run.
 #[derive(Debug, Drop)]
 pub enum WordsFault {
-    /// Help was asked for. The error is its text: `print` shows it.
+    /// Help or the version was asked for. The error is its text: `print` shows it.
     Help(clap::Error),
     /// The words are no command line of this program.
     Bad,
@@ -95,6 +111,11 @@ pub fn read_words<'a>(alloc: Global, words: &'a [String]) -> Result<Words<'a>, W
     asked_for(alloc, &matches)
 }
 
+/// The error with which clap refuses the words, if it does.
+pub fn words_refused(alloc: Global, words: &[String]) -> Option<clap::Error> {
+    command(alloc).ok()?.try_get_matches_from(words).err()
+}
+
 // clap's part: which words belong to which argument, and whether they may stand there.
 fn parse<'a>(alloc: Global, words: &'a [String]) -> Result<ArgMatches<'a>, WordsFault>
     ensures { Parses (map string_bytes words.entry.now) result }
@@ -109,7 +130,7 @@ fn fault_of(error: clap::Error) -> WordsFault
     ensures { IsWordsFault error result }
 {
     match error.kind() {
-        ErrorKind::DisplayHelp => WordsFault::Help(error),
+        ErrorKind::DisplayHelp | ErrorKind::DisplayVersion => WordsFault::Help(error),
         ErrorKind::OutOfMemory => WordsFault::Memory,
         _ => WordsFault::Bad,
     }
@@ -176,12 +197,17 @@ fn command<'a>(alloc: Global) -> Result<Command<'a>, AllocError>
     ensures { IfOk result IsCommand }
 {
     let command = Command::new(alloc, "acsub")
+        .version(VERSION)
         .about("Replaces, or lists, what the patterns of a rule file match in standard input")
         .after_help(AFTER_HELP)
-        .arg(placed(alloc, "mode", "MODE", "What to write, as below").value_parser(
-            MODES.as_slice(),
-        ))?
-        .arg(placed(alloc, "rules", "RULES", "The path of the rule file"))?;
+        .after_long_help(AFTER_LONG_HELP)
+        .arg(placed(alloc, "mode", "MODE", "What to write").value_parser(MODES.as_slice()))?
+        .arg(placed(alloc, "rules", "RULES", "The path of the rule file"))?
+        .arg(flag(
+            alloc,
+            "text",
+            "Read RULES as plain text: 'pattern TAB replacement' or 'pattern' a line",
+        ))?;
     with_engine(alloc, with_matching(alloc, command)?)
 }
 
@@ -194,7 +220,7 @@ fn with_matching<'a>(alloc: Global, command: Command<'a>) -> Result<Command<'a>,
             alloc,
             "kind",
             "K",
-            "Which of several matches is taken, as below",
+            "Which of several matches is taken",
             KINDS.as_slice(),
             "standard",
         ))?
@@ -220,7 +246,7 @@ fn with_engine<'a>(alloc: Global, command: Command<'a>) -> Result<Command<'a>, A
             ENGINES.as_slice(),
             "auto",
         ))?
-        .arg(flag(alloc, "no-prefilter", "Search without a prefilter"))?
+        .arg(flag(alloc, "no-prefilter", "Search without a prefilter; the automaton's own skip stays"))?
         .arg(option(
             alloc,
             "dense-depth",
@@ -251,6 +277,7 @@ fn asked_for<'a>(alloc: Global, matches: &ArgMatches<'a>) -> Result<Words<'a>, W
     };
     Ok(Words {
         settings,
+        text: is_given(matches, "text"),
         rules: text_of(matches, "rules").unwrap(),
     })
 }

@@ -2,9 +2,9 @@
 //!
 //! What is written stands in `texts`, and in `repeated` for letters that stand many times over. What is refused stands in
 //! `refusals`, and what becomes of a reader or a writer that stops in `devices`.
-use super::run;
+use super::{run, run_rules};
 use crate::error::RunError;
-use crate::rules::RuleError;
+use crate::rules::{RuleError, read_rules};
 use crate::scripted::{Same, Sink, Source, Told, expecting, whole};
 use crate::settings::{Engine, SettingError, Settings};
 use ac_automaton::watched::Watched;
@@ -61,9 +61,14 @@ fn try_run(
     source: Source<'_>,
     sink: Sink<'_>,
 ) -> Did {
+    // Over two bytes a read the rules are read before, and run by then: either way does the same.
+    let apart = source.most == 2;
     let mut reader = Watched::new(source);
     let mut writer = Watched::new(sink);
-    let outcome = run(alloc, settings, rules.as_bytes(), &mut reader, &mut writer);
+    let outcome = match read_rules(alloc, rules.as_bytes()) {
+        Ok(rules) if apart => run_rules(alloc, settings, &rules, &mut reader, &mut writer),
+        _ => run(alloc, settings, rules.as_bytes(), &mut reader, &mut writer),
+    };
     let sink = writer.into_inner();
     Did {
         answer: answer_of(&outcome),

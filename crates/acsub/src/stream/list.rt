@@ -141,7 +141,7 @@ fn list_stream<A: Search, R: Read, W: Write>(
 /// Writes a line for each match of what is read, by the automaton that was prepared.
 pub(crate) fn stream_list<A: Search, R: Read, W: Write>(
     alloc: Global,
-    prepared: &Prepared<A>,
+    prepared: &Prepared<'_, A>,
     engine: &A,
     reader: &mut Watched<R>,
     writer: &mut Watched<W>,

@@ -27,18 +27,50 @@ Replaces, or lists, what the patterns of a rule file match in standard input
 Usage: acsub [OPTIONS] <MODE> <RULES>
 
 Arguments:
-  <MODE>   What to write, as below [possible values: replace, list, overlap]
-  <RULES>  The path of the rule file
+  <MODE>
+          What to write
+         \x20
+          [possible values: replace, list, overlap]
+
+  <RULES>
+          The path of the rule file
 
 Options:
-      --kind <K>         Which of several matches is taken, as below [default: standard] [possible values: standard, leftmost-first, leftmost-longest]
-      --fold             Match ASCII letters in either case
-      --pairs <HEX>      Match the two bytes of each pair, four hex digits a pair: 3031 for 0 and 1
-      --engine <E>       What searches; no engine changes what is written [default: auto] [possible values: auto, noncontiguous, contiguous, dfa, packed]
-      --no-prefilter     Search without a prefilter
-      --dense-depth <N>  Give states less than N bytes deep a row of transitions [default: 3 noncontiguous, 2 contiguous]
-      --no-byte-classes  Give each byte a class of its own in the tables
-  -h, --help             Print help
+      --text
+          Read RULES as plain text: 'pattern TAB replacement' or 'pattern' a line
+
+      --kind <K>
+          Which of several matches is taken
+         \x20
+          [default: standard]
+          [possible values: standard, leftmost-first, leftmost-longest]
+
+      --fold
+          Match ASCII letters in either case
+
+      --pairs <HEX>
+          Match the two bytes of each pair, four hex digits a pair: 3031 for 0 and 1
+
+      --engine <E>
+          What searches; no engine changes what is written
+         \x20
+          [default: auto]
+          [possible values: auto, noncontiguous, contiguous, dfa, packed]
+
+      --no-prefilter
+          Search without a prefilter; the automaton's own skip stays
+
+      --dense-depth <N>
+          Give states less than N bytes deep a row of transitions [default: 3 noncontiguous, 2 contiguous]
+
+      --no-byte-classes
+          Give each byte a class of its own in the tables
+
+  -h, --help
+          Print help (see a summary with '-h')
+
+  -V, --version
+          Print version
 
 Modes:
   replace  The input, with each match replaced
@@ -50,11 +82,14 @@ Kinds:
   leftmost-first    The one that starts first, and of those the first in the rule file
   leftmost-longest  The one that starts first, and of those the longest
 
-The rule file has a line 'hex TAB hex' for each pattern and its replacement, two hex digits a byte.
+Rule files:
+  hex     A line 'hex TAB hex' for each pattern and its replacement, two hex digits a byte
+  --text  A line 'pattern TAB replacement', or 'pattern' alone, which is replaced by nothing;
+          CR LF ends a line as LF does, and no byte has another meaning
 
 Example:
-  printf '666f78\\t736c6f7468\\n' > rules.txt
-  echo 'The fox ran.' | acsub replace rules.txt    # The sloth ran.
+  printf 'fox\\tsloth\\n' > words.tsv
+  echo 'The fox ran.' | acsub replace words.tsv --text    # The sloth ran.
 
 Status:
   0 done, 2 words or settings, 3 the rule file, 4 a limit of a build, 5 a read failed,
@@ -147,6 +182,28 @@ const ROWS: &[Row] = &[
         status: 0,
         told: "",
         ..REPLACED
+    },
+    // Rules of plain text, and a line of it that is no rule; the same line is no rule of hex.
+    Row {
+        words: &["replace", PATH, "--text"],
+        rules: "fox\tsloth\r\nbrown",
+        status: 0,
+        told: "",
+        ..REPLACED
+    },
+    Row {
+        words: &["replace", PATH, "--text"],
+        rules: "fox\n\n",
+        status: 3,
+        told: "acsub: rules: line 2\n",
+        ..REFUSED
+    },
+    Row {
+        words: &["replace", PATH],
+        rules: "fox\tsloth\n",
+        status: 3,
+        told: "acsub: rules: line 1\n",
+        ..REFUSED
     },
     // The bytes of a pair are taken for the same.
     Row {
@@ -315,6 +372,13 @@ const ROWS: &[Row] = &[
     // Help, whole and flushed; and help that can't be written, or flushed.
     SHOWN,
     Row {
+        words: &["--version"],
+        text: "acsub 1.0.0\n",
+        fewest: 12,
+        most: 12,
+        ..SHOWN
+    },
+    Row {
         room: 5,
         write_fails: true,
         status: 6,
@@ -444,6 +508,13 @@ const NO_MEMORY: &str = "acsub: out of memory\n";
 const IN_LITTLE: &[Row] = &[
     Row {
         words: &["replace", LITTLE, "--pairs", "5878"],
+        status: 0,
+        told: "",
+        ..REPLACED
+    },
+    Row {
+        words: &["replace", LITTLE, "--text"],
+        rules: "fox\tsloth",
         status: 0,
         told: "",
         ..REPLACED

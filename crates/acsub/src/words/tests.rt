@@ -6,16 +6,19 @@ use std::test::Fail;
 
 /// What a command line asks for.
 enum Asks {
-    /// For a run, by the rules of the file `rules`.
+    /// For a run, by the rules of the file `rules`, which is of hex.
     Run(Told),
+    /// The same, where it is of plain text.
+    Text(Told),
     /// For nothing: they are bad words.
     Bad,
     /// For a pairing that names this byte twice.
     Twice(u8),
+    /// For the help, or for the version.
     Help,
 }
 
-use Asks::{Bad, Help, Run, Twice};
+use Asks::{Bad, Help, Run, Text, Twice};
 
 /// The words after the program's name.
 struct Row(&'static [&'static str], Asks);
@@ -36,6 +39,11 @@ const ROWS: &[Row] = &[
             ..PLAIN
         }),
     ),
+    // Plain text, wherever the word stands; and no value for it.
+    Row(&["replace", "rules", "--text"], Text(PLAIN)),
+    Row(&["--text", "list", "rules"], Text(LISTING)),
+    Row(&["list", "rules", "--text=yes"], Bad),
+    Row(&["list", "rules", "--text", "--text"], Bad),
     // Each kind.
     Row(&["list", "rules", "--kind", "standard"], Run(LISTING)),
     Row(
@@ -172,6 +180,8 @@ const ROWS: &[Row] = &[
     // Help, beside other words too.
     Row(&["--help"], Help),
     Row(&["list", "-h"], Help),
+    Row(&["--version"], Help),
+    Row(&["list", "-V"], Help),
 ];
 
 /// Asserts that the words ask for that.
@@ -179,7 +189,10 @@ fn asks_for(rt: &impl Abort, alloc: Global, row: &Row) -> Result<(), Fail> {
     let Row(words, asks) = row;
     let line = command_line(alloc, words)?;
     let asked = match (asks, read_words(alloc, line.as_slice())) {
-        (Run(told), Ok(read)) => read.rules == "rules" && read.settings == told.settings()?,
+        (Run(told) | Text(told), Ok(read)) => {
+            let text = matches!(asks, Text(_));
+            read.rules == "rules" && read.text == text && read.settings == told.settings()?
+        }
         (Bad, Err(WordsFault::Bad)) => true,
         (Twice(byte), Err(WordsFault::Pairing(PairingError::Twice(twice)))) => *byte == twice,
         (Help, Err(WordsFault::Help(error))) => error.exit_code() == 0,

@@ -7,14 +7,14 @@ use Rattle.acsub.proofs.prepared.build.Goals as goal
 pub packed_for-requires-clause-kind : goal.packed_for-requires-clause-kind
 packed_for-requires-clause-kind c =
     let packs : c.args.settings.now.engine ≡ Packed = search rules in
-    packed-kind c.args.settings.now c.args.rules c.requires packs
+    packed-kind c.args.settings.now c.args.rules.now c.requires packs
 
 pub packed_for-requires-clause-served : goal.packed_for-requires-clause-served
 packed_for-requires-clause-served c =
     let packs : c.args.settings.now.engine ≡ Packed = search rules in
-    packed-served c.args.settings.now c.args.rules c.requires packs
+    packed-served c.args.settings.now c.args.rules.now c.requires packs
 
 pub new-requires : goal.new-requires
 new-requires c =
     let packs : c.args.settings.now.engine ≡ Packed = search rules in
-    (c.in_ok-searcher.ensures, packed-unpaired c.args.settings.now c.args.rules c.requires packs)
+    (c.in_ok-searcher.ensures, packed-unpaired c.args.settings.now c.args.rules.now c.requires packs)

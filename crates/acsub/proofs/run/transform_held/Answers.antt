@@ -8,8 +8,7 @@ use Rattle.acsub.proofs.run.transform_held.Goals as goal
 pub returns-in_err-output-clause-ran : goal.returns-in_err-output-clause-ran
 returns-in_err-output-clause-ran g c =
     let p = err_from_is_err_and c.from_residual.result c.from_residual.ensures.1 in
-    let plan = c.args.prepared.now in
-    rw (p.1, p.2) (memory_ran g.R.Read.remaining g.W.Write.contents plan.settings plan.rules c.args.reader.now c.args.writer.now)
+    rw (p.1, p.2) (memory_ran g.R.Read.remaining g.W.Write.contents c.args.prepared.now c.args.reader.now c.args.writer.now)
 
 pub returns-in_err-output-clause-cost : goal.returns-in_err-output-clause-cost
 returns-in_err-output-clause-cost g c =

@@ -4,12 +4,12 @@ use Rattle.std.specs.Str.Parse.{ExplainsUnsignedError, HasUnsignedDigitsIfOk, Pa
 use Rattle.clap.specs.Words.{IsUnsignedIn, ReadsOne, Text, found_of, one_of, rows_of}
 use Rattle.clap.proofs.WalkLemmas.{one_text-rows}
 use Rattle.acsub.specs.Words.{number_of}
-use Rattle.acsub.specs.declared.words.TheConstants.{MOST_DEPTH}
+use Rattle.acsub.specs.Command.{greatest_depth}
 use Rattle.acsub.proofs.words.asked_for.Goals as goal
 
 -- a number that clap let through reads as that number
 depth_read : {E : Type 0} (gives : Text → Result ℕ E → Type 0) (o : Option Text) (r : Option ℕ) → (o ≡ None → r ≡ None) → ((t : Text) → o ≡ Some t → ReadsOne gives t r)
-    → ((t : Text) (x : Result ℕ E) → gives t x → ParsesUnsigned 64 10 t x) → ((t : Text) → o ≡ Some t → IsUnsignedIn 0 MOST_DEPTH t) → option_map number_of o ≡ r
+    → ((t : Text) (x : Result ℕ E) → gives t x → ParsesUnsigned 64 10 t x) → ((t : Text) → o ≡ Some t → IsUnsignedIn 0 greatest_depth t) → option_map number_of o ≡ r
 depth_read gives None r none read parses fits = sym (none refl)
 depth_read gives (Some t) (Some v) none read parses fits = ap Some (sym (parses t (Ok v) (read t refl)).1)
 depth_read gives (Some t) None none read parses fits =
@@ -24,6 +24,7 @@ returns c =
     record {
       mode = search rules;
       rules = search rules;
+      text = search rules;
       kind = search rules;
       engine = search rules;
       dense_depth = depth_read (λ bs r. ParsesUnsigned 64 10 bs r × ExplainsUnsignedError 10 bs r × HasUnsignedDigitsIfOk bs r) (one_of (codes "dense-depth") (rows_of f)) c.get_one.result (λ e. c.get_one.ensures.none (same ∙ e)) (λ t e. c.get_one.ensures.value t (same ∙ e))

@@ -1,6 +1,6 @@
 //! Rule files and settings that are an error before anything is read or written, and those that are accepted.
 use super::*;
-use crate::rules::{self, read_rules};
+use crate::rules::{self, read_text_rules};
 use crate::scripted::PLAIN;
 use crate::settings::Mode::{List, Overlap, Replace};
 use crate::settings::SettingError::{
@@ -103,6 +103,50 @@ fn has_sides(rt: &impl Abort, rules: &rules::Rules, sides: &[(&[u8], &[u8])]) {
     }
 }
 
+/// A file of plain text, and what its reader returns: its rules, or its first line that is none.
+struct Plain(&'static [u8], Result<&'static [(&'static [u8], &'static [u8])], usize>);
+
+const PLAIN_TEXT: &[Plain] = &[
+    // No line, no rule.
+    Plain(b"", Ok(&[])),
+    // A pattern and its replacement, which may be empty; a pattern alone; a last line without a line feed.
+    Plain(
+        b"fox\tsloth\nbrown\t\nquick\nslow",
+        Ok(&[(b"fox", b"sloth"), (b"brown", b""), (b"quick", b""), (b"slow", b"")]),
+    ),
+    Plain(b"fox\tsloth", Ok(&[(b"fox", b"sloth")])),
+    // One carriage return at the end of a line is no part of it, at the end of the file too; any other is.
+    Plain(
+        b"fox\tsloth\r\nbrown\r\n",
+        Ok(&[(b"fox", b"sloth"), (b"brown", b"")]),
+    ),
+    Plain(b"fox\tsloth\r", Ok(&[(b"fox", b"sloth")])),
+    Plain(b"fox\r", Ok(&[(b"fox", b"")])),
+    Plain(
+        b"\rfox\r\tslo\rth\r\r\n",
+        Ok(&[(b"\rfox\r", b"slo\rth\r")]),
+    ),
+    // Every other byte stands for itself: a space, a backslash, a number sign, hex digits, a zero, bytes over 0x80.
+    Plain(
+        b" #\\t \t 66 \n\0\t\0\xff\n\xc3\x89\t\x80\n",
+        Ok(&[(b" #\\t ", b" 66 "), (b"\0", b"\0\xff"), (b"\xc3\x89", b"\x80")]),
+    ),
+    // Rules that stand twice are kept.
+    Plain(b"a\na\n", Ok(&[(b"a", b""), (b"a", b"")])),
+    // An empty line: first, last, of a carriage return, without a line feed.
+    Plain(b"\n", Err(1)),
+    Plain(b"a\n\n", Err(2)),
+    Plain(b"a\n\r\nb\n", Err(2)),
+    Plain(b"a\n\r", Err(2)),
+    // An empty pattern.
+    Plain(b"a\tb\n\tc\n", Err(2)),
+    Plain(b"\t", Err(1)),
+    // A second tab, and the first of two bad lines.
+    Plain(b"a\tb\tc\n", Err(1)),
+    Plain(b"a\nb\n\t\t\n\n", Err(3)),
+    Plain(b"a\t\t", Err(1)),
+];
+
 /// Asserts that a bad line is reported whatever memory does, and that rules are read or there was no memory.
 pub fn reads_where_there_is_memory(rt: &impl Abort, alloc: Global) {
     for Bad(file, line) in BAD {
@@ -113,6 +157,16 @@ pub fn reads_where_there_is_memory(rt: &impl Abort, alloc: Global) {
         match &read_rules(alloc, file.as_bytes()) {
             Ok(rules) => has_sides(rt, rules, sides),
             Err(error) => assert_eq!(rt; *error, RuleError::Memory, "by {file:?}"),
+        }
+    }
+    for Plain(file, want) in PLAIN_TEXT {
+        match (&read_text_rules(alloc, file), want) {
+            (Ok(rules), Ok(sides)) => has_sides(rt, rules, sides),
+            (Ok(rules), Err(_)) => assert_eq!(rt; rules.len(), usize::MAX, "by {file:?}"),
+            (Err(error), Ok(_)) => assert_eq!(rt; *error, RuleError::Memory, "by {file:?}"),
+            (Err(error), Err(line)) => {
+                assert_eq!(rt; *error, RuleError::Line(*line), "by {file:?}");
+            }
         }
     }
 }

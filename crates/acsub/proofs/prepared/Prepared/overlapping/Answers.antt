@@ -7,6 +7,6 @@ use Rattle.acsub.proofs.prepared.Prepared.overlapping.Goals as goal
 
 pub returns-clause-fresh : goal.returns-clause-fresh
 returns-clause-fresh g c =
-    let inside : Plan = record { settings = c.self.inside.settings; rules = c.self.inside.rules } in
+    let inside : Plan = record { settings = c.self.inside.settings; rules = c.self.inside.rules.now } in
     let serves = subst (λ finder. IsFinderOf g.A.Automaton.built g.A.Automaton.supports inside.settings inside.rules finder) c.in-Automaton.is c.self.invariant in
     listing-fresh (g.A.Automaton.built c.in-Automaton.automaton) (g.A.Automaton.supports c.in-Automaton.automaton) inside c.args.self.now c.args.input.now _ _ _ c.self.view_is serves c.try_find_overlapping_iter.ensures.answer c.unwrap.ensures c.new.ensures

@@ -3,6 +3,7 @@ use Rattle.std.specs.Prelude.{◌≡◌, ◌≢◌, ℕ, ◌<◌, List, [], leng
 use Rattle.ac_input.specs.Same.{IsUnpaired}
 use Rattle.ac_input.specs.Rules.{Rule}
 use Rattle.ac_input.specs.declared.search.MatchKind.TheVariants.{Standard}
+use Rattle.ac_literal.specs.Packed.{most_packed}
 use Rattle.acsub.specs.Lines.{rule_at}
 use Rattle.acsub.specs.declared.settings.Settings.{Settings}
 use Rattle.acsub.specs.declared.settings.Mode.TheVariants.{Overlap}
@@ -13,10 +14,6 @@ use Rattle.acsub.specs.declared.settings.SettingError.TheVariants.{OverlapLeftmo
 -- some pattern is empty
 abbrev pub HasEmptyPattern : List Rule → Type 0
 HasEmptyPattern rules = (i : ℕ) × (i < length rules) × ((rule_at rules i).0 ≡ [])
-
--- the most patterns that packed search takes
-abbrev pub most_packed : ℕ
-most_packed = 128
 
 -- what excludes settings, with these rules
 abbrev pub IsExcluded : Settings → List Rule → SettingError → Type 0

@@ -9,6 +9,7 @@ ghost use Rattle.acsub.specs.Transformed.{IsStreamed};
 use crate::rules::Rules;
 use ac_input::pairing::Pairing;
 use ac_input::search::MatchKind;
+use ac_literal::packed::PATTERN_LIMIT;
 use std::error::Error;
 use std::fmt;
 
@@ -58,9 +59,6 @@ pub struct Settings {
     /// Whether bytes that lead alike from every state are one class, in the contiguous NFA and the DFA.
     pub byte_classes: bool,
 }
-
-/// The most patterns that packed search takes.
-const MOST_PACKED: usize = 128;
 
 /// Why settings are an error: they exclude one another, or the rules don't suit them.
 #[derive(Clone, Copy, Debug, PartialEq, Eq)]
@@ -116,7 +114,7 @@ pub fn check(settings: &Settings, rules: &Rules) -> Result<(), SettingError>
     if has_empty_pattern(rules) {
         return Err(SettingError::PackedEmpty);
     }
-    if rules.is_empty() || rules.len() > MOST_PACKED {
+    if rules.is_empty() || rules.len() > PATTERN_LIMIT {
         return Err(SettingError::PackedCount);
     }
     Ok(())

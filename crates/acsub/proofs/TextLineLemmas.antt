@@ -38,4 +38,3 @@ pub text-keep : (text rest : List ℕ) (rule : Rule) (more : List ℕ) (kept : L
 text-keep text rest rule more kept sides p q a b =
     let same : rule_of sides ≡ rule = ap (λ (x : List ℕ). let r : Rule = (x, sides.replacement.items) in r) a ∙ ap (λ (x : List ℕ). let r : Rule = (rule.0, x) in r) b in
     rw (map_push rule_of kept sides, same) (all-push BeginsWithTextRule text (rules_of kept) rest rule more p q)
-

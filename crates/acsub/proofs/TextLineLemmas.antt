@@ -1,5 +1,5 @@
 -- The rules of plain text that a text begins with.
-use Rattle.std.proofs.Common.{◌≡◌, ◌≢◌, ℕ, ◌+◌, ◌≤◌, List, [], ◌∷◌, ◌++◌, length, Contains, refl, sym, ap, ◌∙◌, subst, inr, arith}
+use Rattle.std.proofs.Common.{◌≡◌, ◌≢◌, ℕ, ◌+◌, ◌≤◌, List, [], ◌∷◌, ◌++◌, length, ap, ◌∙◌, arith}
 use Rattle.std.proofs.lemmas.List.{map_push, length_push, nil_from_length}
 use Rattle.ac_input.specs.Rules.{BeginsWithAll, BeginsWithNoTextRule, BeginsWithTextRule, FirstBadTextLine, IsTextRuleFile, Rule}
 use Rattle.ac_input.proofs.RuleOrderLemmas.{all-length, all-push}
@@ -38,4 +38,3 @@ pub text-keep : (text rest : List ℕ) (rule : Rule) (more : List ℕ) (kept : L
 text-keep text rest rule more kept sides p q a b =
     let same : rule_of sides ≡ rule = ap (λ (x : List ℕ). let r : Rule = (x, sides.replacement.items) in r) a ∙ ap (λ (x : List ℕ). let r : Rule = (rule.0, x) in r) b in
     rw (map_push rule_of kept sides, same) (all-push BeginsWithTextRule text (rules_of kept) rest rule more p q)
-

@@ -102,7 +102,10 @@ fn bytes_of<F: Files>(rt: &F, alloc: Global, path: &str) -> io::Result<Vec<u8>> 
 
 /// A line of the bytes, counted from 1, with its line feed.
 fn line_at(bytes: &[u8], number: usize) -> &[u8] {
-    match bytes.split_inclusive(|byte| *byte == b'\n').nth(number.saturating_sub(1)) {
+    match bytes
+        .split_inclusive(|byte| *byte == b'\n')
+        .nth(number.saturating_sub(1))
+    {
         Some(line) => line,
         None => &[],
     }

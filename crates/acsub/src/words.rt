@@ -246,7 +246,11 @@ fn with_engine<'a>(alloc: Global, command: Command<'a>) -> Result<Command<'a>, A
             ENGINES.as_slice(),
             "auto",
         ))?
-        .arg(flag(alloc, "no-prefilter", "Search without a prefilter; the automaton's own skip stays"))?
+        .arg(flag(
+            alloc,
+            "no-prefilter",
+            "Search without a prefilter; the automaton's own skip stays",
+        ))?
         .arg(option(
             alloc,
             "dense-depth",

@@ -104,7 +104,10 @@ fn has_sides(rt: &impl Abort, rules: &rules::Rules, sides: &[(&[u8], &[u8])]) {
 }
 
 /// A file of plain text, and what its reader returns: its rules, or its first line that is none.
-struct Plain(&'static [u8], Result<&'static [(&'static [u8], &'static [u8])], usize>);
+struct Plain(
+    &'static [u8],
+    Result<&'static [(&'static [u8], &'static [u8])], usize>,
+);
 
 const PLAIN_TEXT: &[Plain] = &[
     // No line, no rule.
@@ -112,7 +115,12 @@ const PLAIN_TEXT: &[Plain] = &[
     // A pattern and its replacement, which may be empty; a pattern alone; a last line without a line feed.
     Plain(
         b"fox\tsloth\nbrown\t\nquick\nslow",
-        Ok(&[(b"fox", b"sloth"), (b"brown", b""), (b"quick", b""), (b"slow", b"")]),
+        Ok(&[
+            (b"fox", b"sloth"),
+            (b"brown", b""),
+            (b"quick", b""),
+            (b"slow", b""),
+        ]),
     ),
     Plain(b"fox\tsloth", Ok(&[(b"fox", b"sloth")])),
     // One carriage return at the end of a line is no part of it, at the end of the file too; any other is.
@@ -122,14 +130,15 @@ const PLAIN_TEXT: &[Plain] = &[
     ),
     Plain(b"fox\tsloth\r", Ok(&[(b"fox", b"sloth")])),
     Plain(b"fox\r", Ok(&[(b"fox", b"")])),
-    Plain(
-        b"\rfox\r\tslo\rth\r\r\n",
-        Ok(&[(b"\rfox\r", b"slo\rth\r")]),
-    ),
+    Plain(b"\rfox\r\tslo\rth\r\r\n", Ok(&[(b"\rfox\r", b"slo\rth\r")])),
     // Every other byte stands for itself: a space, a backslash, a number sign, hex digits, a zero, bytes over 0x80.
     Plain(
         b" #\\t \t 66 \n\0\t\0\xff\n\xc3\x89\t\x80\n",
-        Ok(&[(b" #\\t ", b" 66 "), (b"\0", b"\0\xff"), (b"\xc3\x89", b"\x80")]),
+        Ok(&[
+            (b" #\\t ", b" 66 "),
+            (b"\0", b"\0\xff"),
+            (b"\xc3\x89", b"\x80"),
+        ]),
     ),
     // Rules that stand twice are kept.
     Plain(b"a\na\n", Ok(&[(b"a", b""), (b"a", b"")])),

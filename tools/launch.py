@@ -34,7 +34,7 @@ def write_rules(path, pairs):
 
 def engines(program):
     """The words that `--engine` takes, as the help lists them."""
-    text = subprocess.run([program, "--help"], stdout=subprocess.PIPE, check=True).stdout.decode()
+    text = subprocess.run([program, "-h"], stdout=subprocess.PIPE, check=True).stdout.decode()
     line = next(it for it in text.splitlines() if "--engine" in it)
     return re.search(r"possible values: ([^\]]*)", line).group(1).split(", ")
 

@@ -28,7 +28,6 @@ use Rattle.acsub.specs.declared.error.RunError.{RunError}
 use Rattle.acsub.specs.declared.error.RunError.TheVariants as errors
 use Rattle.acsub.specs.declared.matches.Matches.{Matches}
 use Rattle.acsub.specs.declared.matches.Matches.TheVariants as sources
-use Rattle.acsub.specs.declared.settings.Settings.{Settings}
 
 -- ---- one more match
 

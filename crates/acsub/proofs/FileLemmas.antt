@@ -1,10 +1,10 @@
 -- A run by the rules of a file, in either form: its result says of the file what it says of the rules.
-use Rattle.std.proofs.Common.{◌≡◌, ◌↔◌, ℕ, Bool, true, false, Option, List, [], Result, Ok, Err, refl, sym, ap, ◌∙◌, subst}
+use Rattle.std.proofs.Common.{◌≡◌, ◌↔◌, ℕ, Bool, true, false, Option, List, Result, Ok, Err, refl, ap, subst}
 use Rattle.ac_input.specs.Rules.{Rule}
 use Rattle.ac_input.specs.declared.steps.Steps.{Steps}
 use Rattle.ac_input.proofs.RuleLemmas.{FirstBadLine-one, FirstBadLine-none, IsRuleFile-one}
 use Rattle.ac_input.proofs.TextRuleLemmas.{FirstBadTextLine-one, FirstBadTextLine-none, IsTextRuleFile-one}
-use Rattle.ac_automaton.specs.Moved.{HasMoved, Moved}
+use Rattle.ac_automaton.specs.Moved.{Moved}
 use Rattle.ac_automaton.specs.declared.watched.Watched.{Watched}
 use Rattle.acsub.specs.declared.rules.RuleError.{RuleError}
 use Rattle.acsub.specs.declared.rules.RuleError.TheVariants as rule_errors
@@ -12,7 +12,7 @@ use Rattle.acsub.specs.declared.error.RunError.{RunError}
 use Rattle.acsub.specs.declared.error.RunError.TheVariants as errors
 use Rattle.acsub.specs.declared.settings.Settings.{Settings}
 use Rattle.acsub.specs.File.{IsBadLineOf, IsFileOf, ReadsRules}
-use Rattle.acsub.specs.Plan.{Plan, plan_for}
+use Rattle.acsub.specs.Plan.{plan_for}
 use Rattle.acsub.specs.Run.{AnswersIn, AnswersRules, CostsIn, CostsRun, HasBegun, RanIn, RanRules, ReadsByBuffer, RefusesIn, RefusesRules, not_read}
 use Rattle.acsub.proofs.CountLemmas.{nothing_cost}
 use Rattle.acsub.proofs.RunLemmas.{HasMoved-nothing, memory_answer, nothing}

@@ -1,6 +1,5 @@
 -- The line that a text begins with.
-use Rattle.std.proofs.Common.{◌≡◌, ◌≢◌, ℕ, suc, ◌+◌, ◌*◌, ◌≤◌, List, [], ◌∷◌, ◌++◌, length, Contains, refl, sym, ap, ◌∙◌, subst, arith}
-use Rattle.std.proofs.lemmas.List.Elements.{Contains-append_right}
+use Rattle.std.proofs.Common.{◌≡◌, ◌≢◌, ℕ, ◌+◌, ◌≤◌, List, [], ◌∷◌, ◌++◌, length, Contains, sym, ap, ◌∙◌, subst, arith}
 use Rattle.std.proofs.lemmas.List.{map_push, length_push, nil_from_length}
 use Rattle.ac_input.specs.Rules.{Rule, Spells, BeginsWithRule, IsRuleFile, FirstBadLine, BeginsWithNoRule}
 use Rattle.ac_input.proofs.RuleOrderLemmas.{Contains-between, Without-from_missing, all-length, all-push, split_one}

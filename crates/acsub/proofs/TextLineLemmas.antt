@@ -1,5 +1,5 @@
 -- The rules of plain text that a text begins with.
-use Rattle.std.proofs.Common.{◌≡◌, ◌≢◌, ℕ, ◌+◌, ◌≤◌, List, [], ◌∷◌, ◌++◌, length, Contains, refl, sym, ap, ◌∙◌, subst, inr, arith}
+use Rattle.std.proofs.Common.{◌≡◌, ◌≢◌, ℕ, ◌+◌, ◌≤◌, List, [], ◌∷◌, ◌++◌, length, ap, ◌∙◌, arith}
 use Rattle.std.proofs.lemmas.List.{map_push, length_push, nil_from_length}
 use Rattle.ac_input.specs.Rules.{BeginsWithAll, BeginsWithNoTextRule, BeginsWithTextRule, FirstBadTextLine, IsTextRuleFile, Rule}
 use Rattle.ac_input.proofs.RuleOrderLemmas.{all-length, all-push}

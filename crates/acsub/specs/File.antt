@@ -1,5 +1,5 @@
 -- A rule file, in either form: of plain text, or of hex.
-use Rattle.std.specs.Prelude.{◌≡◌, ◌↔◌, ℕ, Bool, true, false, List, Result, Ok, Err, IfOk}
+use Rattle.std.specs.Prelude.{◌≡◌, ◌↔◌, ℕ, Bool, true, false, List, Result, Err, IfOk}
 use Rattle.ac_input.specs.Rules.{FirstBadLine, FirstBadTextLine, IsRuleFile, IsTextRuleFile, Rule}
 use Rattle.acsub.specs.declared.rules.RuleError.{RuleError}
 use Rattle.acsub.specs.declared.rules.RuleError.TheVariants.{Line, Memory}

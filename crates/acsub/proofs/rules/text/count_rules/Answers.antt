@@ -1,6 +1,5 @@
 use Rattle.std.proofs.Common.{◌≢◌, ◌+◌, length, sym, ◌∙◌, arith}
 use Rattle.std.proofs.lemmas.Bool.{false≢true, eqb-true, eq-eqb}
-use Rattle.ac_input.proofs.TextRuleLemmas.{BeginsWithTextRule-length}
 use Rattle.acsub.proofs.TextLineLemmas.{text-count, text-count_all, text-count_bad, text-count_bound}
 use Rattle.acsub.proofs.rules.text.count_rules.Goals as goal
 

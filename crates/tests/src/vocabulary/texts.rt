@@ -72,36 +72,45 @@ fn past_says<T: Abort, E: Display + Drop>(rt: &T, alloc: Global, refused: Option
     says(rt, alloc, &error, "number 2147483647 is past 2147483646");
 }
 
+/// Asserts the text of a build that fails for this reason.
+fn build_says<T: Abort>(rt: &T, alloc: Global, kind: BuildErrorKind, want: &str) {
+    says(rt, alloc, &BuildError::from(kind), want);
+}
+
 /// Asserts what a build says that meets a limit. The limits are too far away for a test to meet.
-fn limit_says<T: Abort>(rt: &T, alloc: Global) {
+fn limits_say<T: Abort>(rt: &T, alloc: Global) {
     let max = 2147483646;
-    let limits = [
-        (
-            BuildErrorKind::StateIDOverflow {
-                max,
-                requested_max: 2147483647,
-            },
-            "state number 2147483647 is past 2147483646",
-        ),
-        (
-            BuildErrorKind::PatternIDOverflow {
-                max,
-                requested_max: 4294967296,
-            },
-            "pattern number 4294967296 is past 2147483646",
-        ),
-        (
-            BuildErrorKind::PatternTooLong {
-                pattern: PatternID::must(7),
-                len: 2147483648,
-            },
-            "pattern 7 has 2147483648 bytes, more than 2147483646",
-        ),
-        (BuildErrorKind::Memory, "out of memory"),
-    ];
-    for (kind, text) in limits {
-        says(rt, alloc, &BuildError::from(kind), text);
-    }
+    let states = BuildErrorKind::StateIDOverflow {
+        max,
+        requested_max: 2147483647,
+    };
+    let patterns = BuildErrorKind::PatternIDOverflow {
+        max,
+        requested_max: 4294967296,
+    };
+    let long = BuildErrorKind::PatternTooLong {
+        pattern: PatternID::must(7),
+        len: 2147483648,
+    };
+    build_says(
+        rt,
+        alloc,
+        states,
+        "state number 2147483647 is past 2147483646",
+    );
+    build_says(
+        rt,
+        alloc,
+        patterns,
+        "pattern number 4294967296 is past 2147483646",
+    );
+    build_says(
+        rt,
+        alloc,
+        long,
+        "pattern 7 has 2147483648 bytes, more than 2147483646",
+    );
+    build_says(rt, alloc, BuildErrorKind::Memory, "out of memory");
 }
 
 /// Asserts what a stream says that stopped, also with an error of the system in it.
@@ -124,7 +133,7 @@ fn what_errors_say(rt: HostRuntime) {
     stopped_says(&rt, alloc);
     says(&rt, alloc, &ReplaceError::Memory, "out of memory");
     makers_make(&rt);
-    limit_says(&rt, alloc);
+    limits_say(&rt, alloc);
     says(&rt, alloc, &BuildError::from(AllocError), "out of memory");
     says(
         &rt,

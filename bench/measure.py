@@ -4,7 +4,6 @@ import os
 import re
 import subprocess
 import sys
-import threading
 
 # Bytes and no text, so that no program pays for an encoding.
 ENVIRONMENT = dict(os.environ, LC_ALL="C")
@@ -20,7 +19,7 @@ class Command:
         self.label, self.words, self.stdin, self.counts = label, [str(it) for it in words], stdin, counts
 
 
-def seconds(command, watch=lambda child: None):
+def seconds(command):
     """The processor time of one run, of user and system together.
 
     A count is written into a pipe, since GNU grep stops at the first match if its output is /dev/null.
@@ -28,7 +27,6 @@ def seconds(command, watch=lambda child: None):
     stdout = subprocess.PIPE if command.counts else subprocess.DEVNULL
     with open(command.stdin, "rb") as stdin:
         child = subprocess.Popen(command.words, stdin=stdin, stdout=stdout, stderr=subprocess.DEVNULL, env=ENVIRONMENT)
-    watch(child)
     _, status, used = os.wait4(child.pid, 0)
     child.returncode = os.waitstatus_to_exitcode(status)
     if command.counts:
@@ -46,27 +44,18 @@ def fastest(commands, runs):
     return best
 
 
-def peak(command):
-    """The most memory in MB that one run had touched, looked at every millisecond. A rise in its last millisecond is missed."""
-    most, done = [0.0], threading.Event()
-
-    def look(child):
-        while not done.wait(0.001):
-            most[0] = max(most[0], touched(child.pid))
-
-    seconds(command, lambda child: threading.Thread(target=look, args=(child,), daemon=True).start())
-    done.set()
-    return most[0]
+def peaks(commands, launcher):
+    """The most memory in MB that one run of each command had touched, by its label: nothing where there is no launcher."""
+    return {it.label: peak(it, launcher) for it in commands} if launcher else {}
 
 
-def touched(pid):
-    """The most memory in MB that a process has touched. What `wait4` says isn't of use: it begins with the memory of this one."""
-    try:
-        with open(f"/proc/{pid}/status") as file:
-            found = re.search(r"VmHWM:\s*(\d+)", file.read())
-    except (FileNotFoundError, ProcessLookupError):
-        return 0.0
-    return int(found.group(1)) * 1024 / 1e6 if found else 0.0
+def peak(command, launcher):
+    stdout = subprocess.PIPE if command.counts else subprocess.DEVNULL
+    with open(command.stdin, "rb") as stdin:
+        words = [launcher, *command.words]
+        done = subprocess.run(words, stdin=stdin, stdout=stdout, stderr=subprocess.PIPE, env=ENVIRONMENT)
+    refuse(command, done.returncode)
+    return int(done.stderr.split()[-1]) * 1024 / 1e6
 
 
 def output(command):

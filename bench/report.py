@@ -1,4 +1,6 @@
 """Writes the tables and the chart of a run's results."""
+import sys
+
 import chart
 
 BEGIN, END = "<!-- bench/run writes from here -->", "<!-- to here -->"
@@ -28,6 +30,8 @@ def write(results, folder, root):
         put(page, f"{before}{BEGIN}\n{tables}{END}{rest.partition(END)[2]}")
         put(f"{root}/docs/speed.svg", drawing)
     print(tables, end="")
+    if results["stolen"] > 0.05:
+        print("the machine's host took much of the processors' time: these figures mean little", file=sys.stderr)
 
 
 def put(path, content):
@@ -111,6 +115,13 @@ IN_MEMORY = [
     ("crate, NFA", "crate nfa"),
     ("Hyperscan", "Hyperscan"),
 ]
+BUILDS = [
+    ("noncontiguous", "acsub noncontiguous"),
+    ("contiguous", "acsub contiguous"),
+    ("DFA", "acsub dfa"),
+    ("crate, NFA", "crate nfa"),
+    ("crate, DFA", "crate dfa"),
+]
 TABLES = [
     (
         "The program beside others",
@@ -144,14 +155,10 @@ TABLES = [
     ("A search in memory, leftmost-first", "The same under leftmost-first.", speeds("leftmost-in-memory", *IN_MEMORY)),
     (
         "Builds",
-        "Seconds of processor time of whole runs with no input, and the most MB that they had touched.",
-        [
-            column
-            for heading, label in [(f"acsub, {it}", f"acsub {it}") for it in ("noncontiguous", "contiguous", "dfa")]
-            + [("crate, NFA", "crate nfa"), ("crate, DFA", "crate dfa")]
-            for column in (Column(f"{heading}, s", "build", "seconds", label), Column(f"{heading}, MB", "build", "peaks", label))
-        ],
+        "Seconds of processor time of whole runs with no input.",
+        [Column(heading, "build", "seconds", label) for heading, label in BUILDS],
     ),
+    ("Memory of builds", "The most MB that those runs had touched.", peaks("build", *BUILDS)),
 ]
 
 
@@ -172,13 +179,16 @@ def chart_of(results):
 
 
 def heading(results):
-    load = " and ".join(f"{it:.1f}" for it in results["load"])
+    """When and on what the figures were measured, beside which programs, and what was left out."""
+    before, after = results["load"]
+    versions = dict(results["versions"])
+    said = [f"the public crate {versions.pop('crate')}"] if "crate" in versions else []
+    said += [f"{name} {version}" for name, version in versions.items()]
     lines = [
-        f"Measured on {results['date']} on {results['machine']}, with a load of {load} before and after. The texts have"
-        f" {results['mib']} MiB, and the best of {results['runs']} runs counts."
+        f"Measured on {results['date']} in {results['minutes']:.0f} minutes, on {results['machine']}. The load was {before:.1f} before"
+        f" and {after:.1f} after, and the machine's host took {results['stolen']:.0%} of the processors' time.",
+        f"The texts have {results['mib']} MiB, and the best of {results['runs']} runs counts.",
     ]
-    said = [f"{name} {version}" for name, version in results["versions"].items() if name != "crate"]
-    if said:
-        lines.append(f"Beside ours: the public crate {results['versions'].get('crate', '(left out)')}, {', '.join(said)}.")
+    lines += [f"Beside ours: {', '.join(said)}."] if said else []
     lines += [f"Left out: {name}, since {why}." for name, why in results["left_out"].items()]
     return " ".join(lines) + "\n"

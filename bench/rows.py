@@ -94,6 +94,10 @@ class Bench:
         size = os.path.getsize(self.text(name))
         return {label: size / taken / 1e6 for label, taken in measure.fastest(commands, self.runs).items()}
 
+    def peaks(self, commands):
+        """The most memory that a run of each command had touched, where the launcher is there."""
+        return measure.peaks(commands, self.programs.get("peak"))
+
 
 def measure_rows(programs, data, words, runs):
     """The figures of each row of which the name has one of the words, or of all where there are none."""
@@ -112,7 +116,7 @@ def listed(bench, name):
     listing = equal(name, streams, lambda output: output)
     compare_counts(bench, name, listing, {it.label: measure.count(it) for it in counters})
     commands = streams + counters
-    return {"speeds": bench.speeds(name, commands), "peaks": {it.label: measure.peak(it) for it in commands}}
+    return {"speeds": bench.speeds(name, commands), "peaks": bench.peaks(commands)}
 
 
 def compare_counts(bench, name, listing, counts):
@@ -143,7 +147,7 @@ def listed_leftmost(bench, name):
     commands = bench.streams(name, "list", "leftmost-first", ["auto", "dfa", "noncontiguous"])
     equal(name, commands, lambda output: re.sub(rb"(?m)^\d+ ", b"", output))
     held = [it for it in commands if it.label.endswith("auto")]
-    return {"speeds": bench.speeds(name, commands), "peaks": {it.label: measure.peak(it) for it in held}}
+    return {"speeds": bench.speeds(name, commands), "peaks": bench.peaks(held)}
 
 
 def replaced_leftmost(bench, name):
@@ -170,7 +174,7 @@ def in_memory(kind, engines):
 def build(bench, name):
     """Whole runs with no input."""
     commands = bench.streams(name, "list", "standard", ["noncontiguous", "contiguous", "dfa"], os.devnull)
-    return {"seconds": measure.fastest(commands, bench.runs), "peaks": {it.label: measure.peak(it) for it in commands}}
+    return {"seconds": measure.fastest(commands, bench.runs), "peaks": bench.peaks(commands)}
 
 
 def equal(name, commands, part):

@@ -34,6 +34,8 @@ BUILD_SETS = [
 PEER_ENGINE = {"auto": "auto", "dfa": "dfa", "contiguous": "nfa", "noncontiguous": "nfa"}
 ENGINES = list(PEER_ENGINE)
 PASSES = 2
+# the program of ours that a row needs, where it isn't acsub
+PROGRAM = {"in-memory": "in_memory", "leftmost-in-memory": "in_memory"}
 
 
 class Bench:
@@ -104,7 +106,8 @@ def measure_rows(programs, data, words, runs):
     bench, figures = Bench(programs, data, runs), []
     for mode, (sets, make) in MODES.items():
         for name, title in sets:
-            if not words or any(it in f"{mode} {name}" for it in words):
+            wanted = not words or any(it in f"{mode} {name}" for it in words)
+            if wanted and PROGRAM.get(mode, "acsub") in programs:
                 print(f"{mode} {name}", file=sys.stderr, flush=True)
                 figures.append({"mode": mode, "set": name, "title": title, **make(bench, name)})
     return figures

@@ -51,6 +51,10 @@ impl AhoCorasick {
     /// let found = ac.find(Input::from("foo abcd")); // an Option<Match>
     /// ```
     ///
+    /// The match of a text begins and ends between characters if each pattern is UTF-8, none is empty, and no bytes are paired but
+    /// ASCII letters in their two cases: the laws of `ac_input::utf8_laws`. A caller that uses them:
+    /// `uses::callers::texts::matched_text`.
+    ///
     /// A caller: `uses::callers::front_find::first_match`. An example: `uses::examples::find::first_text`.
     pub fn find(&self, input: Input<'_>) -> Option<Match>
         requires { supported_by self.now input.anchored }
@@ -89,6 +93,8 @@ impl AhoCorasick {
     ///     found.pattern().as_usize() // and found.range()
     /// }
     /// ```
+    ///
+    /// Where the patterns are texts, no match of a text cuts a character: see [`AhoCorasick::find`].
     ///
     /// A caller: `uses::callers::front_find::all_matches`. An example: `uses::examples::iterate::places`.
     pub fn find_iter<'a, 'h>(&'a self, input: Input<'h>) -> FindIter<'a, 'h>

@@ -46,14 +46,3 @@ pub fn of_texts(alloc: Global, texts: &[&[u8]]) -> Result<AhoCorasick, BuildErro
     folding_keeps_chars();
     AhoCorasick::new(alloc, texts)
 }
-
-/// The first of the words that stands in the text, as the text has it. Whatever the words are, each condition is met.
-pub fn first_word<'t>(
-    alloc: Global,
-    words: &[&str],
-    text: &'t str,
-) -> Result<Option<&'t str>, BuildError> {
-    let texts = full_texts(alloc, words)?;
-    let ac = of_texts(alloc, &texts)?;
-    Ok(matched_text(&ac, text))
-}

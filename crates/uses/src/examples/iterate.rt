@@ -45,8 +45,12 @@ pub fn all_patterns(
 }
 
 /// How many occurrences there are, overlapping ones too. It is an error where the automaton can't list them.
-pub fn count_all(ac: &AhoCorasick, text: &str) -> Result<usize, MatchError> {
-    Ok(ac.try_find_overlapping_iter(Input::from(text))?.count())
+pub fn count_all(ac: &AhoCorasick, text: &str) -> Result<u64, MatchError> {
+    let mut count: u64 = 0;
+    for _ in ac.try_find_overlapping_iter(Input::from(text))? {
+        count = count.saturating_add(1);
+    }
+    Ok(count)
 }
 
 /// The second occurrence, by a state that goes on from the first.

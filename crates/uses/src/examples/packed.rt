@@ -2,10 +2,10 @@
 use aho_corasick::packed::{Config, MatchKind, Searcher};
 use std::alloc::{AllocError, Global};
 
-/// How many matches the text has, or `None` where packed search doesn't serve the words.
-pub fn count(alloc: Global, words: &[&[u8]], text: &[u8]) -> Result<Option<usize>, AllocError> {
+/// Whether the text has one of the words, or `None` where packed search doesn't serve them.
+pub fn has_any(alloc: Global, words: &[&[u8]], text: &[u8]) -> Result<Option<bool>, AllocError> {
     match Searcher::new(alloc, words)? {
-        Some(searcher) => Ok(Some(searcher.find_iter(text).count())),
+        Some(searcher) => Ok(Some(searcher.find(text).is_some())),
         None => Ok(None),
     }
 }

@@ -103,7 +103,7 @@ impl AhoCorasick {
     /// result. For a byte a DFA looks at one state, and an NFA at two at most. A DFA takes 4 bytes for each class of bytes in each
     /// state; a contiguous NFA takes the least memory.
     ///
-    /// A caller: `uses::callers::front::named`.
+    /// A caller: `uses::callers::front::named`. An example: `uses::examples::build::summary_of`.
     pub fn kind(&self) -> AhoCorasickKind
         ensures kind { result ≡ kind_served (serving_engine self.now) }
         ensures looks { IsTrue (as_built self.now).deterministic ↔ (result ≡ AhoCorasickKind.DFA) }
@@ -117,7 +117,7 @@ impl AhoCorasick {
 
     /// Which searches it serves.
     ///
-    /// A caller: `uses::callers::front::serves`.
+    /// A caller: `uses::callers::front::serves`. An example: `uses::examples::build::summary_of`.
     pub fn start_kind(&self) -> StartKind
         ensures { result ≡ start_kind_of self.now }
     {
@@ -126,7 +126,7 @@ impl AhoCorasick {
 
     /// Which of several overlapping occurrences is the match.
     ///
-    /// A caller: `uses::callers::front::can_list`.
+    /// A caller: `uses::callers::front::can_list`. An example: `uses::examples::build::summary_of`.
     pub fn match_kind(&self) -> MatchKind
         ensures { result ≡ kind_of self.now }
     {
@@ -135,7 +135,7 @@ impl AhoCorasick {
 
     /// How many bytes the shortest pattern has; `usize::MAX` where there is none.
     ///
-    /// A caller: `uses::callers::front::may_match`.
+    /// A caller: `uses::callers::front::may_match`. An example: `uses::examples::build::summary_of`.
     pub fn min_pattern_len(&self) -> usize
         ensures { result ≡ shortest (patterns_of self.now) }
     {
@@ -144,7 +144,7 @@ impl AhoCorasick {
 
     /// How many bytes the longest pattern has; 0 where there is none.
     ///
-    /// A caller: `uses::callers::front::most_bytes`.
+    /// A caller: `uses::callers::front::most_bytes`. An example: `uses::examples::build::summary_of`.
     pub fn max_pattern_len(&self) -> usize
         ensures { result ≡ longest (patterns_of self.now) }
     {
@@ -153,7 +153,7 @@ impl AhoCorasick {
 
     /// How many patterns it was made from. Those that can't match count too.
     ///
-    /// A caller: `uses::callers::front::numbered`.
+    /// A caller: `uses::callers::front::numbered`. An example: `uses::examples::build::summary_of`.
     pub fn patterns_len(&self) -> usize
         ensures { result ≡ pattern_count self.now }
     {
@@ -161,6 +161,8 @@ impl AhoCorasick {
     }
 
     /// About how many bytes of memory it holds.
+    ///
+    /// An example: `uses::examples::build::summary_of`.
     pub fn memory_usage(&self) -> usize {
         Automaton::memory_usage(self)
     }

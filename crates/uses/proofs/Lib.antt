@@ -4,4 +4,5 @@ pub mod PackedLemmas
 pub mod StateLemmas
 pub mod StreamLemmas
 pub mod TableLemmas
+pub mod TextLemmas
 pub mod WalkLemmas

@@ -1,9 +1,11 @@
 -- What the callers conclude.
-use Rattle.std.specs.Prelude.{◌≡◌, ℕ, ◌+◌, ◌-◌, ◌≤◌, List, [], ◌∷◌, ◌++◌, map, take, drop, Option, Some, None, String}
+use Rattle.std.specs.Prelude.{◌≡◌, ℕ, ◌+◌, ◌-◌, ◌≤◌, List, [], ◌∷◌, ◌++◌, map, take, drop, slice_range, option_map, Option, Some, None, String}
 use Rattle.std.specs.Borrow.{Bor}
 use Rattle.std.specs.Global.{Global, Vec}
 use Rattle.std.specs.String.{string_bytes}
 use Rattle.ac_input.specs.declared.search.Span.{Span}
+use Rattle.ac_input.specs.Dictionary.{Dictionary}
+use Rattle.ac_input.specs.Utf8Laws.{AreFullTexts, KeepsChars}
 use Rattle.ac_input.specs.Occurrence.{Search, Occurrence, Occurs}
 use Rattle.ac_automaton.specs.Automaton.{Built}
 use Rattle.ac_automaton.specs.Replace.{text_matches_in}
@@ -11,10 +13,20 @@ use Rattle.ac_automaton.specs.StreamReplace.{replaced_in}
 use Rattle.ac_automaton.specs.Watched.{inner_of}
 use Rattle.ac_automaton.specs.declared.watched.Watched.{Watched}
 use Rattle.aho_corasick.specs.AhoCorasick.{HasOccurrence}
+use Rattle.aho_corasick.specs.Callers.{first_in}
 
 -- an occurrence lies in a span
 abbrev pub LiesIn : Span → Occurrence → Type 0
 LiesIn span o = (span.start ≤ o.start) × (o.end ≤ span.end)
+
+-- the patterns are texts of which none is empty, and a character is paired with characters of as many bytes
+pub record FindsTexts (m : Dictionary) : Type 0 where
+  pub patterns : AreFullTexts m.patterns
+  pub pairing : KeepsChars m.pairing
+
+-- the part of a text that its first match covers, or none where it has no match
+abbrev pub IsFirstPart : Dictionary → List ℕ → Option (Bor (List ℕ)) → Type 0
+IsFirstPart m text part = option_map (λ p. p.now) part ≡ option_map (λ o. slice_range text o.start o.end) (first_in m text)
 
 -- how many bytes lie in these occurrences
 abbrev pub bytes_in : List Occurrence → ℕ

@@ -19,3 +19,4 @@ pub mod replace;
 pub mod states;
 pub mod stream;
 pub mod tables;
+pub mod texts;

@@ -113,7 +113,7 @@ impl AhoCorasickBuilder {
     /// Standard matches, unanchored searches, no byte paired, the automaton left to the builder, a prefilter wanted, and classes of
     /// bytes.
     ///
-    /// A caller: `uses::callers::front::thrifty`.
+    /// A caller: `uses::callers::front::thrifty`. An example: `uses::examples::build::small`.
     pub fn new() -> AhoCorasickBuilder
         ensures { AreFrontFirst result }
     {
@@ -131,7 +131,7 @@ impl AhoCorasickBuilder {
     /// Sets which of several overlapping occurrences is the match: at first the standard one, which ends first. Streams and
     /// overlapping matches need the standard kind; under another the calls for them return an error.
     ///
-    /// A caller: `uses::callers::front::folded`.
+    /// A caller: `uses::callers::front::folded`. An example: `uses::examples::build::forgiving`.
     pub fn match_kind(&mut self, kind: MatchKind) -> &mut AhoCorasickBuilder
         ensures same { result.ghost_name ≡ self.entry.ghost_name }
         ensures value { result.now ≡ record self.old { match_kind = kind } }
@@ -143,7 +143,7 @@ impl AhoCorasickBuilder {
     /// Sets which searches are served, at first unanchored ones; others return an error, whichever automaton serves. A DFA for both
     /// kinds takes about twice the memory and time to build. Replacement and streams are unanchored.
     ///
-    /// A caller: `uses::callers::front::thrifty`.
+    /// A caller: `uses::callers::front::thrifty`. An example: `uses::examples::build::small`.
     pub fn start_kind(&mut self, kind: StartKind) -> &mut AhoCorasickBuilder
         ensures same { result.ghost_name ≡ self.entry.ghost_name }
         ensures value { result.now ≡ record self.old { start_kind = kind } }
@@ -155,7 +155,7 @@ impl AhoCorasickBuilder {
     /// Sets whether ASCII letters count as the same in their two cases. It sets the whole pairing: of this call and
     /// [`AhoCorasickBuilder::pairing`] the last one decides.
     ///
-    /// A caller: `uses::callers::front::folded`.
+    /// A caller: `uses::callers::front::folded`. An example: `uses::examples::build::forgiving`.
     pub fn ascii_case_insensitive(&mut self, yes: bool) -> &mut AhoCorasickBuilder
         ensures same { result.ghost_name ≡ self.entry.ghost_name }
         ensures rest { result.now ≡ record self.old { pairing = result.now.pairing } }
@@ -171,7 +171,7 @@ impl AhoCorasickBuilder {
 
     /// Sets which bytes stand for one another. At first none does.
     ///
-    /// A caller: `uses::callers::front::thrifty`.
+    /// A caller: `uses::callers::front::thrifty`. An example: `uses::examples::build::small`.
     pub fn pairing(&mut self, pairing: Pairing) -> &mut AhoCorasickBuilder
         ensures same { result.ghost_name ≡ self.entry.ghost_name }
         ensures value { result.now ≡ record self.old { pairing = pairing } }
@@ -186,7 +186,7 @@ impl AhoCorasickBuilder {
     /// A DFA searches fastest. It takes 4 bytes for each class of bytes in each state, and each byte of a pattern may add a state:
     /// a hundred patterns of 1000 bytes each may take 100 MB. For patterns from a stranger name the contiguous NFA.
     ///
-    /// A caller: `uses::callers::front::named`.
+    /// A caller: `uses::callers::front::named`. An example: `uses::examples::build::small`.
     pub fn kind(&mut self, kind: Option<AhoCorasickKind>) -> &mut AhoCorasickBuilder
         ensures same { result.ghost_name ≡ self.entry.ghost_name }
         ensures value { result.now ≡ record self.old { kind = kind } }
@@ -197,7 +197,7 @@ impl AhoCorasickBuilder {
 
     /// Sets whether searches have a prefilter, where one serves. It changes no result.
     ///
-    /// A caller: `uses::callers::front::thrifty`.
+    /// A caller: `uses::callers::front::thrifty`. An example: `uses::examples::build::small`.
     pub fn prefilter(&mut self, yes: bool) -> &mut AhoCorasickBuilder
         ensures same { result.ghost_name ≡ self.entry.ghost_name }
         ensures value { result.now ≡ record self.old { prefilter = yes } }
@@ -210,7 +210,7 @@ impl AhoCorasickBuilder {
     /// noncontiguous one and 2 for the contiguous one. A row makes a look-up fast, and takes four bytes for each class of bytes. It
     /// changes no result.
     ///
-    /// A caller: `uses::callers::front::thrifty`.
+    /// A caller: `uses::callers::front::thrifty`. An example: `uses::examples::build::small`.
     pub fn dense_depth(&mut self, depth: usize) -> &mut AhoCorasickBuilder
         ensures same { result.ghost_name ≡ self.entry.ghost_name }
         ensures value { result.now ≡ record self.old { dense_depth = Some depth } }
@@ -222,7 +222,7 @@ impl AhoCorasickBuilder {
     /// Sets whether bytes that lead alike from every state are one class, in the contiguous NFA and the DFA. Without classes a state
     /// takes more memory, and a look-up one load less. It changes no result.
     ///
-    /// A caller: `uses::callers::front::thrifty`.
+    /// A caller: `uses::callers::front::thrifty`. An example: `uses::examples::build::small`.
     pub fn byte_classes(&mut self, yes: bool) -> &mut AhoCorasickBuilder
         ensures same { result.ghost_name ≡ self.entry.ghost_name }
         ensures value { result.now ≡ record self.old { byte_classes = yes } }
@@ -353,7 +353,7 @@ impl AhoCorasickBuilder {
     /// Time and memory are in proportion to the bytes of the patterns; for a DFA times the classes of bytes, at most 256. While the
     /// automaton that serves is made, the noncontiguous NFA is held too.
     ///
-    /// A caller: `uses::callers::front::folded`.
+    /// A caller: `uses::callers::front::folded`. An example: `uses::examples::build::small`.
     pub fn build(&self, alloc: Global, patterns: &[&[u8]]) -> Result<AhoCorasick, BuildError>
         ensures patterns { IfOk result (λ ac. patterns_of ac ≡ bytes_of patterns.now) }
         ensures kind { IfOk result (λ ac. kind_of ac ≡ self.now.match_kind) }
@@ -369,7 +369,7 @@ impl AhoCorasickBuilder {
     /// The same of patterns of any type that lends its bytes, such as `&str`, `String` or `Vec<u8>`. It allocates 16 bytes for each
     /// pattern first, and releases them after the build.
     ///
-    /// A caller: `uses::callers::front::of_texts`.
+    /// A caller: `uses::callers::front::of_texts`. An example: `uses::examples::build::forgiving`.
     pub fn build_from_patterns<P: AsSlice<u8>>(
         &self,
         alloc: Global,
@@ -396,7 +396,7 @@ impl AhoCorasick {
     /// Returns an error if the patterns pass a limit or memory runs out, and costs what [`AhoCorasickBuilder::build`] does. For up to
     /// 100 patterns that is a DFA: see [`AhoCorasickBuilder::kind`].
     ///
-    /// A caller: `uses::callers::front::of_bytes`.
+    /// A caller: `uses::callers::front::of_bytes`. An example: `uses::examples::build::which_word`.
     pub fn new(alloc: Global, patterns: &[&[u8]]) -> Result<AhoCorasick, BuildError>
         ensures patterns { IfOk result (λ ac. patterns_of ac ≡ bytes_of patterns.now) }
         ensures kind { IfOk result (λ ac. kind_of ac ≡ MatchKind.Standard) }
@@ -427,7 +427,7 @@ impl AhoCorasick {
 
     /// A builder with the settings that it has at first: those of [`AhoCorasick::new`].
     ///
-    /// A caller: `uses::callers::front::folded`.
+    /// A caller: `uses::callers::front::folded`. An example: `uses::examples::build::forgiving`.
     pub fn builder() -> AhoCorasickBuilder
         ensures { AreFrontFirst result }
     {

@@ -33,7 +33,7 @@ impl AhoCorasick {
     /// ac.is_match(Input::from("xxx qux xxx")) // false
     /// ```
     ///
-    /// A caller: `uses::callers::front_find::contains_any`.
+    /// A caller: `uses::callers::front_find::contains_any`. An example: `uses::examples::find::contains_any`.
     pub fn is_match(&self, input: Input<'_>) -> bool
         requires { supported_by self.now input.anchored }
         ensures { IsTrue result ↔ HasOccurrence (searched (as_built self.now) input.entry) }
@@ -51,7 +51,11 @@ impl AhoCorasick {
     /// let found = ac.find(Input::from("foo abcd")); // an Option<Match>
     /// ```
     ///
-    /// A caller: `uses::callers::front_find::first_match`.
+    /// The match of a text begins and ends between characters if each pattern is UTF-8, none is empty, and no bytes are paired but
+    /// ASCII letters in their two cases: the laws of `ac_input::utf8_laws`. A caller that uses them:
+    /// `uses::callers::texts::matched_text`.
+    ///
+    /// A caller: `uses::callers::front_find::first_match`. An example: `uses::examples::find::first_text`.
     pub fn find(&self, input: Input<'_>) -> Option<Match>
         requires { supported_by self.now input.anchored }
         ensures found { IsFound (as_built self.now) input.entry result }
@@ -65,7 +69,7 @@ impl AhoCorasick {
     /// It requires that the start kind has the input's anchoring, and that the kind is the standard one. The state is fresh, or
     /// came only from calls with this automaton and this input. [`AhoCorasick::find_overlapping_iter`] keeps the state itself.
     ///
-    /// A caller: `uses::callers::front_find::occurrence`.
+    /// A caller: `uses::callers::front_find::occurrence`. An example: `uses::examples::iterate::second`.
     pub fn find_overlapping(&self, input: Input<'_>, state: &mut OverlappingState)
         requires can { supported_by self.now input.anchored }
         requires standard { kind_of self.now ≡ MatchKind.Standard }
@@ -90,7 +94,9 @@ impl AhoCorasick {
     /// }
     /// ```
     ///
-    /// A caller: `uses::callers::front_find::all_matches`.
+    /// Where the patterns are texts, no match of a text cuts a character: see [`AhoCorasick::find`].
+    ///
+    /// A caller: `uses::callers::front_find::all_matches`. An example: `uses::examples::iterate::places`.
     pub fn find_iter<'a, 'h>(&'a self, input: Input<'h>) -> FindIter<'a, 'h>
         requires { supported_by self.now input.anchored }
         ensures over { IsWalkOver (as_built self.now) input.entry result }
@@ -105,7 +111,7 @@ impl AhoCorasick {
     /// It requires that the input isn't anchored, that the start kind has unanchored searches, and that the kind is the standard
     /// one. However many occurrences there are, it looks at two states for each byte of the span at most, or at one with a DFA.
     ///
-    /// A caller: `uses::callers::front_find::all_occurrences`.
+    /// A caller: `uses::callers::front_find::all_occurrences`. An example: `uses::examples::iterate::all_patterns`.
     pub fn find_overlapping_iter<'a, 'h>(&'a self, input: Input<'h>) -> FindOverlappingIter<'a, 'h>
         requires can { supported_by self.now Anchored.No }
         requires standard { kind_of self.now ≡ MatchKind.Standard }
@@ -121,7 +127,7 @@ impl AhoCorasick {
     ///
     /// Returns `InvalidInputAnchored` or `InvalidInputUnanchored` if the start kind doesn't have the input's anchoring.
     ///
-    /// A caller: `uses::callers::front_find::begins_with_any`.
+    /// A caller: `uses::callers::front_find::begins_with_any`. An example: `uses::examples::find::match_at`.
     pub fn try_find(&self, input: Input<'_>) -> Result<Option<Match>, MatchError>
         ensures answer { AnswersFind (as_built self.now) (supported_by self.now) input.entry result }
         ensures within { FindsWithin (as_built self.now) input.entry result }
@@ -131,7 +137,7 @@ impl AhoCorasick {
 
     /// The same, and counts what it does.
     ///
-    /// A caller: `uses::callers::front_find::first_match_counted`.
+    /// A caller: `uses::callers::front_find::first_match_counted`. An example: `uses::examples::find::first_end`.
     pub fn try_find_counted(
         &self,
         input: Input<'_>,
@@ -159,7 +165,7 @@ impl AhoCorasick {
     /// let first = state.get_match();
     /// ```
     ///
-    /// A caller: `uses::callers::front_find::first_occurrence`.
+    /// A caller: `uses::callers::front_find::first_occurrence`. An example: `uses::examples::iterate::first`.
     pub fn try_find_overlapping(
         &self,
         input: Input<'_>,
@@ -179,7 +185,7 @@ impl AhoCorasick {
     ///
     /// Returns `InvalidInputAnchored` or `InvalidInputUnanchored` if the start kind doesn't have the input's anchoring.
     ///
-    /// A caller: `uses::callers::front_find::count_matches`.
+    /// A caller: `uses::callers::front_find::count_matches`. An example: `uses::examples::iterate::adjacent`.
     pub fn try_find_iter<'a, 'h>(&'a self, input: Input<'h>) -> Result<FindIter<'a, 'h>, MatchError>
         ensures answer { AnswersFindIter (as_built self.now) (supported_by self.now) input.entry
             result }
@@ -193,7 +199,7 @@ impl AhoCorasick {
     ///
     /// Returns an error as [`AhoCorasick::try_find_overlapping`] does, and then `InvalidInputAnchored` if the input is anchored.
     ///
-    /// A caller: `uses::callers::front_find::has_listing`.
+    /// A caller: `uses::callers::front_find::has_listing`. An example: `uses::examples::iterate::count_all`.
     pub fn try_find_overlapping_iter<'a, 'h>(
         &'a self,
         input: Input<'h>,

@@ -40,7 +40,7 @@ impl AhoCorasick {
     /// It requires that the reader has not ended, that the start kind has unanchored searches, that the kind is the standard one, and
     /// that no pattern is empty. Returns an error only if memory runs out.
     ///
-    /// A caller: `uses::callers::front_stream::search_of`.
+    /// A caller: `uses::callers::front_stream::search_of`. An example: `uses::examples::streams::matches_of`.
     pub fn stream_find_iter<'a, R>(
         &'a self,
         alloc: Global,
@@ -62,7 +62,7 @@ impl AhoCorasick {
     /// Returns an error if the automaton has no start for an unanchored search, isn't of the standard kind, or has an empty
     /// pattern, checked in that order, and then if there is no memory for the buffer. Nothing was read then.
     ///
-    /// A caller: `uses::callers::front_stream::all_matches`.
+    /// A caller: `uses::callers::front_stream::all_matches`. An example: `uses::examples::streams::places`.
     pub fn try_stream_find_iter<'a, R>(
         &'a self,
         alloc: Global,
@@ -85,7 +85,7 @@ impl AhoCorasick {
     /// Returns an error where [`AhoCorasick::try_stream_find_iter`] does; the reader and the writer are then unchanged. Where a
     /// read or a write fails, nothing is tried again.
     ///
-    /// A caller: `uses::callers::front_stream::replaced`.
+    /// A caller: `uses::callers::front_stream::replaced`. An example: `uses::examples::streams::masked`.
     pub fn try_stream_replace_all<R: Read, W: Write>(
         &self,
         alloc: Global,
@@ -139,7 +139,7 @@ impl AhoCorasick {
     /// It reads, writes and fails as [`AhoCorasick::try_stream_replace_all`] does. The closure's first error ends the call and is
     /// returned unchanged.
     ///
-    /// A caller: `uses::callers::front_stream::copied`.
+    /// A caller: `uses::callers::front_stream::copied`. An example: `uses::examples::streams::bracketed`.
     pub fn try_stream_replace_all_with<R: Read, W: Write, F>(
         &self,
         alloc: Global,

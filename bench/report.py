@@ -149,7 +149,7 @@ TABLES = [
     ),
     (
         "A search in memory, standard kind",
-        "MB/s over a text that is held, by the fastest pass: all matches by `find_iter`. Hyperscan counts all occurrences.",
+        "MB/s over a text that is held, by the fastest pass: all matches, ours by `find_iter_ahead` and the crate's by `find_iter`. Hyperscan counts all occurrences.",
         speeds("in-memory", *IN_MEMORY),
     ),
     ("A search in memory, leftmost-first", "The same under leftmost-first.", speeds("leftmost-in-memory", *IN_MEMORY)),

@@ -17,7 +17,7 @@ use Rattle.ac_input.proofs.ContainsLemmas.{Contains-head, Contains-tail}
 use Rattle.ac_input.proofs.ListingLemmas.{listing_of-lists}
 use Rattle.ac_input.proofs.WalkLemmas.{walk-occurs_somewhere, walk-rising, walk-within, walk_of-walk}
 use Rattle.ac_automaton.specs.Automaton.{Built, IsFound, kind_asked, listing_in, searched, walk_in}
-use Rattle.ac_automaton.specs.Items.{AreFew, AreFewForEach, AreInOrder, EachLiesWithin, LiesWithin}
+use Rattle.ac_automaton.specs.Items.{AreFewMatches, AreFewForEach, MatchesAreInOrder, EachLiesWithin, LiesWithin}
 use Rattle.ac_automaton.specs.Iter.{Walk, left_of}
 use Rattle.ac_automaton.specs.OverlappingIter.{Run, rest_of}
 use Rattle.ac_automaton.specs.Replace.{LieInOrder, matches_in}
@@ -72,7 +72,7 @@ lies-longer patterns len more at [] le lies = tt
 lies-longer patterns len more at (o ∷ os) le lies = (lies.0, lies.1, lies.2, omega (arith, lies.3), lies-longer patterns len more o.end os le lies.4)
 
 -- the matches of an input lie in it, and in order
-pub walk-in-order : (b : Built) (asked : Asked) (w : Walk) → asked.span.end ≤ length asked.haystack → left_of w ≡ walk_in b asked → AreInOrder b asked w
+pub walk-in-order : (b : Built) (asked : Asked) (w : Walk) → asked.span.end ≤ length asked.haystack → left_of w ≡ walk_in b asked → MatchesAreInOrder b asked w
 walk-in-order b asked w inside all =
     let s : Search = searched b asked in
     let walk = walk_of-walk (kind_asked b asked) s inside in
@@ -101,7 +101,7 @@ walks-few b asked inside =
     (λ o has. let lies = match-lies b asked o inside has in let order = lies.order in let within = lies.within in omega arith)
 
 -- so are those that a walk has left which has not begun
-pub walk-few : (b : Built) (asked : Asked) (w : Walk) → asked.span.end ≤ length asked.haystack → left_of w ≡ walk_in b asked → AreFew asked w
+pub walk-few : (b : Built) (asked : Asked) (w : Walk) → asked.span.end ≤ length asked.haystack → left_of w ≡ walk_in b asked → AreFewMatches asked w
 walk-few b asked w inside all = omega (arith, ap length all, walks-few b asked inside)
 
 -- and those of a whole text

@@ -16,7 +16,7 @@ use Rattle.ac_input.specs.Work.{HasCounted, IsFindWork, lookups_per_byte, over_a
 use Rattle.ac_input.proofs.OrderLemmas.{occurs-end}
 use Rattle.ac_input.proofs.WalkLemmas.{walk_after-none, walk_after-some, walk_after-nothing}
 use Rattle.ac_automaton.specs.Automaton.{Built, prefilter_for}
-use Rattle.ac_automaton.specs.Iter.{CostsPick, CountsPick, CountsWalk, PickCounts, Walk, walk_after_pick, walk_at, kind_of, search_of_walk, left_of, IsNextPick, IsWalkAfter, IsPickWork, IsPickOf, passed}
+use Rattle.ac_automaton.specs.Iter.{CostsPick, CountsPick, CountsWalk, PickCounts, Walk, walk_after_pick, walk_at, walk_kind, search_of_walk, left_of, IsNextPick, IsWalkAfter, IsPickWork, IsPickOf, passed}
 use Rattle.ac_automaton.proofs.CountedLemmas.{counted-moved, sums-more}
 
 -- where a search begins says nothing of the pick of a walk that stands at a place
@@ -101,10 +101,10 @@ work-further kind deterministic s last first r before between after inside le be
 -- none was left, and none is.
 pub pick-yields : (w v : Walk) (r : Option Occurrence) → v.asked.span.end ≤ length v.asked.haystack → IsNextPick w r → IsWalkAfter w r v → YieldsFirst left_of w r v
 pick-yields w v None inside h e = (
-  walk_after-none (kind_of w) (search_of_walk w) w.at w.last (rw e at inside) h,
-  ap left_of e ∙ walk_after-nothing (kind_of w) (search_of_walk w) (w.asked.span.end + 1) w.last (omega arith),
+  walk_after-none (walk_kind w) (search_of_walk w) w.at w.last (rw e at inside) h,
+  ap left_of e ∙ walk_after-nothing (walk_kind w) (search_of_walk w) (w.asked.span.end + 1) w.last (omega arith),
 )
-pick-yields w v (Some o) inside h e = walk_after-some (kind_of w) (search_of_walk w) w.at w.last o (rw e at inside) h ∙ ap (λ (x : Walk). o ∷ left_of x) (sym e)
+pick-yields w v (Some o) inside h e = walk_after-some (walk_kind w) (search_of_walk w) w.at w.last o (rw e at inside) h ∙ ap (λ (x : Walk). o ∷ left_of x) (sym e)
 
 -- so a call leaves fewer than there were
 pub yields-progress : (w v : Walk) (r : Option Occurrence) → YieldsFirst left_of w r v → MakesProgress (λ _. Unit {0}) (item_count left_of) w r v

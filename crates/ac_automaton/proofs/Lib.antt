@@ -3,6 +3,8 @@ pub mod FindLemmas
 pub mod CountedLemmas
 pub mod FindWalkLemmas
 pub mod ReadOnLemmas
+pub mod AheadLemmas
+pub mod LaneLemmas
 pub mod WriteWholeLoop
 pub mod ToldLemmas
 pub mod TakenLemmas
@@ -22,6 +24,8 @@ pub mod OutputLemmas
 pub mod StreamTextLemmas
 pub mod PassLemmas
 pub mod ReadToMatchLemmas
+pub mod FindAheadLemmas
+pub mod OverlappingAheadLemmas
 pub mod StreamLemmas
 pub mod SearchLemmas
 pub mod StreamCutLemmas

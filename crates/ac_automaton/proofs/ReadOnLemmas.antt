@@ -10,9 +10,9 @@ use Rattle.ac_input.specs.declared.steps.Steps.{Steps}
 use Rattle.ac_input.specs.Dictionary.{IsLive, live_len}
 use Rattle.ac_input.specs.Input.{is_anchored}
 use Rattle.ac_input.specs.Work.{IsLookups}
-use Rattle.ac_automaton.specs.Automaton.{Built, Leads, IsReadCost, PassesPlain}
+use Rattle.ac_automaton.specs.Automaton.{Advances, Built, Leads, IsReadCost, PassesPlain}
 use Rattle.ac_automaton.specs.ReadOn.{is_between, ReadsTo, StaysBut}
-use Rattle.ac_automaton.specs.Passing.{ReadsToBy, ReadsSome}
+use Rattle.ac_automaton.specs.Passing.{ReadsPart, ReadsToBy, ReadsSome}
 use Rattle.ac_automaton.specs.Starters.{is_starter, PassesIdle}
 use Rattle.ac_automaton.specs.declared.automaton.Advance.{Advance}
 use Rattle.ac_automaton.specs.declared.look.Between.{Between}
@@ -106,6 +106,69 @@ plain-both Reaches stops sid current bytes n k plain leads more = λ at some lt.
     ))
     (cases_lt at (n + 1))
 
+-- ---- reading on over a part of the bytes
+
+module _ (b : Built) (Reaches : Anchored → List ℕ → StateID → Type 0) (anchored : Anchored) (stops : StateID → Bool) (sid : StateID) (bytes : List ℕ) where
+  -- what was read of a front of the bytes was read of them all
+  pub part-of-front : (front : List ℕ) (n : ℕ) (stop : Advance) (s t : Steps) → 0 < n → n ≤ length bytes → front ≡ take n bytes → Advances (Reaches anchored) stops sid front stop → IsReadCost b Reaches anchored sid (take stop.taken front) s t → ReadsPart b Reaches anchored stops sid bytes stop s t
+  part-of-front front n stop s t positive fits is goes cost =
+      let taken = goes.taken in
+      let size : length front ≡ n = ap length is ∙ length-take-le n bytes fits in
+      let inside = taken.0 in
+      let same : (j : ℕ) → j ≤ n → take j front ≡ take j bytes = λ j le. ap (take j) is ∙ take-take j n bytes le in
+      let all = same stop.taken (omega (arith, inside, size)) in
+      record {
+        some = taken.1 (omega (arith, size, positive));
+        within = omega (arith, inside, size, fits);
+        reads = subst (λ (l : List ℕ). Leads (Reaches anchored) sid l stop.sid) all goes.reads;
+        plain = λ at lt le. let mid = goes.plain at lt le in (mid.0, subst (λ (l : List ℕ). Leads (Reaches anchored) sid l mid.0) (same at (omega (arith, le, inside, size))) mid.1, mid.2);
+        cost = subst (λ (l : List ℕ). IsReadCost b Reaches anchored sid l s t) all cost;
+      }
+
+  -- some bytes more, after those that a search has passed
+  pub part-more : (current : StateID) (rest : List ℕ) (n : ℕ) (stop : Advance) (s t u : Steps)
+      → rest ≡ drop n bytes → n ≤ length bytes
+      → ((text : List ℕ) → Reaches anchored text current → (live : Option ℕ) × IsLive b.dictionary (is_anchored anchored) text live)
+      → ReadsPart b Reaches anchored stops current rest stop t u
+      → HasAdvanced b Reaches anchored stops sid bytes n current s t
+      → ReadsPart b Reaches anchored stops sid bytes (record { sid = stop.sid; taken = n + stop.taken }) s u
+  part-more current rest n stop s t u is within lives some has =
+      let R = Reaches anchored in
+      let k = stop.taken in
+      let left = length-drop n bytes in
+      let size = ap length is in
+      let inside = some.within in
+      let positive = some.some in
+      let fits : n + k ≤ length bytes = omega (arith, left, size, inside, within) in
+      record {
+        some = omega (arith, positive);
+        within = fits;
+        reads = read-both R sid current stop.sid bytes n k has.reads (subst (λ (l : List ℕ). Leads R current (take k l) stop.sid) is some.reads);
+        plain = plain-both R stops sid current bytes n k has.plain has.reads (subst (λ (l : List ℕ). PassesPlain R stops current l k) is some.plain);
+        cost = cost-both b Reaches anchored sid current bytes n k s t u fits has.reads lives has.cost (subst (λ (l : List ℕ). IsReadCost b Reaches anchored current (take k l) t u) is some.cost);
+      }
+
+  -- reading on stops at the last of the states,
+  pub part-stops : (stop : Advance) (s t : Steps) → ReadsPart b Reaches anchored stops sid bytes stop s t → IsTrue (stops stop.sid) → Advances (Reaches anchored) stops sid bytes stop
+  part-stops stop s t some here = record {
+    taken = (some.within, λ _. some.some);
+    reads = some.reads;
+    plain = some.plain;
+    stops = λ _. here;
+  }
+
+  -- or passes it
+  pub part-goes : (stop : Advance) (s t : Steps) → ReadsPart b Reaches anchored stops sid bytes stop s t → ¬ IsTrue (stops stop.sid) → HasAdvanced b Reaches anchored stops sid bytes stop.taken stop.sid s t
+  part-goes stop s t some past = record {
+    reads = some.reads;
+    plain = λ at lt le. ⊎_elim
+        (λ (sooner : at < stop.taken). some.plain at lt sooner)
+        (λ (here : stop.taken ≤ at). let e : stop.taken ≡ at = omega (arith, here, le) in
+        subst (λ (i : ℕ). (mid : StateID) × Leads (Reaches anchored) sid (take i bytes) mid × ¬ IsTrue (stops mid)) e (stop.sid, some.reads, past))
+        (cases_lt at stop.taken);
+    cost = some.cost;
+  }
+
 -- ---- reading on by an automaton's own loop
 
 module _ {S : Type 0} (A : Ghosts S) (automaton : S) (anchored : Anchored) (two : Between) (sid : StateID) (bytes : List ℕ) where
@@ -128,46 +191,7 @@ module _ {S : Type 0} (A : Ghosts S) (automaton : S) (anchored : Anchored) (two 
 
   -- the same over a part of the bytes
   pub some-of-part : (part : List ℕ) (n : ℕ) (stop : Advance) (s t : Steps) → 0 < n → n ≤ length bytes → part ≡ take n bytes → ReadsToBy A automaton anchored two sid part stop s t → ReadsSome A automaton anchored two sid bytes stop s t
-  some-of-part part n stop s t positive fits is to =
-      let R = A.Reaches automaton anchored in
-      let goes = to.goes in
-      let taken = goes.taken in
-      let size : length part ≡ n = ap length is ∙ length-take-le n bytes fits in
-      let inside = taken.0 in
-      let front : (j : ℕ) → j ≤ n → take j part ≡ take j bytes = λ j le. ap (take j) is ∙ take-take j n bytes le in
-      let all = front stop.taken (omega (arith, inside, size)) in
-      record {
-        some = taken.1 (omega (arith, size, positive));
-        within = omega (arith, inside, size, fits);
-        reads = subst (λ (l : List ℕ). Leads R sid l stop.sid) all goes.reads;
-        plain = λ at lt le. let mid = goes.plain at lt le in (mid.0, subst (λ (l : List ℕ). Leads R sid l mid.0) (front at (omega (arith, le, inside, size))) mid.1, mid.2);
-        cost = subst (λ (l : List ℕ). IsReadCost (A.built automaton) (A.Reaches automaton) anchored sid l s t) all to.cost;
-      }
-
-  -- some bytes more
-  some-more : (current : StateID) (rest : List ℕ) (n : ℕ) (stop : Advance) (s t u : Steps)
-      → rest ≡ drop n bytes → n ≤ length bytes
-      → ((text : List ℕ) → A.Reaches automaton anchored text current → (live : Option ℕ) × IsLive (A.built automaton).dictionary (is_anchored anchored) text live)
-      → ReadsSome A automaton anchored two current rest stop t u
-      → HasAdvanced (A.built automaton) (A.Reaches automaton) anchored (is_between two) sid bytes n current s t
-      → ReadsSome A automaton anchored two sid bytes (record { sid = stop.sid; taken = n + stop.taken }) s u
-  some-more current rest n stop s t u is within lives some has =
-      let b = A.built automaton in
-      let R = A.Reaches automaton in
-      let stops = is_between two in
-      let k = stop.taken in
-      let left = length-drop n bytes in
-      let size = ap length is in
-      let inside = some.within in
-      let positive = some.some in
-      let fits : n + k ≤ length bytes = omega (arith, left, size, inside, within) in
-      record {
-        some = omega (arith, positive);
-        within = fits;
-        reads = read-both (R anchored) sid current stop.sid bytes n k has.reads (subst (λ (l : List ℕ). Leads (R anchored) current (take k l) stop.sid) is some.reads);
-        plain = plain-both (R anchored) stops sid current bytes n k has.plain has.reads (subst (λ (l : List ℕ). PassesPlain (R anchored) stops current l k) is some.plain);
-        cost = cost-both b R anchored sid current bytes n k s t u fits has.reads lives has.cost (subst (λ (l : List ℕ). IsReadCost b R anchored current (take k l) t u) is some.cost);
-      }
+  some-of-part part n stop s t positive fits is to = part-of-front (A.built automaton) (A.Reaches automaton) anchored (is_between two) sid bytes part n stop s t positive fits is to.goes to.cost
 
   -- The search stops there at a state between two numbers; elsewhere it goes on.
   pub after-some : (current : StateID) (rest : List ℕ) (n : ℕ) (stop : Advance) (has : Bool) (s t u : Steps)
@@ -178,36 +202,11 @@ module _ {S : Type 0} (A : Ghosts S) (automaton : S) (anchored : Anchored) (two 
       → has ≡ is_between two stop.sid
       → (IsTrue has → ReadsToBy A automaton anchored two sid bytes (record { sid = stop.sid; taken = n + stop.taken }) s u)
       × (has ≡ false → (n + stop.taken ≤ length bytes) × HasAdvanced (A.built automaton) (A.Reaches automaton) anchored (is_between two) sid bytes (n + stop.taken) stop.sid s u)
-  after-some current rest n stop has s t u is within lives read so_far says = (
-    λ yes. record {
-      goes = record {
-        taken = (some.within, λ _. some.some);
-        reads = some.reads;
-        plain = some.plain;
-        stops = λ _. sym says ∙ yes;
-      };
-      cost = some.cost;
-    },
-    λ no. (
-      some.within,
-      record {
-        reads = some.reads;
-        plain = λ at lt le. ⊎_elim
-            (λ (sooner : at < k). some.plain at lt sooner)
-            (λ (here : k ≤ at). let e : k ≡ at = omega (arith, here, le) in
-            subst (λ (i : ℕ). (mid : StateID) × Leads (A.Reaches automaton anchored) sid (take i bytes) mid × ¬ IsTrue (is_between two mid)) e
-            (stop.sid, some.reads, λ e2. false≢true (sym no ∙ (says ∙ e2))))
-            (cases_lt at k);
-        cost = some.cost;
-      },
-    ),
-  )
-    where
-      k : ℕ
-      k = n + stop.taken
-
-      some : ReadsSome A automaton anchored two sid bytes (record { sid = stop.sid; taken = n + stop.taken }) s u
-      some = some-more current rest n stop s t u is within lives read so_far
+  after-some current rest n stop has s t u is within lives read so_far says =
+      let some = part-more (A.built automaton) (A.Reaches automaton) anchored (is_between two) sid bytes current rest n stop s t u is within lives read so_far in (
+        λ yes. record { goes = part-stops (A.built automaton) (A.Reaches automaton) anchored (is_between two) sid bytes _ s u some (sym says ∙ yes); cost = some.cost },
+        λ no. (some.within, part-goes (A.built automaton) (A.Reaches automaton) anchored (is_between two) sid bytes _ s u some (λ e. false≢true (sym no ∙ (says ∙ e)))),
+      )
 
 -- ---- bytes that leave a search in the start
 

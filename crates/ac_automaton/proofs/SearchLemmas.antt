@@ -196,7 +196,7 @@ live-empty x at None = refl
 live-empty x at (Some from) = let empty = ap length (part-empty x at) in omega arith
 
 -- nothing is in an empty text, where no pattern is empty
-nothing-in_empty : (m : Dictionary) (text : List ℕ) → 1 ≤ shortest m.patterns → text ≡ [] → IsBest Standard (whole m text false) None
+pub nothing-in_empty : (m : Dictionary) (text : List ℕ) → 1 ≤ shortest m.patterns → text ≡ [] → IsBest Standard (whole m text false) None
 nothing-in_empty m text filled empty = λ q h. let w = h.within in let lt = occurs-not_empty (whole m text false) q (omega arith) filled h in absurd (omega (arith, ap length empty))
 
 -- All that is held was searched, and nothing was found.
@@ -333,7 +333,7 @@ told-best_at m text (n ∷ ns) last at o standard long none tells some is =
     (ending m text n, best, occurrence_from_parts (shifted last (ending m text n)) (ending_at m at n) refl (omega arith) long ∙ same, sym (ap (λ (q : Occurrence). q.end) same))
 
 -- the list of a state at the end of a text in which nothing ends is empty
-told-some : (m : Dictionary) (text ns : List ℕ) → m.kind ≡ Standard → Tells m No text ns → ns ≢ [] → ¬ IsBest Standard (whole m text false) None
+pub told-some : (m : Dictionary) (text ns : List ℕ) → m.kind ≡ Standard → Tells m No text ns → ns ≢ [] → ¬ IsBest Standard (whole m text false) None
 told-some m text [] standard tells some quiet = some refl
 told-some m text (n ∷ ns) standard tells some quiet =
     let all : TellsUnanchored Standard m text (n ∷ ns) = subst (λ (k : MatchKind). TellsUnanchored k m text (n ∷ ns)) standard tells in
@@ -514,13 +514,9 @@ reached-text b s Reaches matches start p held stop y z is stops =
     (slice_range (read_by s) s.last (s.at + stop.taken), subst (λ (l : List ℕ). Reaches No l stop.sid) (text-on (read_by s) s.last s.at stop.taken ordered.0 (omega arith)) (here.reads (since_last s) is.stands.reads), omega arith)
 
 -- where the automaton stopped in what is held, by whether the state there matches
-pub stopped-at : {S : Type 0} (A : Ghosts S) (a : S) (p : Progress) (held : List ℕ) (stop : Advance) (asked matched : Bool) (y z : Steps)
-    → let given : List ℕ = take (length held - (p.at - p.from)) (drop (p.at - p.from) held) in
-    Advances (A.Reaches a No) (is_matching (A.matches a)) p.sid given stop → IsReadCost (A.built a) (A.Reaches a) No p.sid (take stop.taken given) y z
-    → (IsTrue asked ↔ (A.matches a stop.sid ≢ [])) → asked ≡ matched → StopsAtMatch (A.built a) (A.Reaches a) (A.matches a) p.sid (drop (p.at - p.from) held) stop matched y z
-stopped-at A a p held stop asked true y z goes cost is e =
-    subst (λ (bytes : List ℕ). StopsAtMatch (A.built a) (A.Reaches a) (A.matches a) p.sid bytes stop true y z) (take_rest held (p.at - p.from))
-    (stops-there (A.built a) (A.Reaches a) (A.matches a) p.sid _ stop y z goes.taken goes.reads goes.plain cost (is.0 e))
-stopped-at A a p held stop asked false y z goes cost is e =
-    subst (λ (bytes : List ℕ). StopsAtMatch (A.built a) (A.Reaches a) (A.matches a) p.sid bytes stop false y z) (take_rest held (p.at - p.from))
-    (stops-none (A.built a) (A.Reaches a) (A.matches a) p.sid _ stop y z goes.taken goes.reads goes.plain goes.stops cost (list-none (A.matches a stop.sid) (λ some. false≢true (sym e ∙ is.1 some))))
+pub stopped-at : {S : Type 0} (A : Ghosts S) (a : S) (sid : StateID) (rest : List ℕ) (stop : Advance) (asked matched : Bool) (y z : Steps)
+    → Advances (A.Reaches a No) (is_matching (A.matches a)) sid rest stop → IsReadCost (A.built a) (A.Reaches a) No sid (take stop.taken rest) y z
+    → (IsTrue asked ↔ (A.matches a stop.sid ≢ [])) → asked ≡ matched → StopsAtMatch (A.built a) (A.Reaches a) (A.matches a) sid rest stop matched y z
+stopped-at A a sid rest stop asked true y z goes cost is e = stops-there (A.built a) (A.Reaches a) (A.matches a) sid rest stop y z goes.taken goes.reads goes.plain cost (is.0 e)
+stopped-at A a sid rest stop asked false y z goes cost is e =
+    stops-none (A.built a) (A.Reaches a) (A.matches a) sid rest stop y z goes.taken goes.reads goes.plain goes.stops cost (list-none (A.matches a stop.sid) (λ some. false≢true (sym e ∙ is.1 some)))

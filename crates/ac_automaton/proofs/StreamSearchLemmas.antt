@@ -3,7 +3,7 @@ use Rattle.std.proofs.Common.{◌≡◌, ℕ, ◌+◌, ◌-◌, ◌*◌, ◌≤�
 use Rattle.std.specs.List.{concat}
 use Rattle.std.proofs.Math.Seq.{drop-append_seam, take-append_seam}
 use Rattle.std.proofs.lemmas.Bool.{false≢true, ltb-false, ltb-true}
-use Rattle.std.proofs.lemmas.List.{drop-append-le}
+use Rattle.std.proofs.lemmas.List.{drop-append-le, drop-drop}
 use Rattle.std.proofs.lemmas.List.Elements.{All-push}
 use Rattle.std.proofs.lemmas.List.Folds.{concat-append}
 use Rattle.ac_input.specs.Number.{StateID}
@@ -17,10 +17,10 @@ use Rattle.ac_input.specs.Occurrence.{Occurrence}
 use Rattle.ac_input.specs.Work.{longest, shortest}
 use Rattle.ac_input.specs.Steps.{Added, AreNone, Done, looked_of, scanned_of}
 use Rattle.ac_automaton.specs.Automaton.{Built}
-use Rattle.ac_automaton.specs.Buffer.{Filled, Held, IsRollPaid, room_for, kept_for, nothing_held}
+use Rattle.ac_automaton.specs.Buffer.{Filled, Held, IsRollPaid, room_for, kept_for, nothing_held, rolled}
 use Rattle.ac_automaton.specs.Replace.{matches_in}
 use Rattle.ac_automaton.specs.StreamSearch.{HoldsRead, IsStreamSearch, StandsInState, since_last, SearchesOn, after_search, progress_at, some_of}
-use Rattle.ac_automaton.specs.Stream.{CanBeCounted, HasRead, IsOnCourse, StreamProgress, fresh_progress, room_of, IsDecided, StreamCounts, read_by}
+use Rattle.ac_automaton.specs.Stream.{CanBeCounted, HasRead, IsOnCourse, cut_of, StreamProgress, fresh_progress, room_of, IsDecided, StreamCounts, read_by}
 use Rattle.ac_automaton.specs.Moved.{HasGiven}
 use Rattle.ac_automaton.specs.declared.watched.Watched.{Watched}
 use Rattle.ac_automaton.specs.declared.stream.search.Progress.{Progress}
@@ -221,6 +221,51 @@ piece-short s old new piece course holds grown =
     let bytes = ap length grown.bytes in
     let joined = length-append old.bytes piece in
     omega arith
+
+-- the bytes before the cut are held no longer
+pub roll-right : (Reaches : List ℕ → StateID → Type 0) (s : StreamProgress) (start sid : StateID) (count : ℕ) (old new : Held) (over : Bool) (cut : ℕ)
+    → IsStreamSearch Reaches s start sid count old over → cut ≡ cut_of s → new ≡ rolled old (cut - s.from) → IsRollPaid new
+    → IsStreamSearch Reaches (record s { from = cut; moved = new.moved }) start sid count new over
+roll-right Reaches s start sid count old new over cut is at moves paid =
+    let stands = is.stands in
+    let course = stands.course in
+    let before = course.kept.0 in
+    let behind = course.kept.1 in
+    let room = course.kept.2 in
+    let ordered = course.ordered in
+    let more = paid.paid in
+    let read : new.read ≡ length (read_by s) = ap (λ (h : Held). h.read) moves ∙ is.holds.read in
+    let there : s.from + (cut - s.from) ≡ cut = omega (arith, before, at) in
+    record {
+      stands = record {
+        course = record {
+          standard = course.standard;
+          filled = course.filled;
+          ordered = ordered;
+          kept = (omega (arith, at), omega (arith, at, ordered.0), omega (arith, room, before, at));
+          short = course.short;
+          begun = course.begun;
+          ended = course.ended;
+          decided = course.decided;
+          paid = record { some = course.paid.some; looked = course.paid.looked; scanned = course.paid.scanned; moved = omega (arith, more, read) };
+        };
+        begins = stands.begins;
+        reads = stands.reads;
+        quiet = stands.quiet;
+        goes = stands.goes;
+        lookups = stands.lookups;
+      };
+      number = is.number;
+      holds = record {
+        bytes = ap (λ (h : Held). h.bytes) moves ∙ (ap (drop (cut - s.from)) is.holds.bytes ∙ (drop-drop (cut - s.from) s.from (read_by s) ∙ ap (λ (n : ℕ). drop n (read_by s)) there));
+        keep = ap (λ (h : Held). h.keep) moves ∙ is.holds.keep;
+        read = read;
+        moved = refl;
+        paid = paid;
+      };
+      countable = is.countable;
+      uncountable = is.uncountable;
+    }
 
 -- What a search keeps after a read is right; over says whether there are more bytes than places.
 pub read-right : (Reaches : List ℕ → StateID → Type 0) (s : StreamProgress) (start sid : StateID) (count : ℕ) (old new : Held) (was over : Bool) (piece : List ℕ)

@@ -26,12 +26,12 @@ abbrev pub EachLiesWithin : {S : Type 0} → (S → List Occurrence) → Built �
 EachLiesWithin rest b asked s = EachRunFrom (YieldsFirst rest) s (λ p. AllItems p (LiesWithin b asked))
 
 -- A walk gives at most one match for each place of the haystack, its end among them.
-abbrev pub AreFew : Asked → Walk → Type 0
-AreFew asked w = length (left_of w) ≤ length asked.haystack + 1
+abbrev pub AreFewMatches : Asked → Walk → Type 0
+AreFewMatches asked w = length (left_of w) ≤ length asked.haystack + 1
 
 -- each match of a walk lies in the input, and begins where the one before it ended or later
-abbrev pub AreInOrder : Built → Asked → Walk → Type 0
-AreInOrder b asked w = EachLiesWithin left_of b asked w × LieInOrder (length b.dictionary.patterns) (length asked.haystack) asked.span.start (left_of w)
+abbrev pub MatchesAreInOrder : Built → Asked → Walk → Type 0
+MatchesAreInOrder b asked w = EachLiesWithin left_of b asked w × LieInOrder (length b.dictionary.patterns) (length asked.haystack) asked.span.start (left_of w)
 
 -- A run gives at most one occurrence of each pattern for each place of the haystack, its end among them.
 abbrev pub AreFewForEach : Built → Asked → Run → Type 0

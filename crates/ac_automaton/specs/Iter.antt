@@ -43,8 +43,8 @@ walk_at b first left last sums =
     }
 
 -- the kind that a walk uses
-abbrev pub kind_of : Walk → MatchKind
-kind_of w = kind_asked w.built w.asked
+abbrev pub walk_kind : Walk → MatchKind
+walk_kind w = kind_asked w.built w.asked
 
 -- the search that a walk goes over
 abbrev pub search_of_walk : Walk → Search
@@ -52,7 +52,7 @@ search_of_walk w = searched w.built w.asked
 
 -- the remaining picks
 abbrev pub left_of : Walk → List Occurrence
-left_of w = walk_after (kind_of w) (search_of_walk w) w.at w.last
+left_of w = walk_after (walk_kind w) (search_of_walk w) w.at w.last
 
 -- the result is a walk over all matches that has not begun, if there is a start for it
 abbrev pub AnswersFindIter : Built → (Anchored → Type 0) → Asked → Result Walk MatchErrorKind → Type 0
@@ -61,7 +61,7 @@ AnswersFindIter b supports asked (Err error) = IsStartRefusal supports asked.anc
 
 -- the next pick of a walk
 abbrev pub IsNextPick : Walk → Option Occurrence → Type 0
-IsNextPick w r = IsPick (kind_of w) (search_of_walk w) w.at w.last r
+IsNextPick w r = IsPick (walk_kind w) (search_of_walk w) w.at w.last r
 
 -- a walk after its next pick: it stands at the pick's end, or past the span where there was none
 abbrev pub walk_after_pick : Walk → Option Occurrence → Walk
@@ -92,7 +92,7 @@ pub record IsPickWork (kind : MatchKind) (deterministic : Bool) (s : Search) (at
 
 -- what the next pick of a walk may cost; past the span nothing
 pub record IsNextWork (w : Walk) (r : Option Occurrence) (before after : Steps) : Type 0 where
-  pub pick : IsPickWork (kind_of w) w.built.deterministic (search_of_walk w) w.at r before after
+  pub pick : IsPickWork (walk_kind w) w.built.deterministic (search_of_walk w) w.at r before after
   pub idle : w.asked.span.end < w.at → after ≡ before
 
 -- what the next pick costs: it is within the work of one, and the walk counts it
@@ -106,7 +106,7 @@ passed w = min w.at w.asked.span.end - w.asked.span.start
 -- What a walk has cost so far. Under standard at most one look for each byte of the span that lies before it, or two if the
 -- automaton is not deterministic; in scans for bytes at most 256 places for each. It never moves a byte.
 pub record IsWithinBudget (w : Walk) : Type 0 where
-  pub looked : kind_of w ≡ Standard → w.looked ≤ lookups_per_byte w.built.deterministic * passed w
+  pub looked : walk_kind w ≡ Standard → w.looked ≤ lookups_per_byte w.built.deterministic * passed w
   pub scanned : w.scanned ≤ 256 * passed w
   pub moved : w.moved ≡ 0
 

@@ -15,6 +15,8 @@ pub use Rattle.ac_input.specs.Steps
 pub use Rattle.ac_input.specs.Input
 pub use Rattle.ac_input.specs.Work
 pub mod ReadOn
+pub mod Ahead
+pub mod FindAhead
 pub mod Watched
 pub mod Errors
 pub mod Automaton

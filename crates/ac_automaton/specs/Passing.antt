@@ -1,5 +1,5 @@
 -- What a search passes that stands in the start: places at which no pattern opens, and bytes that leave it there.
-use Rattle.std.specs.Prelude.{◌≡◌, ◌⊎◌, ℕ, ◌+◌, ◌<◌, ◌≤◌, false, IfSome, IsTrue, List, [], ◌++◌, length, take, drop, slice_index, Option, Some, None}
+use Rattle.std.specs.Prelude.{◌≡◌, ◌⊎◌, ℕ, ◌+◌, ◌<◌, ◌≤◌, Bool, false, IfSome, IsTrue, List, [], ◌++◌, length, take, drop, slice_index, Option, Some, None}
 use Rattle.ac_input.specs.Number.{StateID}
 use Rattle.ac_input.specs.declared.search.Anchored.{Anchored}
 use Rattle.ac_input.specs.declared.search.Anchored.TheVariants.{No}
@@ -9,7 +9,7 @@ use Rattle.ac_input.specs.Opening.{HasNoOpening}
 use Rattle.ac_input.specs.Steps.{Done}
 use Rattle.ac_literal.specs.declared.openings.Openings.{Openings}
 use Rattle.ac_literal.specs.Openings.{AreOpenings, PassesOpenings}
-use Rattle.ac_automaton.specs.Automaton.{IsReached, Leads, IsReadCost, PassesPlain}
+use Rattle.ac_automaton.specs.Automaton.{Built, IsReached, Leads, IsReadCost, PassesPlain}
 use Rattle.ac_automaton.specs.ReadOn.{is_between, ReadsTo, StaysBut}
 use Rattle.ac_automaton.specs.declared.automaton.Advance.{Advance}
 use Rattle.ac_automaton.specs.declared.look.Between.{Between}
@@ -22,13 +22,17 @@ use Rattle.ac_automaton.specs.declared.skip.Skips.{Skips}
 abbrev pub ReadsToBy : {S : Type 0} → Ghosts S → S → Anchored → Between → StateID → List ℕ → Advance → Steps → Steps → Type 0
 ReadsToBy A automaton anchored two sid bytes stop before after = ReadsTo (A.built automaton) (A.Reaches automaton) anchored two sid bytes stop before after
 
--- Some bytes were read, and no state on the way is between two numbers, but for the one after the last of them.
-pub record ReadsSome {S : Type 0} (A : Ghosts S) (automaton : S) (anchored : Anchored) (two : Between) (sid : StateID) (bytes : List ℕ) (stop : Advance) (before after : Steps) : Type 0 where
+-- Some bytes were read, and reading on stops at no state on the way, but perhaps at the one after the last of them.
+pub record ReadsPart (b : Built) (Reaches : Anchored → List ℕ → StateID → Type 0) (anchored : Anchored) (stops : StateID → Bool) (sid : StateID) (bytes : List ℕ) (stop : Advance) (before after : Steps) : Type 0 where
   pub some : 0 < stop.taken
   pub within : stop.taken ≤ length bytes
-  pub reads : Leads (A.Reaches automaton anchored) sid (take stop.taken bytes) stop.sid
-  pub plain : PassesPlain (A.Reaches automaton anchored) (is_between two) sid bytes stop.taken
-  pub cost : IsReadCost (A.built automaton) (A.Reaches automaton) anchored sid (take stop.taken bytes) before after
+  pub reads : Leads (Reaches anchored) sid (take stop.taken bytes) stop.sid
+  pub plain : PassesPlain (Reaches anchored) stops sid bytes stop.taken
+  pub cost : IsReadCost b Reaches anchored sid (take stop.taken bytes) before after
+
+-- the same, where it stops between two numbers
+abbrev pub ReadsSome : {S : Type 0} → Ghosts S → S → Anchored → Between → StateID → List ℕ → Advance → Steps → Steps → Type 0
+ReadsSome A automaton anchored two sid bytes stop before after = ReadsPart (A.built automaton) (A.Reaches automaton) anchored (is_between two) sid bytes stop before after
 
 -- All the bytes were read, by a search that isn't anchored.
 pub record ReadsAll {S : Type 0} (A : Ghosts S) (automaton : S) (sid : StateID) (bytes : List ℕ) (to : StateID) (before after : Steps) : Type 0 where

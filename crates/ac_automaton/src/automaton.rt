@@ -14,8 +14,10 @@
 //! automaton that has nothing better.
 pub mod reference;
 
+use crate::ahead::Note;
 use crate::error::{MatchError, ReplaceError, StreamError};
 use crate::iter::FindIter;
+use crate::iter::ahead::{self, FindIterAhead};
 use crate::overlapping::{FindOverlappingIter, OverlappingState};
 use crate::search::Search;
 use crate::stream::{self, StreamFindIter};
@@ -39,7 +41,7 @@ pub struct Advance {
 
 /// An automaton that finds patterns in a text.
 pub trait Automaton {
-    ghost use Rattle.std.specs.Prelude.{◌≡◌, ◌≢◌, ℕ, ◌<◌, ◌↔◌, Bool, false, List, [], ◌∷◌, length, map, take, IsTrue, IfOk, IfErr, OnOk, get_or, Option, slice_get, option_map};
+    ghost use Rattle.std.specs.Prelude.{◌≡◌, ◌≢◌, ℕ, ◌<◌, ◌≤◌, ◌↔◌, Bool, false, List, [], ◌∷◌, length, map, take, IsTrue, IfOk, IfErr, OnOk, get_or, Option, slice_get, option_map};
     ghost use Rattle.ac_input.specs.declared.search.Anchored.{Anchored};
     ghost use Rattle.ac_input.specs.Number.{StateID};
     ghost use Rattle.ac_input.specs.Input.{is_anchored};
@@ -48,10 +50,11 @@ pub trait Automaton {
     ghost use Rattle.ac_input.specs.Tells.{Tells};
     ghost use Rattle.ac_input.specs.Work.{longest, shortest};
     ghost use Rattle.ac_automaton.specs.Automaton.{Built, IsReached, IsState, AtEach, Leads, IsReadCost, TellsDead, TellsStart, IsSpecial, Advances, AdvancesToMatch, OwnsPrefilter, AnswersStart, AnswersFind, CostsFind};
+    ghost use Rattle.ac_automaton.specs.Ahead.{AreNotes};
     ghost use Rattle.ac_automaton.specs.Iter.{AnswersFindIter};
     ghost use Rattle.ac_automaton.specs.Overlapping.{CameFrom, CountsShown, IsOverlappingCost, AnswersOverlapping, sums_of};
     ghost use Rattle.ac_automaton.specs.OverlappingIter.{AnswersOverlappingIter, rest_of};
-    ghost use Rattle.ac_automaton.specs.Items.{AreFew, AreFewForEach, AreInOrder, EachLiesWithin, FindsWithin};
+    ghost use Rattle.ac_automaton.specs.Items.{AreFewMatches, AreFewForEach, MatchesAreInOrder, EachLiesWithin, FindsWithin};
     ghost use Rattle.ac_automaton.specs.StreamIter.{AnswersStreamIter};
     ghost use Rattle.ac_automaton.specs.StreamReplace.{AcceptsReplacing, CostsStream, ReplacesStream};
     ghost use Rattle.ac_automaton.specs.StreamReplaceWith.{ReplacesStreamWith};
@@ -157,6 +160,29 @@ pub trait Automaton {
             sid: current,
             taken: bytes.len(),
         }
+    }
+
+    /// Reads ahead of a search that isn't anchored, which has come to a place of some bytes in a state, over at most so many bytes,
+    /// and may write over the notes what it found there, in order of place. Returns how many bytes it has read. `anew` is whether the
+    /// search begins anew after a match.
+    ///
+    /// It pays where an automaton can walk over several parts of the bytes side by side: see [`ahead`](crate::ahead). The provided
+    /// method reads nothing.
+    fn note_ahead(
+        &self,
+        _sid: StateID,
+        _bytes: &[u8],
+        _at: usize,
+        _len: usize,
+        _anew: bool,
+        _notes: &mut [Note],
+    ) -> usize
+        requires reached { IsReached (Reaches self.now Anchored.No) _sid }
+        requires within { _at ≤ length _bytes.now }
+        requires known { AreNotes (Reaches self.now Anchored.No) (matches self.now) _bytes.now _notes.old }
+        ensures { AreNotes (Reaches self.now Anchored.No) (matches self.now) _bytes.now _notes.new }
+    {
+        0
     }
 
     /// Whether a search has more to do here than to read on: the state is dead, or matches, or is a start and there is a prefilter
@@ -304,10 +330,25 @@ pub trait Automaton {
     where
         Self: Sized + Search,
         ensures answer { AnswersFindIter (built self.now) (supports self.now) input.entry result }
-        ensures few { IfOk result (AreFew input.entry) }
-        ensures lie { IfOk result (AreInOrder (built self.now) input.entry) }
+        ensures few { IfOk result (AreFewMatches input.entry) }
+        ensures lie { IfOk result (MatchesAreInOrder (built self.now) input.entry) }
     {
         iter::find_iter(self, input)
+    }
+
+    /// The same matches, for many of them in a long text with hundreds of patterns and more: see [`FindIterAhead`].
+    /// A caller: `uses::callers::iterate::all_matches_ahead`.
+    final fn try_find_iter_ahead<'a, 'h>(
+        &'a self,
+        input: Input<'h>,
+    ) -> Result<FindIterAhead<'a, 'h, Self>, MatchError>
+    where
+        Self: Sized + Search,
+        ensures answer { AnswersFindIter (built self.now) (supports self.now) input.entry result }
+        ensures few { IfOk result (AreFewMatches input.entry) }
+        ensures lie { IfOk result (MatchesAreInOrder (built self.now) input.entry) }
+    {
+        ahead::find_iter_ahead(self, input)
     }
 
     /// Finds the next occurrence of the search of the input, in the order of end, start and number, and stores it in the state;

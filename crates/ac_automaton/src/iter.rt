@@ -12,7 +12,9 @@ ghost use Rattle.std.specs.Iterator.{YieldsFirst, item_count};
 ghost use Rattle.ac_input.specs.Walk.{Repeats};
 ghost use Rattle.ac_automaton.specs.Automaton.{IsFound, IsFindCost};
 ghost use Rattle.ac_automaton.specs.Iter.{AnswersFindIter, GivesPick, CostsPick, left_of, IsPickOf, IsPickCost, IsRestOf, IsOnItsWay, CountsPick, PickCounts};
-ghost use Rattle.ac_automaton.specs.Items.{AreFew, AreInOrder};
+ghost use Rattle.ac_automaton.specs.Items.{AreFewMatches, MatchesAreInOrder};
+
+pub mod ahead;
 
 use crate::automaton::Automaton;
 use crate::error::MatchError;
@@ -55,8 +57,8 @@ pub fn find_iter<'a, 'h, A: Search>(
 ) -> Result<FindIter<'a, 'h, A>, MatchError>
     ensures answer { AnswersFindIter (A.built automaton.now) (A.supports automaton.now) input.entry
         result }
-    ensures few { IfOk result (AreFew input.entry) }
-    ensures lie { IfOk result (AreInOrder (A.built automaton.now) input.entry) }
+    ensures few { IfOk result (AreFewMatches input.entry) }
+    ensures lie { IfOk result (MatchesAreInOrder (A.built automaton.now) input.entry) }
 {
     automaton.start_state(input.get_anchored())?;
     let first = Count::zero().more(&input.start());
@@ -89,7 +91,7 @@ fn repeats(last: Option<usize>, found: &Option<Match>) -> bool
 }
 
 /// The next pick of a walk that stands where the input starts. It may set the input's start one byte further.
-fn next_pick<A: Search>(
+pub(crate) fn next_pick<A: Search>(
     automaton: &A,
     input: &mut Input<'_>,
     last: Option<usize>,

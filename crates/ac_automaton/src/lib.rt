@@ -1,14 +1,17 @@
 //! Searching with an automaton, in memory and in streams.
 #![tactic(auto)]
 
+pub mod ahead;
 pub mod automaton;
 mod buffer;
 mod cursor;
 pub mod error;
 mod find;
+mod find_ahead;
 mod gain;
 pub mod held;
 pub mod iter;
+pub mod lanes;
 pub mod look;
 pub mod output;
 pub mod overlapping;

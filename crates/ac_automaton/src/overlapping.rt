@@ -10,12 +10,13 @@
 //! is used, since others may overlap it.
 //!
 //! The caller keeps the place of a search between two calls, in an [`OverlappingState`]. It belongs to one automaton and one input
-//! from its first search on. [`FindOverlappingIter`] keeps all three together.
+//! from its first search on. [`FindOverlappingIter`] keeps all three together, and what it read ahead.
 ghost use Rattle.std.specs.Prelude.{◌≡◌, ⊤, None, OnOk, Some};
 ghost use Rattle.ac_input.specs.Steps.{Added};
 ghost use Rattle.ac_automaton.specs.Overlapping.{IsFreshState, CostsOverlapping, CountsShown, and_one, found_of, shown_of, sums_of};
 ghost use Rattle.ac_automaton.specs.OverlappingSearch.{AnswersCall, CameFromCalls};
 
+mod ahead;
 pub mod iter;
 mod search;
 
@@ -25,6 +26,7 @@ use ac_input::history::Count;
 use ac_input::primitives::{PatternID, StateID};
 use ac_input::search::{Input, Match};
 use ac_input::steps::Steps;
+pub(crate) use ahead::advance_ahead;
 pub use iter::FindOverlappingIter;
 pub(crate) use search::advance;
 use search::begin;

@@ -5,20 +5,24 @@
 //! chooses once a search, and not at each state.
 //!
 //! A function that searches by any automaton asks for `A: Search`. One that goes from state to state asks for `A: Automaton`.
+use crate::ahead::Ahead;
 use crate::automaton::Automaton;
 use crate::error::MatchError;
 use crate::overlapping::{Position, Shown};
 use crate::stream::{Progress, Searched};
-use crate::{find, overlapping, stream};
+use crate::{find, find_ahead, overlapping, stream};
 use ac_input::primitives::StateID;
 use ac_input::search::{Input, Match};
 use ac_input::steps::Steps;
 
 /// An automaton that searches.
 pub trait Search: Automaton {
-    ghost use Rattle.std.specs.Prelude.{◌≡◌, []};
+    ghost use Rattle.std.specs.Prelude.{◌≡◌, ◌≤◌, []};
+    ghost use Rattle.ac_input.specs.declared.search.Anchored.TheVariants.{No};
     ghost use Rattle.ac_input.specs.declared.search.MatchKind.TheVariants.{Standard};
-    ghost use Rattle.ac_automaton.specs.Automaton.{AnswersFind, CostsFind};
+    ghost use Rattle.ac_automaton.specs.Ahead.{AreNotes};
+    ghost use Rattle.ac_automaton.specs.Automaton.{AnswersFind, CostsFind, IsFindCost, IsFound};
+    ghost use Rattle.ac_automaton.specs.FindAhead.{AreNotesOf, MayReadAhead};
     ghost use Rattle.ac_automaton.specs.Items.{FindsWithin};
     ghost use Rattle.ac_automaton.specs.OverlappingSearch.{CountsOn, HasLeft, KeepsPaying, ShowsNextAt};
     ghost use Rattle.ac_automaton.specs.StreamWalk.{MayWalk, WalksOn};
@@ -31,6 +35,26 @@ pub trait Search: Automaton {
         ensures cost { CostsFind (Self.built self.now) input.now steps.old steps.new result }
     {
         find::find(self, input, steps)
+    }
+
+    /// The match of the input, if it has one, of a search that begins in this start state; counts what it does, and keeps notes of
+    /// what it read ahead in the haystack. Its caller is the walk that reads ahead:
+    /// [`FindIterAhead`](crate::iter::ahead::FindIterAhead).
+    fn search_ahead(
+        &self,
+        input: &Input<'_>,
+        start: StateID,
+        ahead: &mut Ahead,
+        steps: &mut Steps,
+    ) -> Option<Match>
+        requires may { MayReadAhead Self.Automaton self.now input.now start }
+        requires ordered { input.now.span.start ≤ input.now.span.end }
+        requires known { AreNotesOf Self.Automaton self.now input.now ahead.old.notes }
+        ensures found { IsFound (Self.built self.now) input.now result }
+        ensures cost { IsFindCost (Self.built self.now) input.now steps.old steps.new result }
+        ensures known { AreNotesOf Self.Automaton self.now input.now ahead.new.notes }
+    {
+        find_ahead::find(self, input, start, ahead, steps)
     }
 
     /// The next occurrence of an overlapping search that began in a start state and stands at a place; counts what it does.
@@ -54,26 +78,65 @@ pub trait Search: Automaton {
         overlapping::advance(self, input, start, place, steps)
     }
 
+    /// The same, by what was read ahead in the haystack, of which it keeps notes; it reads ahead where the search isn't anchored and
+    /// has no prefilter to run. Its caller is the iterator: [`FindOverlappingIter`](crate::overlapping::FindOverlappingIter).
+    fn search_overlapping_ahead(
+        &self,
+        input: &Input<'_>,
+        start: StateID,
+        place: Position,
+        ahead: &mut Ahead,
+        steps: &mut Steps,
+    ) -> Shown
+        requires standard { (Self.built self.now).dictionary.kind ≡ Standard }
+        requires starts { Self.Reaches self.now input.now.anchored [] start }
+        requires left { HasLeft Self.Automaton self.now input.now place }
+        requires known { AreNotesOf Self.Automaton self.now input.now ahead.old.notes }
+        ensures shows { ShowsNextAt Self.Automaton self.now input.now place result }
+        ensures pays { KeepsPaying (Self.built self.now) input.now place result
+            steps.old steps.new }
+        ensures counts { CountsOn (Self.built self.now) input.now place result steps.old steps.new }
+        ensures known { AreNotesOf Self.Automaton self.now input.now ahead.new.notes }
+    {
+        overlapping::advance_ahead(self, input, start, place, ahead, steps)
+    }
+
     /// The next match of a stream among the bytes that are held, of a search that began in a start state and has come this far;
-    /// counts what it does. Its callers are the searches of streams, which alone make and keep a [`Progress`].
+    /// counts what it does, and keeps notes of what it read ahead of these bytes. Its callers are the searches of streams, which
+    /// alone make and keep a [`Progress`].
     fn search_stream(
         &self,
         start: StateID,
         progress: &Progress,
         held: &[u8],
+        ahead: &mut Ahead,
         steps: &mut Steps,
     ) -> Searched
-        requires { MayWalk Self.Automaton self.now start progress.now held.now }
-        ensures { WalksOn Self.Automaton self.now start progress.now held.now result
+        requires walk { MayWalk Self.Automaton self.now start progress.now held.now }
+        requires known { AreNotes (Self.Reaches self.now No) (Self.matches self.now) held.now
+            ahead.old.notes }
+        ensures walk { WalksOn Self.Automaton self.now start progress.now held.now result
             steps.old steps.new }
+        ensures known { AreNotes (Self.Reaches self.now No) (Self.matches self.now) held.now
+            ahead.new.notes }
     {
-        stream::search_held(self, start, progress, held, steps)
+        stream::search_held(self, start, progress, held, ahead, steps)
     }
 }
 
 impl<'a, A: Search> Search for &'a A {
     fn search(&self, input: &Input<'_>, steps: &mut Steps) -> Result<Option<Match>, MatchError> {
         (**self).search(input, steps)
+    }
+
+    fn search_ahead(
+        &self,
+        input: &Input<'_>,
+        start: StateID,
+        ahead: &mut Ahead,
+        steps: &mut Steps,
+    ) -> Option<Match> {
+        (**self).search_ahead(input, start, ahead, steps)
     }
 
     fn search_overlapping(
@@ -86,13 +149,25 @@ impl<'a, A: Search> Search for &'a A {
         (**self).search_overlapping(input, start, place, steps)
     }
 
+    fn search_overlapping_ahead(
+        &self,
+        input: &Input<'_>,
+        start: StateID,
+        place: Position,
+        ahead: &mut Ahead,
+        steps: &mut Steps,
+    ) -> Shown {
+        (**self).search_overlapping_ahead(input, start, place, ahead, steps)
+    }
+
     fn search_stream(
         &self,
         start: StateID,
         progress: &Progress,
         held: &[u8],
+        ahead: &mut Ahead,
         steps: &mut Steps,
     ) -> Searched {
-        (**self).search_stream(start, progress, held, steps)
+        (**self).search_stream(start, progress, held, ahead, steps)
     }
 }

@@ -27,6 +27,10 @@ use ac_literal::openings::Openings;
 /// How many bytes openings have to pass, to pay.
 const COST: usize = 24;
 
+/// For how many patterns openings pass bytes faster than several walks side by side read them. With more patterns more places are
+/// marked in vain.
+const FEW_PATTERNS: usize = 64;
+
 /// What an automaton skips by while a search stands in its start.
 #[derive(Clone, Copy)]
 pub struct Skips {
@@ -39,6 +43,14 @@ pub struct Skips {
 }
 
 impl Skips {
+    /// Whether a search for so many patterns that stands in its start passes bytes faster than several walks read them side by side.
+    pub fn pass_many(&self, patterns: usize) -> bool {
+        match &self.openings {
+            Some(_) => patterns <= FEW_PATTERNS,
+            None => self.starters.are_few(),
+        }
+    }
+
     /// Reads on to the first state between two numbers, these included, in the way that is the fastest there.
     #[inline(always)]
     pub fn read_to<A: LookUp>(

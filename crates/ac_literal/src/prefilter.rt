@@ -25,7 +25,7 @@
 //! reading the text, until it stops; then the automaton runs, some bytes before a rare one, and the scan starts anew. Packed
 //! search returns exact matches, costs nearly the same whatever the text is, and passes a thousand bytes in the time of about one
 //! stop; an automaton takes as long as a hundred stops for them. How often a scan stops is estimated, from its bytes and their
-//! partners (`rank`), so the second limit is half of that. docs/SPEED.md has the measurements.
+//! partners (`rank`), so the second limit is half of that.
 //!
 //! A scan looks at many bytes at a time, and at each once; stepping back makes the automaton look at up to 254 bytes that were
 //! scanned before. A search for patterns costs what packed search costs. A prefilter takes the memory of a table of 256 bytes and

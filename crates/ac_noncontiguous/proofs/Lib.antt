@@ -15,6 +15,7 @@ pub mod OrderLemmas
 pub mod OwnLemmas
 pub mod LookupLemmas
 pub mod NextLemmas
+pub mod OverLemmas
 pub mod ReadLemmas
 pub mod IdleLemmas
 pub mod PassingLemmas

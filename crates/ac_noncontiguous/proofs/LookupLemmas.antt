@@ -10,8 +10,8 @@ use Rattle.ac_input.specs.Dictionary.{Dictionary}
 use Rattle.ac_noncontiguous.specs.declared.nfa.tables.State.{State}
 use Rattle.ac_noncontiguous.specs.declared.nfa.tables.Transition.{Transition}
 use Rattle.ac_noncontiguous.specs.declared.nfa.tables.Tables.{Tables}
-use Rattle.ac_noncontiguous.specs.Nfa.{kept_of, transitions_from, row_of, no_row, byte_at, next_at, nothing_kept, IsEdge, AreTables}
-use Rattle.ac_noncontiguous.specs.Lookups.{IsKept, StepsTo, AreRisingIn, IsNextIn}
+use Rattle.ac_noncontiguous.specs.Nfa.{kept_of, transitions_from, row_of, no_row, byte_at, next_at, nothing_kept, IsEdge, IsRowEntry, AreTables}
+use Rattle.ac_noncontiguous.specs.Lookups.{IsKept, StepsTo, StepsOver, AreRisingIn, IsNextIn}
 
 -- what is read at a place of a list is what stands there, whatever a place past the last one is read as
 pub read-at : {X : Type 0} (xs : List X) (k : ℕ) (x d : X) → k < length xs → x ≡ get_or xs k x → get_or xs k d ≡ x
@@ -139,7 +139,5 @@ leads-range tables i byte j fits found m text t within =
     found
 
 -- what stands in the row
-pub leads-row : (tables : Tables) (i byte j : ℕ) → byte < 256 → row_of tables.states.items i ≢ no_row → slice_index tables.rows.items (row_of tables.states.items i + class tables.classes byte) ≡ j → StepsTo tables i byte j
-leads-row tables i byte j fits some is m text t within =
-    let row = t.rows i byte within fits some in
-    (omega (arith, row.1, is), subst (λ (n : ℕ). IsEdge m t.len tables.start text i byte n) is row.2)
+pub leads-row : (tables : Tables) (i byte j : ℕ) → byte < 256 → row_of tables.states.items i ≢ no_row → slice_index tables.rows.items (row_of tables.states.items i + class tables.classes byte) ≡ j → StepsOver tables i byte j
+leads-row tables i byte j fits some is m text t within = subst (IsRowEntry m t.len tables.start text i byte) is (t.rows i byte within fits some).1

@@ -1,18 +1,24 @@
 -- The rows of the states, by classes of bytes.
-use Rattle.std.proofs.Common.{◌≡◌, ◌≢◌, ℕ, ◌+◌, ◌<◌, ◌≤◌, Bool, true, List, [], ◌∷◌, ◌++◌, length, sym, ap, subst, ◌∙◌, ⊎_elim, arith, slice_index, slice_set, length-append, length-set, get_or-set_same, get_or-set_other}
+use Rattle.std.proofs.Common.{◌≡◌, ◌≢◌, ℕ, ◌+◌, ◌<◌, ◌≤◌, Bool, true, List, length, refl, sym, ap, ap₂, subst, ◌∙◌, ⊎_elim, arith, slice_index, slice_set, slice_get, Option, Some, None, length-set, get_or-set_same, get_or-set_other}
 use Rattle.std.proofs.lemmas.Bool.{cases_lt, cases_eq}
+use Rattle.std.proofs.lemmas.Bool.Decides.{nat_tests}
 use Rattle.ac_input.specs.Same.{other}
 use Rattle.ac_input.specs.Alphabet.{has, class, AreClassesOf}
 use Rattle.ac_input.specs.Classes.{IsParted}
 use Rattle.ac_input.specs.LiveLaws.{canonical}
 use Rattle.ac_input.proofs.ClassLemmas.{parted-alone}
+use Rattle.ac_noncontiguous.specs.declared.links.Links.{Links}
 use Rattle.ac_noncontiguous.specs.declared.trie.Trie.{Trie}
 use Rattle.ac_noncontiguous.specs.declared.compiler.numbering.Numbering.{Numbering}
+use Rattle.ac_noncontiguous.specs.declared.compiler.rows.Rows.{Rows}
 use Rattle.ac_noncontiguous.specs.Tree.{byte}
+use Rattle.ac_noncontiguous.specs.Nfa.{no_row}
+use Rattle.ac_noncontiguous.specs.Numbering.{FitsTrie, IsNumbering}
+use Rattle.ac_noncontiguous.specs.Assembly.{IsFailureOf, number_or_dead}
 use Rattle.ac_noncontiguous.specs.Entering.{HasNoChild}
 use Rattle.ac_noncontiguous.specs.Edges.{IsEdgeTo, AreEdgesTo}
-use Rattle.ac_noncontiguous.specs.Layout.{AreParted, AreAlone, LeadAlike, KeepsRows, IsRowAppended, IsRowAt, IsRowOf, AreRowsOf}
-use Rattle.ac_noncontiguous.proofs.OrderLemmas.{index-kept, index-last}
+use Rattle.ac_noncontiguous.specs.Layout.{AreParted, AreAlone, LeadAlike, KeepsRows, IsRowAppended, or_failure, AreWithFailures, LeadsOver, ByItself, ByFailure, AreOfDead, IsRowAt, HaveRows, AreRowsOf}
+use Rattle.ac_noncontiguous.proofs.EdgeLemmas.{edge-dead}
 
 -- ---- classes
 
@@ -109,28 +115,118 @@ row-more classes edges old new b at next alike small is_at is_next room h =
           (cases_eq place at);
     }
 
--- the row of a state
-pub row-of : (trie : Trie) (numbering : Numbering) (back i row : ℕ) (classes edges old new : List ℕ) → row ≡ length old → AreEdgesTo trie numbering back i edges → IsRowAppended classes edges 256 old new → IsRowOf trie numbering back classes i row old new
-row-of trie numbering back i row classes edges old new is e h =
-    subst (λ (n : ℕ). IsRowOf trie numbering back classes i n old new) (sym is)
-    (record {
-      keeps = h.keeps;
-      at = λ _ b small. let r = h.row b small in (r.0, subst (IsEdgeTo trie numbering back i b) (sym r.1) (e b small));
-    })
-
 -- a row stays where it is kept
-row-kept : (trie : Trie) (numbering : Numbering) (back i row : ℕ) (classes old new : List ℕ) → KeepsRows old new → IsRowAt trie numbering back classes i row old → IsRowAt trie numbering back classes i row new
-row-kept trie numbering back i row classes old new kept h ne b small =
+row-kept : (trie : Trie) (numbering : Numbering) (links : Links) (back i row : ℕ) (classes old new : List ℕ) → KeepsRows old new → IsRowAt trie numbering links back classes i row old → IsRowAt trie numbering links back classes i row new
+row-kept trie numbering links back i row classes old new kept h ne b small =
     let r = h ne b small in
-    (omega (arith, r.0, kept.longer), subst (IsEdgeTo trie numbering back i b) (sym (kept.same (row + class classes b) r.0)) r.1)
+    (omega (arith, r.0, kept.longer), subst (LeadsOver trie numbering links back b i) (sym (kept.same (row + class classes b) r.0)) r.1)
 
--- the row of one state more
-pub rows-more : (trie : Trie) (numbering : Numbering) (back i row : ℕ) (classes offsets old new : List ℕ) → i ≡ length offsets → AreRowsOf trie numbering back classes offsets old → IsRowOf trie numbering back classes i row old new → AreRowsOf trie numbering back classes (offsets ++ row ∷ []) new
-rows-more trie numbering back i row classes offsets old new is h r j within =
+-- ---- the failures
+
+-- bytes of one class still lead to one state where those that lead to none lead by the failure's row
+pub failures-alike : (classes edges rows leads : List ℕ) (failure : ℕ) → LeadAlike classes edges → AreWithFailures classes edges rows failure leads → LeadAlike classes leads
+failures-alike classes edges rows leads failure alike with b c b_small c_small same =
+    with b b_small ∙ (ap₂ (λ (x y : ℕ). or_failure x y) (alike b c b_small c_small same) (ap (λ (k : ℕ). slice_index rows (failure + k)) same) ∙ sym (with c c_small))
+
+-- where a byte leads to none, it leads by the other one
+or_failure-none : (next other : ℕ) → next ≡ 1 → or_failure next other ≡ other
+or_failure-none next other none = grind (arith, nat_tests)
+
+-- and otherwise by its own
+or_failure-some : (next other : ℕ) → next ≢ 1 → or_failure next other ≡ next
+or_failure-some next other some = grind (arith, nat_tests)
+
+-- a state to which one fails is one of the states, and not the anchored start
+number-within : (numbering : Numbering) (links : Links) (states id : ℕ) (to : Option ℕ) → IsNumbering states numbering → FitsTrie states links → slice_get links.fails.items id ≡ Some to → (number_or_dead numbering.of.items to < length numbering.at.items) × (number_or_dead numbering.of.items to ≢ numbering.start + 1)
+number-within numbering links states id None n fits at = (omega (arith, n.places.starts.1), λ e. omega (arith, e))
+number-within numbering links states id (Some f) n fits at = let h = n.numbers.numbers f (fits.within id f at) in (h.1, h.2)
+
+pub failure-within : (numbering : Numbering) (links : Links) (states id failure : ℕ) → IsNumbering states numbering → FitsTrie states links → IsFailureOf numbering links id failure → (failure < length numbering.at.items) × (failure ≢ numbering.start + 1)
+failure-within numbering links states id failure n fits fails =
+    let h = number-within numbering links states id fails.0 n fits fails.1 in
+    (omega (arith, h.0, fails.2), λ e. h.1 (sym fails.2 ∙ e))
+
+-- the row of a state's failure, with the state's own transitions over it, is that of the state
+over-failure : (trie : Trie) (numbering : Numbering) (links : Links) (back i failure from b next : ℕ) (classes edges rows : List ℕ) → 1 < i → IsFailureOf numbering links (slice_index numbering.at.items i) failure → IsEdgeTo trie numbering back i b (slice_index edges b) → LeadsOver trie numbering links back b failure (slice_index rows (from + class classes b)) → next ≡ or_failure (slice_index edges b) (slice_index rows (from + class classes b)) → LeadsOver trie numbering links back b i next
+over-failure trie numbering links back i failure from b next classes edges rows past fails edge row is =
+    let own = slice_index edges b in
+    let other = slice_index rows (from + class classes b) in
     ⊎_elim
-    (λ (before : j < length offsets).
-    subst (λ (n : ℕ). IsRowAt trie numbering back classes j n new) (sym (index-kept offsets row j before)) (row-kept trie numbering back j (slice_index offsets j) classes old new r.keeps (h j before)))
-    (λ (after : length offsets ≤ j).
-    let here : j ≡ length offsets = omega (arith, length-append offsets (row ∷ [])) in
-    subst (λ (n : ℕ). IsRowAt trie numbering back classes j n new) (sym (index-last offsets row j here)) (subst (λ (k : ℕ). IsRowAt trie numbering back classes k row new) (is ∙ sym here) r.at))
-    (cases_lt j (length offsets))
+    (λ (none : own ≡ 1).
+    subst (LeadsOver trie numbering links back b i) (sym (is ∙ or_failure-none own other none))
+    (ByFailure i failure other past (subst (IsEdgeTo trie numbering back i b) none edge) fails row))
+    (λ (some : own ≢ 1).
+    subst (LeadsOver trie numbering links back b i) (sym (is ∙ or_failure-some own other some))
+    (ByItself i own edge some))
+    (cases_eq own 1)
+
+-- ---- the rows of all states
+
+-- at first the dead state alone has one
+pub have-dead : (trie : Trie) (numbering : Numbering) (links : Links) (back : ℕ) (classes : List ℕ) (it : Rows) → IsNumbering (length trie.states.items) numbering → AreOfDead (length numbering.at.items) classes it → HaveRows trie numbering links back classes it.offsets.items it.rows.items
+have-dead trie numbering links back classes it n h =
+    let p = n.places.starts in
+    record {
+      counted = h.counted;
+      fail = h.none 1 (omega arith) (omega (arith, p.0, p.1));
+      right = λ i within apart ne b small.
+          ⊎_elim
+          (λ (dead : i ≡ 0).
+          let at = ap (slice_index it.offsets.items) dead in
+          let d = h.dead (λ e. ne (at ∙ e)) b small in
+          let place = ap (λ (k : ℕ). k + class classes b) at in
+          let read : slice_index it.rows.items (slice_index it.offsets.items i + class classes b) ≡ 0 = ap (slice_index it.rows.items) place ∙ d.1 in (
+            omega (arith, d.0, at),
+            subst (λ (k : ℕ). LeadsOver trie numbering links back b k (slice_index it.rows.items (slice_index it.offsets.items i + class classes b))) (sym dead)
+                (subst (LeadsOver trie numbering links back b 0) (sym read) (ByItself 0 0 (edge-dead trie numbering back b 0 n refl) (λ e. omega (arith, e)))),
+          ))
+          (λ (live : i ≢ 0). absurd (ne (h.none i (omega arith) (omega (arith, within, h.counted)))))
+          (cases_eq i 0);
+    }
+
+-- the row of one state more, made from that of its failure
+pub have-more : (trie : Trie) (numbering : Numbering) (links : Links) (back id i failure from row : ℕ) (classes offsets edges leads old new : List ℕ) → IsNumbering (length trie.states.items) numbering → FitsTrie (length trie.states.items) links → id < length trie.states.items → i ≡ slice_index numbering.of.items id → IsFailureOf numbering links id failure → from ≡ slice_index offsets failure → from ≢ no_row → AreEdgesTo trie numbering back i edges → AreWithFailures classes edges old from leads → row ≡ length old → IsRowAppended classes leads 256 old new → HaveRows trie numbering links back classes offsets old → HaveRows trie numbering links back classes (slice_set offsets i row) new
+have-more trie numbering links back id i failure from row classes offsets edges leads old new n fits within is fails is_from some e with at appended h =
+    let own = n.numbers.numbers id within in
+    let past : 1 < i = omega (arith, is, own.0) in
+    let room : i < length offsets = omega (arith, is, own.1, h.counted) in
+    let back_to : slice_index numbering.at.items i ≡ id = ap (slice_index numbering.at.items) is ∙ own.3 in
+    let f = failure-within numbering links (length trie.states.items) id failure n fits fails in
+    let fails_there : IsFailureOf numbering links (slice_index numbering.at.items i) failure = subst (λ (k : ℕ). IsFailureOf numbering links k failure) (sym back_to) fails in
+    let failure_row : IsRowAt trie numbering links back classes failure from old = subst (λ (k : ℕ). IsRowAt trie numbering links back classes failure k old) (sym is_from) (h.right failure (omega (arith, f.0, h.counted)) f.1) in
+    let made : IsRowAt trie numbering links back classes i row new = λ _ b small.
+    let r = appended.row b small in
+    let place : row + class classes b ≡ length old + class classes b = ap (λ (k : ℕ). k + class classes b) at in (
+      omega (arith, r.0, at),
+      over-failure trie numbering links back i failure from b (slice_index new (row + class classes b)) classes edges old past fails_there (e b small) (failure_row some b small).1 (ap (slice_index new) place ∙ (r.1 ∙ with b small)),
+    ) in
+    record {
+      counted = length-set offsets i row ∙ h.counted;
+      fail = get_or-set_other offsets i 1 row 0 (omega (arith, past)) ∙ h.fail;
+      right = λ j j_in apart.
+          ⊎_elim
+          (λ (here : j ≡ i).
+          let read : slice_index (slice_set offsets i row) j ≡ row = ap (slice_index (slice_set offsets i row)) here ∙ get_or-set_same offsets i row 0 room in
+          subst (λ (k : ℕ). IsRowAt trie numbering links back classes j k new) (sym read) (subst (λ (k : ℕ). IsRowAt trie numbering links back classes k row new) (sym here) made))
+          (λ (there : j ≢ i).
+          let read : slice_index (slice_set offsets i row) j ≡ slice_index offsets j = get_or-set_other offsets i j row 0 there in
+          subst (λ (k : ℕ). IsRowAt trie numbering links back classes j k new) (sym read)
+          (row-kept trie numbering links back j (slice_index offsets j) classes old new appended.keeps (h.right j (omega (arith, j_in, length-set offsets i row)) apart)))
+          (cases_eq j i);
+    }
+
+-- the anchored start shares the row of the other one
+pub have-shared : (trie : Trie) (numbering : Numbering) (links : Links) (back row : ℕ) (classes offsets rows : List ℕ) → IsNumbering (length trie.states.items) numbering → row ≡ slice_index offsets numbering.start → HaveRows trie numbering links back classes offsets rows → AreRowsOf trie numbering links back classes (slice_set offsets (numbering.start + 1) row) rows
+have-shared trie numbering links back row classes offsets rows n is h =
+    let start = numbering.start in
+    let p = n.places.starts in
+    let new = slice_set offsets (start + 1) row in
+    let other : (j : ℕ) → j ≢ start + 1 → slice_index new j ≡ slice_index offsets j = λ j apart. get_or-set_other offsets (start + 1) j row 0 apart in
+    record {
+      have = record {
+        counted = length-set offsets (start + 1) row ∙ h.counted;
+        fail = other 1 (omega (arith, p.0)) ∙ h.fail;
+        right = λ j within apart. subst (λ (k : ℕ). IsRowAt trie numbering links back classes j k rows) (sym (other j apart)) (h.right j (omega (arith, within, length-set offsets (start + 1) row)) apart);
+      };
+      shared = get_or-set_same offsets (start + 1) row 0 (omega (arith, p.1, h.counted)) ∙ (is ∙ sym (other start (omega arith)));
+    }

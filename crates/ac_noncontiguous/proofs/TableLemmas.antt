@@ -1,6 +1,6 @@
 -- The tables of the automaton are those of the dictionary for which the trie and its links stand.
 use Rattle.std.proofs.Common.{◌≡◌, ◌≢◌, ◌↔◌, ◌⊎◌, ℕ, ◌+◌, ◌<◌, ◌≤◌, List, [], length, take, drop, refl, sym, ap, ap₂, subst, ◌∙◌, inl, inr, ⊎_elim, arith, slice_index, slice_index_or, slice_get, get_or, Some, None, Option, option_map, length-drop}
-use Rattle.std.proofs.lemmas.Bool.{cases_lt}
+use Rattle.std.proofs.lemmas.Bool.{cases_lt, cases_eq}
 use Rattle.std.proofs.lemmas.List.{length-take-le}
 use Rattle.std.proofs.lemmas.List.Elements.{Contains-get_or}
 use Rattle.ac_input.specs.declared.search.MatchKind.TheVariants.{Standard}
@@ -18,16 +18,17 @@ use Rattle.ac_noncontiguous.specs.declared.compiler.numbering.Numbering.{Numberi
 use Rattle.ac_noncontiguous.specs.Tree.{text}
 use Rattle.ac_noncontiguous.specs.Kept.{IsTrieOf}
 use Rattle.ac_noncontiguous.specs.Links.{no_range, in_range, AreLinks}
-use Rattle.ac_noncontiguous.specs.Nfa.{transitions_from, state_of, byte_at, next_at, row_of, fail_of, depth_of, matches_from, matches_len, list_of, IsEdge, AreTransitions, AreRows, AreFailures, AreLists}
+use Rattle.ac_noncontiguous.specs.Nfa.{transitions_from, state_of, byte_at, next_at, row_of, fail_of, depth_of, matches_from, matches_len, list_of, no_row, IsRowEntry, AreTransitions, AreRows, AreFailures, AreLists}
 use Rattle.ac_noncontiguous.specs.Numbering.{IsNumbering, AreInRuns, IsLastMatch, range_len}
-use Rattle.ac_noncontiguous.specs.Layout.{IsLaid, AreLaidOut, AreRowsOf, HasAll}
+use Rattle.ac_noncontiguous.specs.Layout.{IsLaid, AreLaidOut, LeadsOver, ByItself, ByFailure, AreRowsOf, HasAll}
 use Rattle.ac_noncontiguous.specs.Assembly.{IsBack, number_or_dead, AreKept}
 use Rattle.ac_noncontiguous.specs.Edges.{missing, IsChildFor}
 use Rattle.ac_noncontiguous.proofs.TextLemmas.{text-start, length-text}
 use Rattle.ac_noncontiguous.proofs.TrieLemmas.{trie-inverse}
 use Rattle.ac_noncontiguous.proofs.FailLemmas.{stands-of}
 use Rattle.ac_noncontiguous.proofs.ChildLemmas.{child_for-begins}
-use Rattle.ac_noncontiguous.proofs.MeaningLemmas.{Setting, text_of, state_of-some, is-edge, missing-not}
+use Rattle.ac_noncontiguous.proofs.MeaningLemmas.{Setting, text_of, state_of-some, are-texts, is-edge, missing-not}
+use Rattle.ac_noncontiguous.proofs.OverLemmas.{entry-straight, entry-failed, entry-shared}
 
 -- ---- where the bytes that begin nothing lead
 
@@ -117,15 +118,6 @@ are-transitions m trie links numbering back offsets rows states transitions s l 
           (e.cases past);
     }
 
--- the rows
-pub are-rows : (m : Dictionary) (trie : Trie) (links : Links) (numbering : Numbering) (back : ℕ) (offsets row_offsets rows classes : List ℕ) (states : List State) → Setting m trie numbering back → length row_offsets ≡ length numbering.at.items → AreRowsOf trie numbering back classes row_offsets rows → AreKept trie numbering links offsets row_offsets states → AreRows m (length numbering.at.items) numbering.start (text_of trie numbering) states classes rows
-are-rows m trie links numbering back offsets row_offsets rows classes states s counted r k i byte lt small has =
-    let at : row_of states i ≡ slice_index row_offsets i = (k.kept i lt).places.1 in
-    let h = r i (omega arith) (λ none. has (at ∙ none)) byte small in
-    let same : slice_index row_offsets i + class classes byte ≡ row_of states i + class classes byte = ap (λ (n : ℕ). n + class classes byte) (sym at) in
-    let whole = is-edge m trie numbering back s i byte _ lt h.1 in
-    subst (λ (n : ℕ). (n < length rows) × (slice_index rows n < length numbering.at.items) × IsEdge m (length numbering.at.items) numbering.start (text_of trie numbering) i byte (slice_index rows n)) same (h.0, h.1.within, whole)
-
 -- the number of a failure
 fail-number : (trie : Trie) (numbering : Numbering) (links : Links) (to : Option ℕ) (i fail : ℕ) → IsNumbering (length trie.states.items) numbering → ((f : ℕ) → slice_get links.fails.items i ≡ Some (Some f) → f < length trie.states.items) → slice_get links.fails.items i ≡ Some to → fail ≡ number_or_dead numbering.of.items to → (fail < length numbering.at.items) × (fail ≢ 1) × (fail ≢ numbering.start + 1) × (state_of (text_of trie numbering) fail ≡ option_map (text trie.states.items) to)
 fail-number trie numbering links None i fail n within at is =
@@ -139,6 +131,41 @@ fail-number trie numbering links (Some f) i fail n within at is =
       (λ e. h.2 (sym is ∙ e)),
       state_of-some (text_of trie numbering) fail past ∙ ap (λ (t : List ℕ). Some t) (ap (text_of trie numbering) is ∙ ap (text trie.states.items) h.3),
     )
+
+-- where a byte leads over all failures is the entry of a row
+over-means : (m : Dictionary) (trie : Trie) (links : Links) (numbering : Numbering) (back byte i next : ℕ) → Setting m trie numbering back → AreLinks m trie.states.items links → i < length numbering.at.items → i ≢ 1 → i ≢ numbering.start + 1 → LeadsOver trie numbering links back byte i next → IsRowEntry m (length numbering.at.items) numbering.start (text_of trie numbering) i byte next
+over-means m trie links numbering back byte i next s l within stands own (ByItself at to edge some) =
+    entry-straight m (length numbering.at.items) numbering.start (text_of trie numbering) i byte next (trie-inverse m trie s.stands) (are-texts m trie numbering back s) (is-edge m trie numbering back s i byte next within edge) edge.within within stands own some
+over-means m trie links numbering back byte i next s l within stands own (ByFailure at failure to past edge fails on) =
+    let node = slice_index numbering.at.items i in
+    let n = fail-number trie numbering links fails.0 node failure s.numbered (λ f e. l.fails.within node f e) fails.1 fails.2 in
+    let text_fails : FailsTo m (text_of trie numbering i) (state_of (text_of trie numbering) failure) = subst (FailsTo m (text_of trie numbering i)) (sym n.3) (l.fails.leads node fails.0 fails.1) in
+    entry-failed m (length numbering.at.items) numbering.start (text_of trie numbering) i byte failure next (trie-inverse m trie s.stands) (are-texts m trie numbering back s) (is-edge m trie numbering back s i byte 1 within edge) within stands own n.1 text_fails
+    (over-means m trie links numbering back byte failure next s l n.0 n.1 n.2 on)
+
+-- at a place there is the entry of a state for a byte
+abbrev IsEntryAt : Dictionary → Trie → Numbering → List ℕ → List ℕ → ℕ → ℕ → ℕ → Type 0
+IsEntryAt m trie numbering classes rows byte i row = (row + class classes byte < length rows) × IsRowEntry m (length numbering.at.items) numbering.start (text_of trie numbering) i byte (slice_index rows (row + class classes byte))
+
+-- the rows
+pub are-rows : (m : Dictionary) (trie : Trie) (links : Links) (numbering : Numbering) (back : ℕ) (offsets row_offsets rows classes : List ℕ) (states : List State) → Setting m trie numbering back → AreLinks m trie.states.items links → AreRowsOf trie numbering links back classes row_offsets rows → AreKept trie numbering links offsets row_offsets states → AreRows m (length numbering.at.items) numbering.start (text_of trie numbering) states classes rows
+are-rows m trie links numbering back offsets row_offsets rows classes states s l r k i byte lt small has =
+    let len = length numbering.at.items in
+    let start = numbering.start in
+    let p = s.numbered.places.starts in
+    let at : row_of states i ≡ slice_index row_offsets i = (k.kept i lt).places.1 in
+    let right : (j : ℕ) → j < len → j ≢ start + 1 → slice_index row_offsets j ≢ no_row → IsEntryAt m trie numbering classes rows byte j (slice_index row_offsets j) =
+    λ j within own some.
+    let stands : j ≢ 1 = λ one. some (ap (slice_index row_offsets) one ∙ r.have.fail) in
+    let h = r.have.right j (omega (arith, within, r.have.counted)) own some byte small in
+    (h.0, over-means m trie links numbering back byte j _ s l within stands own h.1) in
+    ⊎_elim
+    (λ (anchored : i ≡ start + 1).
+    let shared : slice_index row_offsets i ≡ slice_index row_offsets start = ap (slice_index row_offsets) anchored ∙ r.shared in
+    let h = right start (omega (arith, p.1)) (λ e. omega (arith, e)) (λ e. has (at ∙ (shared ∙ e))) in
+    subst (IsEntryAt m trie numbering classes rows byte i) (sym (at ∙ shared)) (h.0, entry-shared m len start (text_of trie numbering) i byte _ (are-texts m trie numbering back s) anchored h.1))
+    (λ (own : i ≢ start + 1). subst (IsEntryAt m trie numbering classes rows byte i) (sym at) (right i lt own (λ e. has (at ∙ e))))
+    (cases_eq i (start + 1))
 
 -- the failures
 pub are-failures : (m : Dictionary) (trie : Trie) (links : Links) (numbering : Numbering) (back : ℕ) (offsets rows : List ℕ) (states : List State) → Setting m trie numbering back → AreLinks m trie.states.items links → AreKept trie numbering links offsets rows states → AreFailures m (length numbering.at.items) numbering.start (text_of trie numbering) states

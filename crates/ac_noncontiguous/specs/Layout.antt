@@ -1,15 +1,18 @@
 -- How the transitions and the rows of the states are laid out.
-use Rattle.std.specs.Prelude.{◌≡◌, ◌≢◌, ◌⊎◌, ◌↔◌, ℕ, ◌+◌, ◌<◌, ◌≤◌, Bool, true, false, List, length, slice_index, slice_index_or, IsTrue}
+use Rattle.std.specs.Prelude.{◌≡◌, ◌≢◌, ◌⊎◌, ◌↔◌, ℕ, ◌+◌, ◌<◌, ◌≤◌, ◌==◌, if◌then◌else◌, Bool, true, false, List, length, slice_index, slice_index_or, IsTrue}
 use Rattle.ac_input.specs.Alphabet.{has, class, is_edge, AreClassesOf}
 use Rattle.ac_input.specs.Classes.{IsParted, IsAlone}
 use Rattle.ac_input.specs.Same.{other, same}
 use Rattle.ac_automaton.specs.Named.{nowhere}
 use Rattle.ac_noncontiguous.specs.declared.nfa.tables.Transition.{Transition}
+use Rattle.ac_noncontiguous.specs.declared.links.Links.{Links}
 use Rattle.ac_noncontiguous.specs.declared.trie.Trie.{Trie}
 use Rattle.ac_noncontiguous.specs.declared.compiler.numbering.Numbering.{Numbering}
+use Rattle.ac_noncontiguous.specs.declared.compiler.rows.Rows.{Rows}
 use Rattle.ac_noncontiguous.specs.Tree.{byte}
 use Rattle.ac_noncontiguous.specs.Nfa.{no_transition, no_row, byte_at, next_at}
 use Rattle.ac_noncontiguous.specs.Edges.{IsEdgeTo}
+use Rattle.ac_noncontiguous.specs.Assembly.{IsFailureOf}
 
 -- what a list has stays where it is
 pub record Keeps (old new : List Transition) : Type 0 where
@@ -90,15 +93,37 @@ pub record IsRowAppended (classes edges : List ℕ) (to : ℕ) (old new : List �
   pub keeps : KeepsRows old new
   pub row : (b : ℕ) → b < to → (length old + class classes b < length new) × (slice_index new (length old + class classes b) ≡ slice_index edges b)
 
+-- a next state, or another one where it is the fail state
+abbrev pub or_failure : ℕ → ℕ → ℕ
+or_failure next other = if next == nowhere then other else next
+
+-- where each byte leads by these edges or, where by them it leads to none, by a row that begins at a place
+abbrev pub AreWithFailures : List ℕ → List ℕ → List ℕ → ℕ → List ℕ → Type 0
+AreWithFailures classes edges rows failure leads = (b : ℕ) → b < 256 → slice_index leads b ≡ or_failure (slice_index edges b) (slice_index rows (failure + class classes b))
+
+-- Where a byte leads from a state, all failures followed: where it leads from the state itself or, if that is to none, where it
+-- leads from the failure of the state.
+pub data LeadsOver (trie : Trie) (numbering : Numbering) (links : Links) (back byte : ℕ) : ℕ → ℕ → Type 0 where
+  ByItself : (i next : ℕ) → IsEdgeTo trie numbering back i byte next → next ≢ nowhere → LeadsOver trie numbering links back byte i next
+  ByFailure : (i failure next : ℕ) → 1 < i → IsEdgeTo trie numbering back i byte nowhere → IsFailureOf numbering links (slice_index numbering.at.items i) failure → LeadsOver trie numbering links back byte failure next → LeadsOver trie numbering links back byte i next
+
+-- of this many states none has a row, or the dead one alone, from which each byte leads to it
+pub record AreOfDead (states : ℕ) (classes : List ℕ) (it : Rows) : Type 0 where
+  pub counted : length it.offsets.items ≡ states
+  pub none : (i : ℕ) → 0 < i → i < states → slice_index it.offsets.items i ≡ no_row
+  pub dead : slice_index it.offsets.items 0 ≢ no_row → (b : ℕ) → b < 256 → (slice_index it.offsets.items 0 + class classes b < length it.rows.items) × (slice_index it.rows.items (slice_index it.offsets.items 0 + class classes b) ≡ 0)
+
 -- at a place there is the row of a state, if it is one
-abbrev pub IsRowAt : Trie → Numbering → ℕ → List ℕ → ℕ → ℕ → List ℕ → Type 0
-IsRowAt trie numbering back classes i row rows = row ≢ no_row → (b : ℕ) → b < 256 → (row + class classes b < length rows) × IsEdgeTo trie numbering back i b (slice_index rows (row + class classes b))
+abbrev pub IsRowAt : Trie → Numbering → Links → ℕ → List ℕ → ℕ → ℕ → List ℕ → Type 0
+IsRowAt trie numbering links back classes i row rows = row ≢ no_row → (b : ℕ) → b < 256 → (row + class classes b < length rows) × LeadsOver trie numbering links back b i (slice_index rows (row + class classes b))
 
--- a state's row may have been put after the others
-pub record IsRowOf (trie : Trie) (numbering : Numbering) (back : ℕ) (classes : List ℕ) (i row : ℕ) (old new : List ℕ) : Type 0 where
-  pub keeps : KeepsRows old new
-  pub at : IsRowAt trie numbering back classes i row new
+-- The rows of the states that have one, by where these begin. The fail state has none; that of the anchored start isn't looked at.
+pub record HaveRows (trie : Trie) (numbering : Numbering) (links : Links) (back : ℕ) (classes offsets rows : List ℕ) : Type 0 where
+  pub counted : length offsets ≡ length numbering.at.items
+  pub fail : slice_index offsets nowhere ≡ no_row
+  pub right : (i : ℕ) → i < length offsets → i ≢ numbering.start + 1 → IsRowAt trie numbering links back classes i (slice_index offsets i) rows
 
--- the rows of the first n states
-abbrev pub AreRowsOf : Trie → Numbering → ℕ → List ℕ → List ℕ → List ℕ → Type 0
-AreRowsOf trie numbering back classes offsets rows = (i : ℕ) → i < length offsets → IsRowAt trie numbering back classes i (slice_index offsets i) rows
+-- the rows of all states; the anchored start shares that of the other one
+pub record AreRowsOf (trie : Trie) (numbering : Numbering) (links : Links) (back : ℕ) (classes offsets rows : List ℕ) : Type 0 where
+  pub have : HaveRows trie numbering links back classes offsets rows
+  pub shared : slice_index offsets (numbering.start + 1) ≡ slice_index offsets numbering.start

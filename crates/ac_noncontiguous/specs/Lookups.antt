@@ -1,12 +1,12 @@
 -- The results of the look-ups in the tables of an automaton.
-use Rattle.std.specs.Prelude.{◌≡◌, ◌≢◌, ◌⊎◌, ℕ, ◌+◌, ◌<◌, ◌≤◌, ◌==◌, ◌&&◌, nat_lt, not, Bool, true, false, List}
+use Rattle.std.specs.Prelude.{◌≡◌, ◌≢◌, ◌⊎◌, ℕ, ◌+◌, ◌<◌, ◌≤◌, ◌==◌, ◌&&◌, if◌then◌else◌, nat_lt, not, Bool, true, false, List}
 use Rattle.ac_input.specs.declared.steps.Steps.{Steps}
 use Rattle.ac_input.specs.Dictionary.{Dictionary}
 use Rattle.ac_input.specs.LiveLaws.{IsOwnInverse}
 use Rattle.ac_automaton.specs.Named.{nowhere, Naming, OfNames, IsPaidStep}
 use Rattle.ac_noncontiguous.specs.declared.nfa.tables.Transition.{Transition}
 use Rattle.ac_noncontiguous.specs.declared.nfa.tables.Tables.{Tables}
-use Rattle.ac_noncontiguous.specs.Nfa.{state_of, byte_at, next_at, IsEdge, AreTables}
+use Rattle.ac_noncontiguous.specs.Nfa.{state_of, depth_of, byte_at, next_at, IsEdge, IsRowEntry, AreTables}
 
 -- ---- one state
 
@@ -14,9 +14,13 @@ use Rattle.ac_noncontiguous.specs.Nfa.{state_of, byte_at, next_at, IsEdge, AreTa
 abbrev pub IsKept : Tables → ℕ → Type 0
 IsKept tables i = ∥ ((m : Dictionary) × (text : ℕ → List ℕ) × (t : AreTables m text tables) × (i < t.len)) ∥₁
 
--- where a byte leads from a state, whatever dictionary the tables are those of
+-- where a byte leads from a state itself, whatever dictionary the tables are those of
 abbrev pub StepsTo : Tables → ℕ → ℕ → ℕ → Type 0
 StepsTo tables i byte j = (m : Dictionary) (text : ℕ → List ℕ) (t : AreTables m text tables) → i < t.len → (j < t.len) × IsEdge m t.len tables.start text i byte j
+
+-- where it leads in a search that isn't anchored, all failures followed
+abbrev pub StepsOver : Tables → ℕ → ℕ → ℕ → Type 0
+StepsOver tables i byte j = (m : Dictionary) (text : ℕ → List ℕ) (t : AreTables m text tables) → i < t.len → IsRowEntry m t.len tables.start text i byte j
 
 -- the bytes of some transitions, from one place to another, rise
 abbrev pub AreRisingIn : List Transition → ℕ → ℕ → Type 0
@@ -48,6 +52,11 @@ IsNamingOf m tables names = (text : ℕ → List ℕ) × (t : AreTables m text t
 -- a state that a search of this anchoring may reach
 abbrev pub IsVisited : Tables → Bool → ℕ → Type 0
 IsVisited tables anchored i = IsKept tables i × (i ≢ nowhere) × (i ≢ other_start tables.start anchored)
+
+-- The state that follows one in an anchored search, by the one to which the byte leads over all failures: if that is deeper, it is
+-- the state's own; or else the dead one.
+abbrev pub own_next : Tables → ℕ → ℕ → ℕ
+own_next tables i j = if nat_lt (depth_of tables.states.items i) (depth_of tables.states.items j) then j else 0
 
 -- The state to which a byte leads from another one in a search, and how many states were looked at to find it, whatever dictionary
 -- the tables are those of.

@@ -118,9 +118,18 @@ pub record AreTransitions (m : Dictionary) (len start : ℕ) (text : ℕ → Lis
   pub none : transitions_from states 2 ≡ transitions_from states 1
   pub longer : (i k : ℕ) → 1 < i → i < len → i ≢ start → i ≢ start + 1 → IsPlaceOf states i k → BeginsEntered m (text i ++ byte_at transitions k ∷ [])
 
--- A state that has a row has in it the next state for each class of bytes.
+-- What a row has for a byte: the state to which the byte leads in a search that isn't anchored, all failures followed. From the
+-- dead state that is the dead one.
+pub record IsRowEntry (m : Dictionary) (len start : ℕ) (text : ℕ → List ℕ) (i byte j : ℕ) : Type 0 where
+  pub within : j < len
+  pub stands : j ≢ nowhere
+  pub unanchored : j ≢ start + 1
+  pub dead : i ≡ 0 → j ≡ 0
+  pub leads : 1 < i → LeadsTo m false (text i ++ byte ∷ []) (state_of text j)
+
+-- A state that has a row has in it such an entry for each class of bytes.
 abbrev pub AreRows : Dictionary → ℕ → ℕ → (ℕ → List ℕ) → List State → List ℕ → List ℕ → Type 0
-AreRows m len start text states classes rows = (i byte : ℕ) → i < len → byte < 256 → row_of states i ≢ no_row → (row_of states i + class classes byte < length rows) × (slice_index rows (row_of states i + class classes byte) < len) × IsEdge m len start text i byte (slice_index rows (row_of states i + class classes byte))
+AreRows m len start text states classes rows = (i byte : ℕ) → i < len → byte < 256 → row_of states i ≢ no_row → (row_of states i + class classes byte < length rows) × IsRowEntry m len start text i byte (slice_index rows (row_of states i + class classes byte))
 
 -- To which state each one fails, and how many bytes lead to it. None fails to the fail state or to the anchored start.
 pub record AreFailures (m : Dictionary) (len start : ℕ) (text : ℕ → List ℕ) (states : List State) : Type 0 where

@@ -132,9 +132,10 @@ impl Builder {
 
     /// Sets to which depth states keep a row: those to which fewer bytes lead. At first it is 3.
     ///
-    /// It changes no result. A look-up in a row takes three loads, elsewhere a binary search. A row takes four bytes for each
-    /// class of bytes, so at most 1 KiB. Any depth is accepted; there are at most 256 states of one byte, and 65,536 of two. Take 0
-    /// for an automaton from which another one is made.
+    /// It changes no result. A look-up in a row takes three loads and follows no failure; elsewhere it takes a binary search, and
+    /// another one for each failure that it follows. A row takes four bytes for each class of bytes, so at most 1 KiB. Any depth is
+    /// accepted; there are at most 256 states of one byte, and 65,536 of two. Take 0 for an automaton from which another one is
+    /// made.
     /// A caller: `uses::callers::build::thrifty`.
     pub fn dense_depth(&mut self, depth: usize) -> &mut Builder
         ensures same { result.ghost_name ≡ self.entry.ghost_name }

@@ -55,7 +55,16 @@ impl Tables {
         let back = start_back(trie, &links, numbering.start);
         let classes = classes(trie);
         let layout = Transitions::new(alloc, trie, &numbering, back)?;
-        let rows = Rows::new(alloc, trie, &numbering, back, &classes, dense_depth)?;
+        let rows = Rows::new(
+            alloc,
+            trie,
+            &numbering,
+            &links,
+            order,
+            back,
+            &classes,
+            dense_depth,
+        )?;
         let states = states(
             alloc,
             trie,

@@ -3,7 +3,8 @@
 //! It is the trie of the patterns, with a failure link from each state, for bytes for which the state has no transition: the link
 //! leads to the state of the longest proper suffix that may still grow into a match. A search looks at one state for a byte, and
 //! at one more for each link that it follows. Each link gives up bytes that were read, so there are at most two looks a byte,
-//! amortised.
+//! amortised. Near the start, where most bytes are read, states keep rows in which the links are followed already: there a byte
+//! takes one look.
 //!
 //! It is the automaton that is built first, fast to build and small; the others are made from it by its read calls.
 mod automaton;

@@ -22,7 +22,7 @@ use Rattle.ac_noncontiguous.specs.Reads.{dictionary}
 use Rattle.ac_noncontiguous.specs.ReadCalls.{state_len, fail_in, edges_in, special_in, classes_in, StandFor, FailsIn, EdgesLeadIn, IsEdgeIn, MayBeMet, LeadsIn, IsReadable}
 use Rattle.ac_noncontiguous.proofs.NextLemmas.{state-some, state-none, straight, stuck, stuck-dead}
 use Rattle.ac_tables.specs.DfaTable.{IsCell}
-use Rattle.ac_tables.specs.Filling.{RowPlan, number_in, cell_in, IsSource, IsFit, IsRowRight, IsBlank, entry_in, HasClass, IsEntry, Written, Kept}
+use Rattle.ac_tables.specs.Filling.{RowPlan, number_in, cell_in, IsSource, IsFit, IsRowRight, IsUnwritten, entry_in, HasClass, IsEntry, Written, Kept}
 use Rattle.ac_tables.proofs.RowLemmas.{row-first}
 
 -- ---- the automaton
@@ -81,7 +81,7 @@ number-dead p anchored =
     ap (λ (row : ℕ). row * p.stride) (row-first p.kind (special_in p.nfa).start_unanchored_id (is_anchored anchored) 0 (omega arith)) ∙ none
 
 -- and leads to itself
-pub dead-right : (p : RowPlan) (anchored : Anchored) (trans : List ℕ) → IsFit p → IsBlank p.stride (number_in p anchored 0) trans → IsRowRight p anchored 0 trans
+pub dead-right : (p : RowPlan) (anchored : Anchored) (trans : List ℕ) → IsFit p → IsUnwritten p.stride (number_in p anchored 0) trans → IsRowRight p anchored 0 trans
 dead-right p anchored trans fit blank byte small = (
   0,
   (record { met = met-dead p.nfa anchored fit.source; dead = λ e. e; leads = λ text t past. absurd (omega (arith, past)) }, blank (class p.classes byte) (fit.letters byte small) ∙ sym (number-dead p anchored)),
@@ -207,7 +207,7 @@ row-plain p sid old new fit e f met past entries right byte small = by (entries 
         (r.0, (leads-by_failure p.nfa sid byte r.0 fit.source f met past (no-edge p sid byte e small none) r.1.0, is ∙ r.1.1))
 
 -- and for anchored searches one that has them over a blank one
-pub row-anchored : (p : RowPlan) (sid : ℕ) (old new : List ℕ) → IsFit p → EdgesLeadIn p.nfa sid → MayBeMet p.nfa Yes sid → 1 < sid → ((x : ℕ) → x < p.stride → IsEntry p Yes (edges_in p.nfa sid) x (slice_index old (number_in p Yes sid + x)) (slice_index new (number_in p Yes sid + x))) → IsBlank p.stride (number_in p Yes sid) old → IsRowRight p Yes sid new
+pub row-anchored : (p : RowPlan) (sid : ℕ) (old new : List ℕ) → IsFit p → EdgesLeadIn p.nfa sid → MayBeMet p.nfa Yes sid → 1 < sid → ((x : ℕ) → x < p.stride → IsEntry p Yes (edges_in p.nfa sid) x (slice_index old (number_in p Yes sid + x)) (slice_index new (number_in p Yes sid + x))) → IsUnwritten p.stride (number_in p Yes sid) old → IsRowRight p Yes sid new
 row-anchored p sid old new fit e met past entries blank byte small = by (entries (class p.classes byte) (fit.letters byte small))
   where
     by : IsEntry p Yes (edges_in p.nfa sid) (class p.classes byte) (slice_index old (cell_in p Yes sid byte)) (slice_index new (cell_in p Yes sid byte)) → (to : ℕ) × IsCell p.nfa p.kind p.stride (slice_index new (cell_in p Yes sid byte)) Yes sid byte to

@@ -13,6 +13,7 @@ use Rattle.ac_input.specs.Candidate.{Filter}
 use Rattle.ac_input.specs.Dfa.{Serves}
 use Rattle.ac_input.specs.Dictionary.{IsLive}
 use Rattle.ac_input.specs.Opening.{NoneIsShorter}
+use Rattle.ac_automaton.specs.Ahead.{MayNote}
 use Rattle.ac_automaton.specs.Automaton.{IsReached, Leads}
 use Rattle.ac_automaton.specs.Held.{last_special_of}
 use Rattle.ac_automaton.specs.Passing.{MayPass, MayReadBy}
@@ -54,7 +55,7 @@ serves-told Unanchored h = refl
 serves-told Anchored h = absurd (∥∥₁_elim h (λ x y. absurd x) (λ (e : No ≡ Yes). let r : ⊥ = cc in r))
 
 -- where an unanchored search has come to a number, there is a start for it
-reached-serves : (dfa : DFA) (sid : ℕ) → IsReached (IsDfaRead dfa No) sid → Serves dfa.table.kind No
+pub reached-serves : (dfa : DFA) (sid : ℕ) → IsReached (IsDfaRead dfa No) sid → Serves dfa.table.kind No
 reached-serves dfa sid h = serves-told dfa.table.kind (∥∥₁_elim h ∥∥₁_prop (λ w. ∥∥₁_map w.1.reached (λ v. v.1.0)))
 
 -- it passes places at which no pattern opens, where nothing matches in the start
@@ -97,3 +98,10 @@ look_ups = record { built = dfa_built_as; Reaches = IsDfaRead; matches = dfa_mat
 -- it may read on by its skips to a state before the start, if that is the last that matches
 pub may-read-by : (dfa : DFA) (two : Between) → StopsBefore dfa.table.start two.last dfa.table.max_match → MayReadBy look_ups dfa dfa.skips two
 may-read-by dfa two = may-read look_ups dfa dfa.skips two dfa.table.start dfa.table.max_match dfa.begins dfa.opened (stays-in-start dfa) (dfa-may-pass dfa) (dfa-quiet dfa two)
+
+-- several walks may go side by side
+pub may-note : (dfa : DFA) (sid : ℕ) → IsReached (IsDfaRead dfa No) sid → MayNote look_ups dfa dfa.table.start dfa.table.max_match
+may-note dfa sid h = record {
+  starts = start-read dfa No dfa.table.start (reached-serves dfa sid h) refl;
+  quiet = past-none dfa.table;
+}

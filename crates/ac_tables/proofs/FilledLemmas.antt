@@ -14,7 +14,7 @@ use Rattle.ac_input.specs.Input.{is_anchored}
 use Rattle.ac_noncontiguous.specs.declared.nfa.NFA.{NFA}
 use Rattle.ac_noncontiguous.specs.ReadCalls.{state_len, fail_in, depth_in, special_in, MayBeMet, IsReadable}
 use Rattle.ac_tables.specs.DfaTable.{dfa_row_of}
-use Rattle.ac_tables.specs.Filling.{RowPlan, number_in, IsFit, IsRowRight, IsBlank, IsChangedIn, AreRowsFilled, IsDone, AreRowsUpTo}
+use Rattle.ac_tables.specs.Filling.{RowPlan, number_in, IsFit, IsRowRight, IsUnwritten, IsChangedIn, AreRowsFilled, IsDone, AreRowsUpTo}
 use Rattle.ac_tables.proofs.RowLemmas.{row-below, row-room, number-fits, row-apart}
 use Rattle.ac_tables.proofs.CellLemmas.{texts-of, source-of, met-dead, dead-right}
 
@@ -110,7 +110,7 @@ anchorings-apart : No ≢ Yes
 anchorings-apart e = let f : No ≡ Yes = e in cc
 
 -- after the row for unanchored searches that for anchored ones is as blank as before
-pub blank-still : (p : RowPlan) (u v : ℕ) (old mid : List ℕ) → IsFit p → Serves p.kind No → Serves p.kind Yes → MayBeMet p.nfa No u → 1 < u → MayBeMet p.nfa Yes v → IsChangedIn p.stride (number_in p No u) old mid → IsBlank p.stride (number_in p Yes v) old → IsBlank p.stride (number_in p Yes v) mid
+pub blank-still : (p : RowPlan) (u v : ℕ) (old mid : List ℕ) → IsFit p → Serves p.kind No → Serves p.kind Yes → MayBeMet p.nfa No u → 1 < u → MayBeMet p.nfa Yes v → IsChangedIn p.stride (number_in p No u) old mid → IsUnwritten p.stride (number_in p Yes v) old → IsUnwritten p.stride (number_in p Yes v) mid
 blank-still p u v old mid fit served also met past met_v changed blank x within = changed-others p No Yes u v x old mid fit served also met past met_v (λ e. absurd (anchorings-apart e)) within changed ∙ blank x within
 
 -- or both
@@ -129,7 +129,7 @@ filled-both p u v old mid new fit served also met past met_v past_v first right 
 -- ---- all rows
 
 -- at first the row of the dead state is right, and all others are blank
-pub rows-none : (p : RowPlan) (trans : List ℕ) → IsFit p → length trans ≡ dfa_states p.kind (state_len p.nfa) * p.stride → IsBlank (length trans) 0 trans → AreRowsUpTo p 2 (special_in p.nfa).start_unanchored_id trans
+pub rows-none : (p : RowPlan) (trans : List ℕ) → IsFit p → length trans ≡ dfa_states p.kind (state_len p.nfa) * p.stride → IsUnwritten (length trans) 0 trans → AreRowsUpTo p 2 (special_in p.nfa).start_unanchored_id trans
 rows-none p trans fit len blank = record {
   len = len;
   right = λ a sid serves met done.
@@ -139,7 +139,7 @@ rows-none p trans fit len blank = record {
   blank = λ a sid serves met _. all a sid met.within;
 }
   where
-    all : (a : Anchored) (sid : ℕ) → sid < state_len p.nfa → IsBlank p.stride (number_in p a sid) trans
+    all : (a : Anchored) (sid : ℕ) → sid < state_len p.nfa → IsUnwritten p.stride (number_in p a sid) trans
     all a sid within x in_row =
         let room = row-space p a sid (length trans) fit within len in
         let e : 0 + (number_in p a sid + x) ≡ number_in p a sid + x = omega arith in

@@ -105,7 +105,7 @@ pub text-at : (nfa : NFA) (dense_depth : ℕ) (classes : List ℕ) (text : ℕ �
 text-at nfa dense_depth classes text anchored i within met = named-text (state_of text) (state_len nfa) (start_in nfa) (λ _ j. place_in nfa dense_depth classes j) anchored i (apart nfa dense_depth classes) within met
 
 -- the unanchored searches come to each state but the fail state and the anchored start
-met-but : (start i : ℕ) → i ≢ 1 → i ≢ start + 1 → IsTrue (is_met start false i)
+pub met-but : (start i : ℕ) → i ≢ 1 → i ≢ start + 1 → IsTrue (is_met start false i)
 met-but start i stands other = grind (arith, nat_tests)
 
 -- ---- one edge

@@ -6,6 +6,9 @@ pub mod MatchLemmas
 pub mod TestLemmas
 pub mod FollowLemmas
 pub mod NameLemmas
+pub mod CutLemmas
+pub mod ByRowLemmas
+pub mod NoteRowLemmas
 pub mod SkipLemmas
 pub mod WordPassingLemmas
 pub mod WordsLemmas
@@ -25,5 +28,6 @@ pub mod BuildLemmas
 pub mod DfaListLemmas
 pub mod TableLemmas
 pub mod DfaBuildLemmas
+pub mod LaidRowLemmas
 pub mod DfaCopyLemmas
 pub mod WordTableLemmas

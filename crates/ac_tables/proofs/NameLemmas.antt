@@ -224,7 +224,7 @@ nfa_start_of table anchored = if anchored then table.start_anchored else table.s
 pub start-read : (nfa : NFA) (anchored : Anchored) (sid : ℕ) → sid ≡ nfa_start_of nfa.table (is_anchored anchored) → IsContiguousRead nfa anchored [] sid
 start-read nfa anchored sid is =
     read-start (contiguous_built_as nfa) (IsLaidOut nfa) (contiguous_matches_at nfa) (is_contiguous_start_at nfa) (is_contiguous_special_at nfa) anchored sid (names-are nfa)
-    (∥∥₁_map nfa.stands (λ w. (w.0, (w.1, w.2), subst (IsFirst w.0 (is_anchored anchored)) (sym is) (w.2.first (is_anchored anchored)))))
+    (∥∥₁_map nfa.stands (λ w. (w.0, (w.1, w.2, w.3), subst (IsFirst w.0 (is_anchored anchored)) (sym is) (w.2.first (is_anchored anchored)))))
 
 -- ---- the numbers of patterns
 

@@ -1,5 +1,5 @@
 -- What a search by a contiguous automaton passes over that stands in the start; and at which states it stops between two numbers.
-use Rattle.std.proofs.Common.{◌≡◌, ℕ, ◌<◌, Bool, true, false, IsTrue, List, sym, ◌∙◌, arith}
+use Rattle.std.proofs.Common.{◌≡◌, ℕ, ◌<◌, Bool, true, false, IsTrue, List, Option, sym, ◌∙◌, arith}
 use Rattle.std.proofs.Math.Logic.{∥∥₁_map}
 use Rattle.std.proofs.lemmas.Bool.{false≢true}
 use Rattle.ac_input.specs.declared.search.Anchored.{Anchored}
@@ -16,6 +16,7 @@ use Rattle.ac_automaton.proofs.PassLemmas.{matching-some, some-matching}
 use Rattle.ac_automaton.specs.ReadOn.{is_between, StaysBut}
 use Rattle.ac_automaton.proofs.ReadOnLemmas.{between}
 use Rattle.ac_tables.specs.declared.contiguous.NFA.{NFA}
+use Rattle.ac_tables.specs.declared.contiguous.rows.Rows.{Rows}
 use Rattle.ac_tables.specs.declared.contiguous.table.Table.{Table}
 use Rattle.ac_tables.specs.ContiguousTable.{AreSomeStates}
 use Rattle.ac_tables.specs.ContiguousReads.{contiguous_dictionary, contiguous_built_as, contiguous_matches_at, is_contiguous_start_at, is_contiguous_special_at, IsLaidOut, IsContiguousRead}
@@ -25,8 +26,8 @@ use Rattle.ac_tables.proofs.NameLemmas.{list-past, names-are, state-apart, state
 use Rattle.ac_tables.proofs.TestLemmas.{test-le}
 
 -- the unanchored start has its words
-pub start-place : (m : Dictionary) (table : Table) → AreSomeStates m table → HoldsState table table.start
-start-place m table h = ∥∥₁_map h (λ w. (w.1 table.start, met-state m table w.0 w.1 false table.start w.2 (w.2.first false).met))
+pub start-place : (m : Dictionary) (table : Table) (rows : Option Rows) → AreSomeStates m table rows → HoldsState table table.start
+start-place m table rows h = ∥∥₁_map h (λ w. (w.1 table.start, met-state m table w.0 w.1 false table.start w.2 (w.2.first false).met))
 
 -- an idle byte of the words is one by their names
 pub idle-by : (nfa : NFA) (byte : ℕ) → byte < 256 → IsIdleAt nfa.table byte → IsIdleBy (contiguous_dictionary nfa) (IsLaidOut nfa) (contiguous_matches_at nfa) nfa.table.start byte

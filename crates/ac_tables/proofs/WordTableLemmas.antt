@@ -1,5 +1,6 @@
 -- The table that is made of an automaton.
-use Rattle.std.proofs.Common.{◌≡◌, ℕ, ◌+◌, ◌<◌, List, ◌++◌, ◌∷◌, [], sym, ap, subst, ◌∙◌, ⊎_elim, arith}
+use Rattle.std.proofs.Common.{◌≡◌, ℕ, ◌+◌, ◌<◌, List, ◌++◌, ◌∷◌, [], Option, sym, ap, subst, ◌∙◌, ⊎_elim, arith}
+use Rattle.std.specs.Prelude.{IfSome}
 use Rattle.std.specs.Coded.{le_prop, Coded-set, coded_ℕ}
 use Rattle.std.proofs.Math.Logic.{∥∥₁_elim, ∥∥₁_map}
 use Rattle.ac_input.specs.Alphabet.{class}
@@ -9,6 +10,8 @@ use Rattle.ac_input.specs.Pairing.{IsPairing}
 use Rattle.ac_input.specs.States.{LeadsTo}
 use Rattle.ac_input.proofs.ClassLemmas.{byte-alone}
 use Rattle.ac_input.proofs.SameLemmas.{own_inverse-pairing}
+use Rattle.ac_noncontiguous.specs.declared.error.BuildErrorKind.{BuildErrorKind}
+use Rattle.ac_noncontiguous.specs.declared.error.BuildErrorKind.TheVariants.{StateIDOverflow, PatternIDOverflow, PatternTooLong, Memory}
 use Rattle.ac_noncontiguous.specs.declared.nfa.NFA.{NFA}
 use Rattle.ac_noncontiguous.specs.Reads.{dictionary}
 use Rattle.ac_noncontiguous.specs.ReadCalls.{state_len, classes_in, special_in, StandForSome, TextsBegin, SpecialIn, ClassesAreThose, AlikeIn}
@@ -16,8 +19,12 @@ use Rattle.ac_tables.specs.declared.contiguous.table.Table.{Table}
 use Rattle.ac_automaton.specs.Named.{Naming}
 use Rattle.ac_tables.specs.Words.{StateParts, words_of, AreWordsAt}
 use Rattle.ac_tables.specs.ContiguousTable.{AreStates, AreSomeStates, ArePlacesTooGreat}
-use Rattle.ac_tables.specs.TableClasses.{AreServing}
-use Rattle.ac_tables.specs.ContiguousBuild.{ArePlacesIn, AreKnown, IsWordTableOf, IsCopiedTable}
+use Rattle.ac_tables.specs.ContiguousBuilder.{ContiguousSettings, IsRefusedFrom}
+use Rattle.ac_tables.specs.TableClasses.{AreClassesFor, AreServing}
+use Rattle.ac_tables.specs.ContiguousBuild.{ArePlacesIn, AreKnown, IsWordTableOf, IsCopiedTable, IsRefusedFor, AreRowsFrom}
+use Rattle.ac_tables.specs.ContiguousRows.{AreRowsIfAny, AreSameIfAny}
+use Rattle.ac_tables.specs.declared.contiguous.rows.Rows.{Rows}
+use Rattle.ac_tables.proofs.LaidRowLemmas.{rows-if-any, rows-copied}
 use Rattle.ac_tables.proofs.LayLemmas.{Laid, names_in, parts_in}
 use Rattle.ac_tables.proofs.StatesLemmas.{states}
 
@@ -61,9 +68,9 @@ places-small nfa dense_depth classes places h great = let fits = h.fits great.0 
 
 -- ---- the states
 
--- whatever texts the states stand for, the table holds them
-pub some-states : (nfa : NFA) (dense_depth : ℕ) (table : Table) (places : List ℕ) → StandForSome nfa → TextsBegin nfa → AreKnown nfa (state_len nfa) → SpecialIn nfa (special_in nfa) → IsPairing (dictionary nfa).pairing → AreServing (dictionary nfa) table.classes → ArePlacesIn nfa dense_depth table.classes places → IsWordTableOf nfa dense_depth table → AreSomeStates (dictionary nfa) table
-some-states nfa dense_depth table places some begin known bounds paired serving h made =
+-- whatever texts the states stand for, the table holds them, and the rows are theirs
+pub some-states : (nfa : NFA) (dense_depth : ℕ) (table : Table) (rows : Option Rows) (places : List ℕ) → StandForSome nfa → TextsBegin nfa → AreKnown nfa (state_len nfa) → SpecialIn nfa (special_in nfa) → IsPairing (dictionary nfa).pairing → AreServing (dictionary nfa) table.classes → ArePlacesIn nfa dense_depth table.classes places → IsWordTableOf nfa dense_depth table → IfSome rows (AreRowsFrom nfa table.classes places) → AreSomeStates (dictionary nfa) table rows
+some-states nfa dense_depth table rows places some begin known bounds paired serving h made filled =
     ∥∥₁_map some (λ w.
     let laid : Laid nfa w.0 dense_depth table.classes = record {
       stand = w.1;
@@ -74,7 +81,7 @@ some-states nfa dense_depth table places some begin known bounds paired serving 
       serving = serving;
       fits = h.fits;
     } in
-    (names_in nfa dense_depth table.classes w.0, parts_in nfa dense_depth table.classes, states nfa dense_depth table w.0 laid made))
+    (names_in nfa dense_depth table.classes w.0, parts_in nfa dense_depth table.classes, states nfa dense_depth table w.0 laid made, rows-if-any nfa dense_depth table.classes places w.0 rows laid h filled))
 
 -- ---- the dictionary
 
@@ -84,6 +91,15 @@ same-dictionary m patterns pairing kind p q k =
     ap (λ (x : List (List ℕ)). dictionary_of x pairing kind) p
     ∙ ap (λ (x : List ℕ). dictionary_of m.patterns x kind) q
     ∙ ap (λ (x : MatchKind). dictionary_of m.patterns m.pairing x) k
+
+-- ---- why there are none
+
+-- a place that is too great by the classes is so by the settings
+pub refused-laid : (s : ContiguousSettings) (from : NFA) (classes : List ℕ) (error : BuildErrorKind) → AreClassesFor from s.byte_classes classes → IsRefusedFor from s.dense_depth classes error → IsRefusedFrom s from error
+refused-laid s from classes (StateIDOverflow max requested) chosen h = (h.0, h.1, classes, chosen, h.2)
+refused-laid s from classes (PatternIDOverflow max requested) chosen h = h
+refused-laid s from classes (PatternTooLong pattern len) chosen h = h
+refused-laid s from classes Memory chosen h = h
 
 -- ---- copies
 
@@ -111,8 +127,8 @@ words-copied m old new names parts same h = record {
 }
 
 -- and so are those of a copy
-pub states-copied : (m : Dictionary) (old new : Table) → IsCopiedTable old new → AreSomeStates m old → AreSomeStates m new
-states-copied m old new same some = ∥∥₁_map some (λ w.
+pub states-copied : (m : Dictionary) (old new : Table) (old_rows new_rows : Option Rows) → IsCopiedTable old new → AreSameIfAny old_rows new_rows → AreSomeStates m old old_rows → AreSomeStates m new new_rows
+states-copied m old new old_rows new_rows same same_rows some = ∥∥₁_map some (λ w.
     let names = w.0 in
     let parts = w.1 in
     let words = words-copied m old new names parts same.words w.2 in
@@ -120,4 +136,5 @@ states-copied m old new same some = ∥∥₁_map some (λ w.
     let alphabet = subst (λ (x : ℕ). AreStates m (record old { words = new.words; classes = new.classes; alphabet_len = x }) names parts) (sym same.alphabet_len) classes in
     let start = subst (λ (x : ℕ). AreStates m (record old { words = new.words; classes = new.classes; alphabet_len = new.alphabet_len; start = x }) names parts) (sym same.start) alphabet in
     let anchored = subst (λ (x : ℕ). AreStates m (record old { words = new.words; classes = new.classes; alphabet_len = new.alphabet_len; start = new.start; start_anchored = x }) names parts) (sym same.start_anchored) start in
-    (names, parts, subst (λ (x : ℕ). AreStates m (record old { words = new.words; classes = new.classes; alphabet_len = new.alphabet_len; start = new.start; start_anchored = new.start_anchored; max_match = x }) names parts) (sym same.max_match) anchored))
+    let states = subst (λ (x : ℕ). AreStates m (record old { words = new.words; classes = new.classes; alphabet_len = new.alphabet_len; start = new.start; start_anchored = new.start_anchored; max_match = x }) names parts) (sym same.max_match) anchored in
+    (names, parts, states, rows-copied m new.classes names old_rows new_rows same_rows (subst (λ (x : List ℕ). AreRowsIfAny m x names old_rows) (sym same.classes) w.3)))

@@ -2,13 +2,18 @@
 use Rattle.std.specs.Prelude.{◌≡◌, ◌≢◌, ℕ, ◌<◌, ◌≤◌, Bool, List, ◌++◌, map, take, drop, length, slice_index, ◌==◌, if◌then◌else◌}
 use Rattle.ac_automaton.specs.Named.{nowhere}
 use Rattle.ac_input.specs.Number.{greatest_number}
-use Rattle.ac_input.specs.Alphabet.{alphabet_len, IsClasses}
+use Rattle.ac_input.specs.Alphabet.{alphabet_len, IsClasses, IsLeastPowerOfTwo}
 use Rattle.ac_noncontiguous.specs.declared.error.BuildErrorKind.{BuildErrorKind}
 use Rattle.ac_noncontiguous.specs.declared.error.BuildErrorKind.TheVariants.{StateIDOverflow, PatternIDOverflow, PatternTooLong, Memory}
 use Rattle.ac_noncontiguous.specs.declared.nfa.NFA.{NFA}
 use Rattle.ac_noncontiguous.specs.ReadCalls.{state_len, fail_in, special_in, FailsIn, EdgesLeadIn, ListsIn, edges_in}
 use Rattle.ac_noncontiguous.specs.Reads.{matches_at}
 use Rattle.ac_tables.specs.Words.{StateParts, words_of}
+use Rattle.ac_input.specs.declared.search.StartKind.TheVariants.{Unanchored}
+use Rattle.ac_tables.specs.ContiguousRows.{row_len}
+use Rattle.ac_tables.specs.Filling.{RowPlan, IsFit, AreRowsUpTo}
+use Rattle.ac_tables.specs.TableClasses.{AreClassesFor}
+use Rattle.ac_tables.specs.declared.contiguous.rows.Rows.{Rows}
 use Rattle.ac_tables.specs.ContiguousTable.{placed_edge, place_in, words_at, AreWordsOf, ArePlacesTooGreat}
 use Rattle.ac_tables.specs.declared.contiguous.table.Table.{Table}
 
@@ -96,3 +101,24 @@ pub record IsCopiedTable (old new : Table) : Type 0 where
 -- the words are those of all states, and all of these are known
 abbrev pub AreAllWritten : NFA → ℕ → List ℕ → List ℕ → Type 0
 AreAllWritten nfa dense_depth classes words = AreWordsOf nfa dense_depth classes words × AreKnown nfa (state_len nfa)
+
+-- ---- the rows
+
+-- where the rows of an automaton stand: in the order of its states
+abbrev pub row_plan : NFA → List ℕ → ℕ → RowPlan
+row_plan nfa classes stride = record { nfa = nfa; kind = Unanchored; classes = classes; stride = stride }
+
+-- The rows are those of an automaton whose states have these places.
+pub record AreRowsFrom (nfa : NFA) (classes places : List ℕ) (rows : Rows) : Type 0 where
+  pub at : rows.places.items ≡ places
+  pub fit : IsFit (row_plan nfa classes (row_len rows))
+  pub filled : AreRowsUpTo (row_plan nfa classes (row_len rows)) (state_len nfa) (state_len nfa) rows.trans.items
+
+-- the classes are the automaton's, or each byte alone
+abbrev pub AreSomeClassesFor : NFA → List ℕ → Type 0
+AreSomeClassesFor nfa classes = (classed : Bool) × AreClassesFor nfa classed classes
+
+-- a row has as many entries as the least power of two that is enough for the classes
+pub record HasStride (classes : List ℕ) (stride : ℕ) : Type 0 where
+  pub least : IsLeastPowerOfTwo (alphabet_len classes) stride
+  pub wide : stride ≤ 256

@@ -13,23 +13,28 @@ use Rattle.ac_noncontiguous.specs.ReadCalls.{IsWithin}
 use Rattle.ac_noncontiguous.specs.Reads.{built_as, dictionary}
 use Rattle.ac_noncontiguous.specs.Standing.{IsBuildRefused}
 use Rattle.ac_tables.specs.declared.contiguous.NFA.{NFA}
-use Rattle.ac_tables.specs.declared.contiguous.table.Table.{Table}
+use Rattle.ac_tables.specs.declared.contiguous.builder.Laid.{Laid}
 use Rattle.ac_tables.specs.TableClasses.{AreClassesFor}
 use Rattle.ac_tables.specs.ContiguousTable.{AreWordsOf, ArePlacesTooGreat, AreSomeStates}
 use Rattle.ac_tables.specs.ContiguousReads.{contiguous_built_as}
 
--- The kind, which bytes are paired, whether a prefilter is wanted, to which depth states are dense, and whether bytes are put into
--- classes.
+-- The kind, which bytes are paired, whether a prefilter is wanted, to which depth states are dense, whether bytes are put into
+-- classes, and how many bytes of memory rows may take.
 pub record ContiguousSettings : Type 0 where
   pub kind : MatchKind
   pub pairing : List ℕ
   pub prefilter : Bool
   pub dense_depth : ℕ
   pub byte_classes : Bool
+  pub row_memory : ℕ
 
 -- to which depth states are dense where nothing else is set: the starts, and those of one byte
 abbrev pub contiguous_default_dense_depth : ℕ
 contiguous_default_dense_depth = 2
+
+-- how many bytes rows may take where nothing else is set: 16 MiB
+abbrev pub contiguous_default_row_memory : ℕ
+contiguous_default_row_memory = 16777216
 
 -- what they are at first
 pub record AreContiguousFirst (s : ContiguousSettings) : Type 0 where
@@ -38,6 +43,7 @@ pub record AreContiguousFirst (s : ContiguousSettings) : Type 0 where
   pub prefilter : s.prefilter ≡ true
   pub dense_depth : s.dense_depth ≡ contiguous_default_dense_depth
   pub byte_classes : s.byte_classes ≡ true
+  pub row_memory : s.row_memory ≡ contiguous_default_row_memory
 
 -- the settings of the noncontiguous automaton, which keeps no rows
 abbrev pub noncontiguous_of : ContiguousSettings → Settings
@@ -68,11 +74,11 @@ IsRefusedFrom s from (PatternIDOverflow max requested) = ⊥
 IsRefusedFrom s from (PatternTooLong pattern len) = ⊥
 IsRefusedFrom s from Memory = Unit {0}
 
--- The table is that of a noncontiguous automaton, in these classes.
-pub record IsTableFrom (from : Noncontiguous) (dense_depth : ℕ) (classes : List ℕ) (table : Table) : Type 0 where
-  pub words : AreWordsOf from dense_depth classes table.words.items
+-- The words and the rows are those of a noncontiguous automaton, in these classes.
+pub record IsLaidOf (from : Noncontiguous) (dense_depth : ℕ) (classes : List ℕ) (laid : Laid) : Type 0 where
+  pub words : AreWordsOf from dense_depth classes laid.table.words.items
   pub small : ¬ ArePlacesTooGreat from dense_depth classes
-  pub stands : AreSomeStates (dictionary from) table
+  pub stands : AreSomeStates (dictionary from) laid.table laid.rows
   pub within : IsWithin from
 
 -- ---- from patterns

@@ -9,6 +9,7 @@ use Rattle.ac_automaton.specs.Named.{Naming, OfNames, IsPaidStep, IsReadBy}
 use Rattle.ac_tables.specs.declared.contiguous.NFA.{NFA}
 use Rattle.ac_tables.specs.declared.contiguous.table.Table.{Table}
 use Rattle.ac_tables.specs.Words.{StateParts}
+use Rattle.ac_tables.specs.ContiguousRows.{AreRowsIfAny}
 use Rattle.ac_tables.specs.ContiguousTable.{AreStates}
 use Rattle.ac_tables.specs.WordReads.{matches_by}
 
@@ -32,9 +33,9 @@ is_contiguous_start_at nfa sid = (sid == nfa.table.start) || (sid == nfa.table.s
 abbrev pub is_contiguous_special_at : NFA → ℕ → Bool
 is_contiguous_special_at nfa sid = nat_le sid nfa.max_special
 
--- the words are laid out by these names
+-- the words are laid out by these names, and so are the rows, if there are any
 abbrev pub IsLaidOut : NFA → Naming → Type 0
-IsLaidOut nfa names = (parts : ℕ → StateParts) × AreStates (contiguous_dictionary nfa) nfa.table names parts
+IsLaidOut nfa names = (parts : ℕ → StateParts) × AreStates (contiguous_dictionary nfa) nfa.table names parts × AreRowsIfAny (contiguous_dictionary nfa) nfa.table.classes names nfa.rows
 
 -- A state is read by a search.
 abbrev pub IsContiguousRead : NFA → Anchored → List ℕ → ℕ → Type 0

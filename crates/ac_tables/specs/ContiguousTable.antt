@@ -13,6 +13,8 @@ use Rattle.ac_noncontiguous.specs.Nfa.{IsHeldFor}
 use Rattle.ac_noncontiguous.specs.ReadCalls.{state_len, fail_in, depth_in, edges_in}
 use Rattle.ac_noncontiguous.specs.Reads.{matches_at}
 use Rattle.ac_tables.specs.Words.{StateParts, next_by, words_of, AreWordsAt}
+use Rattle.ac_tables.specs.ContiguousRows.{AreRowsIfAny}
+use Rattle.ac_tables.specs.declared.contiguous.rows.Rows.{Rows}
 use Rattle.ac_tables.specs.declared.contiguous.table.Table.{Table}
 
 -- ---- the words as they are made of an automaton
@@ -83,15 +85,15 @@ pub record AreStates (m : Dictionary) (table : Table) (names : Naming) (parts : 
   pub between : (anchored : Bool) (sid : ℕ) → IsTrue (names.met anchored sid) → sid < table.start_anchored → sid ≤ table.start
   pub past : (1 < table.start) × (table.start < table.start_anchored)
 
--- some names and states are such
-abbrev pub AreSomeStates : Dictionary → Table → Type 0
-AreSomeStates m table = ∥ ((names : Naming) × (parts : ℕ → StateParts) × AreStates m table names parts) ∥₁
+-- some names and states are such, and the rows are those of the same names
+abbrev pub AreSomeStates : Dictionary → Table → Option Rows → Type 0
+AreSomeStates m table rows = ∥ ((names : Naming) × (parts : ℕ → StateParts) × AreStates m table names parts × AreRowsIfAny m table.classes names rows) ∥₁
 
 -- ---- what the automaton keeps beside them
 
--- the words of an automaton, its prefilter, if it holds one, its limits and its pairing
-pub record AreContiguousParts (m : Dictionary) (table : Table) (prefilter : Option Filter) : Type 0 where
+-- the words of an automaton, its rows and its prefilter, if it has any, its limits and its pairing
+pub record AreContiguousParts (m : Dictionary) (table : Table) (rows : Option Rows) (prefilter : Option Filter) : Type 0 where
   pub within : ∥ IsWithinLimits m ∥₁
-  pub stands : AreSomeStates m table
+  pub stands : AreSomeStates m table rows
   pub held : IsHeldFor m prefilter
   pub paired : IsPairing m.pairing

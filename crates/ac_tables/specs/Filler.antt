@@ -5,7 +5,7 @@ use Rattle.ac_input.specs.declared.search.Anchored.TheVariants.{No, Yes}
 use Rattle.ac_input.specs.Dfa.{dfa_states}
 use Rattle.ac_noncontiguous.specs.ReadCalls.{state_len, fail_in, edges_in, MayBeMet}
 use Rattle.ac_tables.specs.declared.dfa.fill.Filler.{Filler}
-use Rattle.ac_tables.specs.Filling.{RowPlan, number_in, IsRowRight, IsBlank, IsChangedIn, AreWritten, AreRowsUpTo}
+use Rattle.ac_tables.specs.Filling.{RowPlan, number_in, IsRowRight, IsUnwritten, IsChangedIn, AreWritten, AreRowsUpTo}
 
 -- the rows of its automaton, by its classes and numbers
 abbrev pub plan_of : Filler → RowPlan
@@ -33,7 +33,7 @@ IsFailureFilled f sid trans = IsRowRight (plan_of f) No (fail_in f.nfa.now sid) 
 
 -- the row of the state is blank, for anchored searches
 abbrev pub IsRowFree : Filler → ℕ → List ℕ → Type 0
-IsRowFree f sid trans = IsBlank f.numbers.stride (number_in (plan_of f) Yes sid) trans
+IsRowFree f sid trans = IsUnwritten f.numbers.stride (number_in (plan_of f) Yes sid) trans
 
 -- unanchored searches may come to the one state, and anchored ones to the other; both are past the first two
 abbrev pub ArePairMet : Filler → ℕ → ℕ → Type 0

@@ -64,8 +64,8 @@ abbrev pub IsRowRight : RowPlan → Anchored → ℕ → List ℕ → Type 0
 IsRowRight p anchored sid trans = (byte : ℕ) → byte < 256 → (next : ℕ) × IsCell p.nfa p.kind p.stride (slice_index trans (cell_in p anchored sid byte)) anchored sid byte next
 
 -- from this place on, this many places hold nothing but the dead state
-abbrev pub IsBlank : ℕ → ℕ → List ℕ → Type 0
-IsBlank stride at trans = (x : ℕ) → x < stride → slice_index trans (at + x) ≡ 0
+abbrev pub IsUnwritten : ℕ → ℕ → List ℕ → Type 0
+IsUnwritten stride at trans = (x : ℕ) → x < stride → slice_index trans (at + x) ≡ 0
 
 -- only this many places from this place on have changed
 pub record IsChangedIn (stride at : ℕ) (old new : List ℕ) : Type 0 where
@@ -109,7 +109,7 @@ IsDone start low high sid = (sid < low) ⊎ ((start ≤ sid) × (sid < high))
 pub record AreRowsUpTo (p : RowPlan) (low high : ℕ) (trans : List ℕ) : Type 0 where
   pub len : length trans ≡ dfa_states p.kind (state_len p.nfa) * p.stride
   pub right : (a : Anchored) (sid : ℕ) → Serves p.kind a → MayBeMet p.nfa a sid → IsDone (special_in p.nfa).start_unanchored_id low high sid → IsRowRight p a sid trans
-  pub blank : (a : Anchored) (sid : ℕ) → Serves p.kind a → MayBeMet p.nfa a sid → (¬ IsDone (special_in p.nfa).start_unanchored_id low high sid) → IsBlank p.stride (number_in p a sid) trans
+  pub blank : (a : Anchored) (sid : ℕ) → Serves p.kind a → MayBeMet p.nfa a sid → (¬ IsDone (special_in p.nfa).start_unanchored_id low high sid) → IsUnwritten p.stride (number_in p a sid) trans
 
 -- which of two states is filled next: the one of the first run, where the second run has no more, or its state is no deeper
 pub record IsMerged (nfa : NFA) (start low high : ℕ) (first : Bool) : Type 0 where

@@ -23,10 +23,13 @@ pub mod DfaTable
 pub mod DfaLookups
 pub mod DfaReads
 pub mod Words
+pub mod Cut
+pub mod ContiguousRows
 pub mod ContiguousTable
 pub mod ContiguousBuild
 pub mod WordReads
 pub mod ContiguousReads
+pub mod ByRows
 pub mod Filling
 pub mod Filler
 pub mod DfaLists

@@ -4,6 +4,10 @@
 //! and its number is the place of the first of them. So a look-up reads one or two lines of the cache, and the whole takes about
 //! half the memory. A DFA is faster still, and takes many times as much.
 //!
+//! Where they take little memory, there are rows beside the words, as those of a DFA: all failures are followed beforehand. A search
+//! that isn't anchored reads on by them, and is about as fast as by a DFA. How much memory they may take is a setting of the
+//! [builder](Builder::row_memory). They change no result and no number of a state.
+//!
 //! The words of a state are, in this order:
 //!
 //! - Its kind, in the low eight bits. It is 255 if the state has an entry for each class of bytes, and 254 if it has a single
@@ -35,10 +39,13 @@
 //! state at 8.
 mod automaton;
 pub mod builder;
+mod by_rows;
 mod copies;
+mod filled;
 mod layout;
 mod places;
 mod reads;
+mod rows;
 mod states;
 mod table;
 mod words;
@@ -55,9 +62,12 @@ ghost use Rattle.ac_automaton.specs.Starters.{SkipsIdle};
 ghost use Rattle.ac_tables.specs.ContiguousTable.{AreSomeStates, AreContiguousParts};
 ghost use Rattle.ac_tables.specs.WordReads.{IsIdleAt};
 
+use crate::contiguous::rows::Rows;
 use crate::contiguous::table::Table;
+use crate::source::unused;
 use ac_automaton::held::last_special;
 use ac_automaton::skip::Skips;
+use ac_input::alphabet::ByteSet;
 use ac_input::pairing::Pairing;
 use ac_input::primitives::StateID;
 use ac_input::search::MatchKind;
@@ -70,16 +80,20 @@ pub use builder::Builder;
 #[derive(Drop)]
 pub struct NFA {
     table: Table,
+    /// Where each byte leads, all failures followed, if the rows are small enough.
+    rows: Option<Rows>,
     skips: Skips,
     lens: PatternLens,
     /// The last state at which a search has more to do than to read on.
     max_special: StateID,
+    /// Bytes that no pattern has.
+    unused: ByteSet,
     prefilter: Option<Prefilter>,
     pairing: Pairing,
     kind: MatchKind,
     ghost paired: { IsPairing pairing },
     ghost within: { ∥ IsWithinLimits (dictionary_of lens pairing kind) ∥₁ },
-    ghost stands: { AreSomeStates (dictionary_of lens pairing kind) table },
+    ghost stands: { AreSomeStates (dictionary_of lens pairing kind) table rows },
     ghost begins: { skips.start ≡ table.start },
     ghost idle: { ∥ SkipsIdle (IsIdleAt table) skips.starters ∥₁ },
     ghost special: { max_special ≡ last_special_of prefilter table.start_anchored table.max_match },
@@ -90,16 +104,17 @@ pub struct NFA {
 impl NFA {
     ghost use Rattle.ac_tables.specs.ContiguousReads.{IsContiguousMadeOf};
 
-    /// The automaton of these words, patterns and settings.
+    /// The automaton of these words, rows, patterns and settings.
     pub(crate) fn from_parts(
         table: Table,
+        rows: Option<Rows>,
         lens: PatternLens,
         prefilter: Option<Prefilter>,
         openings: Option<Openings>,
         pairing: Pairing,
         kind: MatchKind,
     ) -> NFA
-        requires parts { AreContiguousParts (dictionary_of lens pairing kind) table prefilter }
+        requires parts { AreContiguousParts (dictionary_of lens pairing kind) table rows prefilter }
         requires opened { ∥ AreOpenedBy (dictionary_of lens pairing kind) openings ∥₁ }
         ensures { IsContiguousMadeOf (dictionary_of lens pairing kind) table prefilter result }
     {
@@ -109,11 +124,14 @@ impl NFA {
             openings,
             starters: table.starters(),
         };
+        let unused = unused(&table.classes);
         NFA {
             table,
+            rows,
             skips,
             lens,
             max_special,
+            unused,
             prefilter,
             pairing,
             kind,

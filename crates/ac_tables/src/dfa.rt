@@ -34,9 +34,9 @@
 //! greatest number of a state.
 mod automaton;
 pub mod builder;
-mod fill;
+pub(crate) mod fill;
 mod lists;
-mod numbers;
+pub(crate) mod numbers;
 mod read;
 mod table;
 
@@ -52,8 +52,10 @@ ghost use Rattle.ac_tables.specs.DfaLookups.{IsIdleIn};
 ghost use Rattle.ac_tables.specs.DfaTable.{AreSomeRows, AreDfaParts};
 
 use crate::dfa::table::Table;
+use crate::source::unused;
 use ac_automaton::held::last_special;
 use ac_automaton::skip::Skips;
+use ac_input::alphabet::ByteSet;
 use ac_input::pairing::Pairing;
 use ac_input::primitives::StateID;
 use ac_input::search::MatchKind;
@@ -70,6 +72,8 @@ pub struct DFA {
     lens: PatternLens,
     /// The last state at which a search has more to do than to read on.
     max_special: StateID,
+    /// Bytes that no pattern has.
+    unused: ByteSet,
     prefilter: Option<Prefilter>,
     pairing: Pairing,
     kind: MatchKind,
@@ -104,11 +108,13 @@ impl DFA {
             openings,
             starters: table.starters(),
         };
+        let unused = unused(&table.classes);
         DFA {
             table,
             skips,
             lens,
             max_special,
+            unused,
             prefilter,
             pairing,
             kind,

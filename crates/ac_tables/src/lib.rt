@@ -7,4 +7,5 @@
 
 pub mod contiguous;
 pub mod dfa;
+mod rows;
 mod source;

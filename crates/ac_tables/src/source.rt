@@ -3,7 +3,7 @@ ghost use Rattle.std.specs.Prelude.{IfOk};
 ghost use Rattle.ac_noncontiguous.specs.Reads.{dictionary};
 ghost use Rattle.ac_tables.specs.TableClasses.{AreClassesFor, AreServing};
 
-use ac_input::alphabet::ByteClasses;
+use ac_input::alphabet::{ByteClasses, ByteSet};
 use ac_noncontiguous::nfa::NFA;
 use std::alloc::AllocError;
 
@@ -17,4 +17,20 @@ pub(crate) fn classes_of(nfa: &NFA, byte_classes: bool) -> Result<ByteClasses, A
     } else {
         Ok(ByteClasses::singletons())
     }
+}
+
+/// Bytes that no pattern has, nor their partners: those that share their class with the byte before or after them. A byte that a
+/// pattern has is alone in its class. One that none has is left out where both of its neighbours are used.
+///
+/// They only choose where lanes begin, so no contract says what they are.
+pub(crate) fn unused(classes: &ByteClasses) -> ByteSet {
+    let mut unused = ByteSet::empty();
+    for byte in 1..256usize {
+        let (before, here) = (byte as u8 - 1, byte as u8);
+        if classes.get(before) == classes.get(here) {
+            unused.add(before);
+            unused.add(here);
+        }
+    }
+    unused
 }

@@ -21,7 +21,7 @@ use Rattle.ac_automaton.specs.Replace.{LieInOrder}
 use Rattle.acsub.specs.Finder.{IsFinderOf, IsServing, whole_search, whole_walk, whole_listing}
 use Rattle.acsub.specs.Lines.{rule_at}
 use Rattle.acsub.specs.Settings.{IsAccepted}
-use Rattle.acsub.specs.Sides.{patterns_of}
+use Rattle.acsub.specs.Sides.{rule_patterns}
 use Rattle.acsub.specs.Plan.{Plan}
 use Rattle.acsub.specs.declared.prepared.Finder.TheVariants as finders
 use Rattle.acsub.specs.declared.settings.Engine.TheVariants as engine
@@ -36,7 +36,7 @@ pub packed-walk : {A : Type 0} (built : A → Built) (supports : A → Anchored 
 packed-walk built supports plan input searcher serves =
     ap (λ (k : kinds.MatchKind). walk_of k (part_search searcher.patterns input 0 (length input))) serves.0.0
     ∙ ap (λ (ps : List (List ℕ)). walk_of plan.settings.kind (part_search ps input 0 (length input))) serves.0.1
-    ∙ walk_after-unpaired plan.settings.kind (whole_search plan.settings (patterns_of plan.rules) input) [] plan.settings.pairing (λ byte. refl) serves.1 0 None
+    ∙ walk_after-unpaired plan.settings.kind (whole_search plan.settings (rule_patterns plan.rules) input) [] plan.settings.pairing (λ byte. refl) serves.1 0 None
 
 -- so is the walk of an automaton that serves it
 pub automaton-walk : (b : Built) (supports : Anchored → Type 0) (plan : Plan) (input : List ℕ) → IsServing plan b supports
@@ -61,7 +61,7 @@ packed-leftmost packed_kind.LeftmostLongest e = cc
 -- the picks of a whole input lie in order
 pub whole-lies : (settings : Settings) (rules : List Rule) (input : List ℕ) → LieInOrder (length rules) (length input) 0 (whole_walk (record { settings = settings; rules = rules }) input)
 whole-lies settings rules input =
-    let lies = walk-lies settings.kind (whole_search settings (patterns_of rules) input) 0 None _ (walk_of-walk settings.kind (whole_search settings (patterns_of rules) input) (omega arith)) in
+    let lies = walk-lies settings.kind (whole_search settings (rule_patterns rules) input) 0 None _ (walk_of-walk settings.kind (whole_search settings (rule_patterns rules) input) (omega arith)) in
     subst (λ (count : ℕ). LieInOrder count (length input) 0 (whole_walk (record { settings = settings; rules = rules }) input)) (length-map rules (λ (rule : Rule). rule.0)) lies
 
 -- overlapping matches are only found under the standard kind
@@ -82,16 +82,16 @@ pub packed-unpaired : (s : Settings) (rules : List Rule) → IsAccepted s rules 
 packed-unpaired s rules accepted packs byte = elim (cases_eq (other s.pairing byte) byte) [ inl same ↦ same | inr differs ↦ absurd (accepted error.PackedFold (packs, λ unpaired. differs (unpaired byte))) ]
 
 -- and for patterns that it serves
-pub packed-served : (s : Settings) (rules : List Rule) → IsAccepted s rules → s.engine ≡ engine.Packed → AreServed (patterns_of rules)
+pub packed-served : (s : Settings) (rules : List Rule) → IsAccepted s rules → s.engine ≡ engine.Packed → AreServed (rule_patterns rules)
 packed-served s rules accepted packs =
-    let count : length (patterns_of rules) ≡ length rules = length-map rules (λ (rule : Rule). rule.0) in
+    let count : length (rule_patterns rules) ≡ length rules = length-map rules (λ (rule : Rule). rule.0) in
     let some : length rules ≢ 0 = λ none. accepted error.PackedCount (packs, inl none) in
     let few : ¬ (128 < length rules) = λ many. accepted error.PackedCount (packs, inr many) in
     record {
       some = omega arith;
       few = omega arith;
       full = λ number within.
-          let at : pattern_at (patterns_of rules) number ≡ (rule_at rules number).0 = get_or-map (λ (rule : Rule). rule.0) rules number ([], []) [] (omega arith) in
-          let filled : length (pattern_at (patterns_of rules) number) ≢ 0 = λ e. accepted error.PackedEmpty (packs, (number, omega arith, sym at ∙ nil_from_length (pattern_at (patterns_of rules) number) e)) in
+          let at : pattern_at (rule_patterns rules) number ≡ (rule_at rules number).0 = get_or-map (λ (rule : Rule). rule.0) rules number ([], []) [] (omega arith) in
+          let filled : length (pattern_at (rule_patterns rules) number) ≢ 0 = λ e. accepted error.PackedEmpty (packs, (number, omega arith, sym at ∙ nil_from_length (pattern_at (rule_patterns rules) number) e)) in
           omega arith;
     }

@@ -6,7 +6,7 @@ use Rattle.ac_input.specs.declared.search.MatchKind.{MatchKind}
 use Rattle.ac_input.proofs.RuleLemmas.{IsRuleFile-one}
 use Rattle.acsub.specs.Finder.{whole_search}
 use Rattle.acsub.specs.RunLaws.{AskAlike, RunsWriteAlike}
-use Rattle.acsub.specs.Sides.{patterns_of, replacements_of}
+use Rattle.acsub.specs.Sides.{rule_patterns, replacements_of}
 use Rattle.acsub.specs.Transformed.{output_of, text_in}
 use Rattle.acsub.specs.declared.settings.Mode.{Mode}
 use Rattle.acsub.specs.declared.settings.Settings.{Settings}
@@ -14,9 +14,9 @@ use Rattle.acsub.specs.declared.settings.Settings.{Settings}
 -- settings that ask for the same text make the same text of the same input
 output-alike : (settings other : Settings) (rules : List Rule) (input : List ℕ) → AskAlike settings other → output_of settings rules input ≡ output_of other rules input
 output-alike settings other rules input alike =
-    ap (λ (mode : Mode). text_in mode settings.kind (replacements_of rules) (whole_search settings (patterns_of rules) input)) alike.mode
-    ∙ ap (λ (kind : MatchKind). text_in other.mode kind (replacements_of rules) (whole_search settings (patterns_of rules) input)) alike.kind
-    ∙ ap (λ (pairing : List ℕ). text_in other.mode other.kind (replacements_of rules) (record (whole_search settings (patterns_of rules) input) { pairing = pairing })) alike.pairing
+    ap (λ (mode : Mode). text_in mode settings.kind (replacements_of rules) (whole_search settings (rule_patterns rules) input)) alike.mode
+    ∙ ap (λ (kind : MatchKind). text_in other.mode kind (replacements_of rules) (whole_search settings (rule_patterns rules) input)) alike.kind
+    ∙ ap (λ (pairing : List ℕ). text_in other.mode other.kind (replacements_of rules) (record (whole_search settings (rule_patterns rules) input) { pairing = pairing })) alike.pairing
 
 pub runs_write_alike : RunsWriteAlike
 runs_write_alike settings other file m n alike same ran again =

@@ -21,7 +21,7 @@ use Rattle.aho_corasick.proofs.EngineLemmas.{dfa-deterministic}
 use Rattle.aho_corasick.proofs.ServedLemmas.{made-follows}
 use Rattle.acsub.specs.Finder.{FailsToBuild, IsServing, not_built}
 use Rattle.acsub.specs.Served.{IsAutomatonFor, IsBuildable, IsServedByDfa, automaton_named, builder_settings, dictionary_for}
-use Rattle.acsub.specs.Sides.{patterns_of}
+use Rattle.acsub.specs.Sides.{rule_patterns}
 use Rattle.acsub.specs.declared.settings.Engine.{Engine}
 use Rattle.acsub.specs.declared.settings.Engine.TheVariants as engines
 use Rattle.acsub.specs.declared.settings.Settings.{Settings}
@@ -42,7 +42,7 @@ served-dfa settings rules from kind is served (inr (auto, takes)) =
     (subst (TakesDfa (builder_settings settings)) (sym is) takes)
     (subst (λ (e : Engine). IsServedBy (automaton_named e) (builder_settings settings) from kind) auto served)
 
-module _ (settings : Settings) (rules : List Rule) (patterns : List (List ℕ)) (same : patterns ≡ patterns_of rules) where
+module _ (settings : Settings) (rules : List Rule) (patterns : List (List ℕ)) (same : patterns ≡ rule_patterns rules) where
   -- the patterns that a builder is given are those of the rules
   handed : front_dictionary (builder_settings settings) patterns ≡ dictionary_for settings rules
   handed = ap (λ (ps : List (List ℕ)). record (dictionary_for settings rules) { patterns = ps }) same

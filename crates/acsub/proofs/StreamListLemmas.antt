@@ -40,7 +40,7 @@ use Rattle.ac_automaton.specs.declared.error.StreamError.{StreamError}
 use Rattle.ac_automaton.specs.declared.error.StreamError.TheVariants as reads
 use Rattle.acsub.specs.Finder.{whole_search}
 use Rattle.acsub.specs.Served.{dictionary_for}
-use Rattle.acsub.specs.Sides.{patterns_of, replacements_of}
+use Rattle.acsub.specs.Sides.{rule_patterns, replacements_of}
 use Rattle.acsub.specs.Stream.{IsReturnedAs, Streams}
 use Rattle.acsub.specs.Transformed.{IsOutputFront, IsStreamed, output_of, text_in}
 use Rattle.acsub.specs.declared.settings.Mode.{Mode}
@@ -438,7 +438,7 @@ module _ (settings : Settings) (rules : List Rule) (b : Built) (built : b.dictio
   lines-output : (x : List ℕ) → listed_in b x ≡ output_of settings rules x
   lines-output x =
       ap (λ (m : Dictionary). listed (walk_of m.kind (whole m x false))) built
-      ∙ ap (λ (asked : Mode). text_in asked settings.kind (replacements_of rules) (whole_search settings (patterns_of rules) x)) (sym mode)
+      ∙ ap (λ (asked : Mode). text_in asked settings.kind (replacements_of rules) (whole_search settings (rule_patterns rules) x)) (sym mode)
 
   -- they are the front of it that ends where it ends
   lines-front : (x text : List ℕ) → text ≡ listed_in b x → IsOutputFront settings rules x text

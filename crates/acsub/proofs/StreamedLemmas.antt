@@ -34,7 +34,7 @@ use Rattle.acsub.specs.Served.{dictionary_for}
 use Rattle.acsub.specs.Run.{AnswersRules, IsRefusal, RanPrepared, RanToFailedWrite, ReadsByBuffer, ReadsWithin}
 use Rattle.acsub.specs.Plan.{Plan, plan_for}
 use Rattle.acsub.specs.Settings.{HasEmptyPattern, IsAccepted}
-use Rattle.acsub.specs.Sides.{patterns_of, replacements_of}
+use Rattle.acsub.specs.Sides.{rule_patterns, replacements_of}
 use Rattle.acsub.specs.Stream.{IsReturnedAs, Streams}
 use Rattle.acsub.proofs.RunLemmas.{HasMoved-nothing, nothing}
 use Rattle.acsub.specs.Transformed.{IsOutputFront, IsStreamed, output_of, stream_room, text_in}
@@ -42,7 +42,7 @@ use Rattle.acsub.specs.Transformed.{IsOutputFront, IsStreamed, output_of, stream
 -- ---- that a stream can be searched
 
 -- where no pattern is empty the shortest has a byte
-pub filled-shortest : (rules : List Rule) → ¬ HasEmptyPattern rules → 1 ≤ shortest (patterns_of rules)
+pub filled-shortest : (rules : List Rule) → ¬ HasEmptyPattern rules → 1 ≤ shortest (rule_patterns rules)
 filled-shortest [] filled = omega arith
 filled-shortest (rule ∷ rules) filled =
     let rest = filled-shortest rules (λ empty. let within = empty.1 in filled (suc empty.0, omega (arith, within), empty.2)) in
@@ -55,7 +55,7 @@ config-none b supports settings rules refusal is can streamed (inl none) = none.
 config-none b supports settings rules refusal is can streamed (inr (inl other)) = other.1 (ap (λ (m : Dictionary). m.kind) is ∙ streamed.0)
 config-none b supports settings rules refusal is can streamed (inr (inr empty)) =
     let some = filled-shortest rules streamed.2 in
-    let same : shortest b.dictionary.patterns ≡ shortest (patterns_of rules) = ap (λ (m : Dictionary). shortest m.patterns) is in
+    let same : shortest b.dictionary.patterns ≡ shortest (rule_patterns rules) = ap (λ (m : Dictionary). shortest m.patterns) is in
     let none = empty.2 in
     omega (arith, none, some, same)
 
@@ -72,7 +72,7 @@ not-refused b supports settings rules r r' w w' error refusal is can streamed re
 replaced-output : (b : Built) (settings : Settings) (rules : List Rule) (x : List ℕ) → b.dictionary ≡ dictionary_for settings rules → settings.mode ≡ modes.Replace → replaced_in b (replacements_of rules) x ≡ output_of settings rules x
 replaced-output b settings rules x is mode =
     ap (λ (m : Dictionary). replaced_from 0 x (replacements_of rules) (walk_of m.kind (search_in m (whole_of x)))) is
-    ∙ ap (λ (k : Mode). text_in k settings.kind (replacements_of rules) (whole_search settings (patterns_of rules) x)) (sym mode)
+    ∙ ap (λ (k : Mode). text_in k settings.kind (replacements_of rules) (whole_search settings (rule_patterns rules) x)) (sym mode)
 
 -- the front of it too
 replaced-front : (b : Built) (settings : Settings) (rules : List Rule) (x text : List ℕ) → b.dictionary ≡ dictionary_for settings rules → settings.mode ≡ modes.Replace → IsReplacedFront b (replacements_of rules) x text → IsOutputFront settings rules x text
@@ -92,11 +92,11 @@ front-begins : (settings : Settings) (rules : List Rule) (x text : List ℕ) (mo
 front-begins settings rules x text modes.Replace is streamed f =
     let final = cut-final (dictionary_for settings rules) x f.front.cut (replacements_of rules) streamed.0 f.front.is_cut in
     subst (λ (t : List ℕ). IsBeginning t (output_of settings rules x)) (sym f.front.front)
-    (subst (λ (k : Mode). IsBeginning (text_in k settings.kind (replacements_of rules) (whole_search settings (patterns_of rules) (take f.front.cut x))) (text_in k settings.kind (replacements_of rules) (whole_search settings (patterns_of rules) x))) (sym is) final.0)
+    (subst (λ (k : Mode). IsBeginning (text_in k settings.kind (replacements_of rules) (whole_search settings (rule_patterns rules) (take f.front.cut x))) (text_in k settings.kind (replacements_of rules) (whole_search settings (rule_patterns rules) x))) (sym is) final.0)
 front-begins settings rules x text modes.List is streamed f =
     let final = cut-final (dictionary_for settings rules) x f.front.cut (replacements_of rules) streamed.0 f.front.is_cut in
     subst (λ (t : List ℕ). IsBeginning t (output_of settings rules x)) (sym f.front.front)
-    (subst (λ (k : Mode). IsBeginning (text_in k settings.kind (replacements_of rules) (whole_search settings (patterns_of rules) (take f.front.cut x))) (text_in k settings.kind (replacements_of rules) (whole_search settings (patterns_of rules) x))) (sym is) final.1)
+    (subst (λ (k : Mode). IsBeginning (text_in k settings.kind (replacements_of rules) (whole_search settings (rule_patterns rules) (take f.front.cut x))) (text_in k settings.kind (replacements_of rules) (whole_search settings (rule_patterns rules) x))) (sym is) final.1)
 front-begins settings rules x text modes.Overlap is streamed f = absurd (streamed.1 is)
 
 -- ---- what the results say

@@ -21,7 +21,7 @@ use Rattle.acsub.specs.declared.prepared.Finder.TheVariants as finders
 use Rattle.acsub.specs.declared.settings.Settings.{Settings}
 use Rattle.acsub.specs.Plan.{Plan}
 use Rattle.acsub.specs.Served.{IsAutomatonFor, IsBuildable, IsNotBuilt, IsServedByDfa, dictionary_for}
-use Rattle.acsub.specs.Sides.{patterns_of}
+use Rattle.acsub.specs.Sides.{rule_patterns}
 
 -- the search of a whole input
 abbrev pub whole_search : Settings → List (List ℕ) → List ℕ → Search
@@ -29,11 +29,11 @@ whole_search settings patterns input = record { patterns = patterns; pairing = s
 
 -- its one walk, by a plan
 abbrev pub whole_walk : Plan → List ℕ → List Occurrence
-whole_walk plan input = walk_of plan.settings.kind (whole_search plan.settings (patterns_of plan.rules) input)
+whole_walk plan input = walk_of plan.settings.kind (whole_search plan.settings (rule_patterns plan.rules) input)
 
 -- all that overlap in it
 abbrev pub whole_listing : Plan → List ℕ → List Occurrence
-whole_listing plan input = listing_of (whole_search plan.settings (patterns_of plan.rules) input)
+whole_listing plan input = listing_of (whole_search plan.settings (rule_patterns plan.rules) input)
 
 -- a packed search is one for these patterns, of this kind
 abbrev pub IsPackedFor : kinds.MatchKind → List (List ℕ) → Packed → Type 0
@@ -54,7 +54,7 @@ pub record IsServing (plan : Plan) (b : Built) (supports : Anchored → Type 0) 
 -- where no bytes are paired.
 abbrev pub IsFinderOf : {A : Type 0} → (A → Built) → (A → Anchored → Type 0) → Settings → List Rule → Finder A → Type 0
 IsFinderOf built supports settings rules (finders.Automaton automaton) = IsServing (record { settings = settings; rules = rules }) (built automaton) (supports automaton)
-IsFinderOf built supports settings rules (finders.Packed searcher) = IsPackedFor settings.kind (patterns_of rules) searcher × IsUnpaired settings.pairing
+IsFinderOf built supports settings rules (finders.Packed searcher) = IsPackedFor settings.kind (rule_patterns rules) searcher × IsUnpaired settings.pairing
 
 -- the error of a run where nothing was built: out of memory is none of its limits
 abbrev pub not_built : BuildErrorKind → RunError

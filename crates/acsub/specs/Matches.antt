@@ -4,7 +4,7 @@ use Rattle.ac_input.specs.Occurrence.{Occurrence}
 use Rattle.ac_input.specs.Steps.{Done, moved_of, scanned_of}
 use Rattle.ac_input.specs.declared.search.MatchKind.TheVariants.{Standard}
 use Rattle.ac_input.specs.declared.steps.Steps.{Steps}
-use Rattle.ac_automaton.specs.Iter.{IsWithinBudget, Walk, kind_of, left_of}
+use Rattle.ac_automaton.specs.Iter.{IsWithinBudget, Walk, walk_kind, left_of}
 use Rattle.ac_automaton.specs.OverlappingIter.{IsWithinOneWalk, Run, rest_of}
 use Rattle.acsub.specs.Plan.{Plan}
 use Rattle.acsub.specs.Served.{AreLooksFor, IsServedByDfa}
@@ -25,7 +25,7 @@ pub record IsHeldCost (plan : Plan) (n : ℕ) (before after : Steps) : Type 0 wh
 -- Everything that was counted since a point is the sums of a walk over this many bytes, by an automaton that serves the plan.
 pub record IsWalkCounted (plan : Plan) (n : ℕ) (begun now : Steps) (walk : Walk) : Type 0 where
   pub counted : Done walk.looked walk.scanned walk.moved begun now
-  pub kind : kind_of walk ≡ plan.settings.kind
+  pub kind : walk_kind walk ≡ plan.settings.kind
   pub looks : IsServedByDfa plan.settings plan.rules → IsTrue walk.built.deterministic
   pub within : walk.asked.span.end ≤ n
   pub paid : IsWithinBudget walk

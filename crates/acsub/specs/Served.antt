@@ -12,12 +12,12 @@ use Rattle.ac_noncontiguous.specs.Reads.{dictionary}
 use Rattle.ac_noncontiguous.specs.declared.error.BuildErrorKind.{BuildErrorKind}
 use Rattle.ac_noncontiguous.specs.declared.error.BuildErrorKind.TheVariants as limits
 use Rattle.ac_noncontiguous.specs.declared.nfa.NFA.{NFA}
-use Rattle.aho_corasick.specs.Builder.{FrontSettings}
+use Rattle.aho_corasick.specs.Builder.{FrontSettings, front_default_row_memory}
 use Rattle.aho_corasick.specs.Served.{IsDictionaryRefused, IsServed, TakesDfa}
 use Rattle.aho_corasick.specs.declared.ahocorasick.AhoCorasickKind.{AhoCorasickKind}
 use Rattle.aho_corasick.specs.declared.ahocorasick.AhoCorasickKind.TheVariants as kinds
 use Rattle.acsub.specs.Plan.{Plan}
-use Rattle.acsub.specs.Sides.{patterns_of}
+use Rattle.acsub.specs.Sides.{rule_patterns}
 use Rattle.acsub.specs.declared.settings.Engine.{Engine}
 use Rattle.acsub.specs.declared.settings.Engine.TheVariants as engines
 use Rattle.acsub.specs.declared.settings.Settings.{Settings}
@@ -40,11 +40,12 @@ builder_settings s = record {
   prefilter = s.prefilter;
   dense_depth = s.dense_depth;
   byte_classes = s.byte_classes;
+  row_memory = front_default_row_memory;
 }
 
 -- what an automaton is built from
 abbrev pub dictionary_for : Settings → List Rule → Dictionary
-dictionary_for settings rules = record { patterns = patterns_of rules; pairing = settings.pairing; kind = settings.kind }
+dictionary_for settings rules = record { patterns = rule_patterns rules; pairing = settings.pairing; kind = settings.kind }
 
 -- the automaton for settings and rules is of this kind
 abbrev pub IsAutomatonFor : Settings → List Rule → AhoCorasickKind → Type 0

@@ -12,8 +12,8 @@ abbrev pub rules_of : List Sides → List Rule
 rules_of kept = map rule_of kept
 
 -- what rules look for, and what they put in its place
-abbrev pub patterns_of : List Rule → List (List ℕ)
-patterns_of rules = map (λ rule. rule.0) rules
+abbrev pub rule_patterns : List Rule → List (List ℕ)
+rule_patterns rules = map (λ rule. rule.0) rules
 
 abbrev pub replacements_of : List Rule → List (List ℕ)
 replacements_of rules = map (λ rule. rule.1) rules

@@ -17,7 +17,7 @@ use Rattle.acsub.specs.declared.settings.Settings.{Settings}
 use Rattle.acsub.specs.Finder.{whole_search}
 use Rattle.acsub.specs.Served.{dictionary_for}
 use Rattle.acsub.specs.Settings.{HasEmptyPattern}
-use Rattle.acsub.specs.Sides.{patterns_of, replacements_of}
+use Rattle.acsub.specs.Sides.{rule_patterns, replacements_of}
 
 -- the text that a mode makes of a search
 abbrev pub text_in : Mode → MatchKind → List (List ℕ) → Search → List ℕ
@@ -27,7 +27,7 @@ text_in modes.Overlap kind replacements s = listed (listing_of s)
 
 -- The text that settings and rules make of an input. The engine, its prefilter, dense depth and byte classes are not in it.
 abbrev pub output_of : Settings → List Rule → List ℕ → List ℕ
-output_of settings rules input = text_in settings.mode settings.kind (replacements_of rules) (whole_search settings (patterns_of rules) input)
+output_of settings rules input = text_in settings.mode settings.kind (replacements_of rules) (whole_search settings (rule_patterns rules) input)
 
 -- The text is written while the input is still read: the matches are those of the standard kind, which no later byte can change,
 -- no pattern is empty, and the overlapping matches are not requested. Every other text is written after the whole input was read.
@@ -36,7 +36,7 @@ IsStreamed settings rules = (settings.kind ≡ Standard) × (settings.mode ≢ m
 
 -- how many bytes the buffer of an input has room for whose text is written while it is read
 abbrev pub stream_room : List Rule → ℕ
-stream_room rules = room_for (kept_for (longest (patterns_of rules)))
+stream_room rules = room_for (kept_for (longest (rule_patterns rules)))
 
 -- The text of the front of an input, as far as it can be written. Where matches are listed nothing is left: the text is the list of
 -- all matches that end within the input.

@@ -12,7 +12,7 @@ ghost use Rattle.acsub.specs.Matches.{IsUncounted, left_in};
 ghost use Rattle.acsub.specs.Plan.{plan_for};
 ghost use Rattle.acsub.specs.Served.{automaton_named, builder_settings};
 ghost use Rattle.acsub.specs.Settings.{IsAccepted};
-ghost use Rattle.acsub.specs.Sides.{patterns_of};
+ghost use Rattle.acsub.specs.Sides.{rule_patterns};
 ghost use Rattle.acsub.specs.Transformed.{IsStreamed};
 ghost use Rattle.acsub.specs.declared.settings.Engine.TheVariants.{Packed};
 
@@ -191,8 +191,8 @@ fn automaton_named(engine: Engine) -> Option<AhoCorasickKind>
 /// A packed search for the rules' patterns, which it serves.
 fn packed_for(alloc: Global, kind: MatchKind, rules: &Rules) -> Result<Searcher, AllocError>
     requires kind { kind ≢ Standard }
-    requires served { AreServed (patterns_of rules.now) }
-    ensures { IfOk result (IsPackedFor kind (patterns_of rules.now)) }
+    requires served { AreServed (rule_patterns rules.now) }
+    ensures { IfOk result (IsPackedFor kind (rule_patterns rules.now)) }
 {
     let patterns = rules.patterns(alloc)?;
     build_packed(alloc, kind, patterns.as_slice())

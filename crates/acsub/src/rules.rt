@@ -13,7 +13,7 @@ ghost use Rattle.ac_input.specs.Rules.{Spells, IsRuleFile, FirstBadLine, BeginsW
 ghost use Rattle.acsub.specs.File.{ReadsRules};
 ghost use Rattle.acsub.specs.Lines.{HasCount, HasRules, IsFirstLine, IsSpelling, IsSplitAt, rule_at};
 ghost use Rattle.ac_literal.specs.Packed.{bytes_of};
-ghost use Rattle.acsub.specs.Sides.{patterns_of, replacements_of};
+ghost use Rattle.acsub.specs.Sides.{rule_patterns, replacements_of};
 ghost use Rattle.acsub.specs.declared.rules.RuleError.TheVariants.{Memory};
 
 use memchr::memchr;
@@ -114,7 +114,7 @@ impl Rules {
 
     /// All patterns in their order, as slices. It takes memory for the slices alone.
     pub fn patterns(&self, alloc: Global) -> Result<Vec<&[u8]>, AllocError>
-        ensures { IfOk result (λ patterns. bytes_of patterns.items ≡ patterns_of self.now) }
+        ensures { IfOk result (λ patterns. bytes_of patterns.items ≡ rule_patterns self.now) }
     {
         let mut patterns = Vec::with_capacity(alloc, self.len())?;
         for sides in &self.sides {

@@ -7,11 +7,12 @@ use Rattle.ac_input.specs.declared.search.StartKind.TheVariants.{Unanchored}
 use Rattle.ac_input.specs.Dictionary.{Dictionary, dictionary_of}
 use Rattle.ac_input.specs.Same.{IsUnpaired}
 use Rattle.ac_noncontiguous.specs.Builder.{Settings, default_dense_depth}
+use Rattle.ac_tables.specs.ContiguousBuilder.{contiguous_default_row_memory}
 use Rattle.aho_corasick.specs.declared.ahocorasick.AhoCorasickKind.{AhoCorasickKind}
 
 -- Which of several overlapping occurrences is the match, which searches are served, which bytes are paired, which automaton serves
--- where one was named, whether a prefilter is wanted, up to which depth the states of an NFA keep a row where that was set, and
--- whether bytes that lead alike are one class.
+-- where one was named, whether a prefilter is wanted, up to which depth the states of an NFA keep a row where that was set, whether
+-- bytes that lead alike are one class, and how many bytes of memory the rows of the contiguous NFA may take.
 pub record FrontSettings : Type 0 where
   pub match_kind : MatchKind
   pub start_kind : StartKind
@@ -20,6 +21,11 @@ pub record FrontSettings : Type 0 where
   pub prefilter : Bool
   pub dense_depth : Option ℕ
   pub byte_classes : Bool
+  pub row_memory : ℕ
+
+-- how many bytes of memory rows may take where nothing else is set
+abbrev pub front_default_row_memory : ℕ
+front_default_row_memory = contiguous_default_row_memory
 
 -- what they are at first
 pub record AreFrontFirst (s : FrontSettings) : Type 0 where
@@ -30,6 +36,7 @@ pub record AreFrontFirst (s : FrontSettings) : Type 0 where
   pub prefilter : s.prefilter ≡ true
   pub dense_depth : s.dense_depth ≡ None
   pub byte_classes : s.byte_classes ≡ true
+  pub row_memory : s.row_memory ≡ front_default_row_memory
 
 -- a depth that was set, or another
 abbrev pub depth_or : Option ℕ → ℕ → ℕ

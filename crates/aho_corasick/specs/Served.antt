@@ -27,7 +27,7 @@ use Rattle.aho_corasick.specs.Engine.{kind_served}
 -- ---- the settings of each automaton
 
 abbrev pub contiguous_by : FrontSettings → ContiguousSettings
-contiguous_by s = record { kind = s.match_kind; pairing = s.pairing; prefilter = s.prefilter; dense_depth = depth_or s.dense_depth contiguous_default_dense_depth; byte_classes = s.byte_classes }
+contiguous_by s = record { kind = s.match_kind; pairing = s.pairing; prefilter = s.prefilter; dense_depth = depth_or s.dense_depth contiguous_default_dense_depth; byte_classes = s.byte_classes; row_memory = s.row_memory }
 
 abbrev pub dfa_by : FrontSettings → DfaSettings
 dfa_by s = record { kind = s.match_kind; pairing = s.pairing; prefilter = s.prefilter; start_kind = s.start_kind; byte_classes = s.byte_classes }

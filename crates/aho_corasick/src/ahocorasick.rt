@@ -67,6 +67,9 @@ pub struct AhoCorasick {
 /// The remaining matches of an input. From [`AhoCorasick::find_iter`].
 pub type FindIter<'a, 'h> = iter::FindIter<'a, 'h, AhoCorasick>;
 
+/// The remaining matches of an input that is read ahead. From [`AhoCorasick::find_iter_ahead`].
+pub type FindIterAhead<'a, 'h> = iter::ahead::FindIterAhead<'a, 'h, AhoCorasick>;
+
 /// The remaining overlapping matches of an input. From [`AhoCorasick::find_overlapping_iter`].
 pub type FindOverlappingIter<'a, 'h> = overlapping::FindOverlappingIter<'a, 'h, AhoCorasick>;
 

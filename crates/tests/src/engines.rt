@@ -15,6 +15,7 @@ use ac_input::search::{Anchored, Match, MatchKind, StartKind};
 use ac_noncontiguous::builder::Builder;
 use ac_noncontiguous::nfa::NFA;
 use ac_noncontiguous::{BuildError, BuildErrorKind, Search};
+use ac_tables::contiguous::builder::ROW_MEMORY;
 use ac_tables::{contiguous, dfa};
 use aho_corasick::AhoCorasickKind::{ContiguousNFA, DFA, NoncontiguousNFA};
 use aho_corasick::{AhoCorasickBuilder, AhoCorasickKind};
@@ -60,8 +61,8 @@ pub enum Alphabet {
 pub enum Engine {
     /// The noncontiguous NFA, whose states have rows to this depth.
     Noncontiguous(Prefiltering, usize),
-    /// The contiguous NFA, whose states are dense to this depth.
-    Contiguous(Prefiltering, usize, Alphabet),
+    /// The contiguous NFA, whose states are dense to this depth, and whose rows take this many bytes at most.
+    Contiguous(Prefiltering, usize, Alphabet, usize),
     /// The DFA, with these starts.
     Dfa(Prefiltering, Alphabet, StartKind),
     /// The front with these starts, served by the automaton that is named or by the one that it takes, with its depth where it is set.
@@ -75,11 +76,14 @@ pub const ENGINES: &[Engine] = &[
     Noncontiguous(Off, 0),
     Noncontiguous(On, 1),
     Noncontiguous(Off, 100),
-    Contiguous(On, 2, Classes),
-    Contiguous(Off, 2, Classes),
-    Contiguous(Off, 0, Classes),
-    Contiguous(On, 1, Bytes),
-    Contiguous(Off, 100, Bytes),
+    Contiguous(On, 2, Classes, ROW_MEMORY),
+    Contiguous(On, 2, Classes, 0),
+    Contiguous(Off, 2, Classes, ROW_MEMORY),
+    Contiguous(Off, 2, Classes, 0),
+    Contiguous(Off, 0, Classes, 0),
+    Contiguous(On, 1, Bytes, ROW_MEMORY),
+    Contiguous(On, 1, Bytes, 0),
+    Contiguous(Off, 100, Bytes, 0),
     Dfa(On, Classes, Unanchored),
     Dfa(Off, Bytes, Unanchored),
     Dfa(Off, Classes, Both),
@@ -99,8 +103,9 @@ pub const ENGINES: &[Engine] = &[
 pub const FEW: &[Engine] = &[
     Noncontiguous(On, 3),
     Noncontiguous(Off, 0),
-    Contiguous(On, 2, Classes),
-    Contiguous(Off, 0, Bytes),
+    Contiguous(On, 2, Classes, ROW_MEMORY),
+    Contiguous(On, 2, Classes, 0),
+    Contiguous(Off, 0, Bytes, 0),
     Dfa(On, Classes, Unanchored),
     Dfa(Off, Bytes, Both),
     Front(None, Unanchored, On, None, Classes),
@@ -112,7 +117,7 @@ pub const FEW: &[Engine] = &[
 /// Those that run a row which takes very long: each automaton with its default settings.
 pub const FIRST: &[Engine] = &[
     Noncontiguous(On, 3),
-    Contiguous(On, 2, Classes),
+    Contiguous(On, 2, Classes, ROW_MEMORY),
     Dfa(On, Classes, Unanchored),
     Front(None, Unanchored, On, None, Classes),
 ];
@@ -216,6 +221,7 @@ fn contiguous_builder(
     prefilter: Prefiltering,
     depth: usize,
     alphabet: Alphabet,
+    row_memory: usize,
 ) -> Result<contiguous::builder::Builder, Fail> {
     let mut builder = contiguous::builder::Builder::new();
     builder
@@ -223,7 +229,8 @@ fn contiguous_builder(
         .pairing(pairing(asked.letters)?)
         .prefilter(matches!(prefilter, On))
         .dense_depth(depth)
-        .byte_classes(matches!(alphabet, Classes));
+        .byte_classes(matches!(alphabet, Classes))
+        .row_memory(row_memory);
     Ok(builder)
 }
 
@@ -235,9 +242,11 @@ fn by_contiguous<T: Abort, C: Case>(
     prefilter: Prefiltering,
     depth: usize,
     alphabet: Alphabet,
+    row_memory: usize,
 ) -> Result<(), Fail> {
     let asked = case.asked();
-    match contiguous_builder(asked, prefilter, depth, alphabet)?.build(alloc, asked.patterns) {
+    let builder = contiguous_builder(asked, prefilter, depth, alphabet, row_memory)?;
+    match builder.build(alloc, asked.patterns) {
         Ok(nfa) => case.check(rt, alloc, &nfa, Both),
         Err(error) => unbuilt(case, error),
     }
@@ -324,8 +333,8 @@ fn by_set_front<T: Abort, C: Case>(
 fn by<T: Abort, C: Case>(rt: &T, alloc: Global, case: &C, engine: Engine) -> Result<(), Fail> {
     match engine {
         Noncontiguous(prefilter, depth) => by_noncontiguous(rt, alloc, case, prefilter, depth),
-        Contiguous(prefilter, depth, alphabet) => {
-            by_contiguous(rt, alloc, case, prefilter, depth, alphabet)
+        Contiguous(prefilter, depth, alphabet, row_memory) => {
+            by_contiguous(rt, alloc, case, prefilter, depth, alphabet, row_memory)
         }
         Dfa(prefilter, alphabet, starts) => by_dfa(rt, alloc, case, prefilter, alphabet, starts),
         Front(named, starts, prefilter, depth, alphabet) => {

@@ -115,6 +115,10 @@ fn walk_holds<T: Abort>(
     same(rt, &given, row.gives, row.shows);
     let given = collected(alloc, ac.try_find_iter(asked.clone()?)?)?;
     same(rt, &given, row.gives, row.shows);
+    let given = collected(alloc, ac.find_iter_ahead(asked.clone()?))?;
+    same(rt, &given, row.gives, row.shows);
+    let given = collected(alloc, ac.try_find_iter_ahead(asked.clone()?)?)?;
+    same(rt, &given, row.gives, row.shows);
     Ok(())
 }
 

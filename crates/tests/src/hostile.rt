@@ -48,7 +48,7 @@ fn each_found(alloc: Global, text: &[u8]) -> Result<Vec<Pick>, AllocError> {
 /// Each byte is a pattern, so each has a class of its own.
 fn all_bytes_hold<T: Abort>(rt: &T, alloc: Global, bytes: &[u8]) -> Result<(), Fail> {
     let patterns: Vec<&[u8]> = bytes.chunks(1).collect(alloc)?;
-    let text = letters_of(alloc, 3, 600, bytes)?;
+    let text = letters_of(alloc, 3, 2600, bytes)?;
     let found = each_found(alloc, &text)?;
     let rows = [of_whole(Walk, &text, &found)];
     for kind in KINDS {
@@ -97,7 +97,7 @@ fn pairs_at_each_place(alloc: Global, text: &[u8]) -> Result<Vec<Pick>, AllocErr
 /// The automata of many patterns: each as it is built fastest.
 const OF_MANY: &[Engine] = &[
     Noncontiguous(Off, 1),
-    Contiguous(Off, 1, Classes),
+    Contiguous(Off, 1, Classes, 0),
     Dfa(Off, Classes, Unanchored),
 ];
 

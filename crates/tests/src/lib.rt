@@ -21,6 +21,8 @@ mod front;
 #[cfg(test)]
 mod hostile;
 #[cfg(test)]
+mod lanes;
+#[cfg(test)]
 mod memory;
 #[cfg(test)]
 mod openings;

@@ -31,8 +31,16 @@ fn searches_are_alike<T: Abort>(rt: &T, alloc: Global, drawn: Drawn<'_>) -> Resu
     each(rt, alloc, &table_of(asked, &rows), ENGINES)
 }
 
+/// Compares the matches of the text, read ahead or not, with the plain program.
+pub fn walks_are_alike<T: Abort>(rt: &T, alloc: Global, drawn: Drawn<'_>) -> Result<(), Fail> {
+    let Drawn { asked, text } = drawn;
+    let found = by_plain(alloc, asked, Walk, &input(&Whole(text))?)?;
+    let rows = [of_whole(Walk, text, &found)];
+    each(rt, alloc, &table_of(asked, &rows), FEW)
+}
+
 /// Compares the matches of streams of the text, by so many bytes a read.
-fn streams_are_alike<T: Abort>(
+pub fn streams_are_alike<T: Abort>(
     rt: &T,
     alloc: Global,
     drawn: Drawn<'_>,

@@ -55,6 +55,8 @@ fn walk_holds<T: Abort, A: Search>(
     is_first(rt, pick(automaton.try_find(&input)?), row);
     let given = collected(alloc, automaton.try_find_iter(input.clone()?)?)?;
     same(rt, &given, row.gives, row.shows);
+    let given = collected(alloc, automaton.try_find_iter_ahead(input.clone()?)?)?;
+    same(rt, &given, row.gives, row.shows);
     walks_on(rt, &mut automaton.try_find_iter(input)?, row.gives);
     Ok(())
 }

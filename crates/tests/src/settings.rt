@@ -205,14 +205,15 @@ fn memory_by(alloc: Global, builder: &AhoCorasickBuilder) -> Result<usize, Fail>
     )
 }
 
-/// Asserts whether the settings of rows and classes reach the automaton that is named: with more rows, and without classes, it takes
-/// more memory.
+/// Asserts whether the settings of depth, classes and row memory reach the automaton that is named: with a greater depth and without
+/// classes it takes more memory, and with no memory for rows less.
 fn reaches<T: Abort>(
     rt: &T,
     alloc: Global,
     named: AhoCorasickKind,
-    rows: bool,
+    depth: bool,
     classes: bool,
+    rows: bool,
 ) -> Result<(), Fail> {
     let mut builder = AhoCorasickBuilder::new();
     builder.kind(Some(named)).dense_depth(0);
@@ -221,7 +222,12 @@ fn reaches<T: Abort>(
     let more = memory_by(alloc, &builder)?;
     builder.dense_depth(0).byte_classes(false);
     let wide = memory_by(alloc, &builder)?;
-    assert_eq!(rt; (more > few, wide > few), (rows, classes));
+    builder.byte_classes(true).row_memory(0);
+    let bare = memory_by(alloc, &builder)?;
+    assert_eq!(rt;
+        (more > few, wide > few, bare < few),
+        (depth, classes, rows)
+    );
     Ok(())
 }
 
@@ -250,7 +256,7 @@ fn the_last_setting_decides_of_front(rt: HostRuntime) -> Result<(), Fail> {
     let ac = &AhoCorasick::new(alloc, &[b"A0"])?;
     is_built(&rt, alloc, ac, standard, true, FOLDED)?;
     is_built(&rt, alloc, &ac.clone(alloc)?, standard, true, FOLDED)?;
-    reaches(&rt, alloc, NoncontiguousNFA, true, false)?;
-    reaches(&rt, alloc, ContiguousNFA, true, true)?;
-    reaches(&rt, alloc, DFA, false, true)
+    reaches(&rt, alloc, NoncontiguousNFA, true, false, false)?;
+    reaches(&rt, alloc, ContiguousNFA, true, true, true)?;
+    reaches(&rt, alloc, DFA, false, true, false)
 }

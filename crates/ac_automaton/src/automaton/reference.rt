@@ -1,5 +1,6 @@
 //! A reference to an automaton is an automaton, so a generic that takes one takes a borrowed one too.
 use super::{Advance, Automaton};
+use crate::ahead::Note;
 use crate::error::MatchError;
 use ac_input::primitives::{PatternID, StateID};
 use ac_input::search::{Anchored, MatchKind};
@@ -51,6 +52,18 @@ impl<'a, A: Automaton> Automaton for &'a A {
         steps: &mut Steps,
     ) -> Advance {
         (**self).advance_to_match(anchored, sid, bytes, steps)
+    }
+
+    fn note_ahead(
+        &self,
+        sid: StateID,
+        bytes: &[u8],
+        at: usize,
+        len: usize,
+        anew: bool,
+        notes: &mut [Note],
+    ) -> usize {
+        (**self).note_ahead(sid, bytes, at, len, anew, notes)
     }
 
     fn is_special(&self, sid: StateID) -> bool {

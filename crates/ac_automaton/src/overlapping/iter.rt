@@ -1,12 +1,19 @@
 //! The overlapping matches of an input, one after another.
 //!
-//! [`FindOverlappingIter`] holds an automaton, an input, and where the search began and stands. It takes no memory, and looks at
-//! the states of one walk over the span, however many matches it returns.
+//! [`FindOverlappingIter`] holds an automaton, an input, and where the search began and stands. It allocates nothing, and looks at the
+//! states of one walk over the span, however many matches it returns.
+//!
+//! Where it uses no prefilter, and 1 KiB or more is left to be searched, it has the automaton read ahead over several parts of the
+//! text side by side, and takes the matches from its notes: see [`ahead`](crate::ahead). It counts what a note says when it takes it.
+//! So a call may read up to 8 KiB past the match that it returns. The notes are some 3 KiB within the iterator itself. For the first
+//! few matches of a long text alone,
+//! [`try_find_overlapping`](crate::automaton::Automaton::try_find_overlapping) does less: it never reads ahead.
 ghost use Rattle.std.specs.Prelude.{IfOk};
 ghost use Rattle.std.specs.Iterator.{YieldsFirst, item_count};
 ghost use Rattle.ac_automaton.specs.Items.{AreFewForEach, EachLiesWithin};
 ghost use Rattle.ac_automaton.specs.OverlappingIter.{AnswersOverlappingIter, CountsRun, GivesFirst, RunCounts, IsWithinOneWalk, rest_of};
 
+use crate::ahead::Ahead;
 use crate::error::MatchError;
 use crate::overlapping::search::begin;
 use crate::overlapping::{Position, with_found};
@@ -20,6 +27,8 @@ use std::marker::Model;
 
 /// The remaining overlapping matches of an input. From [`Automaton::try_find_overlapping_iter`].
 ///
+/// A call may read up to 8 KiB past the match that it returns, and the iterator is some 3 KiB large; see [`iter`](self).
+///
 /// After its first `None` it always returns `None`, and does nothing.
 /// A caller: `uses::callers::overlap::all_occurrences`.
 #[derive(Drop)]
@@ -30,12 +39,14 @@ pub struct FindOverlappingIter<'a, 'h, A: Search> {
     place: Position,
     shown: Count,
     sums: Steps,
+    ahead: Ahead,
 }
 
 impl<'a, 'h, A: Search> Model for FindOverlappingIter<'a, 'h, A> {
     ghost use Rattle.std.specs.Prelude.{◌≡◌, []};
     ghost use Rattle.ac_input.specs.declared.search.MatchKind.TheVariants.{Standard};
     ghost use Rattle.ac_automaton.specs.Automaton.{searched};
+    ghost use Rattle.ac_automaton.specs.FindAhead.{AreNotesOf};
     ghost use Rattle.ac_automaton.specs.Overlapping.{IsPlaceCounted, StandsAt};
     ghost use Rattle.ac_automaton.specs.OverlappingIter.{Run, run_at};
 
@@ -49,7 +60,8 @@ impl<'a, 'h, A: Search> Model for FindOverlappingIter<'a, 'h, A> {
         × StandsAt (A.Reaches i.automaton.now i.input.anchored) (A.matches i.automaton.now)
         (A.built i.automaton.now).dictionary (A.built i.automaton.now).deterministic
         (searched (A.built i.automaton.now) i.input) i.place i.shown.value i.sums
-        × IsPlaceCounted (A.built i.automaton.now) i.input i.place i.sums };
+        × IsPlaceCounted (A.built i.automaton.now) i.input i.place i.sums
+        × AreNotesOf A.Automaton i.automaton.now i.input i.ahead.notes };
 }
 
 /// All occurrences in the input, one after another.
@@ -74,6 +86,7 @@ pub fn find_overlapping_iter<'a, 'h, A: Search>(
             place: beginning.place,
             shown: Count::zero(),
             sums: Steps::new(),
+            ahead: Ahead::none(false),
         }),
     }
 }
@@ -88,9 +101,13 @@ impl<'a, 'h, A: Search> FindOverlappingIter<'a, 'h, A> {
         ensures counted { CountsRun self.new result }
     {
         let mut done = Steps::new();
-        let shown = self
-            .automaton
-            .search_overlapping(&self.input, self.start, self.place, &mut done);
+        let shown = self.automaton.search_overlapping_ahead(
+            &self.input,
+            self.start,
+            self.place,
+            &mut self.ahead,
+            &mut done,
+        );
         self.place = shown.place;
         self.shown = with_found(&self.shown, &shown.found);
         self.sums.add(&done);

@@ -78,7 +78,7 @@ fn match_of<A: Automaton>(automaton: &A, pattern: PatternID, at: usize) -> Match
 }
 
 /// What a search that is over shows.
-fn over() -> Shown
+pub(crate) fn over() -> Shown
     ensures found { result.found ≡ None }
     ensures place { result.place ≡ Over }
 {
@@ -89,7 +89,7 @@ fn over() -> Shown
 }
 
 /// What the state has to show from an index of its list on, if anything.
-fn show<A: Automaton>(
+pub(crate) fn show<A: Automaton>(
     automaton: &A,
     input: &Input<'_>,
     cursor: Cursor,
@@ -113,7 +113,11 @@ fn show<A: Automaton>(
 }
 
 /// What a walk shows at its place: the first entry of the state; or that it is over, if the state is dead.
-fn show_at<A: Automaton>(automaton: &A, input: &Input<'_>, cursor: &Cursor) -> Option<Shown>
+pub(crate) fn show_at<A: Automaton>(
+    automaton: &A,
+    input: &Input<'_>,
+    cursor: &Cursor,
+) -> Option<Shown>
     requires { MayShow A.Automaton automaton.now input.now cursor.now }
     ensures { ShowsHere A.Automaton automaton.now input.now cursor.now result }
 {

@@ -12,14 +12,17 @@
 //! start, nothing is live: the search begins anew there, and nothing has to be held.
 //!
 //! The hot path is [`Automaton::advance_to_match`] over the bytes of a read. Between two matches nothing else is done for a byte,
-//! even if the automaton has a prefilter, which a stream doesn't use.
+//! even if the automaton has a prefilter, which a stream doesn't use. An automaton that can walk over several parts of these bytes
+//! side by side reads ahead of the search: see [`ahead`](crate::ahead).
 ghost use Rattle.std.specs.Prelude.{◌≡◌, ◌≢◌, ◌↔◌, ◌+◌, ◌-◌, ◌≤◌, ◌<◌, ℕ, List, [], false, true, length, IfErr, IfOk, OnOk, IsTrue};
 ghost use Rattle.ac_input.specs.declared.search.Anchored.TheVariants.{No};
+ghost use Rattle.ac_automaton.specs.Ahead.{AreNotes};
 ghost use Rattle.ac_automaton.specs.StreamSearch.{some_of};
 ghost use Rattle.ac_automaton.specs.StreamWalk.{MayWalk, WalksOn};
 ghost use Rattle.ac_automaton.specs.Stream.{AnswersNew, CanBeCounted, CanStream, CountsNothing, FindsHeld, HasRoom, IsConfigRefusal, IsOnCourse, IsRolled, IsSearched, ReadsMore, StreamCounts, StreamProgress, cut_of, held_by, read_by};
 ghost use Rattle.ac_automaton.specs.Watched.{has_ended};
 
+use crate::ahead::{Ahead, advance_to_match};
 use crate::automaton::Automaton;
 use crate::buffer::Buffer;
 use crate::error::{MatchError, StreamError};
@@ -59,6 +62,7 @@ pub(crate) struct StreamSearch<'a, A: Search> {
     buffer: Buffer,
     progress: Progress,
     over: bool,
+    ahead: Ahead,
     given: Count,
     pieces: Pieces,
     sums: Steps,
@@ -70,6 +74,7 @@ impl<'a, A: Search> Model for StreamSearch<'a, A> {
 
     ghost Value = { StreamProgress };
 
+    ghost use Rattle.ac_automaton.specs.Ahead.{AreNotes};
     ghost use Rattle.ac_automaton.specs.StreamSearch.{IsStreamSearch, progress_at};
 
     ghost view = { λ i. progress_at (A.built i.automaton.now) i.pieces.items i.given.value
@@ -78,7 +83,9 @@ impl<'a, A: Search> Model for StreamSearch<'a, A> {
     ghost invariant = { λ i. IsStreamSearch (A.Reaches i.automaton.now No)
         (progress_at (A.built i.automaton.now) i.pieces.items i.given.value
         i.progress i.buffer i.sums)
-        i.start i.progress.sid i.given.value i.buffer i.over };
+        i.start i.progress.sid i.given.value i.buffer i.over
+        × AreNotes (A.Reaches i.automaton.now No) (A.matches i.automaton.now) i.buffer.bytes
+        i.ahead.notes };
 }
 
 /// The start state of a search of a stream, where the automaton can make one.
@@ -106,14 +113,19 @@ pub(crate) fn search<A: Automaton>(
     start: StateID,
     progress: &Progress,
     held: &[u8],
+    ahead: &mut Ahead,
     steps: &mut Steps,
 ) -> Searched
-    requires { MayWalk A.Automaton automaton.now start progress.now held.now }
-    ensures { WalksOn A.Automaton automaton.now start progress.now held.now result
+    requires walk { MayWalk A.Automaton automaton.now start progress.now held.now }
+    requires known { AreNotes (A.Reaches automaton.now No) (A.matches automaton.now) held.now
+        ahead.old.notes }
+    ensures walk { WalksOn A.Automaton automaton.now start progress.now held.now result
         steps.old steps.new }
+    ensures known { AreNotes (A.Reaches automaton.now No) (A.matches automaton.now) held.now
+        ahead.new.notes }
 {
-    let rest = &held[progress.at - progress.from..];
-    let stop = automaton.advance_to_match(Anchored::No, progress.sid, rest, steps);
+    let from = progress.at - progress.from;
+    let stop = advance_to_match(automaton, progress.sid, held, from, ahead, steps);
     let at = progress.at + stop.taken;
     let anew = Progress {
         sid: start,
@@ -173,6 +185,7 @@ impl<'a, A: Search> StreamSearch<'a, A> {
                 last: 0,
             },
             over: false,
+            ahead: Ahead::none(true),
             given: Count::zero(),
             pieces: Pieces::empty(),
             sums: Steps::new(),
@@ -225,9 +238,13 @@ impl<'a, A: Search> StreamSearch<'a, A> {
             return None;
         }
         let mut taken = Steps::new();
-        let searched = self
-            .automaton
-            .search_stream(self.start, &self.progress, self.buffer.held(), &mut taken);
+        let searched = self.automaton.search_stream(
+            self.start,
+            &self.progress,
+            self.buffer.held(),
+            &mut self.ahead,
+            &mut taken,
+        );
         steps.add(&taken);
         self.sums.add(&taken);
         self.given = given_then(&self.given, &searched.found);
@@ -247,6 +264,7 @@ impl<'a, A: Search> StreamSearch<'a, A> {
             let cut = self.cut();
             self.buffer.roll(cut - self.progress.from, steps);
             self.progress.from = cut;
+            self.ahead.forget();
         }
     }
 
@@ -280,6 +298,7 @@ impl<'a, A: Search> StreamSearch<'a, A> {
         ensures from { self.new.from ≡ self.old.from }
         ensures kept { IsOnCourse self.new }
     {
+        self.ahead.forget();
         let n = match self.buffer.fill(reader) {
             Ok(n) => n,
             Err(error) => {

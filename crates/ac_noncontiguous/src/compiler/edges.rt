@@ -13,7 +13,7 @@ use crate::trie::Trie;
 use ac_input::primitives::StateID;
 
 /// One number for each byte.
-fn filled(id: StateID) -> [StateID; 256]
+pub(super) fn filled(id: StateID) -> [StateID; 256]
     ensures { (b : ℕ) → b < 256 → slice_index result b ≡ id }
 {
     [id; 256]

@@ -11,7 +11,7 @@ use ac_input::primitives::StateID;
 use std::alloc::{AllocError, Global};
 
 /// The number of the state to which the trie state fails: that of the dead one, if to none.
-fn failure(numbering: &Numbering, links: &Links, id: StateID) -> StateID
+pub(super) fn failure(numbering: &Numbering, links: &Links, id: StateID) -> StateID
     requires within { id < length numbering.now.of.items }
     requires links { FitsTrie (length numbering.now.of.items) links.now }
     ensures { IsFailureOf numbering.now links.now id result }

@@ -2,14 +2,18 @@
 //!
 //! The transitions of a state are one range of one vector, in rising order of byte, and so are its patterns; a state without
 //! patterns of its own shares the range of its failure. States that few bytes lead to keep a row as well, with the next state for
-//! each class of bytes: there a look-up is three loads (where the row begins, the class of the byte, and the next state),
-//! elsewhere a binary search in the range.
-ghost use Rattle.std.specs.Prelude.{◌≡◌, ◌≤◌, ◌+◌, false, length, take, drop, IfOk};
+//! each class of bytes, all failures followed: there a look-up is three loads (where the row begins, the class of the byte, and the
+//! next state) and one look, whatever the byte. Elsewhere it is a binary search in the range and, where no transition has the byte,
+//! the same from the failure.
+//!
+//! An anchored search follows no failures. By a row it takes the next state only if that is deeper than the state itself: such a
+//! one is a state's own, since a failure's next state is no deeper than the state.
+ghost use Rattle.std.specs.Prelude.{◌≡◌, ◌≤◌, ◌+◌, false, length, take, drop, IfOk, IfSome};
 ghost use Rattle.ac_automaton.specs.Named.{nowhere};
 ghost use Rattle.ac_automaton.specs.Starters.{SkipsIdle};
 ghost use Rattle.ac_input.specs.Input.{is_anchored};
-ghost use Rattle.ac_noncontiguous.specs.Nfa.{fail_of};
-ghost use Rattle.ac_noncontiguous.specs.Lookups.{IsKept, IsVisited, StepsTo, AreRisingIn, IsNextIn, LeadsNext, IsIdle, AreSame};
+ghost use Rattle.ac_noncontiguous.specs.Nfa.{fail_of, depth_of};
+ghost use Rattle.ac_noncontiguous.specs.Lookups.{IsKept, IsVisited, StepsTo, StepsOver, AreRisingIn, IsNextIn, own_next, LeadsNext, IsIdle, AreSame};
 
 use ac_automaton::starters::Starters;
 use ac_input::alphabet::ByteClasses;
@@ -110,9 +114,18 @@ impl Tables {
         StateID::must(FAIL)
     }
 
-    /// The next state of a state that keeps no row.
+    /// How many bytes lead to a state from a start.
     #[inline]
-    fn step_by_range(&self, sid: StateID, byte: u8) -> StateID
+    fn depth(&self, sid: StateID) -> u32
+        requires { IsKept self.now sid }
+        ensures { result ≡ depth_of self.now.states.items sid }
+    {
+        self.states[sid.as_usize()].depth
+    }
+
+    /// Where the byte leads from the state itself, by its transitions; the fail state where it leads to none.
+    #[inline]
+    fn step(&self, sid: StateID, byte: u8) -> StateID
         requires { IsKept self.now sid }
         ensures { StepsTo self.now sid byte result }
     {
@@ -124,17 +137,17 @@ impl Tables {
         )
     }
 
-    /// Where the byte leads from the state; the fail state where it leads to none.
-    #[inline]
-    pub(crate) fn step(&self, sid: StateID, byte: u8) -> StateID
+    /// Where the byte leads from the state, all failures followed, if the state keeps a row.
+    #[inline(always)]
+    fn step_by_row(&self, sid: StateID, byte: u8) -> Option<StateID>
         requires { IsKept self.now sid }
-        ensures { StepsTo self.now sid byte result }
+        ensures { IfSome result (StepsOver self.now sid byte) }
     {
         let row = self.states[sid.as_usize()].row;
         if row == NO_ROW {
-            return self.step_by_range(sid, byte);
+            return None;
         }
-        self.rows[row as usize + self.classes.get(byte) as usize]
+        Some(self.rows[row as usize + self.classes.get(byte) as usize])
     }
 
     /// Where the byte leads from the states to which a state fails, one after another, where it leads to none from the state itself.
@@ -150,6 +163,9 @@ impl Tables {
         loop {
             from = self.fail(from);
             steps.look();
+            if let Some(next) = self.step_by_row(from, byte) {
+                return next;
+            }
             let next = self.step(from, byte);
             if next.as_usize() != FAIL {
                 return next;
@@ -157,9 +173,9 @@ impl Tables {
         }
     }
 
-    /// The state after one more byte, where the search began with this anchoring. Counts the states that it looks at.
+    /// The next state of a state that keeps no row.
     #[inline]
-    pub(crate) fn next(
+    fn next_by_range(
         &self,
         anchored: Anchored,
         sid: StateID,
@@ -177,6 +193,43 @@ impl Tables {
         match anchored {
             Anchored::No => self.follow(sid, byte, steps),
             Anchored::Yes => StateID::ZERO,
+        }
+    }
+
+    /// The state that follows one in an anchored search, by the next state of its row: that one if it is deeper, or else the dead one.
+    #[inline]
+    fn own(&self, sid: StateID, next: StateID) -> StateID
+        requires { IsKept self.now sid × IsKept self.now next }
+        ensures { result ≡ own_next self.now sid next }
+    {
+        if self.depth(next) > self.depth(sid) {
+            next
+        } else {
+            StateID::ZERO
+        }
+    }
+
+    /// The state after one more byte, where the search began with this anchoring. Counts the states that it looks at.
+    #[inline]
+    pub(crate) fn next(
+        &self,
+        anchored: Anchored,
+        sid: StateID,
+        byte: u8,
+        steps: &mut Steps,
+    ) -> StateID
+        requires { IsVisited self.now (is_anchored anchored) sid }
+        ensures { LeadsNext self.now (is_anchored anchored) 0 sid byte result steps.old steps.new }
+    {
+        match self.step_by_row(sid, byte) {
+            Some(next) => {
+                steps.look();
+                match anchored {
+                    Anchored::No => next,
+                    Anchored::Yes => self.own(sid, next),
+                }
+            }
+            None => self.next_by_range(anchored, sid, byte, steps),
         }
     }
 

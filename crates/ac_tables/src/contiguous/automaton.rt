@@ -1,18 +1,23 @@
 //! Searching with the contiguous automaton.
 //!
-//! A look-up loads the kind of the state and the class of the byte, and then one word, or some more where the classes are packed.
+//! Where there are rows, a search that isn't anchored reads on by them: a look-up is the byte's class, an addition and a load.
+//!
+//! Else a look-up loads the kind of the state and the class of the byte, and then one word, or some more where the classes are packed.
 //! Where no transition has the byte, the failures are followed, out of the loop. One comparison tells all states at which there is more
 //! to do than to read on. Where the patterns are few, a search that stands in the start finds the next place at which one may begin by
-//! its first bytes; where few bytes lead out of the start, it finds the next of these by `memchr`.
+//! its first bytes; where few bytes lead out of the start, it finds the next of these by `memchr`. Elsewhere a search of a stream reads
+//! four parts of its bytes side by side, where there are rows.
 ghost use Rattle.std.specs.Prelude.{false};
 ghost use Rattle.ac_automaton.specs.Automaton.{IsReached};
 ghost use Rattle.ac_automaton.specs.Named.{nowhere};
+ghost use Rattle.ac_automaton.specs.ReadOn.{ReadsTo};
 ghost use Rattle.ac_input.specs.Input.{is_anchored};
 ghost use Rattle.ac_tables.specs.ContiguousReads.{contiguous_built_as, IsContiguousRead, IsMet, LooksUp};
 ghost use Rattle.ac_tables.specs.WordReads.{ByteLeadsTo, IsFailOf};
 
 use crate::contiguous::NFA;
 use crate::contiguous::layout::NOWHERE;
+use ac_automaton::ahead::Note;
 use ac_automaton::automaton::{Advance, Automaton};
 use ac_automaton::error::MatchError;
 use ac_automaton::look::{Between, LookUp};
@@ -68,6 +73,36 @@ impl NFA {
             Anchored::Yes => StateID::ZERO,
         }
     }
+
+    /// Reads on to the first state between two numbers, these included, or to the last byte, by the words.
+    #[inline(always)]
+    pub(super) fn read_words(
+        &self,
+        anchored: Anchored,
+        sid: StateID,
+        bytes: &[u8],
+        to: Between,
+        steps: &mut Steps,
+    ) -> Advance
+        requires { IsReached (IsContiguousRead self.now anchored) sid }
+        ensures { ReadsTo (contiguous_built_as self.now) (IsContiguousRead self.now) anchored to sid
+            bytes.now result steps.old steps.new }
+    {
+        let mut current = sid;
+        for (read, byte) in bytes.iter().enumerate() {
+            current = self.look_up(anchored, current, *byte, steps);
+            if to.has(current) {
+                return Advance {
+                    sid: current,
+                    taken: read + 1,
+                };
+            }
+        }
+        Advance {
+            sid: current,
+            taken: bytes.len(),
+        }
+    }
 }
 
 impl LookUp for NFA {
@@ -88,6 +123,24 @@ impl LookUp for NFA {
     #[inline(always)]
     fn look_up(&self, anchored: Anchored, sid: StateID, byte: u8, steps: &mut Steps) -> StateID {
         self.next(anchored, sid, byte, steps)
+    }
+
+    #[inline(always)]
+    fn read_on(
+        &self,
+        anchored: Anchored,
+        sid: StateID,
+        bytes: &[u8],
+        to: Between,
+        steps: &mut Steps,
+    ) -> Advance {
+        match anchored {
+            Anchored::No => match &self.rows {
+                Some(rows) => self.read_rows(rows, sid, bytes, to, steps),
+                None => self.read_words(anchored, sid, bytes, to, steps),
+            },
+            Anchored::Yes => self.read_words(anchored, sid, bytes, to, steps),
+        }
     }
 }
 
@@ -156,6 +209,24 @@ impl Automaton for NFA {
             .read_to(self, anchored, sid, bytes, matching, steps)
     }
 
+    fn note_ahead(
+        &self,
+        sid: StateID,
+        bytes: &[u8],
+        at: usize,
+        len: usize,
+        anew: bool,
+        notes: &mut [Note],
+    ) -> usize {
+        if self.skips.pass_many(self.lens.len()) {
+            return 0;
+        }
+        match &self.rows {
+            Some(rows) => self.note_by_rows(rows, sid, bytes, at, len, anew, notes),
+            None => 0,
+        }
+    }
+
     #[inline]
     fn is_special(&self, sid: StateID) -> bool {
         sid.as_u32() <= self.max_special.as_u32()
@@ -209,6 +280,10 @@ impl Automaton for NFA {
         self.table
             .memory_usage()
             .saturating_add(self.lens.memory_usage())
+            .saturating_add(match &self.rows {
+                Some(rows) => rows.memory_usage(),
+                None => 0,
+            })
             .saturating_add(match &self.prefilter {
                 Some(prefilter) => prefilter.memory_usage(),
                 None => 0,

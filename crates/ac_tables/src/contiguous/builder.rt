@@ -2,16 +2,18 @@
 //!
 //! It is made from a noncontiguous automaton, state by state: first all places are found, then the words are written with their
 //! final numbers. It takes time and memory in proportion to the transitions and lists of that automaton, and `alphabet_len` words
-//! more for each dense state.
+//! more for each dense state. Rows beside them take what the rows of a DFA do, and are made only where that is little.
 ghost use Rattle.std.specs.Prelude.{◌≡◌, IfOk, IfErr};
 ghost use Rattle.ac_input.specs.Pairing.{IsFolded};
 ghost use Rattle.ac_noncontiguous.specs.Reads.{dictionary};
-ghost use Rattle.ac_tables.specs.ContiguousBuild.{IsRefusedFor};
-ghost use Rattle.ac_tables.specs.ContiguousBuilder.{AreContiguousFirst, IsTableFrom, IsMadeFrom, IsRefusedFrom, IsContiguousBuilt, IsContiguousBuildRefused, IsContiguousBuiltAtFirst, IsContiguousRefusedAtFirst, noncontiguous_of, words_in};
+ghost use Rattle.ac_tables.specs.ContiguousBuild.{AreSomeClassesFor, IsRefusedFor};
+ghost use Rattle.ac_tables.specs.ContiguousBuilder.{AreContiguousFirst, IsLaidOf, IsMadeFrom, IsRefusedFrom, IsContiguousBuilt, IsContiguousBuildRefused, IsContiguousBuiltAtFirst, IsContiguousRefusedAtFirst, noncontiguous_of, words_in};
 ghost use Rattle.ac_tables.specs.TableClasses.{AreServing};
 
 use crate::contiguous::NFA;
+use crate::contiguous::filled::rows_of;
 use crate::contiguous::places::lay_out;
+use crate::contiguous::rows::Rows;
 use crate::contiguous::states::words;
 use crate::contiguous::table::Table;
 use crate::source::classes_of;
@@ -28,15 +30,27 @@ use std::marker::Model;
 /// To which depth states are dense where nothing else is set: the starts, and those of one byte.
 const DENSE_DEPTH: usize = 2;
 
-/// The table of the automaton. States less deep than this depth are dense.
-fn table_of(
+/// How many bytes rows may take where nothing else is set: 16 MiB.
+pub const ROW_MEMORY: usize = 16777216;
+
+/// The words of an automaton, and its rows, if there are any.
+#[derive(Drop)]
+struct Laid {
+    table: Table,
+    rows: Option<Rows>,
+}
+
+/// The words and the rows of the automaton. States less deep than this depth are dense, and rows take so many bytes at most.
+fn lay(
     alloc: Global,
     nfa: &nfa::NFA,
     dense_depth: usize,
+    row_memory: usize,
     classes: ByteClasses,
-) -> Result<Table, BuildError>
+) -> Result<Laid, BuildError>
+    requires chosen { AreSomeClassesFor nfa.now classes }
     requires serve { AreServing (dictionary nfa.now) classes }
-    ensures made { IfOk result (IsTableFrom nfa.now dense_depth classes) }
+    ensures made { IfOk result (IsLaidOf nfa.now dense_depth classes) }
     ensures refused { IfErr result (IsRefusedFor nfa.now dense_depth classes) }
 {
     let special = nfa.special();
@@ -49,14 +63,19 @@ fn table_of(
         &layout.places,
         layout.words_len,
     )?;
-    Ok(Table {
+    let start = layout.places[special.start_unanchored_id.as_usize()];
+    let start_anchored = layout.places[special.start_anchored_id.as_usize()];
+    let max_match = layout.places[special.max_match_id.as_usize()];
+    let rows = rows_of(alloc, nfa, &classes, layout.places, row_memory)?;
+    let table = Table {
         alphabet_len: classes.alphabet_len(),
-        start: layout.places[special.start_unanchored_id.as_usize()],
-        start_anchored: layout.places[special.start_anchored_id.as_usize()],
-        max_match: layout.places[special.max_match_id.as_usize()],
+        start,
+        start_anchored,
+        max_match,
         words,
         classes,
-    })
+    };
+    Ok(Laid { table, rows })
 }
 
 /// The settings of a contiguous automaton. A builder may build several times.
@@ -73,6 +92,7 @@ pub struct Builder {
     prefilter: bool,
     dense_depth: usize,
     byte_classes: bool,
+    row_memory: usize,
 }
 
 impl Model for Builder {
@@ -86,6 +106,7 @@ impl Model for Builder {
       prefilter = b.prefilter;
       dense_depth = b.dense_depth;
       byte_classes = b.byte_classes;
+      row_memory = b.row_memory;
     } };
 
     ghost inverse = { λ s. record {
@@ -94,6 +115,7 @@ impl Model for Builder {
       prefilter = s.prefilter;
       dense_depth = s.dense_depth;
       byte_classes = s.byte_classes;
+      row_memory = s.row_memory;
     } };
 }
 
@@ -120,6 +142,7 @@ impl Builder {
             prefilter: true,
             dense_depth: DENSE_DEPTH,
             byte_classes: true,
+            row_memory: ROW_MEMORY,
         }
     }
 
@@ -194,9 +217,23 @@ impl Builder {
         self
     }
 
+    /// Sets how many bytes of memory rows may take. At first it is [`ROW_MEMORY`], 16 MiB; 0 is for none.
+    ///
+    /// It changes no result. With rows an unanchored search looks at one state for a byte, as a DFA does, and is about as fast. There
+    /// are rows if they take no more than this: four bytes for each state, and for each state and each class of bytes, rounded up to
+    /// a power of two of classes. They are made for all states or for none.
+    /// A caller: `uses::callers::tables::contiguous_form`.
+    pub fn row_memory(&mut self, bytes: usize) -> &mut Builder
+        ensures same { result.ghost_name ≡ self.entry.ghost_name }
+        ensures value { result.now ≡ record self.old { row_memory = bytes } }
+    {
+        self.row_memory = bytes;
+        self
+    }
+
     /// Builds the contiguous automaton that finds what this one finds, and has its prefilter.
     ///
-    /// Of the settings only [`Builder::dense_depth`] and [`Builder::byte_classes`] count here.
+    /// Of the settings only [`Builder::dense_depth`], [`Builder::byte_classes`] and [`Builder::row_memory`] count here.
     ///
     /// # Errors
     ///
@@ -215,11 +252,14 @@ impl Builder {
     {
         let classes = classes_of(nfa, self.byte_classes)?;
         let pairing = *nfa.pairing();
-        let table = table_of(alloc, nfa, self.dense_depth, classes)?;
+        let laid = lay(alloc, nfa, self.dense_depth, self.row_memory, classes)?;
         let lens = nfa.pattern_lens().clone(alloc)?;
         let prefilter = clone_held(alloc, nfa.prefilter())?;
         let openings = nfa.openings();
-        Ok(NFA::from_parts(table, lens, prefilter, openings, pairing, nfa.match_kind()))
+        let kind = nfa.match_kind();
+        Ok(NFA::from_parts(
+            laid.table, laid.rows, lens, prefilter, openings, pairing, kind,
+        ))
     }
 
     /// The settings of the noncontiguous automaton, which needs no rows.

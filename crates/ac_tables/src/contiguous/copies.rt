@@ -2,8 +2,10 @@
 ghost use Rattle.std.specs.Prelude.{◌≡◌, IfOk};
 ghost use Rattle.ac_tables.specs.ContiguousBuild.{IsCopiedTable};
 ghost use Rattle.ac_tables.specs.ContiguousBuilder.{IsContiguousCopy};
+ghost use Rattle.ac_tables.specs.ContiguousRows.{AreSameIfAny};
 
 use crate::contiguous::NFA;
+use crate::contiguous::rows::Rows;
 use crate::contiguous::table::Table;
 use ac_automaton::held::clone_held;
 use std::alloc::{AllocError, Global};
@@ -22,6 +24,16 @@ fn clone_table(alloc: Global, table: &Table) -> Result<Table, AllocError>
     })
 }
 
+/// A copy of the rows, if there are any.
+fn clone_rows(alloc: Global, rows: &Option<Rows>) -> Result<Option<Rows>, AllocError>
+    ensures { IfOk result (AreSameIfAny rows.now) }
+{
+    match rows {
+        Some(rows) => Ok(Some(rows.clone(alloc)?)),
+        None => Ok(None),
+    }
+}
+
 impl NFA {
     /// A copy of the automaton, in memory from `alloc`.
     /// A caller: `uses::callers::tables::contiguous_copy`.
@@ -31,8 +43,10 @@ impl NFA {
         let prefilter = clone_held(alloc, self.prefilter.as_ref())?;
         let lens = self.lens.clone(alloc)?;
         let table = clone_table(alloc, &self.table)?;
+        let rows = clone_rows(alloc, &self.rows)?;
         Ok(NFA::from_parts(
             table,
+            rows,
             lens,
             prefilter,
             self.skips.openings,

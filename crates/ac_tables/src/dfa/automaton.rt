@@ -3,15 +3,19 @@
 //! Nearly all the time goes into one loop: the class of a byte, an addition, a load, and one comparison for all states at which there
 //! is more to do than to read on. Where each byte is a class of its own, no class is loaded. An anchored search runs the same loop:
 //! its start leads to rows of its own. Where the patterns are few, a search that stands in the start finds the next place at which one
-//! may begin by its first bytes; where few bytes lead out of the start, it finds the next of these by `memchr`.
+//! may begin by its first bytes; where few bytes lead out of the start, it finds the next of these by `memchr`. Elsewhere a search
+//! of a stream reads four parts of its bytes side by side.
 ghost use Rattle.std.specs.Prelude.{[], ◌∷◌, IsTrue};
 ghost use Rattle.ac_automaton.specs.Automaton.{IsReached, Leads};
 ghost use Rattle.ac_tables.specs.DfaLookups.{ArePlain};
 ghost use Rattle.ac_tables.specs.DfaReads.{dfa_built_as, IsDfaRead, CostsReading};
 
 use crate::dfa::DFA;
+use crate::rows::is_plain;
+use ac_automaton::ahead::Note;
 use ac_automaton::automaton::{Advance, Automaton};
 use ac_automaton::error::MatchError;
+use ac_automaton::lanes;
 use ac_automaton::look::{Between, LookUp};
 use ac_automaton::search::Search;
 use ac_input::primitives::{PatternID, StateID};
@@ -69,7 +73,7 @@ impl LookUp for DFA {
         to: Between,
         steps: &mut Steps,
     ) -> Advance {
-        let plain = self.table.is_plain();
+        let plain = is_plain(&self.table.classes);
         let mut current = sid;
         for (read, byte) in bytes.iter().enumerate() {
             current = self.step(plain, anchored, current, *byte, steps);
@@ -158,6 +162,33 @@ impl Automaton for DFA {
         let matching = Between::new(1, self.table.max_match);
         self.skips
             .read_to(self, anchored, sid, bytes, matching, steps)
+    }
+
+    fn note_ahead(
+        &self,
+        sid: StateID,
+        bytes: &[u8],
+        at: usize,
+        len: usize,
+        anew: bool,
+        notes: &mut [Note],
+    ) -> usize {
+        if self.skips.pass_many(self.lens.len()) {
+            return 0;
+        }
+        let table = &self.table;
+        lanes::note_ahead(
+            self,
+            table.start,
+            table.max_match,
+            &self.unused,
+            sid,
+            bytes,
+            at,
+            len,
+            anew,
+            notes,
+        )
     }
 
     #[inline]

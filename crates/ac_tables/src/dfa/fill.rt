@@ -19,7 +19,7 @@ use std::alloc::{AllocError, Global};
 
 /// What the rows are filled from.
 #[derive(Clone, Copy)]
-pub(super) struct Filler<'a> {
+pub(crate) struct Filler<'a> {
     pub nfa: &'a NFA,
     pub classes: &'a ByteClasses,
     pub numbers: Numbers,
@@ -32,7 +32,7 @@ impl<'a> Filler<'a> {
     ghost use Rattle.ac_input.specs.declared.search.Anchored.TheVariants.{No, Yes};
     ghost use Rattle.ac_input.specs.Dfa.{Serves, dfa_states};
     ghost use Rattle.ac_noncontiguous.specs.ReadCalls.{state_len, MayBeMet, EdgesLeadIn};
-    ghost use Rattle.ac_tables.specs.Filling.{number_in, entry_in, IsRowRight, IsBlank, AreRowsFilled, IsMerged};
+    ghost use Rattle.ac_tables.specs.Filling.{number_in, entry_in, IsRowRight, IsUnwritten, AreRowsFilled, IsMerged};
     ghost use Rattle.ac_tables.specs.Filler.{plan_of, HasRows, HasRowRoom, IsWrittenOver, IsOnlyRow, IsFailureFilled, IsRowFree, ArePairMet, AreAllRows};
 
     /// Where the row of a state begins.
@@ -129,9 +129,9 @@ impl<'a> Filler<'a> {
     }
 
     /// Fills all rows of a table that is blank.
-    pub(super) fn fill_all(&self, trans: &mut [StateID])
+    pub(crate) fn fill_all(&self, trans: &mut [StateID])
         requires len { HasRows self.now trans.old }
-        requires blank { IsBlank (length trans.old) 0 trans.old }
+        requires blank { IsUnwritten (length trans.old) 0 trans.old }
         ensures { AreAllRows self.now trans.new }
     {
         let states = self.nfa.state_len();
@@ -158,7 +158,7 @@ impl<'a> Filler<'a> {
     }
 
     /// A table of this many rows, filled.
-    pub(super) fn filled(&self, alloc: Global, rows: usize) -> Result<Vec<StateID>, AllocError>
+    pub(crate) fn filled(&self, alloc: Global, rows: usize) -> Result<Vec<StateID>, AllocError>
         requires { rows ≡ dfa_states self.now.numbers.kind (state_len self.now.nfa.now) }
         ensures { IfOk result (λ trans. AreAllRows self.now trans.items) }
     {

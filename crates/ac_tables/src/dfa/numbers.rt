@@ -16,7 +16,7 @@ use ac_input::search::{Anchored, StartKind};
 use ac_noncontiguous::error::{BuildError, BuildErrorKind};
 
 /// How many rows there are for this many states of the noncontiguous automaton.
-pub(super) fn rows(kind: StartKind, states: usize) -> usize
+pub(crate) fn rows(kind: StartKind, states: usize) -> usize
     requires some { 2 ≤ states }
     requires few { states ≤ greatest_number + 1 }
     ensures { result ≡ dfa_states kind states }
@@ -28,7 +28,7 @@ pub(super) fn rows(kind: StartKind, states: usize) -> usize
 }
 
 /// Fails if the number of the last of this many rows of this length would be past the greatest.
-pub(super) fn check_size(rows: usize, stride: usize) -> Result<(), BuildError>
+pub(crate) fn check_size(rows: usize, stride: usize) -> Result<(), BuildError>
     requires { 1 ≤ rows }
     ensures fits { OnOk result ((rows - 1) * stride ≤ greatest_number) }
     ensures refused { IfErr result (IsOverflow ((rows - 1) * stride)) }
@@ -46,7 +46,7 @@ pub(super) fn check_size(rows: usize, stride: usize) -> Result<(), BuildError>
 
 /// Where the rows of the states begin.
 #[derive(Clone, Copy)]
-pub(super) struct Numbers {
+pub(crate) struct Numbers {
     pub kind: StartKind,
     /// The unanchored start of the noncontiguous automaton.
     pub start: StateID,
@@ -76,7 +76,7 @@ impl Numbers {
 
     /// Where the row of a state begins, which is its number.
     #[inline]
-    pub(super) fn number(&self, anchored: Anchored, sid: StateID) -> StateID
+    pub(crate) fn number(&self, anchored: Anchored, sid: StateID) -> StateID
         requires { number_at self.now anchored sid ≤ greatest_number }
         ensures { result ≡ number_at self.now anchored sid }
     {

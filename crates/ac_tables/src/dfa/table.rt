@@ -11,6 +11,7 @@ ghost use Rattle.ac_automaton.specs.Starters.{SkipsIdle};
 ghost use Rattle.ac_tables.specs.DfaLookups.{ArePlain, HasRow, HasDfaList, IsIdleIn, list_at};
 
 use crate::dfa::lists::Lists;
+use crate::rows::next;
 use ac_automaton::starters::Starters;
 use ac_input::alphabet::ByteClasses;
 use ac_input::primitives::{PatternID, StateID};
@@ -35,31 +36,14 @@ pub(crate) struct Table {
 }
 
 impl Table {
-    /// Whether each byte is a class of its own, so that a look-up need not load one.
-    #[inline]
-    pub(crate) fn is_plain(&self) -> bool
-        ensures { IsTrue result → ArePlain self.now.classes }
-    {
-        self.classes.alphabet_len() == 256
-    }
-
-    /// The class of a byte. It isn't loaded where the caller knows that each byte is a class of its own.
-    #[inline]
-    fn class(&self, plain: bool, byte: u8) -> u8
-        requires { IsTrue plain → ArePlain self.now.classes }
-        ensures { result ≡ class self.now.classes byte }
-    {
-        if plain { byte } else { self.classes.get(byte) }
-    }
-
-    /// The state after one more byte. The sum is one of 32 bits, so that it needs no widening in between.
+    /// The state after one more byte.
     #[inline]
     pub(crate) fn next(&self, plain: bool, sid: StateID, byte: u8) -> StateID
         requires row { HasRow self.now sid }
         requires plain { IsTrue plain → ArePlain self.now.classes }
         ensures { result ≡ slice_index self.now.trans.items (sid + class self.now.classes byte) }
     {
-        self.trans[(sid.as_u32() + self.class(plain, byte) as u32) as usize]
+        next(&self.trans, &self.classes, plain, sid, byte)
     }
 
     /// Whether there is a start for searches of this anchoring.

@@ -5,6 +5,7 @@ ghost use Rattle.ac_automaton.specs.Automaton.{IsStartRefusal};
 
 use super::AhoCorasick;
 use crate::engine::Engine;
+use ac_automaton::ahead::{Ahead, Note};
 use ac_automaton::automaton::{Advance, Automaton};
 use ac_automaton::error::MatchError;
 use ac_automaton::overlapping::{Position, Shown};
@@ -94,6 +95,22 @@ impl Automaton for AhoCorasick {
             Engine::Noncontiguous(nfa) => nfa.advance_to_match(anchored, sid, bytes, steps),
             Engine::Contiguous(nfa) => nfa.advance_to_match(anchored, sid, bytes, steps),
             Engine::Dfa(dfa) => dfa.advance_to_match(anchored, sid, bytes, steps),
+        }
+    }
+
+    fn note_ahead(
+        &self,
+        sid: StateID,
+        bytes: &[u8],
+        at: usize,
+        len: usize,
+        anew: bool,
+        notes: &mut [Note],
+    ) -> usize {
+        match &*self.engine {
+            Engine::Noncontiguous(nfa) => nfa.note_ahead(sid, bytes, at, len, anew, notes),
+            Engine::Contiguous(nfa) => nfa.note_ahead(sid, bytes, at, len, anew, notes),
+            Engine::Dfa(dfa) => dfa.note_ahead(sid, bytes, at, len, anew, notes),
         }
     }
 
@@ -224,6 +241,20 @@ impl Search for AhoCorasick {
         }
     }
 
+    fn search_ahead(
+        &self,
+        input: &Input<'_>,
+        start: StateID,
+        ahead: &mut Ahead,
+        steps: &mut Steps,
+    ) -> Option<Match> {
+        match &*self.engine {
+            Engine::Noncontiguous(nfa) => nfa.search_ahead(input, start, ahead, steps),
+            Engine::Contiguous(nfa) => nfa.search_ahead(input, start, ahead, steps),
+            Engine::Dfa(dfa) => dfa.search_ahead(input, start, ahead, steps),
+        }
+    }
+
     fn search_overlapping(
         &self,
         input: &Input<'_>,
@@ -238,17 +269,37 @@ impl Search for AhoCorasick {
         }
     }
 
+    fn search_overlapping_ahead(
+        &self,
+        input: &Input<'_>,
+        start: StateID,
+        place: Position,
+        ahead: &mut Ahead,
+        steps: &mut Steps,
+    ) -> Shown {
+        match &*self.engine {
+            Engine::Noncontiguous(nfa) => {
+                nfa.search_overlapping_ahead(input, start, place, ahead, steps)
+            }
+            Engine::Contiguous(nfa) => {
+                nfa.search_overlapping_ahead(input, start, place, ahead, steps)
+            }
+            Engine::Dfa(dfa) => dfa.search_overlapping_ahead(input, start, place, ahead, steps),
+        }
+    }
+
     fn search_stream(
         &self,
         start: StateID,
         progress: &Progress,
         held: &[u8],
+        ahead: &mut Ahead,
         steps: &mut Steps,
     ) -> Searched {
         match &*self.engine {
-            Engine::Noncontiguous(nfa) => nfa.search_stream(start, progress, held, steps),
-            Engine::Contiguous(nfa) => nfa.search_stream(start, progress, held, steps),
-            Engine::Dfa(dfa) => dfa.search_stream(start, progress, held, steps),
+            Engine::Noncontiguous(nfa) => nfa.search_stream(start, progress, held, ahead, steps),
+            Engine::Contiguous(nfa) => nfa.search_stream(start, progress, held, ahead, steps),
+            Engine::Dfa(dfa) => dfa.search_stream(start, progress, held, ahead, steps),
         }
     }
 }

@@ -22,6 +22,7 @@ use ac_input::search::{MatchKind, StartKind};
 use ac_noncontiguous::builder::Builder;
 use ac_noncontiguous::error::{BuildError, BuildErrorKind};
 use ac_noncontiguous::nfa::NFA;
+use ac_tables::contiguous::builder::ROW_MEMORY;
 use ac_tables::dfa::DFA;
 use ac_tables::{contiguous, dfa};
 use std::alloc::{AllocError, Global};
@@ -73,6 +74,7 @@ pub struct AhoCorasickBuilder {
     prefilter: bool,
     dense_depth: Option<usize>,
     byte_classes: bool,
+    row_memory: usize,
 }
 
 impl Model for AhoCorasickBuilder {
@@ -88,6 +90,7 @@ impl Model for AhoCorasickBuilder {
       prefilter = b.prefilter;
       dense_depth = b.dense_depth;
       byte_classes = b.byte_classes;
+      row_memory = b.row_memory;
     } };
 
     ghost inverse = { λ s. record {
@@ -98,6 +101,7 @@ impl Model for AhoCorasickBuilder {
       prefilter = s.prefilter;
       dense_depth = s.dense_depth;
       byte_classes = s.byte_classes;
+      row_memory = s.row_memory;
     } };
 }
 
@@ -125,6 +129,7 @@ impl AhoCorasickBuilder {
             prefilter: true,
             dense_depth: None,
             byte_classes: true,
+            row_memory: ROW_MEMORY,
         }
     }
 
@@ -231,6 +236,20 @@ impl AhoCorasickBuilder {
         self
     }
 
+    /// Sets how many bytes of memory the rows of the contiguous NFA may take. At first it is 16 MiB; 0 is for none.
+    ///
+    /// It changes no result. With rows an unanchored search looks at one state for a byte, as a DFA does, and is about as fast. There
+    /// are rows if they take no more than this; they take about what a DFA of the same patterns takes, and as long to make.
+    ///
+    /// A caller: `uses::callers::front::thrifty`.
+    pub fn row_memory(&mut self, bytes: usize) -> &mut AhoCorasickBuilder
+        ensures same { result.ghost_name ≡ self.entry.ghost_name }
+        ensures value { result.now ≡ record self.old { row_memory = bytes } }
+    {
+        self.row_memory = bytes;
+        self
+    }
+
     /// The builder of the noncontiguous NFA.
     fn noncontiguous(&self) -> Builder
         ensures { result ≡ noncontiguous_by self.now }
@@ -254,6 +273,7 @@ impl AhoCorasickBuilder {
         builder.pairing(self.pairing);
         builder.prefilter(self.prefilter);
         builder.byte_classes(self.byte_classes);
+        builder.row_memory(self.row_memory);
         if let Some(depth) = self.dense_depth {
             builder.dense_depth(depth);
         }

@@ -10,10 +10,10 @@ ghost use Rattle.ac_automaton.specs.Automaton.{AnswersFind, CostsFind, IsFound, 
 ghost use Rattle.ac_automaton.specs.Iter.{AnswersFindIter};
 ghost use Rattle.ac_automaton.specs.Overlapping.{CountsShown, ShowsNext, AnswersOverlapping, IsOverlappingCost, sums_of};
 ghost use Rattle.ac_automaton.specs.OverlappingIter.{AnswersOverlappingIter, rest_of};
-ghost use Rattle.ac_automaton.specs.Items.{AreFew, AreFewForEach, AreInOrder, EachLiesWithin, FindsWithin, LiesWithin};
+ghost use Rattle.ac_automaton.specs.Items.{AreFewMatches, AreFewForEach, MatchesAreInOrder, EachLiesWithin, FindsWithin, LiesWithin};
 ghost use Rattle.aho_corasick.specs.AhoCorasick.{as_built, kind_of, supported_by, CameFromCalls, HasOccurrence, IsWalkOver, IsRunOver};
 
-use super::{AhoCorasick, FindIter, FindOverlappingIter};
+use super::{AhoCorasick, FindIter, FindIterAhead, FindOverlappingIter};
 use ac_automaton::automaton::Automaton;
 use ac_automaton::error::MatchError;
 use ac_automaton::overlapping::OverlappingState;
@@ -100,16 +100,36 @@ impl AhoCorasick {
     pub fn find_iter<'a, 'h>(&'a self, input: Input<'h>) -> FindIter<'a, 'h>
         requires { supported_by self.now input.anchored }
         ensures over { IsWalkOver (as_built self.now) input.entry result }
-        ensures few { AreFew input.entry result }
-        ensures lie { AreInOrder (as_built self.now) input.entry result }
+        ensures few { AreFewMatches input.entry result }
+        ensures lie { MatchesAreInOrder (as_built self.now) input.entry result }
     {
         self.try_find_iter(input).unwrap()
+    }
+
+    /// The matches of [`AhoCorasick::find_iter`], for many of them in a long text, with hundreds of patterns and more: see
+    /// [`FindIterAhead`].
+    ///
+    /// A call may read up to 8 KiB past the match that it returns, over several parts of the text side by side. The iterator takes
+    /// some 3 KiB and no other memory. It counts as much as `find_iter`. Where reading ahead can't pay it does as `find_iter`: under
+    /// a leftmost kind, with a prefilter or an empty pattern, for an anchored input, and for one of less than 1 KiB.
+    ///
+    /// A caller: `uses::callers::front_find::all_matches_ahead`.
+    pub fn find_iter_ahead<'a, 'h>(&'a self, input: Input<'h>) -> FindIterAhead<'a, 'h>
+        requires { supported_by self.now input.anchored }
+        ensures over { IsWalkOver (as_built self.now) input.entry result }
+        ensures few { AreFewMatches input.entry result }
+        ensures lie { MatchesAreInOrder (as_built self.now) input.entry result }
+    {
+        self.try_find_iter_ahead(input).unwrap()
     }
 
     /// All occurrences in the input, one after another: see [`FindOverlappingIter`].
     ///
     /// It requires that the input isn't anchored, that the start kind has unanchored searches, and that the kind is the standard
     /// one. However many occurrences there are, it looks at two states for each byte of the span at most, or at one with a DFA.
+    ///
+    /// A call may read up to 8 KiB past the match that it returns, where there is no prefilter and 1 KiB or more is left to be
+    /// searched. The iterator takes some 3 KiB and no other memory. [`AhoCorasick::try_find_overlapping`] never reads ahead.
     ///
     /// A caller: `uses::callers::front_find::all_occurrences`. An example: `uses::examples::iterate::all_patterns`.
     pub fn find_overlapping_iter<'a, 'h>(&'a self, input: Input<'h>) -> FindOverlappingIter<'a, 'h>
@@ -189,10 +209,27 @@ impl AhoCorasick {
     pub fn try_find_iter<'a, 'h>(&'a self, input: Input<'h>) -> Result<FindIter<'a, 'h>, MatchError>
         ensures answer { AnswersFindIter (as_built self.now) (supported_by self.now) input.entry
             result }
-        ensures few { IfOk result (AreFew input.entry) }
-        ensures lie { IfOk result (AreInOrder (as_built self.now) input.entry) }
+        ensures few { IfOk result (AreFewMatches input.entry) }
+        ensures lie { IfOk result (MatchesAreInOrder (as_built self.now) input.entry) }
     {
         Automaton::try_find_iter(self, input)
+    }
+
+    /// All matches of the input, one after another: see [`AhoCorasick::find_iter_ahead`].
+    ///
+    /// Returns `InvalidInputAnchored` or `InvalidInputUnanchored` if the start kind doesn't have the input's anchoring.
+    ///
+    /// A caller: `uses::callers::front_find::count_matches_ahead`.
+    pub fn try_find_iter_ahead<'a, 'h>(
+        &'a self,
+        input: Input<'h>,
+    ) -> Result<FindIterAhead<'a, 'h>, MatchError>
+        ensures answer { AnswersFindIter (as_built self.now) (supported_by self.now) input.entry
+            result }
+        ensures few { IfOk result (AreFewMatches input.entry) }
+        ensures lie { IfOk result (MatchesAreInOrder (as_built self.now) input.entry) }
+    {
+        Automaton::try_find_iter_ahead(self, input)
     }
 
     /// All occurrences in the input, one after another: see [`AhoCorasick::find_overlapping_iter`].

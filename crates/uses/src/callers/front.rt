@@ -62,7 +62,8 @@ pub fn thrifty(
         .start_kind(starts)
         .prefilter(false)
         .dense_depth(0)
-        .byte_classes(true);
+        .byte_classes(true)
+        .row_memory(0);
     builder.build(alloc, patterns)
 }
 

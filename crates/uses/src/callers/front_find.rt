@@ -63,11 +63,30 @@ pub fn all_matches(ac: &AhoCorasick, alloc: Global, text: &[u8]) -> Result<Vec<M
     ac.find_iter(Input::new(text)).collect(alloc)
 }
 
+/// The same matches, of a text that is read ahead.
+pub fn all_matches_ahead(
+    ac: &AhoCorasick,
+    alloc: Global,
+    text: &[u8],
+) -> Result<Vec<Match>, AllocError>
+    requires { supported_by ac.now Anchored.No }
+    ensures { IfOk result (λ v. v.items ≡ matches_in (as_built ac.now) text.now) }
+{
+    ac.find_iter_ahead(Input::new(text)).collect(alloc)
+}
+
 /// How many matches the text has.
 pub fn count_matches(ac: &AhoCorasick, text: &[u8]) -> Result<usize, MatchError>
     ensures { IfOk result (λ count. count ≡ length (matches_in (as_built ac.now) text.now)) }
 {
     Ok(ac.try_find_iter(Input::new(text))?.count())
+}
+
+/// The same, of a text that is read ahead.
+pub fn count_matches_ahead(ac: &AhoCorasick, text: &[u8]) -> Result<usize, MatchError>
+    ensures { IfOk result (λ count. count ≡ length (matches_in (as_built ac.now) text.now)) }
+{
+    Ok(ac.try_find_iter_ahead(Input::new(text))?.count())
 }
 
 /// How many matches the text has, by packed search and by the automaton of the same patterns and kind: as many.

@@ -26,6 +26,21 @@ pub fn all_matches<A: Search>(
         .collect(alloc)
 }
 
+/// The same matches, of a text that is read ahead.
+pub fn all_matches_ahead<A: Search>(
+    automaton: &A,
+    alloc: Global,
+    text: &[u8],
+) -> Result<Vec<Match>, AllocError>
+    requires { A.supports automaton.now Anchored.No }
+    ensures { IfOk result (λ v. v.items ≡ matches_in (A.built automaton.now) text.now) }
+{
+    automaton
+        .try_find_iter_ahead(Input::new(text))
+        .unwrap()
+        .collect(alloc)
+}
+
 /// How many matches the text has.
 pub fn count_matches<A: Search>(automaton: &A, text: &[u8]) -> usize
     requires { A.supports automaton.now Anchored.No }
@@ -55,5 +70,15 @@ pub fn pass_matches<A: Search>(automaton: &A, text: &[u8], steps: &mut Steps)
     ensures { looked_of steps.new ≤ looked_of steps.old + 2 * length text.now }
 {
     let mut matches = automaton.try_find_iter(Input::new(text)).unwrap();
+    while let Some(_) = matches.next_counted(steps) {}
+}
+
+/// The same of a text that is read ahead. What was read ahead counts when its match is taken.
+pub fn pass_matches_ahead<A: Search>(automaton: &A, text: &[u8], steps: &mut Steps)
+    requires supports { A.supports automaton.now Anchored.No }
+    requires standard { (A.built automaton.now).dictionary.kind ≡ Standard }
+    ensures { looked_of steps.new ≤ looked_of steps.old + 2 * length text.now }
+{
+    let mut matches = automaton.try_find_iter_ahead(Input::new(text)).unwrap();
     while let Some(_) = matches.next_counted(steps) {}
 }

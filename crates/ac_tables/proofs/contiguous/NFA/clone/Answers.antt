@@ -14,7 +14,7 @@ from_parts-requires-clause-parts c =
     let same = sym c.in_ok-lens.ensures in
     record {
       within = subst (λ (patterns : List (List ℕ)). ∥ IsWithinLimits (dictionary_of patterns a.pairing a.kind) ∥₁) same a.within;
-      stands = subst (λ (patterns : List (List ℕ)). AreSomeStates (dictionary_of patterns a.pairing a.kind) c.in_ok-table.table) same (states-copied (contiguous_dictionary a) a.table c.in_ok-table.table c.in_ok-table.ensures a.stands);
+      stands = subst (λ (patterns : List (List ℕ)). AreSomeStates (dictionary_of patterns a.pairing a.kind) c.in_ok-table.table c.in_ok-rows.rows) same (states-copied (contiguous_dictionary a) a.table c.in_ok-table.table a.rows c.in_ok-rows.rows c.in_ok-table.ensures c.in_ok-rows.ensures a.stands);
       held = λ f is. a.held f (sym (c.in_ok-prefilter.ensures ∙ c.as_ref.ensures.value) ∙ is) ∙ ap (λ (patterns : List (List ℕ)). dictionary_of patterns a.pairing a.kind) same;
       paired = a.paired;
     }

@@ -3,7 +3,7 @@ use Rattle.ac_tables.proofs.SkipLemmas.{start-place}
 use Rattle.ac_tables.proofs.contiguous.NFA.from_parts.Goals as goal
 
 pub starters-requires : goal.starters-requires
-starters-requires c = start-place (dictionary_of c.args.lens c.args.pairing c.args.kind) c.args.table c.requires.parts.stands
+starters-requires c = start-place (dictionary_of c.args.lens c.args.pairing c.args.kind) c.args.table c.args.rows c.requires.parts.stands
 
 pub invariant_of-result-clause-idle : goal.invariant_of-result-clause-idle
 invariant_of-result-clause-idle c = ∣ c.starters.ensures ∣₁

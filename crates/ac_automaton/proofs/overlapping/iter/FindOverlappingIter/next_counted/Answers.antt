@@ -16,9 +16,9 @@ invariant_of-self g c =
     let R = g.A.Automaton.Reaches i.automaton.now i.input.anchored in
     let E = g.A.Automaton.matches i.automaton.now in
     let stands = c.self.invariant.2 in
-    let shows = c.search_overlapping-shown.ensures.shows (drop i.shown.value (listing_of s)) stands.left in
-    let after = stands-after R E m d s i.place i.shown.value c.search_overlapping-shown.result i.sums c.new-done.result c.search_overlapping-shown.new.steps c.add.new.self stands shows c.search_overlapping-shown.ensures.pays c.new-done.ensures c.add.ensures in
-    (c.self.invariant.0, c.self.invariant.1, subst (λ (k : ℕ). StandsAt R E m d s c.search_overlapping-shown.result.place k c.add.new.self) (sym c.with_found-self-inside.ensures) after, counted-after (g.A.Automaton.built i.automaton.now) i.input i.place c.search_overlapping-shown.result i.sums c.new-done.result c.search_overlapping-shown.new.steps c.add.new.self c.self.invariant.3 c.search_overlapping-shown.ensures.counts c.new-done.ensures c.add.ensures)
+    let shows = c.search_overlapping_ahead-shown.ensures.shows (drop i.shown.value (listing_of s)) stands.left in
+    let after = stands-after R E m d s i.place i.shown.value c.search_overlapping_ahead-shown.result i.sums c.new-done.result c.search_overlapping_ahead-shown.new.steps c.add.new.self stands shows c.search_overlapping_ahead-shown.ensures.pays c.new-done.ensures c.add.ensures in
+    (c.self.invariant.0, c.self.invariant.1, subst (λ (k : ℕ). StandsAt R E m d s c.search_overlapping_ahead-shown.result.place k c.add.new.self) (sym c.with_found-self-inside.ensures) after, counted-after (g.A.Automaton.built i.automaton.now) i.input i.place c.search_overlapping_ahead-shown.result i.sums c.new-done.result c.search_overlapping_ahead-shown.new.steps c.add.new.self c.self.invariant.3 c.search_overlapping_ahead-shown.ensures.counts c.new-done.ensures c.add.ensures, c.search_overlapping_ahead-shown.ensures.known)
 
 pub returns-clause-gives : goal.returns-clause-gives
 returns-clause-gives g c =
@@ -26,9 +26,9 @@ returns-clause-gives g c =
     let s = search_in (g.A.Automaton.built i.automaton.now).dictionary i.input in
     let L = listing_of s in
     let n : ℕ = i.shown.value in
-    let r = c.search_overlapping-shown.result.found in
+    let r = c.search_overlapping_ahead-shown.result.found in
     let stands = c.self.invariant.2 in
-    let shows = c.search_overlapping-shown.ensures.shows (drop n L) stands.left in
+    let shows = c.search_overlapping_ahead-shown.ensures.shows (drop n L) stands.left in
     let yields = yields-next L n r shows.0 in
     let counted = subst (λ (k : ℕ). MatchOption r ((drop n L ≡ []) × (drop k L ≡ [])) (λ o. drop n L ≡ o ∷ drop k L)) (sym c.with_found-self-inside.ensures) yields in
     (rw (← c.self.view_is) counted, search rules)
@@ -42,15 +42,15 @@ returns-clause-work g c =
     let R = g.A.Automaton.Reaches i.automaton.now i.input.anchored in
     let E = g.A.Automaton.matches i.automaton.now in
     let stands = c.self.invariant.2 in
-    let shows = c.search_overlapping-shown.ensures.shows (drop i.shown.value (listing_of s)) stands.left in
-    let after = stands-after R E m d s i.place i.shown.value c.search_overlapping-shown.result i.sums c.new-done.result c.search_overlapping-shown.new.steps c.add.new.self stands shows c.search_overlapping-shown.ensures.pays c.new-done.ensures c.add.ensures in
+    let shows = c.search_overlapping_ahead-shown.ensures.shows (drop i.shown.value (listing_of s)) stands.left in
+    let after = stands-after R E m d s i.place i.shown.value c.search_overlapping_ahead-shown.result i.sums c.new-done.result c.search_overlapping_ahead-shown.new.steps c.add.new.self stands shows c.search_overlapping_ahead-shown.ensures.pays c.new-done.ensures c.add.ensures in
     let lives = λ (text : List ℕ) (sid : StateID) (reads : R text sid). g.met.A.Automaton.lives i.automaton.now i.input.anchored text sid reads in
-    let work = stands-work R E m d s c.search_overlapping-shown.result.place (if is_some c.search_overlapping-shown.result.found then i.shown.value + 1 else i.shown.value) c.add.new.self lives after in
+    let work = stands-work R E m d s c.search_overlapping_ahead-shown.result.place (if is_some c.search_overlapping_ahead-shown.result.found then i.shown.value + 1 else i.shown.value) c.add.new.self lives after in
     record { looked = work.looked; scanned = work.scanned; moved = work.moved }
 
 pub returns-clause-counted : goal.returns-clause-counted
 returns-clause-counted g c =
     let i = c.self.inside in
     let b = g.A.Automaton.built i.automaton.now in
-    let shows = c.search_overlapping-shown.ensures.shows (drop i.shown.value (listing_of (search_in b.dictionary i.input))) c.self.invariant.2.left in
-    shown-counted b i.input c.search_overlapping-shown.result c.add.new.self (counted-after b i.input i.place c.search_overlapping-shown.result i.sums c.new-done.result c.search_overlapping-shown.new.steps c.add.new.self c.self.invariant.3 c.search_overlapping-shown.ensures.counts c.new-done.ensures c.add.ensures) shows.2
+    let shows = c.search_overlapping_ahead-shown.ensures.shows (drop i.shown.value (listing_of (search_in b.dictionary i.input))) c.self.invariant.2.left in
+    shown-counted b i.input c.search_overlapping_ahead-shown.result c.add.new.self (counted-after b i.input i.place c.search_overlapping_ahead-shown.result i.sums c.new-done.result c.search_overlapping_ahead-shown.new.steps c.add.new.self c.self.invariant.3 c.search_overlapping_ahead-shown.ensures.counts c.new-done.ensures c.add.ensures) shows.2

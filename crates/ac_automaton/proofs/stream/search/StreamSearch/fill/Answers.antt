@@ -3,6 +3,7 @@ use Rattle.std.proofs.Common.{[], ◌-◌, length, nat_lt, subst, arith}
 use Rattle.std.proofs.lemmas.List.{take_rest}
 use Rattle.ac_input.specs.declared.search.Anchored.TheVariants.{No}
 use Rattle.ac_automaton.specs.Stream.{HasRead, StreamProgress}
+use Rattle.ac_automaton.proofs.AheadLemmas.{blank-notes}
 use Rattle.ac_automaton.proofs.StreamSearchLemmas.{HasFilled, fill-failed, fill-gave, filled_by}
 use Rattle.ac_automaton.proofs.stream.search.StreamSearch.fill.Given.{Over}
 use Rattle.ac_automaton.proofs.stream.search.StreamSearch.fill.Goals as goal
@@ -11,10 +12,10 @@ use Rattle.ac_automaton.proofs.stream.search.StreamSearch.fill.Goals as goal
 failed : (g : Over) (c : goal.After-self-1 g) → HasFilled g.A.Automaton g.R.Read.remaining c.self.inside c.args.reader.now c.fill.new.reader c.and-self-inside.result.items c.fill.new.self c.self.inside.over [] 1
 failed g c =
     let i = c.self.inside in
-    fill-failed g.A.Automaton g.R.Read.remaining i c.args.reader.now c.fill.new.reader c.and-self-inside.result.items c.fill.new.self c.self.invariant (g.met.A.Automaton.lives i.automaton.now No) c.in-Err.ensures.gave.1 c.in-Err.ensures.paid c.and-self-inside.ensures c.in-Err.ensures.gave.0
+    fill-failed g.A.Automaton g.R.Read.remaining i c.args.reader.now c.fill.new.reader c.and-self-inside.result.items c.fill.new.self c.self.invariant.0 (g.met.A.Automaton.lives i.automaton.now No) c.in-Err.ensures.gave.1 c.in-Err.ensures.paid c.and-self-inside.ensures c.in-Err.ensures.gave.0
 
 pub invariant_of-self : goal.invariant_of-self
-invariant_of-self g c = (failed g c).right
+invariant_of-self g c = ((failed g c).right, blank-notes (g.A.Automaton.Reaches c.self.inside.automaton.now No) (g.A.Automaton.matches c.self.inside.automaton.now) _ _ c.forget.ensures)
 
 pub returns-in-Err-clause-read : goal.returns-in-Err-clause-read
 returns-in-Err-clause-read g c = subst (λ (t : StreamProgress). HasRead g.R.Read.remaining t (filled_by g.A.Automaton g.R.Read.remaining c.self.inside c.args.reader.now c.fill.new.reader c.and-self-inside.result.items c.fill.new.self) c.args.reader.now c.fill.new.reader [] 1) c.self.view_is (failed g c).read
@@ -26,10 +27,10 @@ returns-in-Err-clause-kept g c = (failed g c).right.stands.course
 past : (g : Over) (c : goal.Then-self g) → HasFilled g.A.Automaton g.R.Read.remaining c.self.inside c.args.reader.now c.fill.new.reader c.and-self-inside-2.result.items c.fill.new.self (nat_lt (18446744073709551615 - c.self.inside.progress.from) (length c.held-held.result.now)) c.in-Ok.ensures.gave.piece 0
 past g c =
     let i = c.self.inside in
-    fill-gave g.A.Automaton g.R.Read.remaining i c.args.reader.now c.fill.new.reader c.and-self-inside-2.result.items c.fill.new.self c.in-Ok.n c.held-held.result.now c.self.invariant (g.met.A.Automaton.lives i.automaton.now No) c.in-Ok.ensures.gave c.in-Ok.ensures.paid c.held-held.ensures (rw take_rest at c.and-self-inside-2.ensures) (omega arith)
+    fill-gave g.A.Automaton g.R.Read.remaining i c.args.reader.now c.fill.new.reader c.and-self-inside-2.result.items c.fill.new.self c.in-Ok.n c.held-held.result.now c.self.invariant.0 (g.met.A.Automaton.lives i.automaton.now No) c.in-Ok.ensures.gave c.in-Ok.ensures.paid c.held-held.ensures (rw take_rest at c.and-self-inside-2.ensures) (omega arith)
 
 pub invariant_of-self-then-self : goal.invariant_of-self-then-self
-invariant_of-self-then-self g c = (past g c).right
+invariant_of-self-then-self g c = ((past g c).right, blank-notes (g.A.Automaton.Reaches c.self.inside.automaton.now No) (g.A.Automaton.matches c.self.inside.automaton.now) _ _ c.forget.ensures)
 
 pub returns-then-self-clause-read : goal.returns-then-self-clause-read
 returns-then-self-clause-read g c =
@@ -44,10 +45,10 @@ returns-then-self-clause-kept g c = (past g c).right.stands.course
 within : (g : Over) (c : goal.Else-self g) → HasFilled g.A.Automaton g.R.Read.remaining c.self.inside c.args.reader.now c.fill.new.reader c.and-self-inside-2.result.items c.fill.new.self (nat_lt (18446744073709551615 - c.self.inside.progress.from) (length c.held-held.result.now)) c.in-Ok.ensures.gave.piece 0
 within g c =
     let i = c.self.inside in
-    fill-gave g.A.Automaton g.R.Read.remaining i c.args.reader.now c.fill.new.reader c.and-self-inside-2.result.items c.fill.new.self c.in-Ok.n c.held-held.result.now c.self.invariant (g.met.A.Automaton.lives i.automaton.now No) c.in-Ok.ensures.gave c.in-Ok.ensures.paid c.held-held.ensures (rw take_rest at c.and-self-inside-2.ensures) (omega arith)
+    fill-gave g.A.Automaton g.R.Read.remaining i c.args.reader.now c.fill.new.reader c.and-self-inside-2.result.items c.fill.new.self c.in-Ok.n c.held-held.result.now c.self.invariant.0 (g.met.A.Automaton.lives i.automaton.now No) c.in-Ok.ensures.gave c.in-Ok.ensures.paid c.held-held.ensures (rw take_rest at c.and-self-inside-2.ensures) (omega arith)
 
 pub invariant_of-self-2 : goal.invariant_of-self-2
-invariant_of-self-2 g c = (within g c).right
+invariant_of-self-2 g c = ((within g c).right, blank-notes (g.A.Automaton.Reaches c.self.inside.automaton.now No) (g.A.Automaton.matches c.self.inside.automaton.now) _ _ c.forget.ensures)
 
 pub returns-clause-read : goal.returns-clause-read
 returns-clause-read g c =

@@ -3,6 +3,7 @@ use Rattle.std.proofs.Common.{subst, sym, [], false}
 use Rattle.ac_input.specs.declared.search.Anchored.TheVariants.{No}
 use Rattle.ac_automaton.specs.StreamSearch.{IsStreamSearch}
 use Rattle.ac_automaton.specs.Stream.{IsOnCourse, StreamProgress}
+use Rattle.ac_automaton.proofs.AheadLemmas.{blank-notes}
 use Rattle.ac_automaton.proofs.StreamSearchLemmas.{fresh-right, fresh-view}
 use Rattle.ac_automaton.proofs.stream.search.StreamSearch.new.Goals as goal
 
@@ -13,9 +14,11 @@ invariant_of-result g c =
     let start = c.in_ok-start.start in
     let can = c.in_ok-start.ensures.can in
     let begins = c.in_ok-start.ensures.start in
-    let view = fresh-view b c.empty.result.items c.zero.result.value start c.max_pattern_len.result c.in_ok-buffer.buffer c.new-2.result c.empty.ensures c.zero.ensures c.in_ok-buffer.ensures.fresh c.new-2.ensures in
-    subst (λ (t : StreamProgress). IsStreamSearch (g.A.Automaton.Reaches a No) t start start c.zero.result.value c.in_ok-buffer.buffer false) (sym view)
-    (fresh-right b (g.A.Automaton.Reaches a No) start c.max_pattern_len.result c.zero.result.value c.in_ok-buffer.buffer can.1 can.2 begins (g.met.A.Automaton.lives a No [] start begins) c.max_pattern_len.ensures c.zero.ensures c.in_ok-buffer.ensures.fresh c.in_ok-buffer.ensures.paid)
+    let view = fresh-view b c.empty.result.items c.zero.result.value start c.max_pattern_len.result c.in_ok-buffer.buffer c.new-2.result c.empty.ensures c.zero.ensures c.in_ok-buffer.ensures.fresh c.new-2.ensures in (
+      subst (λ (t : StreamProgress). IsStreamSearch (g.A.Automaton.Reaches a No) t start start c.zero.result.value c.in_ok-buffer.buffer false) (sym view)
+          (fresh-right b (g.A.Automaton.Reaches a No) start c.max_pattern_len.result c.zero.result.value c.in_ok-buffer.buffer can.1 can.2 begins (g.met.A.Automaton.lives a No [] start begins) c.max_pattern_len.ensures c.zero.ensures c.in_ok-buffer.ensures.fresh c.in_ok-buffer.ensures.paid),
+      blank-notes (g.A.Automaton.Reaches a No) (g.A.Automaton.matches a) _ _ c.none.ensures,
+    )
 
 pub returns : goal.returns
 returns g c =

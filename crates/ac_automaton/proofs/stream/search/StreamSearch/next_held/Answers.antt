@@ -1,6 +1,7 @@
 -- The next match of what was read is that of the search over what is held.
-use Rattle.std.proofs.Common.{sym, subst, refl, ◌∙◌}
+use Rattle.std.proofs.Common.{ℕ, List, sym, subst, refl, ◌∙◌}
 use Rattle.ac_input.specs.declared.search.Anchored.TheVariants.{No}
+use Rattle.ac_automaton.specs.Ahead.{AreNotes}
 use Rattle.ac_automaton.specs.StreamSearch.{IsStreamSearch, SearchesOn, progress_at}
 use Rattle.ac_automaton.specs.Stream.{FindsHeld, IsOnCourse, StreamCounts, StreamProgress}
 use Rattle.ac_automaton.proofs.StreamSearchLemmas.{added-done, counts-none, next-counts, next-stream, next-view}
@@ -15,12 +16,14 @@ invariant_of-self g c =
     let b = g.A.Automaton.built i.automaton.now in
     let Reaches = g.A.Automaton.Reaches i.automaton.now No in
     let s : StreamProgress = progress_at b i.pieces.items i.given.value i.progress i.buffer i.sums in
-    let inv = c.self.invariant in
-    let on : SearchesOn Reaches s i.start c.search_stream-searched.result _ _ = c.search_stream-searched.ensures s (record { built = refl; stands = inv.stands; from = refl; at = refl; last = refl; bytes = c.held.ensures ∙ inv.holds.bytes; countable = inv.countable c.if-self.false }) in
+    let inv = c.self.invariant.0 in
+    let on : SearchesOn Reaches s i.start c.search_stream-searched.result _ _ = c.search_stream-searched.ensures.walk s (record { built = refl; stands = inv.stands; from = refl; at = refl; last = refl; bytes = c.held.ensures ∙ inv.holds.bytes; countable = inv.countable c.if-self.false }) in
     let done = added-done on.looks _ _ _ _ c.new-taken.ensures on.done c.add-2.ensures in
-    let view = next-view b i.pieces.items i.given.value i.progress i.buffer i.sums c.search_stream-searched.result on.looks _ _ inv.number on.stands.course.decided on.from c.given_then-self-inside.ensures done in
-    subst (λ (t : StreamProgress). IsStreamSearch Reaches t i.start c.search_stream-searched.result.progress.sid c.given_then-self-inside.result.value i.buffer i.over) (sym view)
-    (next-stream Reaches s i.start i.progress.sid i.given.value i.buffer i.over c.search_stream-searched.result _ _ c.given_then-self-inside.result.value inv on c.given_then-self-inside.ensures)
+    let view = next-view b i.pieces.items i.given.value i.progress i.buffer i.sums c.search_stream-searched.result on.looks _ _ inv.number on.stands.course.decided on.from c.given_then-self-inside.ensures done in (
+      subst (λ (t : StreamProgress). IsStreamSearch Reaches t i.start c.search_stream-searched.result.progress.sid c.given_then-self-inside.result.value i.buffer i.over) (sym view)
+          (next-stream Reaches s i.start i.progress.sid i.given.value i.buffer i.over c.search_stream-searched.result _ _ c.given_then-self-inside.result.value inv on c.given_then-self-inside.ensures),
+      subst (λ (bytes : List ℕ). AreNotes Reaches (g.A.Automaton.matches i.automaton.now) bytes c.search_stream-searched.new.ahead.notes) c.held.ensures c.search_stream-searched.ensures.known,
+    )
 
 pub returns-clause-finds : goal.returns-clause-finds
 returns-clause-finds g c =
@@ -28,8 +31,8 @@ returns-clause-finds g c =
     let b = g.A.Automaton.built i.automaton.now in
     let Reaches = g.A.Automaton.Reaches i.automaton.now No in
     let s : StreamProgress = progress_at b i.pieces.items i.given.value i.progress i.buffer i.sums in
-    let inv = c.self.invariant in
-    let on : SearchesOn Reaches s i.start c.search_stream-searched.result _ _ = c.search_stream-searched.ensures s (record { built = refl; stands = inv.stands; from = refl; at = refl; last = refl; bytes = c.held.ensures ∙ inv.holds.bytes; countable = inv.countable c.if-self.false }) in
+    let inv = c.self.invariant.0 in
+    let on : SearchesOn Reaches s i.start c.search_stream-searched.result _ _ = c.search_stream-searched.ensures.walk s (record { built = refl; stands = inv.stands; from = refl; at = refl; last = refl; bytes = c.held.ensures ∙ inv.holds.bytes; countable = inv.countable c.if-self.false }) in
     let done = added-done on.looks _ _ _ _ c.new-taken.ensures on.done c.add-2.ensures in
     let view = next-view b i.pieces.items i.given.value i.progress i.buffer i.sums c.search_stream-searched.result on.looks _ _ inv.number on.stands.course.decided on.from c.given_then-self-inside.ensures done in
     subst (λ (t : StreamProgress). FindsHeld t c.search_stream-searched.result.found (progress_at b i.pieces.items c.given_then-self-inside.result.value c.search_stream-searched.result.progress i.buffer c.add-2.new.self)) c.self.view_is
@@ -41,8 +44,8 @@ returns-clause-counts g c =
     let b = g.A.Automaton.built i.automaton.now in
     let Reaches = g.A.Automaton.Reaches i.automaton.now No in
     let s : StreamProgress = progress_at b i.pieces.items i.given.value i.progress i.buffer i.sums in
-    let inv = c.self.invariant in
-    let on : SearchesOn Reaches s i.start c.search_stream-searched.result _ _ = c.search_stream-searched.ensures s (record { built = refl; stands = inv.stands; from = refl; at = refl; last = refl; bytes = c.held.ensures ∙ inv.holds.bytes; countable = inv.countable c.if-self.false }) in
+    let inv = c.self.invariant.0 in
+    let on : SearchesOn Reaches s i.start c.search_stream-searched.result _ _ = c.search_stream-searched.ensures.walk s (record { built = refl; stands = inv.stands; from = refl; at = refl; last = refl; bytes = c.held.ensures ∙ inv.holds.bytes; countable = inv.countable c.if-self.false }) in
     let done = added-done on.looks _ _ _ _ c.new-taken.ensures on.done c.add-2.ensures in
     let view = next-view b i.pieces.items i.given.value i.progress i.buffer i.sums c.search_stream-searched.result on.looks _ _ inv.number on.stands.course.decided on.from c.given_then-self-inside.ensures done in
     subst (λ (t : StreamProgress). StreamCounts t (progress_at b i.pieces.items c.given_then-self-inside.result.value c.search_stream-searched.result.progress i.buffer c.add-2.new.self) c.args.steps.now c.add.new.self) c.self.view_is
@@ -54,8 +57,8 @@ returns-clause-kept g c =
     let b = g.A.Automaton.built i.automaton.now in
     let Reaches = g.A.Automaton.Reaches i.automaton.now No in
     let s : StreamProgress = progress_at b i.pieces.items i.given.value i.progress i.buffer i.sums in
-    let inv = c.self.invariant in
-    let on : SearchesOn Reaches s i.start c.search_stream-searched.result _ _ = c.search_stream-searched.ensures s (record { built = refl; stands = inv.stands; from = refl; at = refl; last = refl; bytes = c.held.ensures ∙ inv.holds.bytes; countable = inv.countable c.if-self.false }) in
+    let inv = c.self.invariant.0 in
+    let on : SearchesOn Reaches s i.start c.search_stream-searched.result _ _ = c.search_stream-searched.ensures.walk s (record { built = refl; stands = inv.stands; from = refl; at = refl; last = refl; bytes = c.held.ensures ∙ inv.holds.bytes; countable = inv.countable c.if-self.false }) in
     let done = added-done on.looks _ _ _ _ c.new-taken.ensures on.done c.add-2.ensures in
     let view = next-view b i.pieces.items i.given.value i.progress i.buffer i.sums c.search_stream-searched.result on.looks _ _ inv.number on.stands.course.decided on.from c.given_then-self-inside.ensures done in
     subst IsOnCourse (sym view) on.stands.course

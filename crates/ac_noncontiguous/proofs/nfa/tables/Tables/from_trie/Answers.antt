@@ -29,7 +29,7 @@ returns-clause-stands c m t l =
         has = subst (HasStates m) (sym made.places.counted) (stand-counts m trie.states.items trie.ends.items trie.tree t.stands);
         texts = are-texts m trie numbering back s;
         transitions = are-transitions m trie links numbering back offsets row_offsets states c.in_ok-layout.layout.transitions.items s c.in_ok-layout.ensures kept;
-        rows = are-rows m trie links numbering back offsets row_offsets c.in_ok-rows.rows.rows.items c.classes-classes.result states s c.in_ok-rows.ensures.0 c.in_ok-rows.ensures.1 kept;
+        rows = are-rows m trie links numbering back offsets row_offsets c.in_ok-rows.rows.rows.items c.classes-classes.result states s l c.in_ok-rows.ensures kept;
         failures = are-failures m trie links numbering back offsets row_offsets states s l kept;
         lists = are-lists m trie links numbering back offsets row_offsets states s l c.in_ok-numbering.ensures.matches kept;
       },

@@ -1,17 +1,16 @@
-use Rattle.std.proofs.Common.{◌∙◌, ap, sym, refl}
+-- By the row, where there is one, with one look.
+use Rattle.std.proofs.Common.{ap}
 use Rattle.ac_input.specs.Input.{is_anchored}
-use Rattle.ac_noncontiguous.proofs.NextLemmas.{leads-straight, leads-to_dead, leads-followed}
+use Rattle.ac_noncontiguous.proofs.OverLemmas.{leads-over, leads-own, kept-over}
 use Rattle.ac_noncontiguous.proofs.nfa.tables.Tables.next.Goals as goal
 
-pub returns-then-as_usize-ne-FAIL : goal.returns-then-as_usize-ne-FAIL
-returns-then-as_usize-ne-FAIL c =
-    leads-straight c.args.self.now (is_anchored c.args.anchored) c.args.sid c.args.byte c.step-next.result c.args.steps.now c.look.new.self c.step-next.ensures
-    (λ e. c.if-as_usize-ne-FAIL.true (c.as_usize.ensures.value ∙ e)) c.look.ensures
+pub own-requires : goal.own-requires
+own-requires c = (c.requires.0, kept-over c.args.self.now c.args.sid c.args.byte c.in-Some.next c.requires.0 c.in-Some.ensures)
 
 pub returns-in-No : goal.returns-in-No
 returns-in-No c =
-    leads-followed c.args.self.now (is_anchored c.args.anchored) c.args.sid c.args.byte c.follow.result c.args.steps.now c.look.new.self c.follow.new.steps (ap is_anchored c.in-No.is) c.look.ensures c.follow.ensures
+    leads-over c.args.self.now (is_anchored c.args.anchored) c.args.sid c.args.byte c.in-Some.next c.args.steps.now c.look.new.self (ap is_anchored c.in-No.is) c.in-Some.ensures c.look.ensures
 
 pub returns-in-Yes : goal.returns-in-Yes
 returns-in-Yes c =
-    leads-to_dead c.args.self.now (is_anchored c.args.anchored) c.args.sid c.args.byte c.step-next.result 0 c.args.steps.now c.look.new.self (ap is_anchored c.in-Yes.is) c.step-next.ensures (sym c.as_usize.ensures.value ∙ c.if-as_usize-ne-FAIL.false) refl c.look.ensures
+    leads-own c.args.self.now (is_anchored c.args.anchored) c.args.sid c.args.byte c.in-Some.next c.own.result c.args.steps.now c.look.new.self (ap is_anchored c.in-Yes.is) c.in-Some.ensures c.own.ensures c.look.ensures

@@ -1,27 +1,40 @@
-use Rattle.std.proofs.Common.{◌≢◌, ◌+◌, ap, ap₂, sym, ◌∙◌, ℕ, arith}
-use Rattle.std.specs.Prelude.{slice_index}
+use Rattle.std.proofs.Common.{◌+◌, ap, sym, subst, ℕ, arith}
 use Rattle.ac_noncontiguous.specs.declared.nfa.tables.State.{State}
-use Rattle.ac_noncontiguous.specs.Nfa.{row_of, no_row}
-use Rattle.ac_noncontiguous.proofs.LookupLemmas.{read-at, kept-within, kept-read, kept-row, leads-row}
+use Rattle.ac_noncontiguous.specs.Nfa.{transitions_from}
+use Rattle.ac_noncontiguous.specs.Lookups.{AreRisingIn, IsNextIn}
+use Rattle.ac_noncontiguous.proofs.LookupLemmas.{kept-within, kept-read, kept-read_next, kept-ordered, kept-ends, kept-rises, leads-range}
 use Rattle.ac_noncontiguous.proofs.nfa.tables.Tables.step.Goals as goal
 
 pub index-requires : goal.index-requires
-index-requires c = let k = kept-within c.args.self.now c.args.sid c.requires in let e = c.as_usize.ensures.value in omega arith
+index-requires c = let k = kept-within c.args.self.now c.args.sid c.requires in let e = c.as_usize-at.ensures.value in omega arith
 
 pub index-requires-2 : goal.index-requires-2
-index-requires-2 c =
-    let row = ap (λ (s : State). s.row) (kept-read c.args.self.now c.args.sid c.as_usize.result c.index.result.now c.requires c.as_usize.ensures.value c.index.ensures) in
-    let some : row_of c.args.self.now.states.items c.args.sid ≢ no_row = λ e. c.if-row.false (sym row ∙ e) in
-    let within = kept-row c.args.self.now c.args.sid c.args.byte c.requires c.ranges.byte.fits some in
-    let at = c.get.ensures.value in
-    omega (arith, row, at, within)
+index-requires-2 c = let k = kept-within c.args.self.now c.args.sid c.requires in let e = c.as_usize-at.ensures.value in omega arith
+
+pub find-requires-clause-ordered : goal.find-requires-clause-ordered
+find-requires-clause-ordered c =
+    let from = ap (λ (s : State). s.transitions) (kept-read c.args.self.now c.args.sid c.as_usize-at.result c.index.result.now c.requires c.as_usize-at.ensures.value c.index.ensures) in
+    let end = ap (λ (s : State). s.transitions) (kept-read_next c.args.self.now c.args.sid c.as_usize-at.result c.index-2.result.now c.requires c.as_usize-at.ensures.value c.index-2.ensures) in
+    let le = kept-ordered c.args.self.now c.args.sid c.requires in
+    omega (arith, from, end, le)
+
+pub find-requires-clause-within : goal.find-requires-clause-within
+find-requires-clause-within c =
+    let end = ap (λ (s : State). s.transitions) (kept-read_next c.args.self.now c.args.sid c.as_usize-at.result c.index-2.result.now c.requires c.as_usize-at.ensures.value c.index-2.ensures) in
+    let le = kept-ends c.args.self.now c.args.sid c.requires in
+    omega (arith, end, le)
+
+pub find-requires-clause-rising : goal.find-requires-clause-rising
+find-requires-clause-rising c =
+    let from = ap (λ (s : State). s.transitions) (kept-read c.args.self.now c.args.sid c.as_usize-at.result c.index.result.now c.requires c.as_usize-at.ensures.value c.index.ensures) in
+    let end = ap (λ (s : State). s.transitions) (kept-read_next c.args.self.now c.args.sid c.as_usize-at.result c.index-2.result.now c.requires c.as_usize-at.ensures.value c.index-2.ensures) in
+    subst (λ (a : ℕ). AreRisingIn c.args.self.now.transitions.items a c.index-2.result.now.transitions) from
+    (subst (λ (b : ℕ). AreRisingIn c.args.self.now.transitions.items (transitions_from c.args.self.now.states.items c.args.sid) b) end (kept-rises c.args.self.now c.args.sid c.requires))
 
 pub returns : goal.returns
 returns c =
-    let row = ap (λ (s : State). s.row) (kept-read c.args.self.now c.args.sid c.as_usize.result c.index.result.now c.requires c.as_usize.ensures.value c.index.ensures) in
-    let some : row_of c.args.self.now.states.items c.args.sid ≢ no_row = λ e. c.if-row.false (sym row ∙ e) in
-    let within = kept-row c.args.self.now c.args.sid c.args.byte c.requires c.ranges.byte.fits some in
-    let at = c.get.ensures.value in
-    let place = ap₂ (λ (a b : ℕ). a + b) row (sym at) in
-    leads-row c.args.self.now c.args.sid c.args.byte c.index-2.result.now c.ranges.byte.fits some
-    (ap (slice_index c.args.self.now.rows.items) place ∙ read-at c.args.self.now.rows.items (c.index.result.now.row + c.get.result) c.index-2.result.now 0 (omega (arith, row, at, within)) c.index-2.ensures)
+    let from = ap (λ (s : State). s.transitions) (kept-read c.args.self.now c.args.sid c.as_usize-at.result c.index.result.now c.requires c.as_usize-at.ensures.value c.index.ensures) in
+    let end = ap (λ (s : State). s.transitions) (kept-read_next c.args.self.now c.args.sid c.as_usize-at.result c.index-2.result.now c.requires c.as_usize-at.ensures.value c.index-2.ensures) in
+    leads-range c.args.self.now c.args.sid c.args.byte c.find.result c.ranges.byte.fits
+    (subst (λ (a : ℕ). IsNextIn c.args.self.now.transitions.items a (transitions_from c.args.self.now.states.items (c.args.sid + 1)) c.args.byte c.find.result) (sym from)
+    (subst (λ (b : ℕ). IsNextIn c.args.self.now.transitions.items c.index.result.now.transitions b c.args.byte c.find.result) (sym end) c.find.ensures))

@@ -1,5 +1,6 @@
 -- What is made keeps what the noncontiguous automaton was built as.
 use Rattle.std.proofs.Common.{◌≡◌, false, Option, ap, sym, subst, ◌∙◌}
+use Rattle.std.proofs.lemmas.Result.{err_from_is_err_and}
 use Rattle.ac_input.specs.Candidate.{Filter}
 use Rattle.ac_input.specs.Dictionary.{Dictionary}
 use Rattle.ac_input.specs.Limits.{IsWithinLimits}
@@ -8,17 +9,28 @@ use Rattle.ac_noncontiguous.specs.Reads.{dictionary}
 use Rattle.ac_tables.specs.declared.contiguous.table.Table.{Table}
 use Rattle.ac_tables.specs.ContiguousTable.{AreWordsOf, AreSomeStates}
 use Rattle.ac_tables.specs.ContiguousBuilder.{ContiguousSettings, IsMadeFrom}
-use Rattle.ac_tables.proofs.WordTableLemmas.{same-dictionary}
+use Rattle.ac_tables.specs.ContiguousBuild.{IsRefusedFor}
+use Rattle.ac_tables.specs.TableClasses.{AreClassesFor}
+use Rattle.ac_tables.proofs.WordTableLemmas.{same-dictionary, refused-laid}
 use Rattle.ac_tables.proofs.contiguous.builder.Builder.build_from_noncontiguous.Goals as goal
+
+pub returns-in_err-laid-clause-refused : goal.returns-in_err-laid-clause-refused
+returns-in_err-laid-clause-refused c =
+    let nfa = c.args.nfa.now in
+    let classes = c.in_ok-classes.classes in
+    let p = err_from_is_err_and c.from_residual-in_err-laid.result c.from_residual-in_err-laid.ensures.1 in
+    let h = subst (λ (s : ContiguousSettings). IsRefusedFor nfa s.dense_depth classes c.in_err-laid.field-0.0) c.self.view_is c.in_err-laid.ensures.refused in
+    let chosen = subst (λ (s : ContiguousSettings). AreClassesFor nfa s.byte_classes classes) c.self.view_is c.in_ok-classes.ensures.classes in
+    rw (p.1, p.2) (refused-laid c.args.self.now nfa classes c.in_err-laid.field-0.0 chosen h)
 
 pub from_parts-requires-clause-parts : goal.from_parts-requires-clause-parts
 from_parts-requires-clause-parts c =
     let nfa = c.args.nfa.now in
-    let made = c.in_ok-table.ensures.made in
-    let e = same-dictionary (dictionary nfa) c.in_ok-lens.lens c.pairing-pairing.result.now c.match_kind.result (c.in_ok-lens.ensures ∙ c.pattern_lens.ensures) c.pairing-pairing.ensures.value c.match_kind.ensures in
+    let made = c.in_ok-laid.ensures.made in
+    let e = same-dictionary (dictionary nfa) c.in_ok-lens.lens c.pairing-pairing.result.now c.match_kind-kind.result (c.in_ok-lens.ensures ∙ c.pattern_lens.ensures) c.pairing-pairing.ensures.value c.match_kind-kind.ensures in
     record {
       within = subst (λ (d : Dictionary). ∥ IsWithinLimits d ∥₁) (sym e) made.within;
-      stands = subst (λ (d : Dictionary). AreSomeStates d c.in_ok-table.table) (sym e) made.stands;
+      stands = subst (λ (d : Dictionary). AreSomeStates d c.in_ok-laid.laid.table c.in_ok-laid.laid.rows) (sym e) made.stands;
       held = λ f is. c.prefilter.ensures.made f (sym (c.in_ok-prefilter.ensures ∙ c.prefilter.ensures.value) ∙ is) ∙ sym e;
       paired = c.pairing-pairing.ensures.paired;
     }
@@ -26,15 +38,15 @@ from_parts-requires-clause-parts c =
 pub from_parts-requires-clause-opened : goal.from_parts-requires-clause-opened
 from_parts-requires-clause-opened c =
     let nfa = c.args.nfa.now in
-    let e = same-dictionary (dictionary nfa) c.in_ok-lens.lens c.pairing-pairing.result.now c.match_kind.result (c.in_ok-lens.ensures ∙ c.pattern_lens.ensures) c.pairing-pairing.ensures.value c.match_kind.ensures in
+    let e = same-dictionary (dictionary nfa) c.in_ok-lens.lens c.pairing-pairing.result.now c.match_kind-kind.result (c.in_ok-lens.ensures ∙ c.pattern_lens.ensures) c.pairing-pairing.ensures.value c.match_kind-kind.ensures in
     subst (λ (d : Dictionary). ∥ AreOpenedBy d c.openings-openings.result ∥₁) (sym e) c.openings-openings.ensures
 
 pub returns-clause-made : goal.returns-clause-made
 returns-clause-made c =
     let nfa = c.args.nfa.now in
-    let made = c.in_ok-table.ensures.made in
-    let e = same-dictionary (dictionary nfa) c.in_ok-lens.lens c.pairing-pairing.result.now c.match_kind.result (c.in_ok-lens.ensures ∙ c.pattern_lens.ensures) c.pairing-pairing.ensures.value c.match_kind.ensures in
-    let words : c.from_parts.result.table.words.items ≡ c.in_ok-table.table.words.items = ap (λ (t : Table). t.words.items) c.from_parts.ensures.table in
+    let made = c.in_ok-laid.ensures.made in
+    let e = same-dictionary (dictionary nfa) c.in_ok-lens.lens c.pairing-pairing.result.now c.match_kind-kind.result (c.in_ok-lens.ensures ∙ c.pattern_lens.ensures) c.pairing-pairing.ensures.value c.match_kind-kind.ensures in
+    let words : c.from_parts.result.table.words.items ≡ c.in_ok-laid.laid.table.words.items = ap (λ (t : Table). t.words.items) c.from_parts.ensures.table in
     subst (λ (s : ContiguousSettings). IsMadeFrom s nfa c.from_parts.result) c.self.view_is
     (record {
       built =

@@ -3,7 +3,7 @@ use Rattle.std.proofs.Common.{◌≡◌, ◌<◌, ◌≤◌, ◌+◌, ℕ, inl, 
 use Rattle.ac_input.specs.declared.search.Anchored.TheVariants.{No, Yes}
 use Rattle.ac_noncontiguous.specs.declared.nfa.read.Special.{Special}
 use Rattle.ac_noncontiguous.specs.ReadCalls.{special_in, fail_in}
-use Rattle.ac_tables.specs.Filling.{number_in, IsRowRight, IsBlank, AreRowsFilled, AreRowsUpTo, IsDone}
+use Rattle.ac_tables.specs.Filling.{number_in, IsRowRight, IsUnwritten, AreRowsFilled, AreRowsUpTo, IsDone}
 use Rattle.ac_tables.specs.Filler.{plan_of}
 use Rattle.ac_tables.proofs.FilledLemmas.{rows-none, rows-starts, rows-low, rows-high, rows-all, fresh-low, fresh-high, failure-right_start, failure-right_low, failure-right_high, met-both, met-start_own}
 use Rattle.ac_tables.proofs.dfa.fill.Filler.fill_all.Goals as goal
@@ -21,7 +21,7 @@ fill-requires-clause-blank c serves =
     let start = ap (λ (s : Special). s.start_anchored_id) c.special-special.ensures.value in
     let none = rows-none p c.args.trans.now c.args.self.now.fit c.requires.len c.requires.blank in
     let fresh : ¬ IsDone (special_in p.nfa).start_unanchored_id 2 (special_in p.nfa).start_unanchored_id ((special_in p.nfa).start_unanchored_id + 1) = λ done. ⊎_elim (λ (l : (special_in p.nfa).start_unanchored_id + 1 < 2). omega (arith, l, s.0)) (λ (r : ((special_in p.nfa).start_unanchored_id ≤ (special_in p.nfa).start_unanchored_id + 1) × ((special_in p.nfa).start_unanchored_id + 1 < (special_in p.nfa).start_unanchored_id)). omega (arith, r.1)) done in
-    subst (λ (i : ℕ). IsBlank p.stride (number_in p Yes i) c.args.trans.now) (sym start) (none.blank Yes ((special_in p.nfa).start_unanchored_id + 1) serves (met-start_own p.nfa c.special-special.ensures.whole) fresh)
+    subst (λ (i : ℕ). IsUnwritten p.stride (number_in p Yes i) c.args.trans.now) (sym start) (none.blank Yes ((special_in p.nfa).start_unanchored_id + 1) serves (met-start_own p.nfa c.special-special.ensures.whole) fresh)
 
 pub loop-low-init : goal.loop-low-init
 loop-low-init c =
@@ -59,7 +59,7 @@ fill-requires-then-is_first_next-clause-blank c serves =
     let before : c.loop-low.low < (special_in p.nfa).start_unanchored_id = omega (arith, first.0, c.args.self.now.starts) in
     let i = c.loop-low.invariant in
     let met = met-both p.nfa Yes c.loop-low.low (omega (arith, before, s.1)) (omega (arith, i.low_past)) (inl before) in
-    subst (λ (sid : ℕ). IsBlank p.stride (number_in p Yes sid) c.loop-low.trans) (sym c.must-next.ensures) (i.rows.blank Yes c.loop-low.low serves met (fresh-low (special_in p.nfa).start_unanchored_id c.loop-low.low c.loop-low.high before))
+    subst (λ (sid : ℕ). IsUnwritten p.stride (number_in p Yes sid) c.loop-low.trans) (sym c.must-next.ensures) (i.rows.blank Yes c.loop-low.low serves met (fresh-low (special_in p.nfa).start_unanchored_id c.loop-low.low c.loop-low.high before))
 
 pub loop-low-preserved-then-is_first_next : goal.loop-low-preserved-then-is_first_next
 loop-low-preserved-then-is_first_next c =
@@ -95,7 +95,7 @@ fill-requires-else-is_first_next-clause-blank c serves =
     let i = c.loop-low.invariant in
     let past : (special_in p.nfa).start_unanchored_id + 2 ≤ c.loop-low.high = omega (arith, at, i.high_past) in
     let met = met-both p.nfa Yes c.loop-low.high later.0 (omega (arith, past)) (inr (omega (arith, past))) in
-    subst (λ (sid : ℕ). IsBlank p.stride (number_in p Yes sid) c.loop-low.trans) (sym c.must-next-else-is_first_next.ensures) (i.rows.blank Yes c.loop-low.high serves met (fresh-high (special_in p.nfa).start_unanchored_id c.loop-low.low c.loop-low.high (omega (arith, at, i.low_in)) past))
+    subst (λ (sid : ℕ). IsUnwritten p.stride (number_in p Yes sid) c.loop-low.trans) (sym c.must-next-else-is_first_next.ensures) (i.rows.blank Yes c.loop-low.high serves met (fresh-high (special_in p.nfa).start_unanchored_id c.loop-low.low c.loop-low.high (omega (arith, at, i.low_in)) past))
 
 pub loop-low-preserved : goal.loop-low-preserved
 loop-low-preserved c =

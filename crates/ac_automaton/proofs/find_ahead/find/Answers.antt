@@ -1,0 +1,57 @@
+-- The state where one call stops is that of the match, or the span ends there.
+use Rattle.std.proofs.Common.{◌≤◌, length, None, Some, sym, ◌∙◌, arith}
+use Rattle.std.proofs.lemmas.Bool.{false≢true}
+use Rattle.ac_input.specs.declared.search.Anchored.TheVariants.{No}
+use Rattle.ac_automaton.specs.Automaton.{IsFindCost, IsFound, searched}
+use Rattle.ac_automaton.proofs.FindAheadLemmas.{ahead-none, ahead-some, none-left}
+use Rattle.ac_automaton.proofs.find_ahead.find.Given.{Over}
+use Rattle.ac_automaton.proofs.find_ahead.find.Goals as goal
+
+pub returns-then-start-end-clause-found : goal.returns-then-start-end-clause-found
+returns-then-start-end-clause-found g c =
+    let end = c.end.ensures.value in
+    let within = c.end.ensures.within in
+    let inside : c.args.input.now.span.end ≤ length c.args.input.now.haystack = omega (arith, end, within) in
+    none-left (searched (g.A.Automaton.built c.args.automaton.now) c.args.input.now) inside c.requires.may.filled (sym c.start.ensures ∙ c.if-start-end.true ∙ end)
+
+-- the state where the call stopped doesn't match
+none : (g : Over) (c : goal.Then-not-is_match g) → IsFound (g.A.Automaton.built c.args.automaton.now) c.args.input.now None × IsFindCost (g.A.Automaton.built c.args.automaton.now) c.args.input.now c.args.steps.now c.advance_to_match-stop.new.steps None
+none g c =
+    let a = c.args.automaton.now in
+    let met = g.met.A.Automaton in
+    let stop = c.advance_to_match-stop in
+    let end = c.end.ensures.value in
+    let within = c.end.ensures.within in
+    let first = c.start.ensures in
+    let other = c.if-start-end.false in
+    let ordered = c.requires.ordered in
+    ahead-none g.A.Automaton a c.args.input.now c.args.start stop.result _ _ (met.pairs a No) (met.tells a No) (met.lives a No) c.requires.may (omega (arith, ordered, first, end, other)) (omega (arith, end, within))
+    (rw (c.haystack.ensures, c.end-2.ensures.value, c.start-2.ensures) at stop.ensures.goes) (rw (c.haystack.ensures, c.end-2.ensures.value, c.start-2.ensures) at stop.ensures.cost)
+    (λ some. false≢true (sym c.if-not-is_match.true ∙ c.is_match.ensures.1 some))
+
+pub returns-then-not-is_match-clause-found : goal.returns-then-not-is_match-clause-found
+returns-then-not-is_match-clause-found g c = (none g c).0
+
+pub returns-then-not-is_match-clause-cost : goal.returns-then-not-is_match-clause-cost
+returns-then-not-is_match-clause-cost g c = (none g c).1
+
+-- it matches
+some : (g : Over) (c : goal.After-first_match g) → IsFound (g.A.Automaton.built c.args.automaton.now) c.args.input.now (Some c.first_match.result) × IsFindCost (g.A.Automaton.built c.args.automaton.now) c.args.input.now c.args.steps.now c.advance_to_match-stop.new.steps (Some c.first_match.result)
+some g c =
+    let a = c.args.automaton.now in
+    let met = g.met.A.Automaton in
+    let stop = c.advance_to_match-stop in
+    let end = c.end.ensures.value in
+    let within = c.end.ensures.within in
+    let first = c.start.ensures in
+    let other = c.if-start-end.false in
+    let ordered = c.requires.ordered in
+    ahead-some g.A.Automaton a c.args.input.now c.args.start stop.result _ _ (met.pairs a No) (met.tells a No) (met.lives a No) c.requires.may (omega (arith, ordered, first, end, other)) (omega (arith, end, within))
+    (rw (c.haystack.ensures, c.end-2.ensures.value, c.start-2.ensures) at stop.ensures.goes) (rw (c.haystack.ensures, c.end-2.ensures.value, c.start-2.ensures) at stop.ensures.cost)
+    c.first_match.result (rw c.start-3.ensures at c.first_match.ensures)
+
+pub returns-clause-found : goal.returns-clause-found
+returns-clause-found g c = (some g c).0
+
+pub returns-clause-cost : goal.returns-clause-cost
+returns-clause-cost g c = (some g c).1

@@ -1,0 +1,181 @@
+//! The matches of an input that is read ahead, one after another.
+//!
+//! A walk over many matches of a long text spends its time waiting for one look-up after another. [`FindIterAhead`] has the automaton
+//! read ahead over several parts of the text side by side, and takes the matches from its notes: see [`ahead`](crate::ahead). It
+//! returns what [`FindIter`](crate::iter::FindIter) returns, and counts as much, when it takes a note. But a call may read up to 8 KiB
+//! past the match that it returns, so it doesn't pay for a caller who needs the first few matches only.
+//!
+//! It pays with hundreds of patterns and more, whose tables don't lie in the nearest cache. The notes are some 3 KiB within the
+//! iterator itself; nothing is allocated. To make one takes as long as to search some hundred bytes, so for short texts `FindIter` is
+//! the faster one.
+//!
+//! Only an automaton of the standard kind with no empty pattern and no prefilter reads ahead, and only where the input isn't anchored
+//! and has 1 KiB to be searched. Elsewhere this iterator goes on as `FindIter` does.
+ghost use Rattle.std.specs.Prelude.{◌≤◌, [], length, IfOk, IfSome};
+ghost use Rattle.std.specs.Iterator.{YieldsFirst, item_count};
+ghost use Rattle.ac_automaton.specs.FindAhead.{AreNotesOf, MayReadAhead};
+ghost use Rattle.ac_automaton.specs.Iter.{AnswersFindIter, GivesPick, CostsPick, left_of, IsPickOf, IsPickCost, IsRestOf, IsOnItsWay, CountsPick, PickCounts};
+ghost use Rattle.ac_automaton.specs.Items.{AreFewMatches, MatchesAreInOrder};
+
+use crate::ahead::{Ahead, LEAST};
+use crate::error::MatchError;
+use crate::iter::next_pick;
+use crate::search::Search;
+use ac_input::history::Count;
+use ac_input::primitives::StateID;
+use ac_input::search::{Anchored, Input, Match, MatchKind};
+use ac_input::steps::Steps;
+use std::marker::Model;
+
+/// The remaining matches of an input, which is read ahead where that may pay. From
+/// [`Automaton::try_find_iter_ahead`](crate::automaton::Automaton::try_find_iter_ahead).
+///
+/// After its first `None` it always returns `None`, and does nothing.
+/// A caller: `uses::callers::iterate::all_matches_ahead`.
+#[derive(Drop)]
+pub struct FindIterAhead<'a, 'h, A: Search> {
+    automaton: &'a A,
+    input: Input<'h>,
+    last: Option<usize>,
+    first: Count,
+    sums: Steps,
+    /// The state in which each search begins, if it reads ahead.
+    start: Option<StateID>,
+    ahead: Ahead,
+}
+
+impl<'a, 'h, A: Search> Model for FindIterAhead<'a, 'h, A> {
+    ghost use Rattle.std.specs.Prelude.{IfSome};
+    ghost use Rattle.ac_automaton.specs.FindAhead.{AreNotesOf, MayReadAhead};
+    ghost use Rattle.ac_automaton.specs.Iter.{CountsWalk, Walk, walk_at, IsOnItsWay};
+
+    ghost Value = { Walk };
+
+    ghost view = { λ i. walk_at (A.built i.automaton.now) i.first.value i.input i.last i.sums };
+
+    ghost invariant = { λ i.
+        A.supports i.automaton.now i.input.anchored
+        × IsOnItsWay (walk_at (A.built i.automaton.now) i.first.value i.input i.last i.sums)
+        × CountsWalk (walk_at (A.built i.automaton.now) i.first.value i.input i.last i.sums)
+        × IfSome i.start (MayReadAhead A.Automaton i.automaton.now i.input)
+        × AreNotesOf A.Automaton i.automaton.now i.input i.ahead.notes };
+}
+
+/// Whether the input is read ahead, and then in which state: that in which its search begins.
+fn reads_from<A: Search>(automaton: &A, input: &Input<'_>, start: StateID) -> Option<StateID>
+    requires { A.Reaches automaton.now input.now.anchored [] start }
+    ensures { IfSome result (MayReadAhead A.Automaton automaton.now input.now) }
+{
+    let is_free = input.get_anchored() == Anchored::No;
+    if !is_free
+        || automaton.match_kind() != MatchKind::Standard
+        || automaton.min_pattern_len() == 0
+    {
+        return None;
+    }
+    let is_long = input.end().saturating_sub(input.start()) >= LEAST;
+    if is_long && automaton.prefilter().is_none() {
+        Some(start)
+    } else {
+        None
+    }
+}
+
+/// All matches of the input, one after another.
+pub fn find_iter_ahead<'a, 'h, A: Search>(
+    automaton: &'a A,
+    input: Input<'h>,
+) -> Result<FindIterAhead<'a, 'h, A>, MatchError>
+    ensures answer { AnswersFindIter (A.built automaton.now) (A.supports automaton.now) input.entry
+        result }
+    ensures few { IfOk result (AreFewMatches input.entry) }
+    ensures lie { IfOk result (MatchesAreInOrder (A.built automaton.now) input.entry) }
+{
+    let start = automaton.start_state(input.get_anchored())?;
+    let start = reads_from(automaton, &input, start);
+    let first = Count::zero().more(&input.start());
+    Ok(FindIterAhead {
+        automaton,
+        input,
+        last: None,
+        first,
+        sums: Steps::new(),
+        start,
+        ahead: Ahead::none(true),
+    })
+}
+
+/// The next pick of a walk that stands where the input starts. It may set the input's start one byte further.
+fn next_pick_ahead<A: Search>(
+    automaton: &A,
+    start: Option<StateID>,
+    input: &mut Input<'_>,
+    last: Option<usize>,
+    ahead: &mut Ahead,
+    steps: &mut Steps,
+) -> Option<Match>
+    requires supported { A.supports automaton.now input.old.anchored }
+    requires within { input.old.span.start ≤ input.old.span.end }
+    requires inside { input.old.span.end ≤ length input.old.haystack }
+    requires last { IfSome last (λ end. end ≤ input.old.span.start) }
+    requires may { IfSome start (MayReadAhead A.Automaton automaton.now input.old) }
+    requires known { AreNotesOf A.Automaton automaton.now input.old ahead.old.notes }
+    ensures pick { IsPickOf (A.built automaton.now) input.old last result }
+    ensures asked { IsRestOf input.old input.new }
+    ensures work { IsPickCost (A.built automaton.now) input.old steps.old steps.new result }
+    ensures counts { PickCounts (A.built automaton.now) input.old input.old.span.start result
+        steps.old steps.new }
+    ensures known { AreNotesOf A.Automaton automaton.now input.old ahead.new.notes }
+{
+    match start {
+        Some(start) => automaton.search_ahead(input, start, ahead, steps),
+        None => next_pick(automaton, input, last, steps),
+    }
+}
+
+impl<'a, 'h, A: Search> FindIterAhead<'a, 'h, A> {
+    /// The next match, as `next` returns it; counts what it does.
+    /// A caller: `uses::callers::iterate::pass_matches_ahead`.
+    pub fn next_counted(&mut self, steps: &mut Steps) -> Option<Match>
+        ensures gives { GivesPick self.old result self.new }
+        ensures cost { CostsPick self.old self.new steps.old steps.new result }
+        ensures kept { IsOnItsWay self.new }
+        ensures counted { CountsPick self.old self.new steps.old steps.new result }
+    {
+        if self.input.is_done() {
+            return None;
+        }
+        let mut taken = Steps::new();
+        let found = next_pick_ahead(
+            self.automaton,
+            self.start,
+            &mut self.input,
+            self.last,
+            &mut self.ahead,
+            &mut taken,
+        );
+        steps.add(&taken);
+        self.sums.add(&taken);
+        match &found {
+            Some(found) => {
+                self.input.set_start(found.end());
+                self.last = Some(found.end());
+            }
+            None => self.input.set_start(self.input.end() + 1),
+        }
+        found
+    }
+}
+
+impl<'a, 'h, A: Search> Iterator for FindIterAhead<'a, 'h, A> {
+    type Item = Match;
+
+    ghost next_gives = { YieldsFirst left_of };
+
+    ghost remaining = { item_count left_of };
+
+    fn next(&mut self) -> Option<Match> {
+        let mut steps = Steps::new();
+        self.next_counted(&mut steps)
+    }
+}

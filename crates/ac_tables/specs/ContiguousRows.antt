@@ -1,0 +1,86 @@
+-- What the rows of a contiguous automaton hold: where each byte leads in an unanchored search, all failures followed.
+use Rattle.std.specs.Prelude.{◌≡◌, ℕ, ◌+◌, ◌*◌, ◌/◌, ◌^◌, ◌<◌, false, IsTrue, List, length, slice_index, Option, None, Some}
+use Rattle.ac_input.specs.Alphabet.{class}
+use Rattle.ac_input.specs.Dictionary.{Dictionary}
+use Rattle.ac_automaton.specs.Named.{Naming, IsStep}
+use Rattle.ac_automaton.specs.ReadOn.{is_between}
+use Rattle.ac_automaton.specs.declared.ahead.Note.{Note}
+use Rattle.ac_automaton.specs.declared.look.Between.{Between}
+use Rattle.ac_tables.specs.declared.contiguous.rows.Rows.{Rows}
+
+-- ---- rows, as long as a stride, of states at some places
+
+-- one of the rows begins at the number
+pub record IsRow (places : List ℕ) (stride row : ℕ) : Type 0 where
+  pub whole : row / stride * stride ≡ row
+  pub within : row / stride < length places
+
+-- the place of the state whose row begins at a number
+abbrev pub place_at : List ℕ → ℕ → ℕ → ℕ
+place_at places stride row = slice_index places (row / stride)
+
+-- where the row begins to which a byte leads from another
+abbrev pub row_after : List ℕ → List ℕ → ℕ → ℕ → ℕ
+row_after trans classes row byte = slice_index trans (row + class classes byte)
+
+-- The rows are those of a dictionary, where the places have these names: a byte leads from a row to that of the state to which it
+-- leads from the place.
+pub record AreUnanchoredRows (m : Dictionary) (classes : List ℕ) (names : Naming) (stride : ℕ) (trans places : List ℕ) : Type 0 where
+  pub letters : (byte : ℕ) → byte < 256 → class classes byte < stride
+  pub lead : (row byte : ℕ) → IsRow places stride row → IsTrue (names.met false (place_at places stride row)) → byte < 256 → IsRow places stride (row_after trans classes row byte)
+  pub steps : (row byte : ℕ) → IsRow places stride row → IsTrue (names.met false (place_at places stride row)) → byte < 256 → IsStep m names false (place_at places stride row) byte (place_at places stride (row_after trans classes row byte))
+
+-- ---- the rows of an automaton
+
+-- how many entries each has
+abbrev pub row_len : Rows → ℕ
+row_len rows = 2 ^ rows.stride2
+
+-- one of them begins at the number
+abbrev pub IsRowIn : Rows → ℕ → Type 0
+IsRowIn rows row = IsRow rows.places.items (row_len rows) row
+
+-- the place of its state
+abbrev pub place_in_row : Rows → ℕ → ℕ
+place_in_row rows row = place_at rows.places.items (row_len rows) row
+
+-- the row of the state at a place
+abbrev pub IsRowFor : Rows → ℕ → ℕ → Type 0
+IsRowFor rows place row = IsRowIn rows row × (place_in_row rows row ≡ place)
+
+-- a row begins at the number, and its state stands at the place
+abbrev pub IsPlaceIf : Rows → ℕ → ℕ → Type 0
+IsPlaceIf rows row place = IsRowIn rows row × (place ≡ place_in_row rows row)
+
+-- past this number there are only rows of states that stand past a place
+abbrev pub IsLastUpTo : Rows → ℕ → ℕ → Type 0
+IsLastUpTo rows sid last = (row : ℕ) → last < row → row / row_len rows < length rows.places.items → sid < place_in_row rows row
+
+-- a note of rows, and the same of their places
+pub record IsNotePlaced (rows : Rows) (note placed : Note) : Type 0 where
+  pub row : IsRowIn rows note.sid
+  pub bytes : (placed.from ≡ note.from) × (placed.len ≡ note.len)
+  pub sid : placed.sid ≡ place_in_row rows note.sid
+  pub next : placed.next ≡ place_in_row rows note.next
+
+-- they are those of a dictionary, if there are rows
+abbrev pub AreRowsIfAny : Dictionary → List ℕ → Naming → Option Rows → Type 0
+AreRowsIfAny m classes names None = Unit {0}
+AreRowsIfAny m classes names (Some rows) = AreUnanchoredRows m classes names (row_len rows) rows.trans.items rows.places.items
+
+-- the rows between two numbers are those of the states between two places
+abbrev pub AreRowsBetween : Rows → Between → Between → Type 0
+AreRowsBetween rows places between = (row : ℕ) → IsRowIn rows row → is_between between row ≡ is_between places (place_in_row rows row)
+
+-- a copy of the rows
+pub record AreSameRows (old new : Rows) : Type 0 where
+  pub trans : new.trans.items ≡ old.trans.items
+  pub places : new.places.items ≡ old.places.items
+  pub stride2 : new.stride2 ≡ old.stride2
+
+-- if there are any
+abbrev pub AreSameIfAny : Option Rows → Option Rows → Type 0
+AreSameIfAny None None = Unit {0}
+AreSameIfAny None (Some new) = ⊥
+AreSameIfAny (Some old) None = ⊥
+AreSameIfAny (Some old) (Some new) = AreSameRows old new

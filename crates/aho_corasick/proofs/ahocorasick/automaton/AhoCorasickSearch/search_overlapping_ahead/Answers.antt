@@ -1,0 +1,51 @@
+-- What the automaton that serves shows is what the front shows, and it keeps notes.
+use Rattle.std.proofs.Common.{List, subst, sym, take, ◌∙◌}
+use Rattle.ac_input.specs.declared.search.Anchored.TheVariants.{No}
+use Rattle.ac_input.specs.Input.{Asked}
+use Rattle.ac_input.specs.Occurrence.{Occurrence}
+use Rattle.ac_automaton.specs.Ahead.{AreNotes}
+use Rattle.ac_automaton.specs.Automaton.{searched}
+use Rattle.ac_automaton.specs.Overlapping.{IsLeft, ShowsFirst}
+use Rattle.ac_automaton.specs.declared.ahead.Note.{Note}
+use Rattle.ac_automaton.specs.declared.overlapping.Position.{Position}
+use Rattle.ac_automaton.specs.declared.overlapping.Shown.{Shown}
+use Rattle.aho_corasick.specs.declared.engine.Engine.{Engine}
+use Rattle.aho_corasick.specs.Engine.{engine_built_as, engine_matches_at, IsEngineRead}
+use Rattle.aho_corasick.proofs.ahocorasick.automaton.AhoCorasickSearch.search_overlapping_ahead.Goals as goal
+
+-- what is shown by whichever automaton serves
+abbrev EngineShowsNext : Asked → Position → Shown → Engine → Type 0
+EngineShowsNext asked place shown e =
+    (left : List Occurrence) → IsLeft (IsEngineRead e asked.anchored) (engine_matches_at e) (engine_built_as e).dictionary (searched (engine_built_as e) asked) place left
+    → ShowsFirst (IsEngineRead e asked.anchored) (engine_matches_at e) (engine_built_as e).dictionary (searched (engine_built_as e) asked) left shown
+
+pub returns-in-Noncontiguous-clause-shows : goal.returns-in-Noncontiguous-clause-shows
+returns-in-Noncontiguous-clause-shows c = subst (EngineShowsNext c.args.input.now c.args.place c.search_overlapping_ahead.result) (sym (sym c.deref.ensures ∙ c.in-Noncontiguous.is)) c.search_overlapping_ahead.ensures.shows
+
+pub returns-in-Contiguous-clause-shows : goal.returns-in-Contiguous-clause-shows
+returns-in-Contiguous-clause-shows c = subst (EngineShowsNext c.args.input.now c.args.place c.search_overlapping_ahead-in-Contiguous.result) (sym (sym c.deref.ensures ∙ c.in-Contiguous.is)) c.search_overlapping_ahead-in-Contiguous.ensures.shows
+
+pub returns-in-Dfa-clause-shows : goal.returns-in-Dfa-clause-shows
+returns-in-Dfa-clause-shows c = subst (EngineShowsNext c.args.input.now c.args.place c.search_overlapping_ahead-in-Dfa.result) (sym (sym c.deref.ensures ∙ c.in-Dfa.is)) c.search_overlapping_ahead-in-Dfa.ensures.shows
+
+-- the notes are those of a search by whichever automaton serves
+abbrev EngineNotes : Asked → List Note → Engine → Type 0
+EngineNotes asked notes e = AreNotes (IsEngineRead e No) (engine_matches_at e) (take asked.span.end asked.haystack) notes
+
+pub search_overlapping_ahead-requires-clause-known : goal.search_overlapping_ahead-requires-clause-known
+search_overlapping_ahead-requires-clause-known c = subst (EngineNotes c.args.input.now c.args.ahead.now.notes) (sym c.deref.ensures ∙ c.in-Noncontiguous.is) c.requires.known
+
+pub returns-in-Noncontiguous-clause-known : goal.returns-in-Noncontiguous-clause-known
+returns-in-Noncontiguous-clause-known c = subst (EngineNotes c.args.input.now c.search_overlapping_ahead.new.ahead.notes) (sym (sym c.deref.ensures ∙ c.in-Noncontiguous.is)) c.search_overlapping_ahead.ensures.known
+
+pub search_overlapping_ahead-requires-in-Contiguous-clause-known : goal.search_overlapping_ahead-requires-in-Contiguous-clause-known
+search_overlapping_ahead-requires-in-Contiguous-clause-known c = subst (EngineNotes c.args.input.now c.args.ahead.now.notes) (sym c.deref.ensures ∙ c.in-Contiguous.is) c.requires.known
+
+pub returns-in-Contiguous-clause-known : goal.returns-in-Contiguous-clause-known
+returns-in-Contiguous-clause-known c = subst (EngineNotes c.args.input.now c.search_overlapping_ahead-in-Contiguous.new.ahead.notes) (sym (sym c.deref.ensures ∙ c.in-Contiguous.is)) c.search_overlapping_ahead-in-Contiguous.ensures.known
+
+pub search_overlapping_ahead-requires-in-Dfa-clause-known : goal.search_overlapping_ahead-requires-in-Dfa-clause-known
+search_overlapping_ahead-requires-in-Dfa-clause-known c = subst (EngineNotes c.args.input.now c.args.ahead.now.notes) (sym c.deref.ensures ∙ c.in-Dfa.is) c.requires.known
+
+pub returns-in-Dfa-clause-known : goal.returns-in-Dfa-clause-known
+returns-in-Dfa-clause-known c = subst (EngineNotes c.args.input.now c.search_overlapping_ahead-in-Dfa.new.ahead.notes) (sym (sym c.deref.ensures ∙ c.in-Dfa.is)) c.search_overlapping_ahead-in-Dfa.ensures.known

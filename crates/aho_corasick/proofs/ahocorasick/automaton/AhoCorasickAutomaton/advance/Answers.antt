@@ -1,7 +1,7 @@
-use Rattle.std.proofs.Common.{subst, sym, ◌∙◌}
-use Rattle.ac_automaton.specs.Automaton.{IsReached, Advances}
+use Rattle.std.proofs.Common.{subst, sym, take, ◌∙◌}
+use Rattle.ac_automaton.specs.Automaton.{Advances, IsReached, IsReadCost}
 use Rattle.aho_corasick.specs.declared.engine.Engine.{Engine}
-use Rattle.aho_corasick.specs.Engine.{IsEngineRead, is_engine_special_at}
+use Rattle.aho_corasick.specs.Engine.{engine_built_as, is_engine_special_at, IsEngineRead}
 use Rattle.aho_corasick.proofs.ahocorasick.automaton.AhoCorasickAutomaton.advance.Goals as goal
 
 pub advance-requires : goal.advance-requires
@@ -21,3 +21,12 @@ returns-in-Contiguous-clause-goes c = subst (λ (e : Engine). Advances (IsEngine
 
 pub returns-in-Dfa-clause-goes : goal.returns-in-Dfa-clause-goes
 returns-in-Dfa-clause-goes c = subst (λ (e : Engine). Advances (IsEngineRead e c.args.anchored) (is_engine_special_at e) c.args.sid c.args.bytes.now c.advance-in-Dfa.result) (sym (sym c.deref.ensures ∙ c.in-Dfa.is)) c.advance-in-Dfa.ensures.goes
+
+pub returns-in-Noncontiguous-clause-cost : goal.returns-in-Noncontiguous-clause-cost
+returns-in-Noncontiguous-clause-cost c = subst (λ (e : Engine). IsReadCost (engine_built_as e) (IsEngineRead e) c.args.anchored c.args.sid (take c.advance.result.taken c.args.bytes.now) c.args.steps.now c.advance.new.steps) (sym (sym c.deref.ensures ∙ c.in-Noncontiguous.is)) c.advance.ensures.cost
+
+pub returns-in-Contiguous-clause-cost : goal.returns-in-Contiguous-clause-cost
+returns-in-Contiguous-clause-cost c = subst (λ (e : Engine). IsReadCost (engine_built_as e) (IsEngineRead e) c.args.anchored c.args.sid (take c.advance-in-Contiguous.result.taken c.args.bytes.now) c.args.steps.now c.advance-in-Contiguous.new.steps) (sym (sym c.deref.ensures ∙ c.in-Contiguous.is)) c.advance-in-Contiguous.ensures.cost
+
+pub returns-in-Dfa-clause-cost : goal.returns-in-Dfa-clause-cost
+returns-in-Dfa-clause-cost c = subst (λ (e : Engine). IsReadCost (engine_built_as e) (IsEngineRead e) c.args.anchored c.args.sid (take c.advance-in-Dfa.result.taken c.args.bytes.now) c.args.steps.now c.advance-in-Dfa.new.steps) (sym (sym c.deref.ensures ∙ c.in-Dfa.is)) c.advance-in-Dfa.ensures.cost

@@ -1,7 +1,7 @@
-use Rattle.std.proofs.Common.{subst, sym, ◌∙◌}
-use Rattle.ac_automaton.specs.Automaton.{IsReached, AdvancesToMatch}
+use Rattle.std.proofs.Common.{subst, sym, take, ◌∙◌}
+use Rattle.ac_automaton.specs.Automaton.{AdvancesToMatch, IsReached, IsReadCost}
 use Rattle.aho_corasick.specs.declared.engine.Engine.{Engine}
-use Rattle.aho_corasick.specs.Engine.{IsEngineRead, engine_matches_at}
+use Rattle.aho_corasick.specs.Engine.{engine_built_as, engine_matches_at, IsEngineRead}
 use Rattle.aho_corasick.proofs.ahocorasick.automaton.AhoCorasickAutomaton.advance_to_match.Goals as goal
 
 pub advance_to_match-requires : goal.advance_to_match-requires
@@ -21,3 +21,12 @@ returns-in-Contiguous-clause-goes c = subst (λ (e : Engine). AdvancesToMatch (I
 
 pub returns-in-Dfa-clause-goes : goal.returns-in-Dfa-clause-goes
 returns-in-Dfa-clause-goes c = subst (λ (e : Engine). AdvancesToMatch (IsEngineRead e c.args.anchored) (engine_matches_at e) c.args.sid c.args.bytes.now c.advance_to_match-in-Dfa.result) (sym (sym c.deref.ensures ∙ c.in-Dfa.is)) c.advance_to_match-in-Dfa.ensures.goes
+
+pub returns-in-Noncontiguous-clause-cost : goal.returns-in-Noncontiguous-clause-cost
+returns-in-Noncontiguous-clause-cost c = subst (λ (e : Engine). IsReadCost (engine_built_as e) (IsEngineRead e) c.args.anchored c.args.sid (take c.advance_to_match.result.taken c.args.bytes.now) c.args.steps.now c.advance_to_match.new.steps) (sym (sym c.deref.ensures ∙ c.in-Noncontiguous.is)) c.advance_to_match.ensures.cost
+
+pub returns-in-Contiguous-clause-cost : goal.returns-in-Contiguous-clause-cost
+returns-in-Contiguous-clause-cost c = subst (λ (e : Engine). IsReadCost (engine_built_as e) (IsEngineRead e) c.args.anchored c.args.sid (take c.advance_to_match-in-Contiguous.result.taken c.args.bytes.now) c.args.steps.now c.advance_to_match-in-Contiguous.new.steps) (sym (sym c.deref.ensures ∙ c.in-Contiguous.is)) c.advance_to_match-in-Contiguous.ensures.cost
+
+pub returns-in-Dfa-clause-cost : goal.returns-in-Dfa-clause-cost
+returns-in-Dfa-clause-cost c = subst (λ (e : Engine). IsReadCost (engine_built_as e) (IsEngineRead e) c.args.anchored c.args.sid (take c.advance_to_match-in-Dfa.result.taken c.args.bytes.now) c.args.steps.now c.advance_to_match-in-Dfa.new.steps) (sym (sym c.deref.ensures ∙ c.in-Dfa.is)) c.advance_to_match-in-Dfa.ensures.cost

@@ -1,5 +1,5 @@
 -- What the automaton that serves shows is what the front shows.
-use Rattle.std.proofs.Common.{List, subst, sym, ◌∙◌}
+use Rattle.std.proofs.Common.{[], List, subst, sym, ◌∙◌, ◌≡◌}
 use Rattle.ac_input.specs.Input.{Asked}
 use Rattle.ac_input.specs.Occurrence.{Occurrence}
 use Rattle.ac_automaton.specs.Automaton.{searched}
@@ -8,6 +8,8 @@ use Rattle.ac_automaton.specs.declared.overlapping.Position.{Position}
 use Rattle.ac_automaton.specs.declared.overlapping.Shown.{Shown}
 use Rattle.aho_corasick.specs.declared.engine.Engine.{Engine}
 use Rattle.aho_corasick.specs.Engine.{engine_built_as, engine_matches_at, IsEngineRead}
+use Rattle.ac_automaton.specs.OverlappingSearch.{CountsOn, KeepsPaying}
+use Rattle.ac_input.specs.declared.search.MatchKind.TheVariants.{Standard}
 use Rattle.aho_corasick.proofs.ahocorasick.automaton.AhoCorasickSearch.search_overlapping.Goals as goal
 
 -- what is shown by whichever automaton serves
@@ -24,3 +26,53 @@ returns-in-Contiguous-clause-shows c = subst (EngineShowsNext c.args.input.now c
 
 pub returns-in-Dfa-clause-shows : goal.returns-in-Dfa-clause-shows
 returns-in-Dfa-clause-shows c = subst (EngineShowsNext c.args.input.now c.args.place c.search_overlapping-in-Dfa.result) (sym (sym c.deref.ensures ∙ c.in-Dfa.is)) c.search_overlapping-in-Dfa.ensures.shows
+
+pub search_overlapping-requires-clause-standard : goal.search_overlapping-requires-clause-standard
+search_overlapping-requires-clause-standard c = subst (λ (e : Engine). (engine_built_as e).dictionary.kind ≡ Standard) (sym c.deref.ensures ∙ c.in-Noncontiguous.is) c.requires.standard
+
+pub search_overlapping-requires-clause-starts : goal.search_overlapping-requires-clause-starts
+search_overlapping-requires-clause-starts c = subst (λ (e : Engine). IsEngineRead e c.args.input.now.anchored [] c.args.start) (sym c.deref.ensures ∙ c.in-Noncontiguous.is) c.requires.starts
+
+pub returns-in-Noncontiguous-clause-pays : goal.returns-in-Noncontiguous-clause-pays
+returns-in-Noncontiguous-clause-pays c = subst (λ (e : Engine). KeepsPaying (engine_built_as e) c.args.input.now c.args.place c.search_overlapping.result c.args.steps.now c.search_overlapping.new.steps) (sym (sym c.deref.ensures ∙ c.in-Noncontiguous.is)) c.search_overlapping.ensures.pays
+
+pub returns-in-Noncontiguous-clause-counts : goal.returns-in-Noncontiguous-clause-counts
+returns-in-Noncontiguous-clause-counts c = subst (λ (e : Engine). CountsOn (engine_built_as e) c.args.input.now c.args.place c.search_overlapping.result c.args.steps.now c.search_overlapping.new.steps) (sym (sym c.deref.ensures ∙ c.in-Noncontiguous.is)) c.search_overlapping.ensures.counts
+
+pub search_overlapping-requires-in-Contiguous-clause-standard : goal.search_overlapping-requires-in-Contiguous-clause-standard
+search_overlapping-requires-in-Contiguous-clause-standard c = subst (λ (e : Engine). (engine_built_as e).dictionary.kind ≡ Standard) (sym c.deref.ensures ∙ c.in-Contiguous.is) c.requires.standard
+
+pub search_overlapping-requires-in-Contiguous-clause-starts : goal.search_overlapping-requires-in-Contiguous-clause-starts
+search_overlapping-requires-in-Contiguous-clause-starts c = subst (λ (e : Engine). IsEngineRead e c.args.input.now.anchored [] c.args.start) (sym c.deref.ensures ∙ c.in-Contiguous.is) c.requires.starts
+
+pub returns-in-Contiguous-clause-pays : goal.returns-in-Contiguous-clause-pays
+returns-in-Contiguous-clause-pays c = subst (λ (e : Engine). KeepsPaying (engine_built_as e) c.args.input.now c.args.place c.search_overlapping-in-Contiguous.result c.args.steps.now c.search_overlapping-in-Contiguous.new.steps) (sym (sym c.deref.ensures ∙ c.in-Contiguous.is)) c.search_overlapping-in-Contiguous.ensures.pays
+
+pub returns-in-Contiguous-clause-counts : goal.returns-in-Contiguous-clause-counts
+returns-in-Contiguous-clause-counts c = subst (λ (e : Engine). CountsOn (engine_built_as e) c.args.input.now c.args.place c.search_overlapping-in-Contiguous.result c.args.steps.now c.search_overlapping-in-Contiguous.new.steps) (sym (sym c.deref.ensures ∙ c.in-Contiguous.is)) c.search_overlapping-in-Contiguous.ensures.counts
+
+pub search_overlapping-requires-in-Dfa-clause-standard : goal.search_overlapping-requires-in-Dfa-clause-standard
+search_overlapping-requires-in-Dfa-clause-standard c = subst (λ (e : Engine). (engine_built_as e).dictionary.kind ≡ Standard) (sym c.deref.ensures ∙ c.in-Dfa.is) c.requires.standard
+
+pub search_overlapping-requires-in-Dfa-clause-starts : goal.search_overlapping-requires-in-Dfa-clause-starts
+search_overlapping-requires-in-Dfa-clause-starts c = subst (λ (e : Engine). IsEngineRead e c.args.input.now.anchored [] c.args.start) (sym c.deref.ensures ∙ c.in-Dfa.is) c.requires.starts
+
+pub returns-in-Dfa-clause-pays : goal.returns-in-Dfa-clause-pays
+returns-in-Dfa-clause-pays c = subst (λ (e : Engine). KeepsPaying (engine_built_as e) c.args.input.now c.args.place c.search_overlapping-in-Dfa.result c.args.steps.now c.search_overlapping-in-Dfa.new.steps) (sym (sym c.deref.ensures ∙ c.in-Dfa.is)) c.search_overlapping-in-Dfa.ensures.pays
+
+pub returns-in-Dfa-clause-counts : goal.returns-in-Dfa-clause-counts
+returns-in-Dfa-clause-counts c = subst (λ (e : Engine). CountsOn (engine_built_as e) c.args.input.now c.args.place c.search_overlapping-in-Dfa.result c.args.steps.now c.search_overlapping-in-Dfa.new.steps) (sym (sym c.deref.ensures ∙ c.in-Dfa.is)) c.search_overlapping-in-Dfa.ensures.counts
+
+-- something is left at the place, whichever automaton serves
+abbrev EngineHasLeft : Asked → Position → Engine → Type 0
+EngineHasLeft asked place e =
+    (left : List Occurrence) × IsLeft (IsEngineRead e asked.anchored) (engine_matches_at e) (engine_built_as e).dictionary (searched (engine_built_as e) asked) place left
+
+pub search_overlapping-requires-clause-left : goal.search_overlapping-requires-clause-left
+search_overlapping-requires-clause-left c = subst (EngineHasLeft c.args.input.now c.args.place) (sym c.deref.ensures ∙ c.in-Noncontiguous.is) c.requires.left
+
+pub search_overlapping-requires-in-Contiguous-clause-left : goal.search_overlapping-requires-in-Contiguous-clause-left
+search_overlapping-requires-in-Contiguous-clause-left c = subst (EngineHasLeft c.args.input.now c.args.place) (sym c.deref.ensures ∙ c.in-Contiguous.is) c.requires.left
+
+pub search_overlapping-requires-in-Dfa-clause-left : goal.search_overlapping-requires-in-Dfa-clause-left
+search_overlapping-requires-in-Dfa-clause-left c = subst (EngineHasLeft c.args.input.now c.args.place) (sym c.deref.ensures ∙ c.in-Dfa.is) c.requires.left

@@ -1,5 +1,5 @@
 -- What the automaton that serves shows is what the front shows, and it keeps notes.
-use Rattle.std.proofs.Common.{List, subst, sym, take, ◌∙◌}
+use Rattle.std.proofs.Common.{[], List, subst, sym, take, ◌∙◌, ◌≡◌}
 use Rattle.ac_input.specs.declared.search.Anchored.TheVariants.{No}
 use Rattle.ac_input.specs.Input.{Asked}
 use Rattle.ac_input.specs.Occurrence.{Occurrence}
@@ -11,6 +11,8 @@ use Rattle.ac_automaton.specs.declared.overlapping.Position.{Position}
 use Rattle.ac_automaton.specs.declared.overlapping.Shown.{Shown}
 use Rattle.aho_corasick.specs.declared.engine.Engine.{Engine}
 use Rattle.aho_corasick.specs.Engine.{engine_built_as, engine_matches_at, IsEngineRead}
+use Rattle.ac_automaton.specs.OverlappingSearch.{CountsOn, KeepsPaying}
+use Rattle.ac_input.specs.declared.search.MatchKind.TheVariants.{Standard}
 use Rattle.aho_corasick.proofs.ahocorasick.automaton.AhoCorasickSearch.search_overlapping_ahead.Goals as goal
 
 -- what is shown by whichever automaton serves
@@ -49,3 +51,53 @@ search_overlapping_ahead-requires-in-Dfa-clause-known c = subst (EngineNotes c.a
 
 pub returns-in-Dfa-clause-known : goal.returns-in-Dfa-clause-known
 returns-in-Dfa-clause-known c = subst (EngineNotes c.args.input.now c.search_overlapping_ahead-in-Dfa.new.ahead.notes) (sym (sym c.deref.ensures ∙ c.in-Dfa.is)) c.search_overlapping_ahead-in-Dfa.ensures.known
+
+pub search_overlapping_ahead-requires-clause-standard : goal.search_overlapping_ahead-requires-clause-standard
+search_overlapping_ahead-requires-clause-standard c = subst (λ (e : Engine). (engine_built_as e).dictionary.kind ≡ Standard) (sym c.deref.ensures ∙ c.in-Noncontiguous.is) c.requires.standard
+
+pub search_overlapping_ahead-requires-clause-starts : goal.search_overlapping_ahead-requires-clause-starts
+search_overlapping_ahead-requires-clause-starts c = subst (λ (e : Engine). IsEngineRead e c.args.input.now.anchored [] c.args.start) (sym c.deref.ensures ∙ c.in-Noncontiguous.is) c.requires.starts
+
+pub returns-in-Noncontiguous-clause-pays : goal.returns-in-Noncontiguous-clause-pays
+returns-in-Noncontiguous-clause-pays c = subst (λ (e : Engine). KeepsPaying (engine_built_as e) c.args.input.now c.args.place c.search_overlapping_ahead.result c.args.steps.now c.search_overlapping_ahead.new.steps) (sym (sym c.deref.ensures ∙ c.in-Noncontiguous.is)) c.search_overlapping_ahead.ensures.pays
+
+pub returns-in-Noncontiguous-clause-counts : goal.returns-in-Noncontiguous-clause-counts
+returns-in-Noncontiguous-clause-counts c = subst (λ (e : Engine). CountsOn (engine_built_as e) c.args.input.now c.args.place c.search_overlapping_ahead.result c.args.steps.now c.search_overlapping_ahead.new.steps) (sym (sym c.deref.ensures ∙ c.in-Noncontiguous.is)) c.search_overlapping_ahead.ensures.counts
+
+pub search_overlapping_ahead-requires-in-Contiguous-clause-standard : goal.search_overlapping_ahead-requires-in-Contiguous-clause-standard
+search_overlapping_ahead-requires-in-Contiguous-clause-standard c = subst (λ (e : Engine). (engine_built_as e).dictionary.kind ≡ Standard) (sym c.deref.ensures ∙ c.in-Contiguous.is) c.requires.standard
+
+pub search_overlapping_ahead-requires-in-Contiguous-clause-starts : goal.search_overlapping_ahead-requires-in-Contiguous-clause-starts
+search_overlapping_ahead-requires-in-Contiguous-clause-starts c = subst (λ (e : Engine). IsEngineRead e c.args.input.now.anchored [] c.args.start) (sym c.deref.ensures ∙ c.in-Contiguous.is) c.requires.starts
+
+pub returns-in-Contiguous-clause-pays : goal.returns-in-Contiguous-clause-pays
+returns-in-Contiguous-clause-pays c = subst (λ (e : Engine). KeepsPaying (engine_built_as e) c.args.input.now c.args.place c.search_overlapping_ahead-in-Contiguous.result c.args.steps.now c.search_overlapping_ahead-in-Contiguous.new.steps) (sym (sym c.deref.ensures ∙ c.in-Contiguous.is)) c.search_overlapping_ahead-in-Contiguous.ensures.pays
+
+pub returns-in-Contiguous-clause-counts : goal.returns-in-Contiguous-clause-counts
+returns-in-Contiguous-clause-counts c = subst (λ (e : Engine). CountsOn (engine_built_as e) c.args.input.now c.args.place c.search_overlapping_ahead-in-Contiguous.result c.args.steps.now c.search_overlapping_ahead-in-Contiguous.new.steps) (sym (sym c.deref.ensures ∙ c.in-Contiguous.is)) c.search_overlapping_ahead-in-Contiguous.ensures.counts
+
+pub search_overlapping_ahead-requires-in-Dfa-clause-standard : goal.search_overlapping_ahead-requires-in-Dfa-clause-standard
+search_overlapping_ahead-requires-in-Dfa-clause-standard c = subst (λ (e : Engine). (engine_built_as e).dictionary.kind ≡ Standard) (sym c.deref.ensures ∙ c.in-Dfa.is) c.requires.standard
+
+pub search_overlapping_ahead-requires-in-Dfa-clause-starts : goal.search_overlapping_ahead-requires-in-Dfa-clause-starts
+search_overlapping_ahead-requires-in-Dfa-clause-starts c = subst (λ (e : Engine). IsEngineRead e c.args.input.now.anchored [] c.args.start) (sym c.deref.ensures ∙ c.in-Dfa.is) c.requires.starts
+
+pub returns-in-Dfa-clause-pays : goal.returns-in-Dfa-clause-pays
+returns-in-Dfa-clause-pays c = subst (λ (e : Engine). KeepsPaying (engine_built_as e) c.args.input.now c.args.place c.search_overlapping_ahead-in-Dfa.result c.args.steps.now c.search_overlapping_ahead-in-Dfa.new.steps) (sym (sym c.deref.ensures ∙ c.in-Dfa.is)) c.search_overlapping_ahead-in-Dfa.ensures.pays
+
+pub returns-in-Dfa-clause-counts : goal.returns-in-Dfa-clause-counts
+returns-in-Dfa-clause-counts c = subst (λ (e : Engine). CountsOn (engine_built_as e) c.args.input.now c.args.place c.search_overlapping_ahead-in-Dfa.result c.args.steps.now c.search_overlapping_ahead-in-Dfa.new.steps) (sym (sym c.deref.ensures ∙ c.in-Dfa.is)) c.search_overlapping_ahead-in-Dfa.ensures.counts
+
+-- something is left at the place, whichever automaton serves
+abbrev EngineHasLeft : Asked → Position → Engine → Type 0
+EngineHasLeft asked place e =
+    (left : List Occurrence) × IsLeft (IsEngineRead e asked.anchored) (engine_matches_at e) (engine_built_as e).dictionary (searched (engine_built_as e) asked) place left
+
+pub search_overlapping_ahead-requires-clause-left : goal.search_overlapping_ahead-requires-clause-left
+search_overlapping_ahead-requires-clause-left c = subst (EngineHasLeft c.args.input.now c.args.place) (sym c.deref.ensures ∙ c.in-Noncontiguous.is) c.requires.left
+
+pub search_overlapping_ahead-requires-in-Contiguous-clause-left : goal.search_overlapping_ahead-requires-in-Contiguous-clause-left
+search_overlapping_ahead-requires-in-Contiguous-clause-left c = subst (EngineHasLeft c.args.input.now c.args.place) (sym c.deref.ensures ∙ c.in-Contiguous.is) c.requires.left
+
+pub search_overlapping_ahead-requires-in-Dfa-clause-left : goal.search_overlapping_ahead-requires-in-Dfa-clause-left
+search_overlapping_ahead-requires-in-Dfa-clause-left c = subst (EngineHasLeft c.args.input.now c.args.place) (sym c.deref.ensures ∙ c.in-Dfa.is) c.requires.left

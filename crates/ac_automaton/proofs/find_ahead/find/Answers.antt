@@ -1,11 +1,23 @@
 -- The state where one call stops is that of the match, or the span ends there.
-use Rattle.std.proofs.Common.{◌≤◌, length, None, Some, sym, ◌∙◌, arith}
+use Rattle.std.proofs.Common.{[], ◌≤◌, length, None, Some, sym, ◌∙◌, arith}
 use Rattle.std.proofs.lemmas.Bool.{false≢true}
 use Rattle.ac_input.specs.declared.search.Anchored.TheVariants.{No}
 use Rattle.ac_automaton.specs.Automaton.{IsFindCost, IsFound, searched}
 use Rattle.ac_automaton.proofs.FindAheadLemmas.{ahead-none, ahead-some, none-left}
+use Rattle.ac_automaton.proofs.CursorLemmas.{reached-on, reached-state}
 use Rattle.ac_automaton.proofs.find_ahead.find.Given.{Over}
 use Rattle.ac_automaton.proofs.find_ahead.find.Goals as goal
+
+pub advance_to_match-stop-requires-clause-reached : goal.advance_to_match-stop-requires-clause-reached
+advance_to_match-stop-requires-clause-reached g c = ∣ ([], c.requires.may.starts) ∣₁
+
+pub advance_to_match-stop-requires-clause-known : goal.advance_to_match-stop-requires-clause-known
+advance_to_match-stop-requires-clause-known g c = rw (c.haystack.ensures, c.end-2.ensures.value) c.requires.known
+
+pub is_match-requires : goal.is_match-requires
+is_match-requires g c =
+    let R = g.A.Automaton.Reaches c.args.automaton.now in
+    reached-state R No c.advance_to_match-stop.result.sid (reached-on (R No) c.args.start _ c.advance_to_match-stop.result.sid ∣ ([], c.requires.may.starts) ∣₁ c.advance_to_match-stop.ensures.goes.reads)
 
 pub returns-then-start-end-clause-found : goal.returns-then-start-end-clause-found
 returns-then-start-end-clause-found g c =

@@ -159,7 +159,7 @@ fn stretch(block: usize, full: bool) -> usize {
 }
 
 /// How many bytes to read ahead next. Where the notes were full before the end of a block, it is half as many, since the bytes after
-/// the last note are read alone, at a fourth of the speed. Else it is a few more.
+/// the last note are read alone, one look-up after another. Else it is a few more.
 fn next_block(block: usize, full: bool) -> usize {
     if full {
         (block / 2).max(LEAST)

@@ -126,9 +126,35 @@ impl Ahead {
         None
     }
 
-    /// Has the automaton read ahead from a place, if that may pay: all notes are used up, and there are bytes enough.
+    /// The next note of a place, or of a later one. If none is left, the automaton reads ahead first, where that may pay: there are
+    /// bytes enough.
     #[inline]
-    fn refill<A: Automaton>(&mut self, automaton: &A, sid: StateID, bytes: &[u8], at: usize)
+    fn next_note<A: Automaton>(
+        &mut self,
+        automaton: &A,
+        sid: StateID,
+        bytes: &[u8],
+        at: usize,
+    ) -> Option<Note>
+        requires reached { IsReached (A.Reaches automaton.now Anchored.No) sid }
+        requires within { at ≤ length bytes.now }
+        requires known { AreNotes (A.Reaches automaton.now Anchored.No) (A.matches automaton.now) bytes.now
+            self.old.notes }
+        ensures known { AreNotes (A.Reaches automaton.now Anchored.No) (A.matches automaton.now) bytes.now
+            self.new.notes }
+        ensures noted { IfSome result (IsUpcoming self.new.notes at) }
+    {
+        let note = self.upcoming(at);
+        if note.is_some() || at < self.until || bytes.len() - at < LEAST {
+            return note;
+        }
+        self.read_block(automaton, sid, bytes, at);
+        self.upcoming(at)
+    }
+
+    /// Has the automaton read a block ahead from a place. It stays out of the search's loop, which seldom comes here.
+    #[inline(never)]
+    fn read_block<A: Automaton>(&mut self, automaton: &A, sid: StateID, bytes: &[u8], at: usize)
         requires reached { IsReached (A.Reaches automaton.now Anchored.No) sid }
         requires within { at ≤ length bytes.now }
         requires known { AreNotes (A.Reaches automaton.now Anchored.No) (A.matches automaton.now) bytes.now
@@ -136,16 +162,13 @@ impl Ahead {
         ensures known { AreNotes (A.Reaches automaton.now Anchored.No) (A.matches automaton.now) bytes.now
             self.new.notes }
     {
-        if self.upcoming(at).is_some() || at < self.until || bytes.len() - at < LEAST {
-            return;
-        }
         let block = self.block.min(bytes.len() - at);
         let noted = automaton.note_ahead(sid, bytes, at, block, self.anew, &mut self.notes);
         if noted == 0 {
             self.until = at.saturating_add(PAUSE);
             return;
         }
-        let full = noted.saturating_add(block / 8) < block;
+        let full = noted < block;
         self.next = 0;
         self.until = at.saturating_add(stretch(block, full));
         self.block = next_block(self.block, full);
@@ -211,8 +234,7 @@ fn read_part<A: Automaton>(
     ensures known { AreNotes (A.Reaches automaton.now Anchored.No) (A.matches automaton.now) bytes.now
         ahead.new.notes }
 {
-    ahead.refill(automaton, sid, bytes, at);
-    let upcoming = ahead.upcoming(at);
+    let upcoming = ahead.next_note(automaton, sid, bytes, at);
     if let Some(note) = &upcoming {
         if note.from == at && note.sid == sid {
             ahead.next = ahead.next.saturating_add(1);

@@ -82,11 +82,16 @@ impl Lane {
         }
     }
 
+    /// Whether it has no note left.
+    fn is_full(&self) -> bool {
+        self.slot >= self.slots
+    }
+
     /// How many bytes it has left; none where it has no note left.
     fn left(&self) -> usize
         ensures { 0 < result → self.now.at + result ≤ self.now.end }
     {
-        if self.slot >= self.slots {
+        if self.is_full() {
             return 0;
         }
         self.end.saturating_sub(self.at)
@@ -103,6 +108,11 @@ pub(crate) struct Lanes {
 }
 
 impl Lanes {
+    /// Whether one of them has no note left.
+    fn are_full(&self) -> bool {
+        self.a.is_full() || self.b.is_full() || self.c.is_full() || self.d.is_full()
+    }
+
     /// How many bytes each of them has left.
     fn left(&self) -> usize
         ensures { HaveLeft result self.now }
@@ -341,8 +351,10 @@ fn begin<A: LookUp>(
 }
 
 /// Reads ahead of a search that isn't anchored, which has come to a place of some bytes in a state, over at most so many bytes, and
-/// writes over the notes what it found there, in order of place. Returns how many bytes it has read: none where there is no byte near
-/// the beginning of each lane that no pattern has. `anew` is whether the search begins anew after a match.
+/// writes over the notes what it found there, in order of place. `anew` is whether the search begins anew after a match.
+///
+/// Returns how many of these bytes it has read, or fewer than `len` only where the notes were full before the end of a lane; none
+/// where there is no byte near the beginning of each lane that no pattern has.
 ///
 /// `last` is the last state at which a pattern matches.
 pub fn note_ahead<A: LookUp>(
@@ -377,5 +389,6 @@ pub fn note_ahead<A: LookUp>(
     finish(automaton, lanes.b, last, bytes, notes);
     finish(automaton, lanes.c, last, bytes, notes);
     finish(automaton, lanes.d, last, bytes, notes);
-    lanes.a.at.saturating_sub(at).saturating_mul(4)
+    let read = lanes.a.at.saturating_sub(at).saturating_mul(4);
+    if lanes.are_full() { read } else { len }
 }

@@ -13,11 +13,11 @@ use Rattle.ac_automaton.proofs.ahead.read_part.Goals as goal
 pub returns-then-eq-clause-reads : goal.returns-then-eq-clause-reads
 returns-then-eq-clause-reads g c =
     let a = c.args.automaton.now in
-    let notes = c.refill.new.self.notes in
+    let notes = c.next_note-upcoming.new.self.notes in
     let note = c.in-Some.note in
-    let upcoming : IsUpcoming notes c.args.at note = subst (λ (r : Option Note). IfSome r (IsUpcoming notes c.args.at)) c.in-Some.is c.upcoming-upcoming.ensures.noted in
+    let upcoming : IsUpcoming notes c.args.at note = subst (λ (r : Option Note). IfSome r (IsUpcoming notes c.args.at)) c.in-Some.is c.next_note-upcoming.ensures.noted in
     note-part (g.A.Automaton.built a) (g.A.Automaton.Reaches a) (g.A.Automaton.matches a) c.args.bytes.now notes note c.args.sid c.args.at _ _
-    c.refill.ensures.known upcoming (omega arith) (eqb-true note.sid c.args.sid (sym c.eq.ensures ∙ c.if-eq.true)) c.looks.ensures
+    c.next_note-upcoming.ensures.known upcoming (omega arith) (eqb-true note.sid c.args.sid (sym c.eq.ensures ∙ c.if-eq.true)) c.looks.ensures
 
 pub returns-clause-reads : goal.returns-clause-reads
 returns-clause-reads g c =

@@ -227,6 +227,9 @@ impl Rows {
     pub(super) fn placed(&self, note: &Note) -> Note
         ensures { IsBlank result ⊎ IsNotePlaced self.now note.now result }
     {
+        if note.len == 0 {
+            return Note::blank();
+        }
         match (self.place_if(note.sid), self.place_if(note.next)) {
             (Some(sid), Some(next)) => Note {
                 from: note.from,

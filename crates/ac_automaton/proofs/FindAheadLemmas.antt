@@ -71,7 +71,7 @@ module _ {S : Type 0} (A : Ghosts S) (a : S) (haystack : List ℕ) (span : Span)
 
   -- nothing matches at the start
   quiet : A.matches a start ≡ []
-  quiet = list-none (A.matches a start) (λ some. told-some (A.built a).dictionary [] (A.matches a start) may.standard (tells [] start may.starts) some (nothing-in_empty (A.built a).dictionary [] may.filled refl))
+  quiet = list-none (A.matches a start) (λ some. told-some (A.built a).dictionary [] (A.matches a start) 0 0 (tells [] start may.starts) some (nothing-in_empty (A.built a).dictionary [] may.filled refl))
 
   first : HasAsked A a asked span.start begun None x x
   first =

@@ -10,6 +10,9 @@ pub mod ToldLemmas
 pub mod TakenLemmas
 pub mod WalkLemmas
 pub mod WalkEndLemmas
+pub mod BestOnLemmas
+pub mod DecideLemmas
+pub mod DecideWalkLemmas
 pub mod IterLemmas
 pub mod OverlappingLemmas
 pub mod OverlappingReadLemmas

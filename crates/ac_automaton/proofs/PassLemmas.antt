@@ -75,3 +75,15 @@ stops-none b Reaches matches sid bytes stop before after takes reads plain stops
         (λ (lt : stop.taken < length bytes). absurd (some-matching (matches stop.sid) (stops lt) none))
         (λ (ge : length bytes ≤ stop.taken). omega (arith, ge, takes.0))
         (cases_lt stop.taken (length bytes))
+
+-- ---- what was read over
+
+-- Reading on from a state went over so many bytes, to another one.
+pub record ReadsOver (b : Built) (Reaches : Anchored → List ℕ → StateID → Type 0) (sid : StateID) (bytes : List ℕ) (stop : Advance) (before after : Steps) : Type 0 where
+  pub within : stop.taken ≤ length bytes
+  pub reads : Leads (Reaches No) sid (take stop.taken bytes) stop.sid
+  pub cost : IsReadCost b Reaches No sid (take stop.taken bytes) before after
+
+-- the same, where it stopped at the first state that matches
+pub stops-over : (b : Built) (Reaches : Anchored → List ℕ → StateID → Type 0) (matches : StateID → List ℕ) (sid : StateID) (bytes : List ℕ) (stop : Advance) (matched : Bool) (before after : Steps) → StopsAtMatch b Reaches matches sid bytes stop matched before after → ReadsOver b Reaches sid bytes stop before after
+stops-over b Reaches matches sid bytes stop matched before after stops = record { within = stops.within; reads = stops.reads; cost = stops.cost }

@@ -1,39 +1,41 @@
 -- A search over the held bytes: where it stands after it, and what it found.
-use Rattle.std.proofs.Common.{◌≡◌, ◌≢◌, ⊎_elim, ℕ, ◌+◌, ◌-◌, ◌*◌, ◌<◌, ◌≤◌, Bool, true, false, IsTrue, List, [], ◌∷◌, ◌++◌, length, take, drop, Option, None, Some, slice_get, slice_range, sym, ap, subst, refl, ◌↔◌, ◌∙◌, arith, append-nil, length-drop}
+use Rattle.std.proofs.Common.{◌≡◌, ◌≢◌, ⊎_elim, ℕ, ◌+◌, ◌-◌, ◌*◌, ◌<◌, ◌≤◌, Bool, true, false, IsTrue, List, [], ◌∷◌, ◌++◌, length, take, drop, Option, None, Some, slice_get, slice_range, sym, ap, subst, refl, ◌↔◌, ◌∙◌, arith, append-nil, length-drop, suc, length-append, mul-suc}
 use Rattle.std.proofs.lemmas.List.{length-take-le}
 use Rattle.std.specs.Option.{option_map}
 use Rattle.std.proofs.lemmas.Bool.{cases_lt, false≢true}
 use Rattle.std.proofs.lemmas.List.{drop-drop, take_rest}
-use Rattle.std.proofs.lemmas.Option.{same_Some, slice_get_within}
+use Rattle.std.proofs.lemmas.Option.{slice_get_within}
 use Rattle.ac_input.specs.Number.{StateID}
 use Rattle.ac_input.specs.declared.search.Anchored.{Anchored}
 use Rattle.ac_input.specs.declared.search.Anchored.TheVariants.{No}
-use Rattle.ac_input.specs.declared.search.MatchKind.TheVariants.{Standard}
+use Rattle.ac_input.specs.declared.search.MatchKind.TheVariants.{Standard, LeftmostFirst, LeftmostLongest}
 use Rattle.ac_input.specs.declared.steps.Steps.{Steps}
 use Rattle.ac_input.specs.Best.{IsBest}
 use Rattle.ac_input.specs.Dictionary.{Dictionary, IsLive, live_len, whole}
-use Rattle.ac_input.specs.LiveLaws.{IsOwnInverse, shifted}
+use Rattle.ac_input.specs.LiveLaws.{IsOwnInverse, shifted, shifted_best}
 use Rattle.ac_input.specs.Occurrence.{Occurrence, Occurs}
 use Rattle.ac_input.specs.Steps.{Done, looked_of}
-use Rattle.ac_input.specs.Tells.{Tells, TellsUnanchored, ending, ending_at}
+use Rattle.ac_input.specs.Tells.{Tells, ending, ending_at}
 use Rattle.ac_input.specs.Walk.{IsPick}
-use Rattle.ac_input.specs.Work.{IsLookups, lookups_per_byte, shortest}
-use Rattle.ac_input.proofs.OrderLemmas.{occurrence_from_parts, slice_range-length}
+use Rattle.ac_input.specs.Work.{IsLookups, lookups_per_byte, shortest, longest}
+use Rattle.ac_input.proofs.OrderLemmas.{slice_range-length}
 use Rattle.ac_input.specs.declared.search.MatchKind.{MatchKind}
 use Rattle.ac_automaton.specs.Automaton.{Advances, Built, IsReadCost, IsState, is_matching}
 use Rattle.ac_automaton.specs.Moved.{AllFit}
 use Rattle.ac_automaton.specs.Replace.{matches_in}
-use Rattle.ac_automaton.specs.StreamSearch.{ContinuesWalk, IsHeldAt, IsSearchPaid, SearchesOn, StandsInState, after_search, since_last}
-use Rattle.ac_automaton.specs.Stream.{AllIsDecided, CanBeCounted, FindsHeld, IsHeldMatch, IsOnCourse, NothingIsLive, StreamProgress, cut_of, end_of, read_by, room_of}
+use Rattle.ac_automaton.specs.StreamSearch.{ContinuesWalk, IsHeldAt, IsSearchPaid, SearchesOn, StandsInState, after_search, since_last, searched_anew, waits}
+use Rattle.ac_automaton.specs.Stream.{CanBeCounted, FindsHeld, IsHeldMatch, IsOnCourse, NothingIsLive, StreamProgress, cut_of, end_of, read_by, room_of, read_again, MayFollow, again_for, read_in_all, AreAllGiven, may_wait}
 use Rattle.ac_automaton.specs.declared.automaton.Advance.{Advance}
 use Rattle.ac_automaton.specs.declared.automaton.Automaton.{Ghosts}
 use Rattle.ac_automaton.specs.declared.stream.search.Progress.{Progress}
 use Rattle.ac_automaton.proofs.CursorLemmas.{list-none, part-empty, part-front}
 use Rattle.ac_automaton.proofs.IterLemmas.{occurs-not_empty}
-use Rattle.ac_automaton.proofs.PassLemmas.{StopsAtMatch, matching-none, stops-none, stops-there}
-use Rattle.ac_automaton.proofs.StreamLemmas.{all-given, decided-from, end_of-push, goes-anew, goes-match, none-ends_before, nothing-ends, nothing-later, pick-since}
-use Rattle.ac_automaton.proofs.ToldLemmas.{IsEarlier, ending-fits, told-standard}
-use Rattle.ac_automaton.proofs.WalkLemmas.{occurs-bound}
+use Rattle.ac_automaton.proofs.PassLemmas.{StopsAtMatch, matching-none, stops-none, stops-there, ReadsOver, stops-over}
+use Rattle.ac_automaton.proofs.StreamLemmas.{all-given, decided-from, end_of-push, given-anew, given-open, goes-anew, goes-match, pick-since}
+use Rattle.ac_automaton.proofs.ToldLemmas.{told-first_occurs}
+use Rattle.ac_automaton.proofs.WalkLemmas.{occurs-bound, standard-final}
+use Rattle.ac_automaton.proofs.WalkEndLemmas.{none-alive, unshifted-none}
+use Rattle.ac_automaton.proofs.BestOnLemmas.{best-met, best-stays, best-told}
 
 -- ---- what was read
 
@@ -59,13 +61,18 @@ looks-done deterministic n a b y z run =
 -- ---- where a search stands
 
 -- what is paid for byte by byte is within the budget
-budget-from : (deterministic : Bool) (looked live at : ℕ) → looked + live ≤ 2 * at → (IsTrue deterministic → looked ≡ at) → looked ≤ lookups_per_byte deterministic * at
+budget-from : (deterministic : Bool) (looked live at : ℕ) → looked + live ≤ 2 * at → (IsTrue deterministic → looked ≤ at) → looked ≤ lookups_per_byte deterministic * at
 budget-from true looked live at paid one = let e = one refl in omega arith
 budget-from false looked live at paid one = omega arith
 
+-- A text without an occurrence isn't dead, whatever its kind.
+pub alive-none : (m : Dictionary) (text : List ℕ) (live : Option ℕ) → IsBest m.kind (whole m text false) None → IsLive m false text live → (from : ℕ) × IsLive m false text (Some from)
+alive-none m text None quiet is = absurd (none-alive m m.kind text quiet is)
+alive-none m text (Some from) quiet is = (from, is)
+
 -- where it stands, put together
-pub stands-from : (Reaches : List ℕ → StateID → Type 0) (t : StreamProgress) (start sid : StateID)
-    → t.built.dictionary.kind ≡ Standard
+pub stands-from : (Reaches : List ℕ → StateID → Type 0) (t : StreamProgress) (start sid : StateID) (best found : Option Occurrence) (live : ℕ)
+    → (t.built.dictionary.kind ≡ Standard → t.closed ≡ false)
     → 1 ≤ shortest t.built.dictionary.patterns
     → t.last ≤ t.at
     → t.at ≤ length (read_by t)
@@ -78,19 +85,21 @@ pub stands-from : (Reaches : List ℕ → StateID → Type 0) (t : StreamProgres
     → 7 * t.moved ≤ length (read_by t)
     → Reaches [] start
     → Reaches (since_last t) sid
-    → IsBest Standard (whole t.built.dictionary (since_last t) false) None
+    → best ≡ shifted_best t.last found
+    → IsBest t.built.dictionary.kind (whole t.built.dictionary (since_last t) false) found
+    → (t.built.dictionary.kind ≡ Standard → found ≡ None)
+    → IsOwnInverse t.built.dictionary.pairing
+    → IsLive t.built.dictionary false (since_last t) (Some live)
     → ContinuesWalk t
     → IsSearchPaid t
-    → (live : Option ℕ)
-    → IsLive t.built.dictionary false (since_last t) live
-    → StandsInState Reaches t start sid
-stands-from Reaches t start sid standard filled ordered inside ended kept behind room short scanned moved begins reads quiet goes paid live is =
-    let here = paid live is in
-    let decided = decided-from t standard ordered inside quiet goes in
-    let rest = decided [] in
+    → StandsInState Reaches t start sid best
+stands-from Reaches t start sid best found live unclosed filled ordered inside ended kept behind room short scanned moved begins reads is told quiet inverse alive goes paid =
+    let here = paid (Some live) alive in
+    let decided = decided-from t found live ordered inside told quiet inverse alive goes in
+    let rest = decided [] (λ _. refl) in
     record {
       course = record {
-        standard = standard;
+        unclosed = unclosed;
         filled = filled;
         ordered = (ordered, inside);
         kept = (kept, behind, room);
@@ -100,14 +109,20 @@ stands-from Reaches t start sid standard filled ordered inside ended kept behind
         decided = decided;
         paid = record {
           some = here.1;
-          looked = budget-from t.built.deterministic t.looked (live_len (since_last t) live) t.at here.0 here.2;
+          looked = budget-from t.built.deterministic t.looked (live_len (since_last t) (Some live)) (read_in_all t) here.0 here.2;
           scanned = scanned;
           moved = moved;
         };
       };
       begins = begins;
       reads = reads;
+      found = found;
+      kept = is;
+      told = told;
       quiet = quiet;
+      inverse = inverse;
+      live = live;
+      alive = alive;
       goes = goes;
       lookups = paid;
     }
@@ -115,7 +130,7 @@ stands-from Reaches t start sid standard filled ordered inside ended kept behind
 -- ---- reading on
 
 -- on the way the lists of the states were empty
-tells-on : (s : StreamProgress) (Reaches : Anchored → List ℕ → StateID → Type 0) (matches : StateID → List ℕ) (sid : StateID) (stop : Advance) (matched : Bool) (y z : Steps)
+pub tells-on : (s : StreamProgress) (Reaches : Anchored → List ℕ → StateID → Type 0) (matches : StateID → List ℕ) (sid : StateID) (stop : Advance) (matched : Bool) (y z : Steps)
     → ((text : List ℕ) (state : StateID) → Reaches No text state → Tells s.built.dictionary No text (matches state))
     → s.last ≤ s.at
     → Reaches No (since_last s) sid
@@ -133,14 +148,14 @@ tells-on s Reaches matches sid stop matched y z tells ordered here stops k lt le
     subst (λ (ns : List ℕ). Tells s.built.dictionary No (slice_range x s.last k) ns) (matching-none (matches mid.0) mid.2) (tells (slice_range x s.last k) mid.0 reads)
 
 -- what reading on cost
-cost-on : (s : StreamProgress) (Reaches : Anchored → List ℕ → StateID → Type 0) (matches : StateID → List ℕ) (sid : StateID) (stop : Advance) (matched : Bool) (y z : Steps) (before after : Option ℕ)
+pub cost-on : (s : StreamProgress) (Reaches : Anchored → List ℕ → StateID → Type 0) (sid : StateID) (stop : Advance) (y z : Steps) (before after : Option ℕ)
     → s.last ≤ s.at
     → Reaches No (since_last s) sid
-    → StopsAtMatch s.built Reaches matches sid (drop s.at (read_by s)) stop matched y z
+    → ReadsOver s.built Reaches sid (drop s.at (read_by s)) stop y z
     → IsLive s.built.dictionary false (since_last s) before
     → IsLive s.built.dictionary false (slice_range (read_by s) s.last (s.at + stop.taken)) after
     → IsLookups s.built.deterministic stop.taken (live_len (since_last s) before) (live_len (slice_range (read_by s) s.last (s.at + stop.taken)) after) y z
-cost-on s Reaches matches sid stop matched y z before after ordered here stops g h =
+cost-on s Reaches sid stop y z before after ordered here stops g h =
     let x = read_by s in
     let within = stops.within in
     let rest = length-drop s.at x in
@@ -152,43 +167,25 @@ cost-on s Reaches matches sid stop matched y z before after ordered here stops g
     (subst (λ (l : List ℕ). IsLookups s.built.deterministic (length (take stop.taken (drop s.at x))) (live_len (since_last s) before) (live_len l after) y z) text run)
 
 -- this many looks more
-paid-on : (deterministic : Bool) (looked live at n more : ℕ) (y z : Steps) → looked + live ≤ 2 * at → at ≤ looked → (IsTrue deterministic → looked ≡ at) → IsLookups deterministic n live more y z
-    → (looked + (looked_of z - looked_of y) + more ≤ 2 * (at + n)) × (at + n ≤ looked + (looked_of z - looked_of y)) × (IsTrue deterministic → looked + (looked_of z - looked_of y) ≡ at + n)
-paid-on deterministic looked live at n more y z paid some one run =
+pub paid-on : (deterministic : Bool) (looked live at again n more : ℕ) (y z : Steps) → looked + live ≤ 2 * (at + again) → at ≤ looked → (IsTrue deterministic → looked ≤ at + again) → IsLookups deterministic n live more y z
+    → (looked + (looked_of z - looked_of y) + more ≤ 2 * (at + n + again)) × (at + n ≤ looked + (looked_of z - looked_of y)) × (IsTrue deterministic → looked + (looked_of z - looked_of y) ≤ at + n + again)
+paid-on deterministic looked live at again n more y z paid some one run =
     let bound = run.bound in
     let least = run.some in
     (omega arith, omega arith, λ d. let e = one d in let f = run.one d in omega arith)
 
 -- the state in which reading on stopped was reached by the bytes since the last match
-reads-on : (s : StreamProgress) (Reaches : Anchored → List ℕ → StateID → Type 0) (matches : StateID → List ℕ) (sid : StateID) (stop : Advance) (matched : Bool) (y z : Steps)
+pub reads-on : (s : StreamProgress) (Reaches : Anchored → List ℕ → StateID → Type 0) (sid : StateID) (stop : Advance) (y z : Steps)
     → s.last ≤ s.at
     → Reaches No (since_last s) sid
-    → StopsAtMatch s.built Reaches matches sid (drop s.at (read_by s)) stop matched y z
+    → ReadsOver s.built Reaches sid (drop s.at (read_by s)) stop y z
     → Reaches No (slice_range (read_by s) s.last (s.at + stop.taken)) stop.sid
-reads-on s Reaches matches sid stop matched y z ordered here stops =
+reads-on s Reaches sid stop y z ordered here stops =
     let within = stops.within in
     let rest = length-drop s.at (read_by s) in
     subst (λ (l : List ℕ). Reaches No l stop.sid) (text-on (read_by s) s.last s.at stop.taken ordered (omega arith)) (stops.reads (since_last s) here)
 
 -- ---- to the end
-
--- nothing is in the text where the list of the last state is empty, too
-quiet-on : (m : Dictionary) (x : List ℕ) (last at to : ℕ) → m.kind ≡ Standard → last ≤ at → at ≤ to → to ≤ length x
-    → IsBest Standard (whole m (slice_range x last at) false) None
-    → ((k : ℕ) → at < k → k < to → Tells m No (slice_range x last k) [])
-    → (at < to → Tells m No (slice_range x last to) [])
-    → IsBest Standard (whole m (slice_range x last to) false) None
-quiet-on m x last at to standard g h inside quiet tells ends = λ o occurs.
-    let w = occurs.within in
-    let long = slice_range-length x last to (omega arith) inside in
-    ⊎_elim
-    (λ (lt : last + o.end < to). none-ends_before m x last at to o standard g h inside quiet tells occurs lt)
-    (λ (le : to ≤ last + o.end).
-    ⊎_elim
-    (λ (past : at < to). nothing-ends m (slice_range x last to) o standard (ends past) occurs (omega arith))
-    (λ (same : to ≤ at). let e : to ≡ at = omega arith in quiet o (subst (λ (n : ℕ). Occurs (whole m (slice_range x last n) false) o) e occurs))
-    (cases_lt at to))
-    (cases_lt (last + o.end) to)
 
 -- nothing is live of no text
 pub live-empty : (x : List ℕ) (at : ℕ) (live : Option ℕ) → live_len (slice_range x at at) live ≡ 0
@@ -199,12 +196,19 @@ live-empty x at (Some from) = let empty = ap length (part-empty x at) in omega a
 pub nothing-in_empty : (m : Dictionary) (text : List ℕ) → 1 ≤ shortest m.patterns → text ≡ [] → IsBest Standard (whole m text false) None
 nothing-in_empty m text filled empty = λ q h. let w = h.within in let lt = occurs-not_empty (whole m text false) q (omega arith) filled h in absurd (omega (arith, ap length empty))
 
+-- where none is to be decided, there is no match in the bytes since the search last began anew
+pub none-quiet : (s : StreamProgress) (Reaches : List ℕ → StateID → Type 0) (start sid : StateID) → StandsInState Reaches s start sid None → IsBest s.built.dictionary.kind (whole s.built.dictionary (since_last s) false) None
+none-quiet s Reaches start sid stands = subst (λ (r : Option Occurrence). IsBest s.built.dictionary.kind (whole s.built.dictionary (since_last s) false) r) (unshifted-none s.last stands.found (sym stands.kept)) stands.told
+
 -- All that is held was searched, and nothing was found.
 module _ (s : StreamProgress) (Reaches : Anchored → List ℕ → StateID → Type 0) (matches : StateID → List ℕ) (start sid : StateID) (stop : Advance) (y z : Steps)
     (tells : (text : List ℕ) (state : StateID) → Reaches No text state → Tells s.built.dictionary No text (matches state))
     (lives : (text : List ℕ) (state : StateID) → Reaches No text state → (live : Option ℕ) × IsLive s.built.dictionary false text live)
-    (stands : StandsInState (Reaches No) s start sid)
+    (stands : StandsInState (Reaches No) s start sid None)
     (stops : StopsAtMatch s.built Reaches matches sid (drop s.at (read_by s)) stop false y z) where
+  abbrev m : Dictionary
+  m = s.built.dictionary
+
   -- the place to which the automaton has read
   abbrev to : ℕ
   to = s.at + stop.taken
@@ -223,280 +227,395 @@ module _ (s : StreamProgress) (Reaches : Anchored → List ℕ → StateID → T
 
   -- the state was reached by these bytes
   reads : Reaches No since stop.sid
-  reads = reads-on s Reaches matches sid stop false y z stands.course.ordered.0 stands.reads stops
+  reads = reads-on s Reaches sid stop y z stands.course.ordered.0 stands.reads (stops-over s.built Reaches matches sid (drop s.at (read_by s)) stop false y z stops)
 
   -- there is no match in them
-  since-quiet : IsBest Standard (whole s.built.dictionary since false) None
+  since-quiet : IsBest m.kind (whole m since false) None
   since-quiet =
       let ordered = stands.course.ordered.0 in
       let end = all in
-      quiet-on s.built.dictionary (read_by s) s.last s.at to stands.course.standard ordered (omega arith) (omega arith) stands.quiet (tells-on s Reaches matches sid stop false y z tells ordered stands.reads stops)
-      (λ lt. subst (λ (ns : List ℕ). Tells s.built.dictionary No since ns) (stops.none refl).1 (tells since stop.sid reads))
+      best-stays stop.taken m (read_by s) s.last s.at None stands.inverse ordered (omega arith) (λ standard. refl)
+      (λ k lt le. ⊎_elim
+      (λ (before : k < to). tells-on s Reaches matches sid stop false y z tells ordered stands.reads stops k lt before)
+      (λ (there : to ≤ k).
+      let same : to ≡ k = omega arith in
+      subst (λ (n : ℕ). Tells m No (slice_range (read_by s) s.last n) []) same (subst (λ (ns : List ℕ). Tells m No since ns) (stops.none refl).1 (tells since stop.sid reads)))
+      (cases_lt k to))
+      (none-quiet s (Reaches No) start sid stands)
+
+  -- so they aren't dead
+  since-alive : (live : ℕ) × IsLive m false since (Some live)
+  since-alive = let after = lives since stop.sid reads in alive-none m since after.0 since-quiet after.1
+
+  -- as many were given as before
+  same-again : read_again m (length (s.given ++ [])) ≡ read_again m (length s.given)
+  same-again = ap (λ (os : List Occurrence). read_again m (length os)) (append-nil s.given)
 
   -- all that looking so far has cost is paid for
-  paid : (live : Option ℕ) → IsLive s.built.dictionary false since live → (s.looked + looks + live_len since live ≤ 2 * to) × (to ≤ s.looked + looks) × (IsTrue s.built.deterministic → s.looked + looks ≡ to)
+  paid : (live : Option ℕ) → IsLive m false since live → (s.looked + looks + live_len since live ≤ 2 * (to + read_again m (length s.given))) × (to ≤ s.looked + looks) × (IsTrue s.built.deterministic → s.looked + looks ≤ to + read_again m (length s.given))
   paid live is =
       let before = lives (since_last s) sid stands.reads in
       let sums = stands.lookups before.0 before.1 in
-      paid-on s.built.deterministic s.looked (live_len (since_last s) before.0) s.at stop.taken (live_len since live) y z sums.0 sums.1 sums.2
-      (cost-on s Reaches matches sid stop false y z before.0 live stands.course.ordered.0 stands.reads stops before.1 is)
+      paid-on s.built.deterministic s.looked (live_len (since_last s) before.0) s.at (read_again m (length s.given)) stop.taken (live_len since live) y z sums.0 sums.1 sums.2
+      (cost-on s Reaches sid stop y z before.0 live stands.course.ordered.0 stands.reads (stops-over s.built Reaches matches sid (drop s.at (read_by s)) stop false y z stops) before.1 is)
 
   -- what was looked at
   done : Done looks 0 0 y z
   done =
       let before = lives (since_last s) sid stands.reads in
       let after = lives since stop.sid reads in
-      looks-done s.built.deterministic stop.taken _ _ y z (cost-on s Reaches matches sid stop false y z before.0 after.0 stands.course.ordered.0 stands.reads stops before.1 after.1)
+      looks-done s.built.deterministic stop.taken _ _ y z (cost-on s Reaches sid stop y z before.0 after.0 stands.course.ordered.0 stands.reads (stops-over s.built Reaches matches sid (drop s.at (read_by s)) stop false y z stops) before.1 after.1)
 
   -- all matches were given
   given : s.given ++ [] ≡ matches_in s.built (read_by s)
   given =
       let ordered = stands.course.ordered.0 in
       let end = all in
-      append-nil s.given ∙ all-given s stands.course.standard (omega arith) (subst (λ (n : ℕ). IsBest Standard (whole s.built.dictionary (slice_range (read_by s) s.last n) false) None) all since-quiet) stands.goes
-
-  -- where all of what was read is decided, nothing is live of the bytes since the search last began
-  pub decided-empty : AllIsDecided s.built.dictionary (read_by s) → NothingIsLive s.built.dictionary since
-  decided-empty decided =
-      let ordered = stands.course.ordered.0 in
-      let end = all in
-      let ended = stands.course.ended in
-      let same : matches_in s.built (read_by s) ≡ s.given = sym given ∙ append-nil s.given in
-      let here = subst (λ (os : List Occurrence). NothingIsLive s.built.dictionary (drop (end_of os) (read_by s))) same decided in
-      let later = nothing-later s.built.dictionary (read_by s) (end_of s.given) s.last stands.course.standard ended (omega arith) here in
-      let rest : drop s.last (read_by s) ≡ since = sym (take_rest (read_by s) s.last) ∙ ap (λ (n : ℕ). slice_range (read_by s) s.last n) (sym all) in
-      subst (NothingIsLive s.built.dictionary) rest later
+      append-nil s.given ∙ all-given s (omega arith) (subst (λ (n : ℕ). IsBest m.kind (whole m (slice_range (read_by s) s.last n) false) None) all since-quiet) stands.goes
 
   -- the search stands where it has read to
-  none-finds : (sid' : StateID) (last : ℕ) → s.last ≤ last → (AllIsDecided s.built.dictionary (read_by s) → last ≡ to) → FindsHeld s None (after_search s (record { progress = record { sid = sid'; from = s.from; at = to; last = last }; found = None }) looks)
+  none-finds : (sid' : StateID) (last : ℕ) → s.last ≤ last → (NothingIsLive m since → last ≡ to) → FindsHeld s None (after_search s (record { progress = record { sid = sid'; from = s.from; at = to; last = last; best = None; closed = s.closed }; found = None }) looks)
   none-finds sid' last later anew =
-      (record { on = omega arith; built = refl; pieces = refl; from = refl }, append-nil s.given, later, λ countable. record { searched = all; all = given; anew = anew })
+      let course = stands.course in
+      let ordered = course.ordered.0 in
+      let end = all in
+      let live = since-alive.0 in
+      let alive : IsLive m false (slice_range (read_by s) s.last (length (read_by s))) (Some live) = subst (λ (n : ℕ). IsLive m false (slice_range (read_by s) s.last n) (Some live)) all since-alive.1 in
+      let same = sym (append-nil s.given) in (
+        record { on = λ standard. omega arith; last = later; closed = refl; built = refl; pieces = refl; from = refl },
+        append-nil s.given,
+        λ countable. record {
+          searched = all;
+          all = λ each. given;
+          open_ = subst (λ (os : List Occurrence). ¬ IsLive m false (drop (end_of os) (read_by s)) None) same (given-open s live course.decided course.filled course.ended (omega arith) alive);
+          anew = λ nothing. anew
+              (subst (λ (n : ℕ). NothingIsLive m (slice_range (read_by s) s.last n)) (sym all)
+              (given-anew s live course.decided course.filled course.ended (omega arith) alive
+              (subst (λ (os : List Occurrence). NothingIsLive m (drop (end_of os) (read_by s))) (append-nil s.given) nothing)));
+        },
+      )
 
   -- Something is still live: the search goes on in the state that it came to.
-  pub search-none : ¬ NothingIsLive s.built.dictionary since → SearchesOn (Reaches No) s start (record { progress = record { sid = stop.sid; from = s.from; at = to; last = s.last }; found = None }) y z
+  pub search-none : ¬ NothingIsLive m since → SearchesOn (Reaches No) s start (record { progress = record { sid = stop.sid; from = s.from; at = to; last = s.last; best = None; closed = s.closed }; found = None }) y z
   search-none live =
       let course = stands.course in
       let ordered = course.ordered.0 in
       let kept = course.kept in
       let ended = course.ended in
-      let after = lives since stop.sid reads in
       let end = all in
-      let t : StreamProgress = after_search s (record { progress = record { sid = stop.sid; from = s.from; at = to; last = s.last }; found = None }) looks in
+      let again = same-again in
+      let t : StreamProgress = after_search s (record { progress = record { sid = stop.sid; from = s.from; at = to; last = s.last; best = None; closed = s.closed }; found = None }) looks in
       let goes : ContinuesWalk t = subst (λ (l : List Occurrence). ContinuesWalk (record t { given = l })) (sym (append-nil s.given)) stands.goes in
       record {
         looks = looks;
         done = done;
+        closed = refl;
         from = refl;
-        finds = none-finds stop.sid s.last (omega arith) (λ decided. absurd (live (decided-empty decided)));
-        stands = stands-from (Reaches No) t start stop.sid course.standard course.filled (omega arith) (omega arith) (omega (arith, ap end_of (append-nil s.given))) (omega arith) (omega arith) kept.2 course.short course.paid.scanned course.paid.moved stands.begins reads since-quiet goes paid after.0 after.1;
+        finds = none-finds stop.sid s.last (omega arith) (λ nothing. absurd (live nothing));
+        stands = stands-from (Reaches No) t start stop.sid None None since-alive.0 course.unclosed course.filled (omega arith) (omega arith) (omega (arith, ap end_of (append-nil s.given))) (omega arith) (omega arith) kept.2 course.short course.paid.scanned course.paid.moved stands.begins reads
+            refl since-quiet (λ standard. refl) stands.inverse since-alive.1 goes (λ one is. let sums = paid one is in (omega arith, sums.1, λ d. let e = sums.2 d in omega arith));
       }
 
   -- Nothing is live: the search begins anew.
-  pub search-anew : IsOwnInverse s.built.dictionary.pairing → NothingIsLive s.built.dictionary since → SearchesOn (Reaches No) s start (record { progress = record { sid = start; from = s.from; at = to; last = to }; found = None }) y z
-  search-anew inverse live =
+  pub search-anew : NothingIsLive m since → SearchesOn (Reaches No) s start (record { progress = record { sid = start; from = s.from; at = to; last = to; best = None; closed = s.closed }; found = None }) y z
+  search-anew live =
       let course = stands.course in
       let ordered = course.ordered.0 in
       let kept = course.kept in
       let ended = course.ended in
       let end = all in
+      let again = same-again in
       let x = read_by s in
       let empty = part-empty x to in
       let begins : Reaches No (slice_range x to to) start = subst (λ (l : List ℕ). Reaches No l start) (sym empty) stands.begins in
-      let none = lives (slice_range x to to) start begins in
       let sums = paid (Some (length since)) live in
-      let t : StreamProgress = after_search s (record { progress = record { sid = start; from = s.from; at = to; last = to }; found = None }) looks in
-      let goes : ContinuesWalk t = goes-anew (record t { last = s.last }) inverse course.filled (omega arith) (omega arith) since-quiet live (subst (λ (l : List Occurrence). ContinuesWalk (record t { given = l; last = s.last })) (sym (append-nil s.given)) stands.goes) in
+      let t : StreamProgress = after_search s (record { progress = record { sid = start; from = s.from; at = to; last = to; best = None; closed = s.closed }; found = None }) looks in
+      let nothing = nothing-in_empty m (slice_range x to to) course.filled empty in
+      let one = lives (slice_range x to to) start begins in
+      let alive = alive-none m (slice_range x to to) one.0 nothing one.1 in
+      let goes : ContinuesWalk t = goes-anew (record t { last = s.last }) stands.inverse course.filled (omega arith) (omega arith) since-quiet live (subst (λ (l : List Occurrence). ContinuesWalk (record t { given = l; last = s.last })) (sym (append-nil s.given)) stands.goes) in
       record {
         looks = looks;
         done = done;
+        closed = refl;
         from = refl;
-        finds = none-finds start to (omega arith) (λ decided. refl);
-        stands = stands-from (Reaches No) t start start course.standard course.filled (omega arith) (omega arith) (omega (arith, ap end_of (append-nil s.given))) (omega arith) (omega arith) kept.2 course.short course.paid.scanned course.paid.moved stands.begins begins
-            (nothing-in_empty s.built.dictionary (slice_range x to to) course.filled empty)
-            goes
-            (λ one alive. let zero = live-empty x to one in (omega arith, sums.1, sums.2))
-            none.0 none.1;
+        finds = none-finds start to (omega arith) (λ none. refl);
+        stands = stands-from (Reaches No) t start start None None alive.0 course.unclosed course.filled (omega arith) (omega arith) (omega (arith, ap end_of (append-nil s.given))) (omega arith) (omega arith) kept.2 course.short course.paid.scanned course.paid.moved stands.begins begins
+            refl nothing (λ standard. refl) stands.inverse alive.1 goes
+            (λ one is. let zero = live-empty x to one in (omega arith, sums.1, λ d. let e = sums.2 d in omega arith));
       }
 
 -- ---- to a match
 
--- the state's match at the end of a text in which nothing ended before is the best of the text
-told-best_at : (m : Dictionary) (text ns : List ℕ) (last at : ℕ) (o : Occurrence) → m.kind ≡ Standard → last + length text ≡ at → ((q : Occurrence) → Occurs (whole m text false) q → ¬ (q.end < length text)) → Tells m No text ns → ns ≢ []
-    → Some o ≡ option_map (ending_at m at) (slice_get ns 0) → (b : Occurrence) × IsBest Standard (whole m text false) (Some b) × (shifted last b ≡ o) × (o.end ≡ at)
-told-best_at m text [] last at o standard long none tells some is = absurd (some refl)
-told-best_at m text (n ∷ ns) last at o standard long none tells some is =
-    let all : TellsUnanchored Standard m text (n ∷ ns) = subst (λ (k : MatchKind). TellsUnanchored k m text (n ∷ ns)) standard tells in
-    let earlier : IsEarlier Standard m false text None = record { least = λ q h. none q h.0 h.1 } in
-    let best = told-standard m text (n ∷ ns) earlier all in
-    let fits = ending-fits m false text n best.0 in
-    let same : ending_at m at n ≡ o = sym (same_Some o (ending_at m at n) is) in
-    (ending m text n, best, occurrence_from_parts (shifted last (ending m text n)) (ending_at m at n) refl (omega arith) long ∙ same, sym (ap (λ (q : Occurrence). q.end) same))
-
--- the list of a state at the end of a text in which nothing ends is empty
-pub told-some : (m : Dictionary) (text ns : List ℕ) → m.kind ≡ Standard → Tells m No text ns → ns ≢ [] → ¬ IsBest Standard (whole m text false) None
-told-some m text [] standard tells some quiet = some refl
-told-some m text (n ∷ ns) standard tells some quiet =
-    let all : TellsUnanchored Standard m text (n ∷ ns) = subst (λ (k : MatchKind). TellsUnanchored k m text (n ∷ ns)) standard tells in
-    let earlier : IsEarlier Standard m false text None = record { least = λ q h. quiet q h.0 } in
-    let best = told-standard m text (n ∷ ns) earlier all in
-    quiet (ending m text n) best.0
+-- the list of a state at the end of a text in which nothing is is empty
+pub told-some : (m : Dictionary) (x ns : List ℕ) (last at : ℕ) → Tells m No (slice_range x last at) ns → ns ≢ [] → ¬ IsBest m.kind (whole m (slice_range x last at) false) None
+told-some m x [] last at tells some quiet = some refl
+told-some m x (n ∷ ns) last at tells some quiet = quiet (ending m (slice_range x last at) n) (told-first_occurs m.kind m (slice_range x last at) (n ∷ ns) n tells refl)
 
 -- a match was found among the bytes that are held
-found-held : (s : StreamProgress) (b o : Occurrence) (at : ℕ) → IsOnCourse s → s.at < at → at ≤ length (read_by s) → o.end ≡ at → s.last ≤ o.start → Occurs (whole s.built.dictionary (slice_range (read_by s) s.last at) false) b → shifted s.last b ≡ o → IsHeldMatch s o
-found-held s b o at course lt inside ends behind occurs is =
+pub found-held : (s : StreamProgress) (b o : Occurrence) (to : ℕ) → IsOnCourse s → s.from ≤ o.start → (s.built.dictionary.kind ≡ Standard → s.at < o.end) → s.last ≤ to → to ≤ length (read_by s) → Occurs (whole s.built.dictionary (slice_range (read_by s) s.last to) false) b → shifted s.last b ≡ o → IsHeldMatch s o
+found-held s b o to course held new le inside occurs is =
     let m = s.built.dictionary in
-    let bound = occurs-bound m false (slice_range (read_by s) s.last at) b occurs in
-    let some = occurs-not_empty (whole m (slice_range (read_by s) s.last at) false) b (omega arith) course.filled occurs in
+    let some = occurs-not_empty (whole m (slice_range (read_by s) s.last to) false) b (omega arith) course.filled occurs in
+    let long = slice_range-length (read_by s) s.last to le inside in
+    let within = occurs.within in
     let start : s.last + b.start ≡ o.start = ap (λ (q : Occurrence). q.start) is in
     let end : s.last + b.end ≡ o.end = ap (λ (q : Occurrence). q.end) is in
     let number : b.pattern ≡ o.pattern = ap (λ (q : Occurrence). q.pattern) is in
-    let kept = course.kept.0 in
     let known = slice_get_within m.patterns b.pattern occurs.same.0 occurs.same.1 in
     record {
       pattern = subst (λ (n : ℕ). n < length m.patterns) number known;
-      held = omega arith;
-      behind = behind;
+      held = held;
+      behind = omega arith;
       some = omega arith;
-      new = omega arith;
+      new = new;
       within = omega arith;
     }
 
--- The next match among the bytes that are held was found.
-pub search-some : (s : StreamProgress) (Reaches : Anchored → List ℕ → StateID → Type 0) (matches : StateID → List ℕ) (start sid : StateID) (stop : Advance) (o : Occurrence) (y z : Steps)
-    → ((text : List ℕ) (state : StateID) → Reaches No text state → Tells s.built.dictionary No text (matches state))
-    → ((text : List ℕ) (state : StateID) → Reaches No text state → (live : Option ℕ) × IsLive s.built.dictionary false text live)
-    → StandsInState (Reaches No) s start sid
-    → StopsAtMatch s.built Reaches matches sid (drop s.at (read_by s)) stop true y z
+-- under standard no match waits
+pub wait-standard : (kind : MatchKind) → kind ≡ Standard → may_wait kind ≡ false
+wait-standard kind standard = ap may_wait standard
+
+-- and only under standard
+pub wait-none : (kind : MatchKind) → may_wait kind ≡ false → kind ≡ Standard
+wait-none Standard none = refl
+wait-none LeftmostFirst none = absurd (false≢true (sym none))
+wait-none LeftmostLongest none = absurd (false≢true (sym none))
+
+-- under standard no byte is read again
+pub again-standard : (m : Dictionary) (matches : ℕ) → m.kind ≡ Standard → read_again m matches ≡ 0
+again-standard m matches standard = ap (λ (k : MatchKind). again_for k (longest m.patterns) matches) standard
+
+-- under a leftmost kind some are, after each match
+pub again-leftmost : (kind : MatchKind) (long matches : ℕ) → kind ≢ Standard → again_for kind long (matches + 1) ≡ again_for kind long matches + (long + 1)
+again-leftmost Standard long matches leftmost = absurd (leftmost refl)
+again-leftmost LeftmostFirst long matches leftmost = let next : matches + 1 ≡ suc matches = omega arith in ap (λ (n : ℕ). (long + 1) * n) next ∙ mul-suc (long + 1) matches
+again-leftmost LeftmostLongest long matches leftmost = let next : matches + 1 ≡ suc matches = omega arith in ap (λ (n : ℕ). (long + 1) * n) next ∙ mul-suc (long + 1) matches
+
+-- as many were given, and one more
+pub given-more : (m : Dictionary) (given : List Occurrence) (o : Occurrence) → read_again m (length (given ++ o ∷ [])) ≡ read_again m (length given + 1)
+given-more m given o = ap (read_again m) (length-append given (o ∷ []))
+
+-- A match is decided: it is the next one, whatever is still read. The search begins anew at its end.
+pub search-decided : (s : StreamProgress) (Reaches : List ℕ → StateID → Type 0) (start sid : StateID) (best : Option Occurrence) (o : Occurrence) (looks : ℕ) (y z : Steps)
+    → StandsInState Reaches s start sid best
+    → ((text : List ℕ) (state : StateID) → Reaches text state → (live : Option ℕ) × IsLive s.built.dictionary false text live)
     → CanBeCounted (read_by s)
-    → Some o ≡ option_map (ending_at s.built.dictionary (s.at + stop.taken)) (slice_get (matches stop.sid) 0)
-    → SearchesOn (Reaches No) s start (record { progress = record { sid = start; from = s.from; at = s.at + stop.taken; last = s.at + stop.taken }; found = Some o }) y z
-search-some s Reaches matches start sid stop o y z tells lives stands stops countable is =
+    → IsHeldMatch s o
+    → ¬ AreAllGiven s
+    → ((more : List ℕ) → MayFollow s more → IsPick s.built.dictionary.kind (whole s.built.dictionary (read_by s ++ more) false) s.last (Some s.last) (Some o))
+    → Done looks 0 0 y z
+    → s.looked + looks ≤ 2 * (o.end + read_again s.built.dictionary (length s.given + 1))
+    → o.end ≤ s.looked + looks
+    → (IsTrue s.built.deterministic → s.looked + looks ≤ o.end + read_again s.built.dictionary (length s.given + 1))
+    → SearchesOn Reaches s start (record { progress = record { sid = start; from = s.from; at = o.end; last = o.end; best = None; closed = s.closed }; found = Some o }) y z
+search-decided s Reaches start sid best o looks y z stands lives countable held open_ pick done bound some one =
     let m = s.built.dictionary in
-    let x = read_by s in
     let course = stands.course in
-    let ordered = course.ordered.0 in
-    let inside = course.ordered.1 in
-    let kept = course.kept in
-    let to : ℕ = s.at + stop.taken in
-    let rest = length-drop s.at x in
-    let within = stops.within in
-    let there = stops.there refl in
-    let text = slice_range x s.last to in
-    let long = slice_range-length x s.last to (omega arith) (omega arith) in
-    let reads = reads-on s Reaches matches sid stop true y z ordered stands.reads stops in
-    let still = λ (le : stop.taken ≤ 0).
-    let same : s.at ≡ to = omega (arith, le) in
-    told-some m text (matches stop.sid) course.standard (tells text stop.sid reads) there (subst (λ (n : ℕ). IsBest Standard (whole m (slice_range x s.last n) false) None) same stands.quiet) in
-    let some : 0 < stop.taken = ⊎_elim (λ (lt : 0 < stop.taken). lt) (λ (le : stop.taken ≤ 0). absurd (still le)) (cases_lt 0 stop.taken) in
-    let before = lives (since_last s) sid stands.reads in
-    let after = lives text stop.sid reads in
-    let looks : ℕ = looked_of z - looked_of y in
-    let paid = stands.lookups before.0 before.1 in
-    let run = cost-on s Reaches matches sid stop true y z before.0 after.0 ordered stands.reads stops before.1 after.1 in
-    let more = paid-on s.built.deterministic s.looked (live_len (since_last s) before.0) s.at stop.taken (live_len text after.0) y z paid.0 paid.1 paid.2 run in
-    let best = told-best_at m text (matches stop.sid) s.last to o course.standard (omega arith)
-    (λ q h lt. none-ends_before m x s.last s.at to q course.standard ordered (omega arith) (omega arith) stands.quiet (tells-on s Reaches matches sid stop true y z tells ordered stands.reads stops) h (omega arith))
-    (tells text stop.sid reads) there is in
-    let pick = λ (tail : List ℕ). subst (λ (q : Occurrence). IsPick Standard (whole m (x ++ tail) false) s.last (Some s.last) (Some q)) best.2 (pick-since m x tail s.last to best.0 (omega arith) (omega arith) course.filled best.1) in
-    let ends = best.3 in
-    let starts : s.last + best.0.start ≡ o.start = ap (λ (q : Occurrence). q.start) best.2 in
-    let behind : s.last ≤ o.start = omega arith in
-    let goes = subst (λ (n : ℕ). ContinuesWalk (record s { given = s.given ++ o ∷ []; at = n; last = n; looked = s.looked + looks })) ends (goes-match s o (s.looked + looks) stands.goes pick) in
-    let empty = part-empty x to in
-    let t : StreamProgress = after_search s (record { progress = record { sid = start; from = s.from; at = to; last = to }; found = Some o }) looks in
-    let begins : Reaches No (slice_range x to to) start = subst (λ (l : List ℕ). Reaches No l start) (sym empty) stands.begins in
-    let live = lives (slice_range x to to) start begins in
+    let behind = held.behind in
+    let from = held.held in
+    let filled = held.some in
+    let within = held.within in
+    let again = given-more m s.given o in
+    let empty = part-empty (read_by s) o.end in
+    let t : StreamProgress = after_search s (record { progress = record { sid = start; from = s.from; at = o.end; last = o.end; best = None; closed = s.closed }; found = Some o }) looks in
+    let begins : Reaches (slice_range (read_by s) o.end o.end) start = subst (λ (l : List ℕ). Reaches l start) (sym empty) stands.begins in
+    let nothing = nothing-in_empty m (slice_range (read_by s) o.end o.end) course.filled empty in
+    let live = lives (slice_range (read_by s) o.end o.end) start begins in
+    let alive = alive-none m (slice_range (read_by s) o.end o.end) live.0 nothing live.1 in
     record {
       looks = looks;
-      done = looks-done s.built.deterministic stop.taken _ _ y z run;
+      done = done;
+      closed = refl;
       from = refl;
       finds = (
-        record { on = omega arith; built = refl; pieces = refl; from = refl },
+        record { on = λ standard. let new = held.new standard in omega arith; last = omega arith; closed = refl; built = refl; pieces = refl; from = refl },
         refl,
-        sym ends,
-        sym ends,
-        found-held s best.0 o to course (omega arith) (omega arith) ends (omega arith) best.1.0 best.2,
+        refl,
+        refl,
+        held,
         countable,
+        open_,
       );
-      stands = stands-from (Reaches No) t start start course.standard course.filled (omega arith) (omega arith) (omega (arith, end_of-push s.given o)) (omega arith) (omega arith) kept.2 course.short course.paid.scanned course.paid.moved stands.begins begins
-          (nothing-in_empty s.built.dictionary (slice_range x to to) course.filled empty)
-          goes
-          (λ one alive. let none = live-empty x to one in (omega arith, more.1, more.2))
-          live.0 live.1;
+      stands = stands-from Reaches t start start None None alive.0 course.unclosed course.filled (omega arith) within (omega (arith, end_of-push s.given o)) (omega arith) (omega arith) course.kept.2 course.short course.paid.scanned course.paid.moved stands.begins begins
+          refl nothing (λ standard. refl) stands.inverse alive.1
+          (goes-match s o (s.looked + looks) stands.goes pick)
+          (λ one_live is. let none = live-empty (read_by s) o.end one_live in (omega arith, some, λ d. let e = one d in omega arith));
     }
+
+-- What reading on to a match says.
+module _ (s : StreamProgress) (Reaches : Anchored → List ℕ → StateID → Type 0) (matches : StateID → List ℕ) (start sid : StateID) (stop : Advance) (o : Occurrence) (y z : Steps)
+    (tells : (text : List ℕ) (state : StateID) → Reaches No text state → Tells s.built.dictionary No text (matches state))
+    (lives : (text : List ℕ) (state : StateID) → Reaches No text state → (live : Option ℕ) × IsLive s.built.dictionary false text live)
+    (stands : StandsInState (Reaches No) s start sid None)
+    (stops : StopsAtMatch s.built Reaches matches sid (drop s.at (read_by s)) stop true y z)
+    (is : Some o ≡ option_map (ending_at s.built.dictionary (s.at + stop.taken)) (slice_get (matches stop.sid) 0)) where
+  -- the place to which the automaton has read
+  abbrev there : ℕ
+  there = s.at + stop.taken
+
+  -- the bytes since the search last began
+  abbrev since_then : List ℕ
+  since_then = slice_range (read_by s) s.last there
+
+  -- it lies within what was read
+  inside : there ≤ length (read_by s)
+  inside = let rest = length-drop s.at (read_by s) in let within = stops.within in let le = stands.course.ordered.1 in omega arith
+
+  -- the state was reached by these bytes
+  there-reads : Reaches No since_then stop.sid
+  there-reads = reads-on s Reaches sid stop y z stands.course.ordered.0 stands.reads (stops-over s.built Reaches matches sid (drop s.at (read_by s)) stop true y z stops)
+
+  -- some were read
+  some-read : 0 < stop.taken
+  some-read = ⊎_elim
+      (λ (lt : 0 < stop.taken). lt)
+      (λ (le : stop.taken ≤ 0).
+      let same : there ≡ s.at = omega (arith, le) in
+      let nothing = none-quiet s (Reaches No) start sid stands in
+      absurd (told-some s.built.dictionary (read_by s) (matches stop.sid) s.last there (tells since_then stop.sid there-reads) (stops.there refl) (subst (λ (n : ℕ). IsBest s.built.dictionary.kind (whole s.built.dictionary (slice_range (read_by s) s.last n) false) None) (sym same) nothing)))
+      (cases_lt 0 stop.taken)
+
+  -- the match is the best of them
+  met : (b : Occurrence) × IsBest s.built.dictionary.kind (whole s.built.dictionary since_then false) (Some b) × (shifted s.last b ≡ o) × (o.end ≡ there)
+  met =
+      let ordered = stands.course.ordered.0 in
+      let within = inside in
+      let long = slice_range-length (read_by s) s.last there (omega arith) within in
+      best-met s.built.dictionary since_then (matches stop.sid) s.last there None o (omega arith) (stops.there refl)
+      (best-told s.built.dictionary (read_by s) (matches stop.sid) s.last s.at there None stands.inverse ordered (omega (arith, some-read)) within (λ standard. refl) (tells-on s Reaches matches sid stop true y z tells ordered stands.reads stops) (tells since_then stop.sid there-reads) (none-quiet s (Reaches No) start sid stands))
+      is
+
+  -- how often it looked
+  abbrev met-looks : ℕ
+  met-looks = looked_of z - looked_of y
+
+  -- that is paid for
+  met-paid : (live : Option ℕ) → IsLive s.built.dictionary false since_then live
+      → (s.looked + met-looks + live_len since_then live ≤ 2 * (there + read_again s.built.dictionary (length s.given))) × (there ≤ s.looked + met-looks) × (IsTrue s.built.deterministic → s.looked + met-looks ≤ there + read_again s.built.dictionary (length s.given))
+  met-paid live alive =
+      let before = lives (since_last s) sid stands.reads in
+      let sums = stands.lookups before.0 before.1 in
+      paid-on s.built.deterministic s.looked (live_len (since_last s) before.0) s.at (read_again s.built.dictionary (length s.given)) stop.taken (live_len since_then live) y z sums.0 sums.1 sums.2
+      (cost-on s Reaches sid stop y z before.0 live stands.course.ordered.0 stands.reads (stops-over s.built Reaches matches sid (drop s.at (read_by s)) stop true y z stops) before.1 alive)
+
+  -- and is all that was done
+  pub met-done : Done met-looks 0 0 y z
+  met-done =
+      let before = lives (since_last s) sid stands.reads in
+      let after = lives since_then stop.sid there-reads in
+      looks-done s.built.deterministic stop.taken _ _ y z (cost-on s Reaches sid stop y z before.0 after.0 stands.course.ordered.0 stands.reads (stops-over s.built Reaches matches sid (drop s.at (read_by s)) stop true y z stops) before.1 after.1)
+
+  -- Under standard the match is decided.
+  pub search-some : s.built.dictionary.kind ≡ Standard → CanBeCounted (read_by s)
+      → SearchesOn (Reaches No) s start (record { progress = record { sid = start; from = s.from; at = o.end; last = o.end; best = None; closed = s.closed }; found = Some o }) y z
+  search-some standard countable =
+      let m = s.built.dictionary in
+      let x = read_by s in
+      let best = met in
+      let course = stands.course in
+      let ordered = course.ordered.0 in
+      let within = inside in
+      let kept = course.kept.0 in
+      let read = some-read in
+      let ends = best.3 in
+      let after = lives since_then stop.sid there-reads in
+      let sums = met-paid after.0 after.1 in
+      let none = again-standard m (length s.given) standard in
+      let none_more = again-standard m (length s.given + 1) standard in
+      let bound = occurs-bound m false since_then best.0 best.1.0 in
+      let start_at : s.last + best.0.start ≡ o.start = ap (λ (q : Occurrence). q.start) best.2 in
+      let end_at : s.last + best.0.end ≡ o.end = ap (λ (q : Occurrence). q.end) best.2 in
+      let stays = λ (tail : List ℕ).
+      subst (λ (k : MatchKind). IsBest k (whole m (since_then ++ tail) false) (Some best.0)) (sym standard)
+      (standard-final m false since_then tail best.0 (subst (λ (k : MatchKind). IsBest k (whole m since_then false) (Some best.0)) standard best.1)) in
+      search-decided s (Reaches No) start sid None o met-looks y z stands lives countable
+      (found-held s best.0 o there course (omega arith) (λ e. omega arith) (omega arith) within best.1.0 best.2)
+      (λ given. let searched = given.searched in omega arith)
+      (λ more follows. subst (λ (q : Occurrence). IsPick m.kind (whole m (x ++ more) false) s.last (Some s.last) (Some q)) best.2 (pick-since m x more s.last there best.0 (omega arith) within course.filled stays))
+      met-done (omega arith) (omega arith) (λ d. let e = sums.2 d in omega arith)
+
+  -- Under a leftmost kind it is still to be decided.
+  pub search-met : s.built.dictionary.kind ≢ Standard → (live : ℕ) → IsLive s.built.dictionary false since_then (Some live) → StandsInState (Reaches No) (waits s there met-looks) start stop.sid (Some o)
+  search-met leftmost live alive =
+      let best = met in
+      let course = stands.course in
+      let ordered = course.ordered.0 in
+      let within = inside in
+      let kept = course.kept in
+      stands-from (Reaches No) (waits s there met-looks) start stop.sid (Some o) (Some best.0) live course.unclosed course.filled (omega arith) within course.ended (omega arith) (omega arith) kept.2 course.short course.paid.scanned course.paid.moved stands.begins there-reads
+      (ap Some (sym best.2)) best.1 (λ standard. absurd (leftmost standard)) stands.inverse alive stands.goes
+      (λ one is_one. met-paid one is_one)
 
 -- ---- the same, in terms of what the search keeps
 
 -- the places of a search, put together
-progress-same : (s : StreamProgress) (p : Progress) → p.from ≡ s.from → p.at ≡ s.at → p.last ≡ s.last → record { sid = p.sid; from = s.from; at = s.at; last = s.last } ≡ p
-progress-same s p f a l = λ i. record { sid = p.sid; from = sym f i; at = sym a i; last = sym l i }
+pub progress-same : (s : StreamProgress) (p : Progress) → p.closed ≡ s.closed → p.from ≡ s.from → p.at ≡ s.at → p.last ≡ s.last → record { sid = p.sid; from = s.from; at = s.at; last = s.last; best = p.best; closed = s.closed } ≡ p
+progress-same s p c f a l = λ i. record { sid = p.sid; from = sym f i; at = sym a i; last = sym l i; best = p.best; closed = sym c i }
 
--- where nothing was found
-module _ (b : Built) (s : StreamProgress) (Reaches : Anchored → List ℕ → StateID → Type 0) (matches : StateID → List ℕ) (start : StateID) (p : Progress) (held : List ℕ) (stop : Advance) (y z : Steps)
+-- where it stands, if nothing is to be decided
+stands-none : (b : Built) (s : StreamProgress) (Reaches : List ℕ → StateID → Type 0) (start : StateID) (p : Progress) (held : List ℕ) → IsHeldAt b Reaches s start p held → p.best ≡ None → StandsInState Reaches s start p.sid None
+stands-none b s Reaches start p held is none = subst (λ (r : Option Occurrence). StandsInState Reaches s start p.sid r) none is.stands
+
+module _ (b : Built) (s : StreamProgress) (Reaches : Anchored → List ℕ → StateID → Type 0) (matches : StateID → List ℕ) (start : StateID) (p : Progress) (held : List ℕ) (stop : Advance) (matched : Bool) (y z : Steps)
     (tells : (text : List ℕ) (state : StateID) → Reaches No text state → Tells b.dictionary No text (matches state))
     (lives : (text : List ℕ) (state : StateID) → Reaches No text state → (live : Option ℕ) × IsLive b.dictionary false text live)
     (is : IsHeldAt b (Reaches No) s start p held)
-    (stops : StopsAtMatch b Reaches matches p.sid (drop (p.at - p.from) held) stop false y z) where
-  tells-here : (text : List ℕ) (state : StateID) → Reaches No text state → Tells s.built.dictionary No text (matches state)
+    (open_ : p.best ≡ None)
+    (stops : StopsAtMatch b Reaches matches p.sid (drop (p.at - p.from) held) stop matched y z) where
+  pub tells-here : (text : List ℕ) (state : StateID) → Reaches No text state → Tells s.built.dictionary No text (matches state)
   tells-here = subst (λ (d : Built). (text : List ℕ) (state : StateID) → Reaches No text state → Tells d.dictionary No text (matches state)) (sym is.built) tells
 
-  lives-here : (text : List ℕ) (state : StateID) → Reaches No text state → (live : Option ℕ) × IsLive s.built.dictionary false text live
+  pub lives-here : (text : List ℕ) (state : StateID) → Reaches No text state → (live : Option ℕ) × IsLive s.built.dictionary false text live
   lives-here = subst (λ (d : Built). (text : List ℕ) (state : StateID) → Reaches No text state → (live : Option ℕ) × IsLive d.dictionary false text live) (sym is.built) lives
 
-  stops-here : StopsAtMatch s.built Reaches matches p.sid (drop s.at (read_by s)) stop false y z
+  pub stops-here : StopsAtMatch s.built Reaches matches p.sid (drop s.at (read_by s)) stop matched y z
   stops-here =
       let rest : drop (p.at - p.from) held ≡ drop s.at (read_by s) = rest-held (read_by s) held s.from s.at p.from p.at is.from is.at is.bytes is.stands.course.kept.1 in
-      subst (λ (d : Built). StopsAtMatch d Reaches matches p.sid (drop s.at (read_by s)) stop false y z) (sym is.built) (subst (λ (l : List ℕ). StopsAtMatch b Reaches matches p.sid l stop false y z) rest stops)
+      subst (λ (d : Built). StopsAtMatch d Reaches matches p.sid (drop s.at (read_by s)) stop matched y z) (sym is.built) (subst (λ (l : List ℕ). StopsAtMatch b Reaches matches p.sid l stop matched y z) rest stops)
+
+  pub stands-here : StandsInState (Reaches No) s start p.sid None
+  stands-here = stands-none b s (Reaches No) start p held is open_
 
   -- the bytes since the search last began
   abbrev searched-text : List ℕ
   searched-text = slice_range (read_by s) s.last (s.at + stop.taken)
 
   -- they lead to the state
-  searched-reads : Reaches No searched-text stop.sid
-  searched-reads = reads-on s Reaches matches p.sid stop false y z is.stands.course.ordered.0 is.stands.reads stops-here
+  pub searched-reads : Reaches No searched-text stop.sid
+  searched-reads = reads-on s Reaches p.sid stop y z is.stands.course.ordered.0 is.stands.reads (stops-over s.built Reaches matches p.sid (drop s.at (read_by s)) stop matched y z stops-here)
 
   -- so the search reached it
   pub searched-state : IsState Reaches stop.sid
   searched-state = ∣ (No, searched-text, searched-reads) ∣₁
 
-  -- and something is still live
-  pub searches-none : ((text : List ℕ) → Reaches No text stop.sid → ¬ NothingIsLive b.dictionary text)
-      → SearchesOn (Reaches No) s start (record { progress = record { sid = stop.sid; from = p.from; at = p.at + stop.taken; last = p.last }; found = None }) y z
-  searches-none some =
+  -- the match of the state, where the search stands
+  pub found-here : (o : Occurrence) → Some o ≡ option_map (ending_at b.dictionary (p.at + stop.taken)) (slice_get (matches stop.sid) 0) → Some o ≡ option_map (ending_at s.built.dictionary (s.at + stop.taken)) (slice_get (matches stop.sid) 0)
+  found-here o found =
+      subst (λ (d : Built). Some o ≡ option_map (ending_at d.dictionary (s.at + stop.taken)) (slice_get (matches stop.sid) 0)) (sym is.built)
+      (subst (λ (n : ℕ). Some o ≡ option_map (ending_at b.dictionary (n + stop.taken)) (slice_get (matches stop.sid) 0)) is.at found)
+
+  -- nothing was found, and something is still live
+  pub searches-none : matched ≡ false → ((text : List ℕ) → Reaches No text stop.sid → ¬ NothingIsLive b.dictionary text)
+      → SearchesOn (Reaches No) s start (record { progress = record { sid = stop.sid; from = p.from; at = p.at + stop.taken; last = p.last; best = None; closed = p.closed }; found = None }) y z
+  searches-none none some =
       let live = some searched-text searched-reads in
-      subst (λ (q : Progress). SearchesOn (Reaches No) s start (record { progress = record { sid = stop.sid; from = q.from; at = q.at + stop.taken; last = q.last }; found = None }) y z) (progress-same s p is.from is.at is.last)
-      (search-none s Reaches matches start p.sid stop y z tells-here lives-here is.stands stops-here (subst (λ (d : Built). ¬ NothingIsLive d.dictionary searched-text) (sym is.built) live))
+      subst (λ (q : Progress). SearchesOn (Reaches No) s start (record { progress = record { sid = stop.sid; from = q.from; at = q.at + stop.taken; last = q.last; best = None; closed = q.closed }; found = None }) y z) (progress-same s p is.closed is.from is.at is.last)
+      (search-none s Reaches matches start p.sid stop y z tells-here lives-here stands-here (subst (λ (m : Bool). StopsAtMatch s.built Reaches matches p.sid (drop s.at (read_by s)) stop m y z) none stops-here) (subst (λ (d : Built). ¬ NothingIsLive d.dictionary searched-text) (sym is.built) live))
 
   -- and nothing is live
-  pub searches-anew : ((text : List ℕ) (state : StateID) → Reaches No text state → IsOwnInverse b.dictionary.pairing) → ((text : List ℕ) → Reaches No text stop.sid → NothingIsLive b.dictionary text)
-      → SearchesOn (Reaches No) s start (record { progress = record { sid = start; from = p.from; at = p.at + stop.taken; last = p.at + stop.taken }; found = None }) y z
-  searches-anew pairs none =
-      let inverse = pairs searched-text stop.sid searched-reads in
-      let live = none searched-text searched-reads in
-      subst (λ (q : Progress). SearchesOn (Reaches No) s start (record { progress = record { sid = start; from = q.from; at = q.at + stop.taken; last = q.at + stop.taken }; found = None }) y z) (progress-same s p is.from is.at is.last)
-      (search-anew s Reaches matches start p.sid stop y z tells-here lives-here is.stands stops-here (subst (λ (d : Built). IsOwnInverse d.dictionary.pairing) (sym is.built) inverse) (subst (λ (d : Built). NothingIsLive d.dictionary searched-text) (sym is.built) live))
+  pub searches-anew : matched ≡ false → ((text : List ℕ) → Reaches No text stop.sid → NothingIsLive b.dictionary text)
+      → SearchesOn (Reaches No) s start (record { progress = record { sid = start; from = p.from; at = p.at + stop.taken; last = p.at + stop.taken; best = None; closed = p.closed }; found = None }) y z
+  searches-anew none dead =
+      let live = dead searched-text searched-reads in
+      subst (λ (q : Progress). SearchesOn (Reaches No) s start (record { progress = record { sid = start; from = q.from; at = q.at + stop.taken; last = q.at + stop.taken; best = None; closed = q.closed }; found = None }) y z) (progress-same s p is.closed is.from is.at is.last)
+      (search-anew s Reaches matches start p.sid stop y z tells-here lives-here stands-here (subst (λ (m : Bool). StopsAtMatch s.built Reaches matches p.sid (drop s.at (read_by s)) stop m y z) none stops-here) (subst (λ (d : Built). NothingIsLive d.dictionary searched-text) (sym is.built) live))
 
--- where a match was found
-pub searches-some : (b : Built) (s : StreamProgress) (Reaches : Anchored → List ℕ → StateID → Type 0) (matches : StateID → List ℕ) (start : StateID) (p : Progress) (held : List ℕ) (stop : Advance) (o : Occurrence) (y z : Steps)
-    → ((text : List ℕ) (state : StateID) → Reaches No text state → Tells b.dictionary No text (matches state))
-    → ((text : List ℕ) (state : StateID) → Reaches No text state → (live : Option ℕ) × IsLive b.dictionary false text live)
-    → IsHeldAt b (Reaches No) s start p held
-    → StopsAtMatch b Reaches matches p.sid (drop (p.at - p.from) held) stop true y z
-    → Some o ≡ option_map (ending_at b.dictionary (p.at + stop.taken)) (slice_get (matches stop.sid) 0)
-    → SearchesOn (Reaches No) s start (record { progress = record { sid = start; from = p.from; at = p.at + stop.taken; last = p.at + stop.taken }; found = Some o }) y z
-searches-some b s Reaches matches start p held stop o y z tells lives is stops found =
-    let rest : drop (p.at - p.from) held ≡ drop s.at (read_by s) = rest-held (read_by s) held s.from s.at p.from p.at is.from is.at is.bytes is.stands.course.kept.1 in
-    let here : StopsAtMatch b Reaches matches p.sid (drop s.at (read_by s)) stop true y z = subst (λ (l : List ℕ). StopsAtMatch b Reaches matches p.sid l stop true y z) rest stops in
-    let at : Some o ≡ option_map (ending_at b.dictionary (s.at + stop.taken)) (slice_get (matches stop.sid) 0) = subst (λ (n : ℕ). Some o ≡ option_map (ending_at b.dictionary (n + stop.taken)) (slice_get (matches stop.sid) 0)) is.at found in
-    subst (λ (q : Progress). SearchesOn (Reaches No) s start (record { progress = record { sid = start; from = q.from; at = q.at + stop.taken; last = q.at + stop.taken }; found = Some o }) y z) (progress-same s p is.from is.at is.last)
-    (search-some s Reaches matches start p.sid stop o y z
-    (subst (λ (d : Built). (text : List ℕ) (state : StateID) → Reaches No text state → Tells d.dictionary No text (matches state)) (sym is.built) tells)
-    (subst (λ (d : Built). (text : List ℕ) (state : StateID) → Reaches No text state → (live : Option ℕ) × IsLive d.dictionary false text live) (sym is.built) lives)
-    is.stands
-    (subst (λ (d : Built). StopsAtMatch d Reaches matches p.sid (drop s.at (read_by s)) stop true y z) (sym is.built) here)
-    is.countable
-    (subst (λ (d : Built). Some o ≡ option_map (ending_at d.dictionary (s.at + stop.taken)) (slice_get (matches stop.sid) 0)) (sym is.built) at))
+  -- a match was found, under standard
+  pub searches-some : matched ≡ true → b.dictionary.kind ≡ Standard → (o : Occurrence) → Some o ≡ option_map (ending_at b.dictionary (p.at + stop.taken)) (slice_get (matches stop.sid) 0) → SearchesOn (Reaches No) s start (searched_anew start p o) y z
+  searches-some some standard o found =
+      subst (λ (q : Progress). SearchesOn (Reaches No) s start (searched_anew start q o) y z) (progress-same s p is.closed is.from is.at is.last)
+      (search-some s Reaches matches start p.sid stop o y z tells-here lives-here stands-here (subst (λ (m : Bool). StopsAtMatch s.built Reaches matches p.sid (drop s.at (read_by s)) stop m y z) some stops-here) (found-here o found) (subst (λ (d : Built). d.dictionary.kind ≡ Standard) (sym is.built) standard) is.countable)
 
 -- the bytes since the last match are no more than there are places before where the search stands
 pub reached-text : (b : Built) (s : StreamProgress) (Reaches : Anchored → List ℕ → StateID → Type 0) (matches : StateID → List ℕ) (start : StateID) (p : Progress) (held : List ℕ) (stop : Advance) (y z : Steps)

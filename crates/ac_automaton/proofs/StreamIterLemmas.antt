@@ -1,21 +1,26 @@
 -- What the matches of a stream read and give, turn by turn.
-use Rattle.std.proofs.Common.{◌≡◌, ◌≢◌, ◌⊎◌, ⊎_elim, inl, inr, ℕ, ◌+◌, ◌-◌, ◌<◌, ◌≤◌, true, false, IsTrue, List, [], ◌∷◌, ◌++◌, length, take, Option, None, Some, Ok, Err, sym, ap, subst, refl, ◌∙◌, arith, append-nil, append_assoc, length-append}
+use Rattle.std.proofs.Common.{◌≡◌, ◌≢◌, ◌⊎◌, ⊎_elim, inl, inr, ℕ, ◌+◌, ◌-◌, ◌*◌, ◌<◌, ◌≤◌, Bool, true, false, if◌then◌else◌, IsTrue, List, [], ◌∷◌, ◌++◌, length, take, drop, Option, None, Some, Ok, Err, sym, ap, subst, refl, ◌∙◌, arith, append-nil, append_assoc, length-append}
 use Rattle.std.specs.List.{concat}
 use Rattle.std.proofs.Math.Seq.{take-append_seam}
 use Rattle.std.proofs.lemmas.Bool.{false≢true}
 use Rattle.std.proofs.lemmas.List.Elements.{All-push}
 use Rattle.std.proofs.lemmas.List.Folds.{concat-append}
 use Rattle.ac_input.specs.declared.steps.Steps.{Steps}
+use Rattle.std.specs.Io.KnownBytes.{IsAtEnd}
+use Rattle.ac_input.specs.declared.search.MatchKind.{MatchKind}
+use Rattle.ac_input.specs.declared.search.MatchKind.TheVariants.{Standard, LeftmostFirst, LeftmostLongest}
+use Rattle.ac_input.specs.Dictionary.{IsLive}
 use Rattle.ac_input.specs.Occurrence.{Occurrence}
+use Rattle.ac_input.proofs.LiveLemmas.{kind_cases}
 use Rattle.ac_automaton.specs.Automaton.{Built}
 use Rattle.ac_automaton.specs.Replace.{matches_in}
-use Rattle.ac_automaton.specs.Stream.{AllIsDecided, AreAllGiven, CanBeCounted, FindsHeld, ReadsMore, ReadsNothing, StreamCounts, StreamProgress, read_by, room_of}
-use Rattle.ac_automaton.specs.Moved.{AreFilled}
-use Rattle.ac_automaton.specs.StreamIter.{HasGained, IsStopped, NextGives, StaysStopped, TurnGives, TurnReads}
-use Rattle.ac_automaton.specs.Watched.{has_ended, pieces_of}
+use Rattle.ac_automaton.specs.Stream.{AreAllGiven, CanBeCounted, EachIsDecided, FindsHeld, NothingIsLive, ReadsMore, ReadsNothing, StreamCounts, StreamProgress, after_given, closed_by, end_of, may_wait, read_by, room_of}
+use Rattle.ac_automaton.specs.Moved.{AreFilled, AreWhole}
+use Rattle.ac_automaton.specs.StreamIter.{HasGained, IsInputOver, IsReadForMatch, IsStopped, NextGives, StaysStopped, TurnGives, TurnReads, read_before_last}
+use Rattle.ac_automaton.specs.Watched.{has_ended, inner_of, pieces_of}
 use Rattle.ac_automaton.specs.declared.error.StreamError.{StreamError}
 use Rattle.ac_automaton.specs.declared.error.StreamError.TheVariants.{Config, Read, Write, WriteZero, Memory, Position}
-use Rattle.ac_automaton.specs.declared.stream.Turn.TheVariants.{Found, More, Over, Failed}
+use Rattle.ac_automaton.specs.declared.stream.Turn.TheVariants.{Found, More, Ended, Over, Failed}
 use Rattle.ac_automaton.specs.declared.watched.Watched.{Watched}
 use Rattle.ac_automaton.proofs.MovedLemmas.{AreFilled-push, given-none, given-push, is_empty-none}
 
@@ -38,7 +43,7 @@ counts-join s u t x y z one two =
 
 -- where there was none, all was searched and given, if places can be counted
 all-given-then : (s u : StreamProgress) → FindsHeld s None u → CanBeCounted (read_by u) → AreAllGiven u
-all-given-then s u finds few = finds.3 (subst (λ (l : List (List ℕ)). CanBeCounted (concat l)) finds.0.pieces few)
+all-given-then s u finds few = finds.2 (subst (λ (l : List (List ℕ)). CanBeCounted (concat l)) finds.0.pieces few)
 
 -- a read that brought more bytes than places brought some
 brought-some : (u t : StreamProgress) (piece : List ℕ) → CanBeCounted (read_by u) → t.pieces ≡ u.pieces ++ piece ∷ [] → ¬ CanBeCounted (read_by t) → piece ≢ []
@@ -47,14 +52,14 @@ brought-some u t piece few is many = λ none.
     many (subst CanBeCounted (sym (e ∙ append-nil (read_by u))) few)
 
 -- the error of a turn is that of its read
-pub turn-failed : {R : Type 0} (remaining : R → Option (List ℕ)) (s u t : StreamProgress) (before after : Watched R) (error : StreamError) → has_ended before ≡ false → FindsHeld s None u → CanBeCounted (read_by u) → ReadsMore remaining u t before after (Err error) → TurnGives remaining s t before after (Failed error)
-turn-failed remaining s u t before after (Config error) open_ finds few read = read
-turn-failed remaining s u t before after (Read error) open_ finds few read = record { mid = u; few = few; nothing = finds.0; given = finds.1; last = finds.2; all = all-given-then s u finds few; read = read }
-turn-failed remaining s u t before after (Write error) open_ finds few read = read
-turn-failed remaining s u t before after WriteZero open_ finds few read = read
-turn-failed remaining s u t before after Memory open_ finds few read = read
-turn-failed remaining s u t before after Position open_ finds few read =
-    (read.0, record { mid = u; few = few; nothing = finds.0; given = finds.1; last = finds.2; all = all-given-then s u finds few; read = read.1 }, brought-some u t read.0 few read.1.pieces read.2, read.2)
+pub turn-failed : {R : Type 0} (remaining : R → Option (List ℕ)) (s u t : StreamProgress) (before after : Watched R) (error : StreamError) → has_ended before ≡ false → u.closed ≡ false → FindsHeld s None u → CanBeCounted (read_by u) → ReadsMore remaining u t before after (Err error) → TurnGives remaining s t before after (Failed error)
+turn-failed remaining s u t before after (Config error) open_ unclosed finds few read = read
+turn-failed remaining s u t before after (Read error) open_ unclosed finds few read = record { mid = u; few = few; nothing = finds.0; given = finds.1; unclosed = unclosed; all = all-given-then s u finds few; read = read }
+turn-failed remaining s u t before after (Write error) open_ unclosed finds few read = read
+turn-failed remaining s u t before after WriteZero open_ unclosed finds few read = read
+turn-failed remaining s u t before after Memory open_ unclosed finds few read = read
+turn-failed remaining s u t before after Position open_ unclosed finds few read =
+    (read.0, record { mid = u; few = few; nothing = finds.0; given = finds.1; unclosed = unclosed; all = all-given-then s u finds few; read = read.1 }, brought-some u t read.0 few read.1.pieces read.2, read.2)
 
 -- ---- what was gained
 
@@ -63,6 +68,7 @@ pub gained-none : {R : Type 0} (remaining : R → Option (List ℕ)) (s : Stream
 gained-none remaining s before = record {
   built = refl;
   pieces = sym (append-nil s.pieces);
+  last = omega arith;
   short = λ k d lt. absurd (omega arith);
   read = given-none remaining before;
 }
@@ -72,6 +78,7 @@ pub gained-same : {R : Type 0} (remaining : R → Option (List ℕ)) (s t u : St
 gained-same remaining s t u before after gained failed has nothing = record {
   built = nothing.built ∙ has.built;
   pieces = nothing.pieces ∙ has.pieces;
+  last = let a = has.last in let b = nothing.last in omega arith;
   short = has.short;
   read = has.read;
 }
@@ -84,21 +91,26 @@ gained-more remaining s t u before mid after gained piece failed has turn =
     record {
       built = read.built ∙ built;
       pieces = read.pieces ∙ ap (λ (l : List (List ℕ)). l ++ piece ∷ []) (turn.nothing.pieces ∙ has.pieces) ∙ append_assoc s.pieces gained (piece ∷ []);
+      last = let a = has.last in let b = turn.nothing.last in let e = read.last in omega arith;
       short = All-push (λ l. length l ≤ room_of s.built) gained piece has.short (subst (λ (b : Built). length piece ≤ room_of b) built read.short);
       read = given-push remaining before mid after gained piece failed has.read read.read;
     }
 
--- Some turns have been made, each of which read some bytes.
+-- After turns that read some bytes each, the reader goes on; or the last of them read none, and no more comes.
+pub data HowItStands {R : Type 0} (remaining : R → Option (List ℕ)) (s t : StreamProgress) (after : Watched R) (gained : List (List ℕ)) : Type 0 where
+  GoesOnReading : AreFilled gained → (gained ≢ [] → (¬ IsTrue (has_ended after)) × (t.closed ≡ false)) → HowItStands remaining s t after gained
+  HasEnded : AreWhole gained → has_ended after ≡ true → IsAtEnd (remaining (inner_of after)) → (t.built.dictionary.kind ≡ Standard → AreAllGiven t) → (t.built.dictionary.kind ≢ Standard → t.closed ≡ true) → HowItStands remaining s t after gained
+
+-- Some turns have been made, each of which read.
 pub record HasTurned {R : Type 0} (remaining : R → Option (List ℕ)) (s t : StreamProgress) (before after : Watched R) (x y : Steps) : Type 0 where
   pub gained : List (List ℕ)
   pub has : HasGained remaining s t before after gained 0
-  pub filled : AreFilled gained
+  pub how : HowItStands remaining s t after gained
   pub given : t.given ≡ s.given
-  pub fresh : gained ≢ [] → (length (concat (take (length t.pieces - 1) t.pieces)) ≤ t.at) × (¬ IsTrue (has_ended after)) × CanBeCounted (read_by t)
+  pub fresh : gained ≢ [] → (s.built.dictionary.kind ≡ Standard → length (read_before_last t) ≤ t.at) × CanBeCounted (read_by t) × (¬ IsLive s.built.dictionary false (drop (end_of s.given) (read_before_last t)) None)
   pub first : gained ≡ [] → (t ≡ s) × (after ≡ before)
-  pub unended : gained ≢ [] → (has_ended before ≡ false) × CanBeCounted (read_by s)
-  pub on : s.at ≤ t.at
-  pub last : s.last ≤ t.last
+  pub unended : gained ≢ [] → (has_ended before ≡ false) × CanBeCounted (read_by s) × (s.closed ≡ false)
+  pub on : s.built.dictionary.kind ≡ Standard → s.at ≤ t.at
   pub counts : StreamCounts s t x y
 
 -- a list is empty or not
@@ -112,104 +124,204 @@ more-some [] x = λ e. let d : x ∷ [] ≡ [] = e in cc
 more-some (y ∷ ys) x = λ e. let d : y ∷ (ys ++ x ∷ []) ≡ [] = e in cc
 
 -- the reader was open at first, and places could be counted, where a turn reads
-open-first : {R : Type 0} (remaining : R → Option (List ℕ)) (s t u : StreamProgress) (before mid after : Watched R) (x y : Steps) (piece : List ℕ) (failed : ℕ) → HasTurned remaining s t before mid x y → TurnReads remaining t u mid after piece failed → (has_ended before ≡ false) × CanBeCounted (read_by s)
+open-first : {R : Type 0} (remaining : R → Option (List ℕ)) (s t u : StreamProgress) (before mid after : Watched R) (x y : Steps) (piece : List ℕ) (failed : ℕ) → HasTurned remaining s t before mid x y → TurnReads remaining t u mid after piece failed → (has_ended before ≡ false) × CanBeCounted (read_by s) × (s.closed ≡ false)
 open-first {R} remaining s t u before mid after x y piece failed has turn = ⊎_elim
     (λ (none : has.gained ≡ []).
     let same = has.first none in (
       ap (λ (r : Watched R). has_ended r) (sym same.1) ∙ turn.read.read.turns.0,
       subst (λ (l : List (List ℕ)). CanBeCounted (concat l)) (turn.nothing.pieces ∙ ap (λ (z : StreamProgress). z.pieces) same.0) turn.few,
+      ap (λ (z : StreamProgress). z.closed) (sym same.0) ∙ sym turn.nothing.closed ∙ turn.unclosed,
     ))
     has.unended
     (none-or-some has.gained)
+
+-- what was read before the last piece, after one more read
+before-last : {R : Type 0} (remaining : R → Option (List ℕ)) (t u : StreamProgress) (mid after : Watched R) (piece : List ℕ) (failed : ℕ) → (turn : TurnReads remaining t u mid after piece failed) → read_before_last u ≡ read_by turn.mid
+before-last remaining t u mid after piece failed turn =
+    let pieces : u.pieces ≡ turn.mid.pieces ++ piece ∷ [] = turn.read.pieces in
+    let long = ap length pieces in
+    let both = length-append turn.mid.pieces (piece ∷ []) in
+    let few : length u.pieces - 1 ≡ length turn.mid.pieces = omega arith in
+    ap concat (ap (λ (n : ℕ). take n u.pieces) few ∙ ap (take (length turn.mid.pieces)) pieces ∙ take-append_seam turn.mid.pieces (piece ∷ []))
+
+-- what came before one more read
+module _ {R : Type 0} (remaining : R → Option (List ℕ)) (s t u : StreamProgress) (before mid after : Watched R) (x y : Steps) (piece : List ℕ) (failed : ℕ) (has : HasTurned remaining s t before mid x y) (turn : TurnReads remaining t u mid after piece failed) where
+  turned-built : turn.mid.built ≡ s.built
+  turned-built = turn.nothing.built ∙ has.has.built
+
+  turned-given : turn.mid.given ≡ s.given
+  turned-given = turn.given ∙ has.given
+
+  -- under standard all of it was searched
+  turned-at : length (read_before_last u) ≤ u.at
+  turned-at = let e = read-before in let at = turn.read.at in let all = turn.all.searched in omega arith
+    where
+      read-before : length (read_before_last u) ≡ length (read_by turn.mid)
+      read-before = ap length (before-last remaining t u mid after piece failed turn)
+
+  -- what comes after the matches that were given isn't dead
+  turned-open : ¬ IsLive s.built.dictionary false (drop (end_of s.given) (read_before_last u)) None
+  turned-open =
+      subst (λ (l : List ℕ). ¬ IsLive s.built.dictionary false (drop (end_of s.given) l) None) (sym (before-last remaining t u mid after piece failed turn))
+      (subst (λ (os : List Occurrence). ¬ IsLive s.built.dictionary false (drop (end_of os) (read_by turn.mid)) None) turned-given
+      (subst (λ (b : Built). ¬ IsLive b.dictionary false (after_given turn.mid) None) turned-built turn.all.open_))
+
+  -- the reader had not ended
+  turned-reads : HowItStands remaining s t mid has.gained → AreFilled has.gained
+  turned-reads (GoesOnReading filled goes) = filled
+  turned-reads (HasEnded whole ended at_end given closed) = absurd (false≢true (sym turn.read.read.turns.0 ∙ ended))
+
+  pub turned-filled : AreFilled has.gained
+  turned-filled = turned-reads has.how
 
 -- one more
 pub turned-more : {R : Type 0} (remaining : R → Option (List ℕ)) (s t u : StreamProgress) (before mid after : Watched R) (x y z : Steps) → HasTurned remaining s t before mid x y → TurnGives remaining t u mid after More → StreamCounts t u y z → HasTurned remaining s u before after x z
 turned-more remaining s t u before mid after x y z has turn counts =
     let read = turn.1.read in
     let piece = turn.0 in
-    let given : turn.1.mid.given ≡ t.given = turn.1.given in
-    let pieces : u.pieces ≡ turn.1.mid.pieces ++ piece ∷ [] = read.pieces in
-    let long = ap length pieces in
-    let both = length-append turn.1.mid.pieces (piece ∷ []) in
-    let few : length u.pieces - 1 ≡ length turn.1.mid.pieces = omega arith in
-    let front : take (length u.pieces - 1) u.pieces ≡ turn.1.mid.pieces = ap (λ (n : ℕ). take n u.pieces) few ∙ ap (take (length turn.1.mid.pieces)) pieces ∙ take-append_seam turn.1.mid.pieces (piece ∷ []) in
-    let bytes = ap (λ (l : List (List ℕ)). length (concat l)) front in
-    let at : u.at ≡ length (read_by turn.1.mid) = read.at ∙ turn.1.all.searched in
     record {
       gained = has.gained ++ piece ∷ [];
       has = gained-more remaining s t u before mid after has.gained piece 0 has.has turn.1;
-      filled = AreFilled-push has.gained piece has.filled turn.2;
-      given = read.given ∙ given ∙ has.given;
-      fresh = λ some. (omega arith, λ e. turn.2 (is_empty-none piece (sym read.read.turns.1 ∙ e)), turn.3);
+      how = GoesOnReading (AreFilled-push has.gained piece (turned-filled remaining s t u before mid after x y piece 0 has turn.1) turn.2) (λ some. (λ e. turn.2 (is_empty-none piece (sym read.read.turns.1 ∙ e)), read.closed ∙ turn.1.unclosed));
+      given = read.given ∙ turn.1.given ∙ has.given;
+      fresh = λ some. (λ standard. turned-at remaining s t u before mid after x y piece 0 has turn.1, turn.3, turned-open remaining s t u before mid after x y piece 0 has turn.1);
       first = λ none. absurd (more-some has.gained piece none);
       unended = λ some. open-first remaining s t u before mid after x y piece 0 has turn.1;
-      on = let a = has.on in let b = turn.1.nothing.on in let e = read.at in omega arith;
-      last = let a = has.last in let b = turn.1.last in let e = read.last in omega arith;
+      on = λ standard. let a = has.on standard in let b = turn.1.nothing.on (subst (λ (b : Built). b.dictionary.kind ≡ Standard) (sym has.has.built) standard) in let e = read.at in omega arith;
       counts = counts-join s t u x y z has.counts counts;
     }
-
--- ---- items
-
--- a match
-pub turned-found : {R : Type 0} (remaining : R → Option (List ℕ)) (s t u : StreamProgress) (before mid after : Watched R) (x y : Steps) (o : Occurrence) → HasTurned remaining s t before mid x y → TurnGives remaining t u mid after (Found o) → NextGives remaining s u before after (Some (Ok o))
-turned-found {R} remaining s t u before mid after x y o has turn =
-    let finds = turn.0 in
-    let held = finds.4 in
-    let new = held.new in (
-      has.gained,
-      subst (λ (r : Watched R). HasGained remaining s u before r has.gained 0) (sym turn.1) (gained-same remaining s t u before mid has.gained 0 has.has finds.0),
-      has.filled,
-      finds.1 ∙ ap (λ (l : List Occurrence). l ++ o ∷ []) has.given,
-      finds.2,
-      record {
-        pattern = subst (λ (b : Built). o.pattern < length b.dictionary.patterns) has.has.built held.pattern;
-        behind = let l = has.last in let b = held.behind in omega arith;
-        some = held.some;
-        new = let a = has.on in omega arith;
-        within = subst (λ (l : List (List ℕ)). o.end ≤ length (concat l)) (sym finds.0.pieces) held.within;
-        countable = subst (λ (l : List (List ℕ)). CanBeCounted (concat l)) (sym finds.0.pieces) finds.5;
-      },
-      λ some. let le = (has.fresh some).0 in
-          let same = ap (λ (l : List (List ℕ)). length (concat (take (length l - 1) l))) finds.0.pieces in
-          omega arith,
-    )
 
 -- after an empty piece all is given that was given before
 all-given-still : {R : Type 0} (remaining : R → Option (List ℕ)) (t u : StreamProgress) (mid after : Watched R) (failed : ℕ) → TurnReads remaining t u mid after [] failed → AreAllGiven u
 all-given-still remaining t u mid after failed turn =
     let read = turn.read in
     let same : read_by u ≡ read_by turn.mid = ap concat read.pieces ∙ concat-append turn.mid.pieces ([] ∷ []) ∙ append-nil (read_by turn.mid) in
+    let rest : after_given u ≡ after_given turn.mid = ap (λ (os : List Occurrence). drop (end_of os) (read_by u)) read.given ∙ ap (drop (end_of turn.mid.given)) same in
     record {
       searched = read.at ∙ turn.all.searched ∙ ap length (sym same);
-      all = read.given ∙ turn.all.all ∙ ap (λ (l : List ℕ). matches_in turn.mid.built l) (sym same) ∙ ap (λ (b : Built). matches_in b (read_by u)) (sym read.built);
-      anew = λ done. read.last ∙ turn.all.anew (subst (λ (b : Built). AllIsDecided b.dictionary (read_by turn.mid)) read.built (subst (AllIsDecided u.built.dictionary) same done)) ∙ sym read.at;
+      all = λ each. read.given ∙ turn.all.all (each-before each) ∙ ap (λ (l : List ℕ). matches_in turn.mid.built l) (sym same) ∙ ap (λ (b : Built). matches_in b (read_by u)) (sym read.built);
+      open_ = subst (λ (l : List ℕ). ¬ IsLive u.built.dictionary false l None) (sym rest) (subst (λ (b : Built). ¬ IsLive b.dictionary false (after_given turn.mid) None) (sym read.built) turn.all.open_);
+      anew = λ done. read.last ∙ turn.all.anew (subst (λ (b : Built). NothingIsLive b.dictionary (after_given turn.mid)) read.built (subst (NothingIsLive u.built.dictionary) rest done)) ∙ sym read.at;
     }
+  where
+    each-before : EachIsDecided u → EachIsDecided turn.mid
+    each-before (inl standard) = inl (subst (λ (b : Built). b.dictionary.kind ≡ Standard) turn.read.built standard)
+    each-before (inr closed) = inr (sym turn.read.closed ∙ closed)
+
+-- where all is decided at once, a search that is told that no more comes has given all still
+given-closed : (u : StreamProgress) → u.built.dictionary.kind ≡ Standard → AreAllGiven u → AreAllGiven (closed_by u)
+given-closed u standard all = record { searched = all.searched; all = λ each. all.all (inl standard); open_ = all.open_; anew = all.anew }
+
+-- under a leftmost kind it knows that no more comes
+closed-leftmost : (kind : MatchKind) → kind ≢ Standard → may_wait kind ≡ true
+closed-leftmost Standard leftmost = absurd (leftmost refl)
+closed-leftmost LeftmostFirst leftmost = refl
+closed-leftmost LeftmostLongest leftmost = refl
+
+-- one more, which was the last
+pub turned-ended : {R : Type 0} (remaining : R → Option (List ℕ)) (s t u : StreamProgress) (before mid after : Watched R) (x y z : Steps) → HasTurned remaining s t before mid x y → TurnGives remaining t u mid after Ended → StreamCounts t u y z → HasTurned remaining s u before after x z
+turned-ended {R} remaining s t u before mid after x y z has turn counts = subst (λ (v : StreamProgress). StreamCounts t v y z → HasTurned remaining s v before after x z) (sym turn.2) by counts
+  where
+    v : StreamProgress
+    v = turn.0
+
+    by : StreamCounts t (closed_by v) y z → HasTurned remaining s (closed_by v) before after x z
+    by counted =
+        let read = turn.1.read in
+        let gains = gained-more remaining s t v before mid after has.gained [] 0 has.has turn.1 in
+        let same : read_by v ≡ read_by turn.1.mid = ap concat read.pieces ∙ concat-append turn.1.mid.pieces ([] ∷ []) ∙ append-nil (read_by turn.1.mid) in
+        record {
+          gained = has.gained ++ [] ∷ [];
+          has = record { built = gains.built; pieces = gains.pieces; last = gains.last; short = gains.short; read = gains.read };
+          how = HasEnded (has.gained, turned-filled remaining s t v before mid after x y [] 0 has turn.1, refl) read.read.turns.1 (read.read.at_end refl ([], tt, refl))
+              (λ standard. given-closed v standard (all-given-still remaining t v mid after 0 turn.1)) (λ leftmost. closed-leftmost v.built.dictionary.kind leftmost);
+          given = read.given ∙ turn.1.given ∙ has.given;
+          fresh = λ some. (λ standard. turned-at remaining s t v before mid after x y [] 0 has turn.1, subst CanBeCounted (sym same) turn.1.few, turned-open remaining s t v before mid after x y [] 0 has turn.1);
+          first = λ none. absurd (more-some has.gained [] none);
+          unended = λ some. open-first remaining s t v before mid after x y [] 0 has turn.1;
+          on = λ standard. let a = has.on standard in let b = turn.1.nothing.on (subst (λ (b : Built). b.dictionary.kind ≡ Standard) (sym has.has.built) standard) in let e = read.at in omega arith;
+          counts = counts-join s t (closed_by v) x y z has.counts counted;
+        }
+
+-- ---- items
+
+-- whether no more comes is known as before, where the reader goes on
+closed-still : {R : Type 0} (remaining : R → Option (List ℕ)) (s t : StreamProgress) (before after : Watched R) (x y : Steps) → (has : HasTurned remaining s t before after x y) → (has.gained ≢ [] → (¬ IsTrue (has_ended after)) × (t.closed ≡ false)) → t.closed ≡ s.closed
+closed-still remaining s t before after x y has goes = ⊎_elim
+    (λ (none : has.gained ≡ []). ap (λ (z : StreamProgress). z.closed) (has.first none).0)
+    (λ (some : has.gained ≢ []). (goes some).1 ∙ sym (has.unended some).2)
+    (none-or-some has.gained)
+
+-- what was read for a match
+read-for : {R : Type 0} (remaining : R → Option (List ℕ)) (s t u : StreamProgress) (before after : Watched R) (x y : Steps) (o : Occurrence) → (has : HasTurned remaining s t before after x y) → HowItStands remaining s t after has.gained → FindsHeld t (Some o) u → IsReadForMatch s u has.gained
+read-for remaining s t u before after x y o has (GoesOnReading filled goes) finds = inl (filled, finds.0.closed ∙ closed-still remaining s t before after x y has goes)
+read-for {R} remaining s t u before after x y o has (HasEnded whole ended at_end given closed) finds = ⊎_elim
+    (λ (standard : t.built.dictionary.kind ≡ Standard). absurd (finds.6 (given standard)))
+    (λ (leftmost : t.built.dictionary.kind ≢ Standard). inr (subst (λ (b : Built). b.dictionary.kind ≢ Standard) (sym finds.0.built) leftmost, whole, finds.0.closed ∙ closed leftmost))
+    (kind_cases t.built.dictionary.kind)
+
+-- a match
+pub turned-found : {R : Type 0} (remaining : R → Option (List ℕ)) (s t u : StreamProgress) (before mid after : Watched R) (x y : Steps) (o : Occurrence) → HasTurned remaining s t before mid x y → TurnGives remaining t u mid after (Found o) → NextGives remaining s u before after (Some (Ok o))
+turned-found {R} remaining s t u before mid after x y o has turn =
+    let finds = turn.0 in
+    let held = finds.4 in (
+      has.gained,
+      subst (λ (r : Watched R). HasGained remaining s u before r has.gained 0) (sym turn.1) (gained-same remaining s t u before mid has.gained 0 has.has finds.0),
+      read-for remaining s t u before mid x y o has has.how finds,
+      finds.1 ∙ ap (λ (l : List Occurrence). l ++ o ∷ []) has.given,
+      finds.2,
+      record {
+        pattern = subst (λ (b : Built). o.pattern < length b.dictionary.patterns) has.has.built held.pattern;
+        behind = let l = has.has.last in let b = held.behind in omega arith;
+        some = held.some;
+        new = λ standard. let a = has.on standard in let new = held.new (subst (λ (b : Built). b.dictionary.kind ≡ Standard) (sym has.has.built) standard) in omega arith;
+        within = subst (λ (l : List (List ℕ)). o.end ≤ length (concat l)) (sym finds.0.pieces) held.within;
+        countable = subst (λ (l : List (List ℕ)). CanBeCounted (concat l)) (sym finds.0.pieces) finds.5;
+      },
+      λ some.
+          let fresh = has.fresh some in
+          let same : read_before_last u ≡ read_before_last t = ap (λ (l : List (List ℕ)). concat (take (length l - 1) l)) finds.0.pieces in
+          record {
+            ends = λ standard. let le = fresh.0 standard in let new = held.new (subst (λ (b : Built). b.dictionary.kind ≡ Standard) (sym has.has.built) standard) in let e = ap length same in omega arith;
+            open_ = subst (λ (l : List ℕ). ¬ IsLive s.built.dictionary false (drop (end_of s.given) l) None) (sym same) fresh.2;
+          },
+    )
+
+-- what was read where no item is left
+read-to_end : {R : Type 0} (remaining : R → Option (List ℕ)) (s t u : StreamProgress) (before mid : Watched R) (x y : Steps) → (has : HasTurned remaining s t before mid x y) → HowItStands remaining s t mid has.gained → ReadsNothing t u → IsStopped u mid
+    → ((has.gained ≡ []) × (u.closed ≡ s.closed)) ⊎ (AreWhole has.gained × AreAllGiven u × EachIsDecided u × IsAtEnd (remaining (inner_of mid)))
+read-to_end {R} remaining s t u before mid x y has (GoesOnReading filled goes) nothing stopped = ⊎_elim
+    (λ (none : has.gained ≡ []). inl (none, nothing.closed ∙ closed-still remaining s t before mid x y has goes))
+    (λ (some : has.gained ≢ []).
+    absurd (⊎_elim
+    (λ (over : IsInputOver u mid × AreAllGiven u). ⊎_elim (λ (ended : has_ended mid ≡ true). (goes some).0 ended) (λ (closed : u.closed ≡ true). false≢true (sym (nothing.closed ∙ (goes some).1) ∙ closed)) over.0)
+    (λ (many : ¬ CanBeCounted (read_by u)). many (subst (λ (l : List (List ℕ)). CanBeCounted (concat l)) (sym nothing.pieces) (has.fresh some).1))
+    stopped))
+    (none-or-some has.gained)
+read-to_end {R} remaining s t u before mid x y has (HasEnded whole ended at_end given closed) nothing stopped = ⊎_elim
+    (λ (over : IsInputOver u mid × AreAllGiven u). inr (whole, over.1, each, at_end))
+    (λ (many : ¬ CanBeCounted (read_by u)). absurd (many (subst (λ (l : List (List ℕ)). CanBeCounted (concat l)) (sym nothing.pieces) (has.fresh some).1)))
+    stopped
+  where
+    -- something was read: an empty piece, at least
+    some : has.gained ≢ []
+    some none = more-some whole.0 [] (sym whole.2 ∙ none)
+
+    each : EachIsDecided u
+    each = ⊎_elim
+        (λ (standard : t.built.dictionary.kind ≡ Standard). inl (subst (λ (b : Built). b.dictionary.kind ≡ Standard) (sym nothing.built) standard))
+        (λ (leftmost : t.built.dictionary.kind ≢ Standard). inr (nothing.closed ∙ closed leftmost))
+        (kind_cases t.built.dictionary.kind)
 
 -- none
 pub turned-over : {R : Type 0} (remaining : R → Option (List ℕ)) (s t u : StreamProgress) (before mid after : Watched R) (x y : Steps) → HasTurned remaining s t before mid x y → TurnGives remaining t u mid after Over → NextGives remaining s u before after None
-turned-over {R} remaining s t u before mid after x y has (inl stopped) = (
+turned-over {R} remaining s t u before mid after x y has turn = (
   has.gained,
-  subst (λ (r : Watched R). HasGained remaining s u before r has.gained 0) (sym stopped.2) (gained-same remaining s t u before mid has.gained 0 has.has stopped.0),
-  inl (none has.gained has.fresh),
-  stopped.1 ∙ has.given,
-  stopped.3,
-)
-  where
-    open_ : (¬ IsTrue (has_ended mid)) × CanBeCounted (read_by t) → ⊥
-    open_ still = ⊎_elim
-        (λ (ended : (has_ended after ≡ true) × AreAllGiven u). still.0 (ap (λ (r : Watched R). has_ended r) (sym stopped.2) ∙ ended.0))
-        (λ (many : ¬ CanBeCounted (read_by u)). many (subst (λ (l : List (List ℕ)). CanBeCounted (concat l)) (sym stopped.0.pieces) still.1))
-        stopped.3
-
-    none : (gained : List (List ℕ)) → (gained ≢ [] → (length (concat (take (length t.pieces - 1) t.pieces)) ≤ t.at) × (¬ IsTrue (has_ended mid)) × CanBeCounted (read_by t)) → gained ≡ []
-    none [] fresh = refl
-    none (g ∷ gs) fresh = let still = fresh (λ e. let d : g ∷ gs ≡ [] = e in cc) in absurd (open_ (still.1, still.2))
-turned-over remaining s t u before mid after x y has (inr turn) = (
-  has.gained ++ [] ∷ [],
-  gained-more remaining s t u before mid after has.gained [] 0 has.has turn,
-  inr ((has.gained, has.filled, refl), all-given-still remaining t u mid after 0 turn, turn.read.read.at_end refl ([], tt, refl)),
-  turn.read.given ∙ turn.given ∙ has.given,
-  inl (turn.read.read.turns.1, all-given-still remaining t u mid after 0 turn),
+  subst (λ (r : Watched R). HasGained remaining s u before r has.gained 0) (sym turn.2) (gained-same remaining s t u before mid has.gained 0 has.has turn.0),
+  subst (λ (r : Watched R). ((has.gained ≡ []) × (u.closed ≡ s.closed)) ⊎ (AreWhole has.gained × AreAllGiven u × EachIsDecided u × IsAtEnd (remaining (inner_of r)))) (sym turn.2)
+      (read-to_end remaining s t u before mid x y has has.how turn.0 (subst (λ (r : Watched R). IsStopped u r) turn.2 turn.3)),
+  turn.1 ∙ has.given,
+  turn.3,
 )
 
 -- an error
@@ -218,7 +330,7 @@ turned-failed remaining s t u before mid after x y (Config error) has turn = tur
 turned-failed remaining s t u before mid after x y (Read error) has turn = (
   has.gained,
   gained-more remaining s t u before mid after has.gained [] 1 has.has turn,
-  has.filled,
+  turned-filled remaining s t u before mid after x y [] 1 has turn,
   turn.read.given ∙ turn.given ∙ has.given,
   turn.read.read.turns.1,
   all-given-still remaining t u mid after 1 turn,
@@ -229,7 +341,7 @@ turned-failed remaining s t u before mid after x y Memory has turn = turn
 turned-failed remaining s t u before mid after x y Position has turn = (
   has.gained ++ turn.0 ∷ [],
   gained-more remaining s t u before mid after has.gained turn.0 0 has.has turn.1,
-  AreFilled-push has.gained turn.0 has.filled turn.2,
+  AreFilled-push has.gained turn.0 (turned-filled remaining s t u before mid after x y turn.0 0 has turn.1) turn.2,
   turn.1.read.given ∙ turn.1.given ∙ has.given,
   turn.3,
 )
@@ -239,32 +351,52 @@ some-bytes : (piece : List ℕ) → piece ≢ [] → 0 < length piece
 some-bytes [] some = absurd (some refl)
 some-bytes (b ∷ bs) some = omega arith
 
+-- how many turns are left at most that read, where so many bytes were read and the reader has ended or not
+abbrev pub turns_left : ℕ → Bool → ℕ
+turns_left read ended = 2 * (18446744073709551616 - read) + (if ended then 0 else 1)
+
+-- fewer are left after more bytes
+more-fewer : (read later : ℕ) (ended ends : Bool) → read < later → later ≤ 18446744073709551615 → turns_left later ends < turns_left read ended
+more-fewer read later true true lt few = omega arith
+more-fewer read later true false lt few = omega arith
+more-fewer read later false true lt few = omega arith
+more-fewer read later false false lt few = omega arith
+
 -- fewer places are left after a turn that read some bytes
-pub turn-smaller : {R : Type 0} (remaining : R → Option (List ℕ)) (t u : StreamProgress) (mid after : Watched R) → TurnGives remaining t u mid after More → 18446744073709551616 - length (read_by u) < 18446744073709551616 - length (read_by t)
+pub turn-smaller : {R : Type 0} (remaining : R → Option (List ℕ)) (t u : StreamProgress) (mid after : Watched R) → TurnGives remaining t u mid after More → turns_left (length (read_by u)) (has_ended after) < turns_left (length (read_by t)) (has_ended mid)
 turn-smaller remaining t u mid after turn =
     let all : read_by u ≡ read_by t ++ (turn.0 ++ []) = ap concat turn.1.read.pieces ∙ ap (λ (l : List (List ℕ)). concat (l ++ turn.0 ∷ [])) turn.1.nothing.pieces ∙ concat-append t.pieces (turn.0 ∷ []) in
     let long = ap length all in
     let both = length-append (read_by t) (turn.0 ++ []) in
     let piece = length-append turn.0 [] in
     let some = some-bytes turn.0 turn.2 in
-    let few = turn.3 in
+    more-fewer (length (read_by t)) (length (read_by u)) (has_ended mid) (has_ended after) (omega arith) turn.3
+
+-- and after one that ended the input
+pub ended-smaller : {R : Type 0} (remaining : R → Option (List ℕ)) (t u : StreamProgress) (mid after : Watched R) → TurnGives remaining t u mid after Ended → turns_left (length (read_by u)) (has_ended after) < turns_left (length (read_by t)) (has_ended mid)
+ended-smaller remaining t u mid after turn =
+    let read = turn.1.read in
+    let same : read_by u ≡ read_by t = ap (λ (v : StreamProgress). read_by v) turn.2 ∙ ap concat read.pieces ∙ concat-append turn.1.mid.pieces ([] ∷ []) ∙ append-nil (read_by turn.1.mid) ∙ ap concat turn.1.nothing.pieces in
+    let long = ap length same in
+    let ends = ap (λ (b : Bool). turns_left (length (read_by u)) b) read.read.turns.1 in
+    let open_ = ap (λ (b : Bool). turns_left (length (read_by t)) b) read.read.turns.0 in
     omega arith
 
 -- ---- nothing comes after the end
 
 -- where nothing was left to come, no piece was read
-none-gained : {R : Type 0} (s : StreamProgress) (before : Watched R) (gained : List (List ℕ)) → IsStopped s before → (gained ≢ [] → (has_ended before ≡ false) × CanBeCounted (read_by s)) → gained ≡ []
+none-gained : {R : Type 0} (s : StreamProgress) (before : Watched R) (gained : List (List ℕ)) → IsStopped s before → (gained ≢ [] → (has_ended before ≡ false) × CanBeCounted (read_by s) × (s.closed ≡ false)) → gained ≡ []
 none-gained s before gained stopped open_ = ⊎_elim
     (λ (none : gained ≡ []). none)
     (λ (some : gained ≢ []).
     let first = open_ some in
-    absurd (⊎_elim (λ (ended : (has_ended before ≡ true) × AreAllGiven s). false≢true (sym first.0 ∙ ended.0)) (λ (many : ¬ CanBeCounted (read_by s)). many first.1) stopped))
+    absurd (⊎_elim (λ (over : IsInputOver s before × AreAllGiven s). ⊎_elim (λ (ended : has_ended before ≡ true). false≢true (sym first.0 ∙ ended)) (λ (closed : s.closed ≡ true). false≢true (sym first.2 ∙ closed)) over.0) (λ (many : ¬ CanBeCounted (read_by s)). many first.1) stopped))
     (none-or-some gained)
 
 -- nor a match found
 none-found : {R : Type 0} (s u : StreamProgress) (before : Watched R) (o : Occurrence) → IsStopped s before → ¬ FindsHeld s (Some o) u
 none-found s u before o stopped finds = ⊎_elim
-    (λ (ended : (has_ended before ≡ true) × AreAllGiven s). let new = finds.4.new in let within = finds.4.within in let all = ended.1.searched in absurd (omega arith))
+    (λ (over : IsInputOver s before × AreAllGiven s). absurd (finds.6 over.1))
     (λ (many : ¬ CanBeCounted (read_by s)). many finds.5)
     stopped
 
@@ -291,11 +423,10 @@ stopped-failed remaining s t u before mid after x y Position has turn = stopped-
 
 -- none is the result, and everything is unchanged
 pub stopped-over : {R : Type 0} (remaining : R → Option (List ℕ)) (s t u : StreamProgress) (before mid after : Watched R) (x y : Steps) → HasTurned remaining s t before mid x y → TurnGives remaining t u mid after Over → StaysStopped s u before after None
-stopped-over {R} remaining s t u before mid after x y has (inl over) = λ stopped.
+stopped-over {R} remaining s t u before mid after x y has over = λ stopped.
     let same = has.first (none-gained s before has.gained stopped has.unended) in (
       refl,
       over.0.pieces ∙ ap (λ (z : StreamProgress). z.pieces) same.0,
       over.1 ∙ ap (λ (z : StreamProgress). z.given) same.0,
       ap (λ (r : Watched R). pieces_of r) (over.2 ∙ same.1),
     )
-stopped-over remaining s t u before mid after x y has (inr turn) = λ stopped. absurd (stopped-read remaining s t u before mid after x y [] 0 has turn stopped)

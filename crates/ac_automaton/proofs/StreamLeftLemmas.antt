@@ -28,11 +28,13 @@ match-fewer read later searched end false false le few lt within still = grind (
 open-some : (read searched : ℕ) → read ≤ 18446744073709551615 → 0 < items_left read searched false
 open-some read searched few = grind (arith, nat_tests)
 
--- none is left where all was searched and the reader has ended
-ended-none : (read searched : ℕ) → searched ≡ read → items_left read searched true ≡ 0
-ended-none read searched all = grind (arith, nat_tests)
+-- fewer are left once the reader has ended
+ended-fewer : (read later last end : ℕ) (ended ends : Bool) → read ≤ 18446744073709551615 → last ≤ end → ended ≡ false → ends ≡ true → items_left later end ends < items_left read last ended
+ended-fewer read later last end true ends few le open_ over = absurd (false≢true (sym open_))
+ended-fewer read later last end false true few le open_ over = grind (arith, nat_tests)
+ended-fewer read later last end false false few le open_ over = absurd (false≢true over)
 
--- nor where places can't be counted
+-- none is left where places can't be counted
 many-none : (read searched : ℕ) (ended : Bool) → 18446744073709551615 < read → items_left read searched ended ≡ 0
 many-none read searched true many = grind (arith, nat_tests)
 many-none read searched false many = grind (arith, nat_tests)
@@ -66,26 +68,25 @@ few-before s before goes = ⊎_elim (λ many. absurd (goes (inr (λ few. omega a
 
 -- a match leaves fewer items
 match-leaves : {R : Type 0} (remaining : R → Option (List ℕ)) (s t : StreamProgress) (before after : Watched R) (o : Occurrence) → NextGives remaining s t before after (Some (Ok o)) → IsOnCourse t
-    → items_left (length (read_by t)) t.at (has_ended after) < items_left (length (read_by s)) s.at (has_ended before)
+    → items_left (length (read_by t)) t.last (has_ended after) < items_left (length (read_by s)) s.last (has_ended before)
 match-leaves remaining s t before after o next course =
     let has = next.1 in
     let long = read-gained remaining s t before after next.0 0 has in
     let last : t.last ≡ o.end = next.4 in
     let item = next.5 in
     let order = course.ordered in
-    match-fewer (length (read_by s)) (length (read_by t)) s.at t.at (has_ended before) (has_ended after) (omega arith) item.countable (let lt = item.new in let le = order.0 in omega arith) order.1
+    let behind = item.behind in
+    let some = item.some in
+    match-fewer (length (read_by s)) (length (read_by t)) s.last t.last (has_ended before) (has_ended after) (omega arith) item.countable (omega arith) (omega (arith, order.0, order.1))
     (λ is. let still = ended-still (has_ended before) (has_ended after) next.0 has.read.turns is in let none = ap (λ (l : List (List ℕ)). length (concat l)) still.0 in (omega arith, still.1))
 
 -- so does an error
 error-leaves : {R : Type 0} (remaining : R → Option (List ℕ)) (s t : StreamProgress) (before after : Watched R) (error : StreamError) → NextGives remaining s t before after (Some (Err error)) → ¬ IsStopped s before
-    → items_left (length (read_by t)) t.at (has_ended after) < items_left (length (read_by s)) s.at (has_ended before)
+    → items_left (length (read_by t)) t.last (has_ended after) < items_left (length (read_by s)) s.last (has_ended before)
 error-leaves remaining s t before after (Config error) next goes = absurd next
 error-leaves remaining s t before after (Read error) next goes =
-    let some = open-some (length (read_by s)) s.at (few-before s before goes) in
     let open_ : has_ended before ≡ false = open-before (has_ended before) (has_ended after) next.0 [] next.1.read.turns in
-    let none = ap (items_left (length (read_by t)) t.at) next.4 ∙ ended-none (length (read_by t)) t.at next.5.searched in
-    let left = ap (items_left (length (read_by s)) s.at) open_ in
-    omega arith
+    ended-fewer (length (read_by s)) (length (read_by t)) s.last t.last (has_ended before) (has_ended after) (few-before s before goes) next.1.last open_ next.4
 error-leaves remaining s t before after (Write error) next goes = absurd next
 error-leaves remaining s t before after WriteZero next goes = absurd next
 error-leaves remaining s t before after Memory next goes = absurd next
@@ -93,10 +94,10 @@ error-leaves {R} remaining s t before after Position next goes =
     let few = few-before s before goes in
     let long = read-gained remaining s t before after next.0 0 next.1 in
     let many : 18446744073709551615 < length (read_by t) = ⊎_elim (λ lt. lt) (λ le. absurd (next.4 le)) (cases_lt 18446744073709551615 (length (read_by t))) in
-    let some = open-some (length (read_by s)) s.at few in
-    let none = many-none (length (read_by t)) t.at (has_ended after) many in
+    let some = open-some (length (read_by s)) s.last few in
+    let none = many-none (length (read_by t)) t.last (has_ended after) many in
     let open_ : has_ended before ≡ false = by next.0 next.1.read.turns (λ nothing. let e = ap (λ (l : List (List ℕ)). length (concat l)) nothing in omega arith) in
-    let left = ap (items_left (length (read_by s)) s.at) open_ in
+    let left = ap (items_left (length (read_by s)) s.last) open_ in
     omega arith
   where
     by : (gained : List (List ℕ)) → AreInTurn (has_ended before) gained (has_ended after) → ¬ (gained ≡ []) → has_ended before ≡ false

@@ -1,15 +1,15 @@
 -- What the text since the last match says of the matches of a stream, whatever is still read.
-use Rattle.std.proofs.Common.{◌≡◌, ⊎_elim, inl, inr, ℕ, ◌+◌, ◌-◌, ◌<◌, ◌≤◌, max, true, false, List, [], ◌∷◌, ◌++◌, length, drop, Option, None, Some, Contains, slice_range, sym, ap, subst, refl, ◌∙◌, arith, length-append, length-drop, append_assoc, append-nil}
-use Rattle.std.specs.List.{All}
+use Rattle.std.proofs.Common.{◌≡◌, ◌≢◌, ⊎_elim, inl, inr, ℕ, ◌+◌, ◌-◌, ◌<◌, ◌≤◌, max, true, false, List, [], ◌∷◌, ◌++◌, length, drop, Option, None, Some, Contains, slice_range, sym, ap, subst, refl, ◌∙◌, arith, length-append, length-drop, append_assoc, append-nil}
+use Rattle.std.specs.List.{All, AllByRecursion}
 use Rattle.std.proofs.lemmas.Bool.{cases_lt}
-use Rattle.std.proofs.lemmas.List.{drop-drop}
-use Rattle.std.proofs.lemmas.List.Elements.{All-contains_itself}
+use Rattle.std.proofs.lemmas.List.{drop-drop, take_rest}
+use Rattle.std.proofs.lemmas.List.Elements.{All-contains_itself, recursion_from_All}
 use Rattle.ac_input.specs.declared.search.Anchored.TheVariants.{No}
 use Rattle.ac_input.specs.declared.search.MatchKind.{MatchKind}
 use Rattle.ac_input.specs.declared.search.MatchKind.TheVariants.{Standard}
 use Rattle.ac_input.specs.Best.{IsBest}
-use Rattle.ac_input.specs.Computed.{walk_of, walk_after}
-use Rattle.ac_input.specs.Dictionary.{Dictionary, IsAlive, whole}
+use Rattle.ac_input.specs.Computed.{walk_after}
+use Rattle.ac_input.specs.Dictionary.{Dictionary, IsLive, whole}
 use Rattle.ac_input.specs.LiveLaws.{IsOwnInverse, shifted}
 use Rattle.ac_input.specs.Occurrence.{Search, Occurrence, Occurs, starting_at}
 use Rattle.ac_input.specs.Tells.{Tells, TellsUnanchored}
@@ -17,19 +17,19 @@ use Rattle.ac_input.specs.Walk.{IsPick, Here, Further, IsWalk}
 use Rattle.ac_input.specs.Work.{longest, shortest}
 use Rattle.ac_input.proofs.BeginningLemmas.{slice_range-append}
 use Rattle.ac_input.proofs.ContainsLemmas.{Contains-nil}
-use Rattle.ac_input.proofs.LiveLemmas.{alive-end, occurs-front}
+use Rattle.ac_input.proofs.LiveLemmas.{kind_cases, leftmost-no_later, occurs-front}
 use Rattle.ac_input.proofs.OrderLemmas.{slice_range-length}
-use Rattle.ac_input.proofs.ShiftLemmas.{back_by}
-use Rattle.ac_input.proofs.SpanLemmas.{best-of_rest, occurs-in_whole_of_span}
-use Rattle.ac_input.proofs.StateLemmas.{alive-shifted, new-behind}
-use Rattle.ac_input.proofs.WalkLemmas.{occurs-earlier, occurs-whole, walk_after-walk, walk-computed, walk-occurs}
+use Rattle.ac_input.proofs.ShiftLemmas.{back_by, occurs-shifted}
+use Rattle.ac_input.proofs.SpanLemmas.{best-of_rest, occurs-in_whole_of_span, occurs-later}
+use Rattle.ac_input.proofs.StateLemmas.{alive-shifted, new-behind, occurs-behind}
+use Rattle.ac_input.proofs.WalkLemmas.{occurs-earlier, occurs-whole, walk_after-walk, walk_of-walk, walk-computed, walk-occurs}
 use Rattle.ac_automaton.specs.Automaton.{Built}
 use Rattle.ac_automaton.specs.Replace.{matches_in}
 use Rattle.ac_automaton.specs.StreamSearch.{ContinuesWalk, since_last}
-use Rattle.ac_automaton.specs.Stream.{StreamProgress, IsDecided, NothingIsLive, cut_of, end_of, read_by}
+use Rattle.ac_automaton.specs.Stream.{MayFollow, StreamProgress, after_given, IsDecided, NothingIsLive, cut_of, end_of, read_by}
 use Rattle.ac_automaton.proofs.CursorLemmas.{slice_range-split}
 use Rattle.ac_automaton.proofs.IterLemmas.{repeat-empty}
-use Rattle.ac_automaton.proofs.WalkLemmas.{standard-final, occurs-bound}
+use Rattle.ac_automaton.proofs.WalkLemmas.{begins-bound, occurs-bound}
 
 -- ---- picks
 
@@ -49,19 +49,22 @@ rest-split x more last at g h =
     let long = length-append x more in
     (slice_range (x ++ more) at (length (x ++ more)), slice_range-split (x ++ more) last at (length (x ++ more)) g (omega arith) ∙ ap (λ (l : List ℕ). l ++ slice_range (x ++ more) at (length (x ++ more))) (slice_range-append x more last at g h))
 
--- The best of the text since the last match is the next pick, however the text goes on.
-pub pick-since : (m : Dictionary) (x more : List ℕ) (last at : ℕ) (b : Occurrence) → last ≤ at → at ≤ length x → 1 ≤ shortest m.patterns → IsBest Standard (whole m (slice_range x last at) false) (Some b) → IsPick Standard (whole m (x ++ more) false) last (Some last) (Some (shifted last b))
-pick-since m x more last at b g h some best =
-    let y = x ++ more in
+-- The best of the rest of a text is the next pick.
+pub pick-rest : (m : Dictionary) (y : List ℕ) (last : ℕ) (b : Occurrence) → last ≤ length y → 1 ≤ shortest m.patterns → IsBest m.kind (whole m (slice_range y last (length y)) false) (Some b) → IsPick m.kind (whole m y false) last (Some last) (Some (shifted last b))
+pick-rest m y last b h some best =
+    let there : IsBest m.kind (starting_at (whole m y false) last) (Some (shifted last b)) = (best-of_rest m.kind m (whole m y false) last (Some b) (refl, refl) refl h (omega arith)).0 best in
+    Here there (repeat-empty m.kind (starting_at (whole m y false) last) (Some last) (Some (shifted last b)) (omega arith) some there)
+
+-- Where the best of the text since the last match stays the best, it is the next pick, however the text goes on.
+pub pick-since : (m : Dictionary) (x more : List ℕ) (last at : ℕ) (b : Occurrence) → last ≤ at → at ≤ length x → 1 ≤ shortest m.patterns → ((tail : List ℕ) → IsBest m.kind (whole m (slice_range x last at ++ tail) false) (Some b)) → IsPick m.kind (whole m (x ++ more) false) last (Some last) (Some (shifted last b))
+pick-since m x more last at b g h some stays =
     let long = length-append x more in
     let tail = rest-split x more last at g h in
-    let longer : IsBest Standard (whole m (slice_range y last (length y)) false) (Some b) = subst (λ (l : List ℕ). IsBest Standard (whole m l false) (Some b)) (sym tail.1) (standard-final m false (slice_range x last at) tail.0 b best) in
-    let there : IsBest Standard (starting_at (whole m y false) last) (Some (shifted last b)) = (best-of_rest Standard m (whole m y false) last (Some b) (refl, refl) refl (omega arith) (omega arith)).0 longer in
-    Here there (repeat-empty Standard (starting_at (whole m y false) last) (Some last) (Some (shifted last b)) (omega arith) some there)
+    pick-rest m (x ++ more) last b (omega arith) some (subst (λ (l : List ℕ). IsBest m.kind (whole m l false) (Some b)) (sym tail.1) (stays tail.0))
 
 -- Where the text since the last match has none, there is no pick in the present text.
-pub pick-none : (m : Dictionary) (x : List ℕ) (last : ℕ) → last ≤ length x → IsBest Standard (whole m (slice_range x last (length x)) false) None → IsPick Standard (whole m x false) last (Some last) None
-pick-none m x last h quiet = Here ((best-of_rest Standard m (whole m x false) last None (refl, refl) refl h (omega arith)).0 quiet) (λ r. r)
+pub pick-none : (m : Dictionary) (x : List ℕ) (last : ℕ) → last ≤ length x → IsBest m.kind (whole m (slice_range x last (length x)) false) None → IsPick m.kind (whole m x false) last (Some last) None
+pick-none m x last h quiet = Here ((best-of_rest m.kind m (whole m x false) last None (refl, refl) refl h (omega arith)).0 quiet) (λ r. r)
 
 -- ---- what comes later
 
@@ -83,10 +86,26 @@ begins-behind m x more last at o g h quiet occurs =
     let w = occurs.within.0 in
     omega arith
 
+-- Where something of the text since the last match is live, under a leftmost kind, what occurs after the last match begins no
+-- earlier, and so at the cut or after it.
+pub begins-live : (m : Dictionary) (x more : List ℕ) (last at live : ℕ) (o : Occurrence) → IsOwnInverse m.pairing → m.kind ≢ Standard → last ≤ at → at ≤ length x → IsLive m false (slice_range x last at) (Some live) → Occurs (starting_at (whole m (x ++ more) false) last) o → max last (at - max (longest m.patterns) 1) ≤ o.start
+begins-live m x more last at live o inverse leftmost g h alive occurs =
+    let y = x ++ more in
+    let long = length-append x more in
+    let len = slice_range-length x last at g h in
+    let w = occurs.within in
+    let tail = rest-split x more last at g h in
+    let here : Occurs (whole m (slice_range y last (length y)) false) (back_by last o) = (occurs-in_whole_of_span m (starting_at (whole m y false) last) (length y) o (refl, refl) (omega arith) (omega arith) (omega arith) occurs (omega arith)).0 in
+    let there : Occurs (whole m (slice_range x last at ++ tail.0) false) (back_by last o) = subst (λ (l : List ℕ). Occurs (whole m l false) (back_by last o)) tail.1 here in
+    let late = occurs-behind m (slice_range x last at) tail.0 live (back_by last o) inverse leftmost alive there in
+    let bound = begins-bound m (drop live (slice_range x last at)) alive.0.begins in
+    let rest = length-drop live (slice_range x last at) in
+    omega arith
+
 -- ---- to begin anew
 
 -- Where nothing is live of the text since the search last began, what is found later begins after it.
-begins-after : (m : Dictionary) (x more : List ℕ) (last at : ℕ) (o : Occurrence) → IsOwnInverse m.pairing → last ≤ at → at ≤ length x → IsBest Standard (whole m (slice_range x last at) false) None → NothingIsLive m (slice_range x last at) → Occurs (starting_at (whole m (x ++ more) false) last) o → at ≤ o.start
+begins-after : (m : Dictionary) (x more : List ℕ) (last at : ℕ) (o : Occurrence) → IsOwnInverse m.pairing → last ≤ at → at ≤ length x → IsBest m.kind (whole m (slice_range x last at) false) None → NothingIsLive m (slice_range x last at) → Occurs (starting_at (whole m (x ++ more) false) last) o → at ≤ o.start
 begins-after m x more last at o inverse g h quiet live occurs =
     let y = x ++ more in
     let long = length-append x more in
@@ -101,7 +120,7 @@ begins-after m x more last at o inverse g h quiet live occurs =
     omega arith
 
 -- so it is found from there on
-occurs-after : (m : Dictionary) (x more : List ℕ) (last at : ℕ) (o : Occurrence) → IsOwnInverse m.pairing → last ≤ at → at ≤ length x → IsBest Standard (whole m (slice_range x last at) false) None → NothingIsLive m (slice_range x last at) → Occurs (starting_at (whole m (x ++ more) false) last) o → Occurs (starting_at (whole m (x ++ more) false) at) o
+occurs-after : (m : Dictionary) (x more : List ℕ) (last at : ℕ) (o : Occurrence) → IsOwnInverse m.pairing → last ≤ at → at ≤ length x → IsBest m.kind (whole m (slice_range x last at) false) None → NothingIsLive m (slice_range x last at) → Occurs (starting_at (whole m (x ++ more) false) last) o → Occurs (starting_at (whole m (x ++ more) false) at) o
 occurs-after m x more last at o inverse g h quiet live occurs = record {
   within = (begins-after m x more last at o inverse g h quiet live occurs, occurs.within.1, occurs.within.2);
   same = occurs.same;
@@ -109,7 +128,7 @@ occurs-after m x more last at o inverse g h quiet live occurs = record {
 }
 
 -- the best from there on is the best
-best-anew : (m : Dictionary) (x more : List ℕ) (last at : ℕ) (r : Option Occurrence) → IsOwnInverse m.pairing → last ≤ at → at ≤ length x → IsBest Standard (whole m (slice_range x last at) false) None → NothingIsLive m (slice_range x last at) → IsBest Standard (starting_at (whole m (x ++ more) false) at) r → IsBest Standard (starting_at (whole m (x ++ more) false) last) r
+best-anew : (m : Dictionary) (x more : List ℕ) (last at : ℕ) (r : Option Occurrence) → IsOwnInverse m.pairing → last ≤ at → at ≤ length x → IsBest m.kind (whole m (slice_range x last at) false) None → NothingIsLive m (slice_range x last at) → IsBest m.kind (starting_at (whole m (x ++ more) false) at) r → IsBest m.kind (starting_at (whole m (x ++ more) false) last) r
 best-anew m x more last at None inverse g h quiet live best = λ o occurs. best o (occurs-after m x more last at o inverse g h quiet live occurs)
 best-anew m x more last at (Some b) inverse g h quiet live best = (
   occurs-earlier (whole m (x ++ more) false) last at b g (λ t. absurd (let e : false ≡ true = t in cc)) best.0,
@@ -117,23 +136,23 @@ best-anew m x more last at (Some b) inverse g h quiet live best = (
 )
 
 -- so is the pick
-pick-anew : (m : Dictionary) (x more : List ℕ) (last at : ℕ) (r : Option Occurrence) → IsOwnInverse m.pairing → 1 ≤ shortest m.patterns → last ≤ at → at ≤ length x → IsBest Standard (whole m (slice_range x last at) false) None → NothingIsLive m (slice_range x last at) → IsPick Standard (whole m (x ++ more) false) at (Some at) r → IsPick Standard (whole m (x ++ more) false) last (Some last) r
+pick-anew : (m : Dictionary) (x more : List ℕ) (last at : ℕ) (r : Option Occurrence) → IsOwnInverse m.pairing → 1 ≤ shortest m.patterns → last ≤ at → at ≤ length x → IsBest m.kind (whole m (slice_range x last at) false) None → NothingIsLive m (slice_range x last at) → IsPick m.kind (whole m (x ++ more) false) at (Some at) r → IsPick m.kind (whole m (x ++ more) false) last (Some last) r
 pick-anew m x more last at r inverse some g h quiet live (Here best n) =
     let long = length-append x more in
     let earlier = best-anew m x more last at r inverse g h quiet live best in
-    Here earlier (repeat-empty Standard (starting_at (whole m (x ++ more) false) last) (Some last) r (omega arith) some earlier)
+    Here earlier (repeat-empty m.kind (starting_at (whole m (x ++ more) false) last) (Some last) r (omega arith) some earlier)
 pick-anew m x more last at r inverse some g h quiet live (Further b best rep k) =
     let long = length-append x more in
-    absurd (repeat-empty Standard (starting_at (whole m (x ++ more) false) at) (Some at) b (omega arith) some best rep)
+    absurd (repeat-empty m.kind (starting_at (whole m (x ++ more) false) at) (Some at) b (omega arith) some best rep)
 
 -- The walk goes on where nothing is live as from where it stood.
-pub goes-anew : (s : StreamProgress) → IsOwnInverse s.built.dictionary.pairing → 1 ≤ shortest s.built.dictionary.patterns → s.last ≤ s.at → s.at ≤ length (read_by s) → IsBest Standard (whole s.built.dictionary (since_last s) false) None → NothingIsLive s.built.dictionary (since_last s) → ContinuesWalk s → ContinuesWalk (record s { last = s.at })
-goes-anew s inverse some g h quiet live goes = λ more rest walk. goes more rest (back more rest walk)
+pub goes-anew : (s : StreamProgress) → IsOwnInverse s.built.dictionary.pairing → 1 ≤ shortest s.built.dictionary.patterns → s.last ≤ s.at → s.at ≤ length (read_by s) → IsBest s.built.dictionary.kind (whole s.built.dictionary (since_last s) false) None → NothingIsLive s.built.dictionary (since_last s) → ContinuesWalk s → ContinuesWalk (record s { last = s.at })
+goes-anew s inverse some g h quiet live goes = λ more rest follows walk. goes more rest follows (back more rest walk)
   where
     m : Dictionary
     m = s.built.dictionary
 
-    back : (more : List ℕ) (rest : List Occurrence) → IsWalk Standard (whole m (read_by s ++ more) false) s.at (Some s.at) rest → IsWalk Standard (whole m (read_by s ++ more) false) s.last (Some s.last) rest
+    back : (more : List ℕ) (rest : List Occurrence) → IsWalk m.kind (whole m (read_by s ++ more) false) s.at (Some s.at) rest → IsWalk m.kind (whole m (read_by s ++ more) false) s.last (Some s.last) rest
     back more [] walk = pick-anew m (read_by s) more s.last s.at None inverse some g h quiet live walk
     back more (o ∷ os) walk = (pick-anew m (read_by s) more s.last s.at (Some o) inverse some g h quiet live walk.0, walk.1)
 
@@ -143,20 +162,19 @@ end_of-push [] o = refl
 end_of-push (q ∷ []) o = refl
 end_of-push (q ∷ (p ∷ os)) o = end_of-push (p ∷ os) o
 
--- where nothing of the end of a text is live, nothing is of what stands further on
-pub nothing-later : (m : Dictionary) (x : List ℕ) (from later : ℕ) → m.kind ≡ Standard → from ≤ later → later ≤ length x → NothingIsLive m (drop from x) → NothingIsLive m (drop later x)
-nothing-later m x from later standard le within live =
-    let text = drop from x in
-    let n : from + (later - from) ≡ later = omega arith in
-    let rest : drop (later - from) text ≡ drop later x = drop-drop (later - from) from x ∙ ap (λ (k : ℕ). drop k x) n in
-    let long = length-drop from x in
-    let left = length-drop later x in (
-      alive-end m (drop later x) (inl standard),
-      λ place alive.
-          let there = (alive-shifted m text (later - from) place (omega arith) (λ leftmost. absurd (leftmost standard))).0 (subst (λ (l : List ℕ). IsAlive m false l place) (sym rest) alive) in
-          let late = live.1 (later - from + place) there in
-          omega arith,
-    )
+-- A text in which nothing begins before a place is not dead, where what stands from there on isn't.
+pub open-later : (m : Dictionary) (text : List ℕ) (from live : ℕ) → from ≤ length text → (m.kind ≢ Standard → (o : Occurrence) → Occurs (whole m text false) o → from ≤ o.start) → IsLive m false (drop from text) (Some live) → ¬ IsLive m false text None
+open-later m text from live within behind alive dead = dead (from + live) ((alive-shifted m text from live within behind).0 alive.0)
+
+-- and where nothing of it is live, nothing is of that
+pub nothing-later : (m : Dictionary) (text : List ℕ) (from live : ℕ) → from ≤ length text → (m.kind ≢ Standard → (o : Occurrence) → Occurs (whole m text false) o → from ≤ o.start) → NothingIsLive m text → IsLive m false (drop from text) (Some live) → NothingIsLive m (drop from text)
+nothing-later m text from live within behind nothing alive =
+    let there = (alive-shifted m text from live within behind).0 alive.0 in
+    let late = nothing.1 (from + live) there in
+    let long = length-drop from text in
+    let inside = alive.0.within in
+    let same : live ≡ length (drop from text) = omega arith in
+    subst (λ (n : ℕ). IsLive m false (drop from text) (Some n)) same alive
 
 -- ---- what is decided
 
@@ -165,36 +183,53 @@ all-from : {X : Type 0} (P : X → Type 0) (xs : List X) → ((x : X) → Contai
 all-from P xs h = λ k d lt. h _ (All-contains_itself xs k d lt)
 
 -- the walk of a text is its matches
-pub walk-matches : (b : Built) (x : List ℕ) (os : List Occurrence) → b.dictionary.kind ≡ Standard → IsWalk Standard (whole b.dictionary x false) 0 None os → matches_in b x ≡ os
-walk-matches b x os standard walk =
-    ap (λ (k : MatchKind). walk_of k (whole b.dictionary x false)) standard
-    ∙ sym (walk-computed Standard (whole b.dictionary x false) 0 None (omega arith) os walk)
+pub walk-matches : (b : Built) (x : List ℕ) (os : List Occurrence) → IsWalk b.dictionary.kind (whole b.dictionary x false) 0 None os → matches_in b x ≡ os
+walk-matches b x os walk = sym (walk-computed b.dictionary.kind (whole b.dictionary x false) 0 None (omega arith) os walk)
 
 -- What is still to come begins at the cut or after it.
-pub decided-from : (s : StreamProgress) → s.built.dictionary.kind ≡ Standard → s.last ≤ s.at → s.at ≤ length (read_by s) → IsBest Standard (whole s.built.dictionary (since_last s) false) None → ContinuesWalk s → IsDecided s
-decided-from s standard g h quiet goes = λ more.
+pub decided-from : (s : StreamProgress) (found : Option Occurrence) (live : ℕ) → s.last ≤ s.at → s.at ≤ length (read_by s) → IsBest s.built.dictionary.kind (whole s.built.dictionary (since_last s) false) found → (s.built.dictionary.kind ≡ Standard → found ≡ None)
+    → IsOwnInverse s.built.dictionary.pairing → IsLive s.built.dictionary false (since_last s) (Some live) → ContinuesWalk s → IsDecided s
+decided-from s found live g h told quiet inverse alive goes = λ more follows.
+    let m = s.built.dictionary in
     let y = read_by s ++ more in
     let long = length-append (read_by s) more in
-    let w = whole s.built.dictionary y false in
-    let rest = walk_after Standard w s.last (Some s.last) in
-    let walk = walk_after-walk Standard w s.last (Some s.last) (omega arith) in (
+    let w = whole m y false in
+    let rest = walk_after m.kind w s.last (Some s.last) in
+    let walk = walk_after-walk m.kind w s.last (Some s.last) (omega arith) in
+    let begins : (o : Occurrence) → Occurs (starting_at w s.last) o → cut_of s ≤ o.start = λ o occurs. ⊎_elim
+    (λ (standard : m.kind ≡ Standard). begins-behind m (read_by s) more s.last s.at o g h (subst (λ (r : Option Occurrence). IsBest m.kind (whole m (since_last s) false) r) (quiet standard) told) occurs)
+    (λ (leftmost : m.kind ≢ Standard). begins-live m (read_by s) more s.last s.at live o inverse leftmost g h alive occurs)
+    (kind_cases m.kind) in (
       rest,
-      walk-matches s.built y (s.given ++ rest) standard (goes more rest walk),
-      all-from (λ o. cut_of s ≤ o.start) rest (λ o in_. begins-behind s.built.dictionary (read_by s) more s.last s.at o g h quiet (walk-occurs Standard w s.last (Some s.last) rest o refl walk in_)),
+      walk-matches s.built y (s.given ++ rest) (goes more rest follows walk),
+      all-from (λ o. cut_of s ≤ o.start) rest (λ o in_. begins o (walk-occurs m.kind w s.last (Some s.last) rest o refl walk in_)),
     )
 
 -- one more match goes on
-pub goes-match : (s : StreamProgress) (o : Occurrence) (looked : ℕ) → ContinuesWalk s → ((more : List ℕ) → IsPick Standard (whole s.built.dictionary (read_by s ++ more) false) s.last (Some s.last) (Some o)) → ContinuesWalk (record s { given = s.given ++ o ∷ []; at = o.end; last = o.end; looked = looked })
-goes-match s o looked goes pick = λ more rest walk.
-    subst (λ (l : List Occurrence). IsWalk Standard (whole s.built.dictionary (read_by s ++ more) false) 0 None l) (sym (append_assoc s.given (o ∷ []) rest)) (goes more (o ∷ rest) (pick more, walk))
+pub goes-match : (s : StreamProgress) (o : Occurrence) (looked : ℕ) → ContinuesWalk s → ((more : List ℕ) → MayFollow s more → IsPick s.built.dictionary.kind (whole s.built.dictionary (read_by s ++ more) false) s.last (Some s.last) (Some o)) → ContinuesWalk (record s { given = s.given ++ o ∷ []; at = o.end; last = o.end; looked = looked })
+goes-match s o looked goes pick = λ more rest follows walk.
+    subst (λ (l : List Occurrence). IsWalk s.built.dictionary.kind (whole s.built.dictionary (read_by s ++ more) false) 0 None l) (sym (append_assoc s.given (o ∷ []) rest)) (goes more (o ∷ rest) follows (pick more follows, walk))
 
 -- where nothing is left to find, all were given
-pub all-given : (s : StreamProgress) → s.built.dictionary.kind ≡ Standard → s.last ≤ length (read_by s) → IsBest Standard (whole s.built.dictionary (slice_range (read_by s) s.last (length (read_by s))) false) None → ContinuesWalk s → s.given ≡ matches_in s.built (read_by s)
-all-given s standard h quiet goes =
+pub all-given : (s : StreamProgress) → s.last ≤ length (read_by s) → IsBest s.built.dictionary.kind (whole s.built.dictionary (slice_range (read_by s) s.last (length (read_by s))) false) None → ContinuesWalk s → s.given ≡ matches_in s.built (read_by s)
+all-given s h quiet goes =
     let none = append-nil (read_by s) in
-    let pick : IsPick Standard (whole s.built.dictionary (read_by s ++ []) false) s.last (Some s.last) None = subst (λ (l : List ℕ). IsPick Standard (whole s.built.dictionary l false) s.last (Some s.last) None) (sym none) (pick-none s.built.dictionary (read_by s) s.last h quiet) in
-    let walk = subst (λ (l : List ℕ). IsWalk Standard (whole s.built.dictionary l false) 0 None (s.given ++ [])) none (goes [] [] pick) in
-    sym (walk-matches s.built (read_by s) (s.given ++ []) standard walk ∙ append-nil s.given)
+    let kind = s.built.dictionary.kind in
+    let pick : IsPick kind (whole s.built.dictionary (read_by s ++ []) false) s.last (Some s.last) None = subst (λ (l : List ℕ). IsPick kind (whole s.built.dictionary l false) s.last (Some s.last) None) (sym none) (pick-none s.built.dictionary (read_by s) s.last h quiet) in
+    let walk = subst (λ (l : List ℕ). IsWalk kind (whole s.built.dictionary l false) 0 None (s.given ++ [])) none (goes [] [] (λ _. refl) pick) in
+    sym (walk-matches s.built (read_by s) (s.given ++ []) walk ∙ append-nil s.given)
+
+-- where one more is the next pick, not all were given
+pub not-all : (s : StreamProgress) (o : Occurrence) → ContinuesWalk s → IsPick s.built.dictionary.kind (whole s.built.dictionary (read_by s ++ []) false) s.last (Some s.last) (Some o) → ¬ (s.given ≡ matches_in s.built (read_by s))
+not-all s o goes pick all =
+    let m = s.built.dictionary in
+    let w = whole m (read_by s ++ []) false in
+    let rest = walk_after m.kind w o.end (Some o.end) in
+    let walk = walk_after-walk m.kind w o.end (Some o.end) (omega arith) in
+    let is : matches_in s.built (read_by s ++ []) ≡ s.given ++ o ∷ rest = walk-matches s.built (read_by s ++ []) (s.given ++ o ∷ rest) (goes [] (o ∷ rest) (λ _. refl) (pick, walk)) in
+    let same : s.given ≡ s.given ++ o ∷ rest = all ∙ ap (matches_in s.built) (sym (append-nil (read_by s))) ∙ is in
+    let both = length-append s.given (o ∷ rest) in
+    absurd (omega (arith, ap length same))
 
 -- ---- what the lists of states say
 
@@ -222,3 +257,86 @@ none-ends_before m x last at to o standard g h inside quiet tells occurs lt =
     let split = slice_range-split x last k to (omega arith) (omega arith) in
     nothing-ends m (slice_range x last k) o standard (tells k past lt) (occurs-front m false (slice_range x last k) (slice_range x k to) o (omega arith) (subst (λ (l : List ℕ). Occurs (whole m l false) o) split occurs)) (omega arith))
     (⊎_elim (λ (past : at < k). inr past) (λ (le : k ≤ at). inl le) (cases_lt at k))
+
+-- ---- what lies between the last match and where the search began anew
+
+-- where the walk stands after some picks
+stands_after : ℕ → List Occurrence → ℕ
+stands_after at [] = at
+stands_after at (o ∷ os) = stands_after o.end os
+
+-- where the last of them ends
+stands_after-end : (at : ℕ) (o : Occurrence) (os : List Occurrence) → stands_after at (o ∷ os) ≡ end_of (o ∷ os)
+unfolding stands_after
+stands_after-end at o [] = refl
+stands_after-end at o (q ∷ os) = stands_after-end o.end q os
+
+-- at first it stands where nothing ends
+stands_after-given : (os : List Occurrence) → stands_after 0 os ≡ end_of os
+unfolding stands_after
+stands_after-given [] = refl
+stands_after-given (o ∷ os) = stands_after-end 0 o os
+
+-- the rest of a walk is the walk from there
+walk-rest : (kind : MatchKind) (w : Search) (at : ℕ) (last : Option ℕ) (given rest : List Occurrence) → IsWalk kind w at last (given ++ rest) → (before : Option ℕ) × IsWalk kind w (stands_after at given) before rest
+unfolding stands_after
+walk-rest kind w at last [] rest walk = (last, walk)
+walk-rest kind w at last (o ∷ os) rest walk = walk-rest kind w o.end (Some o.end) os rest walk.1
+
+-- the best from a place on is the first of the walk from there
+rest-best : (kind : MatchKind) (w : Search) (at : ℕ) (last : Option ℕ) (r : Option Occurrence) → w.end ≤ length w.haystack → 1 ≤ shortest w.patterns → IsPick kind w at last r → IsBest kind (starting_at w at) r
+rest-best kind w at last r inside some (Here best n) = best
+rest-best kind w at last r inside some (Further b best rep k) = absurd (repeat-empty kind (starting_at w at) last b inside some best rep)
+
+-- so under a leftmost kind nothing occurs before it
+rest-behind : (kind : MatchKind) (w : Search) (at : ℕ) (last : Option ℕ) (rest : List Occurrence) (place : ℕ) (o : Occurrence) → kind ≢ Standard → w.end ≤ length w.haystack → 1 ≤ shortest w.patterns → IsWalk kind w at last rest → AllByRecursion (λ q. place ≤ q.start) rest
+    → Occurs (starting_at w at) o → place ≤ o.start
+rest-behind kind w at last [] place o leftmost inside some walk begin occurs = absurd (rest-best kind w at last None inside some walk o occurs)
+rest-behind kind w at last (q ∷ qs) place o leftmost inside some walk begin occurs =
+    let best = rest-best kind w at last (Some q) inside some walk.0 in
+    let no_later = leftmost-no_later kind q o leftmost (best.1 o occurs) in
+    let first : place ≤ q.start = begin.0 in
+    omega arith
+
+-- Under a leftmost kind, what occurs after the last match that was given begins where the search last began anew, or later.
+pub nothing-between : (s : StreamProgress) (o : Occurrence) → IsDecided s → 1 ≤ shortest s.built.dictionary.patterns → end_of s.given ≤ length (read_by s) → s.built.dictionary.kind ≢ Standard → Occurs (whole s.built.dictionary (after_given s) false) o → s.last - end_of s.given ≤ o.start
+nothing-between s o decided some within leftmost occurs =
+    let m = s.built.dictionary in
+    let x = read_by s in
+    let w = whole m x false in
+    let more = decided [] (λ _. refl) in
+    let is : matches_in s.built x ≡ s.given ++ more.0 = ap (matches_in s.built) (sym (append-nil x)) ∙ more.1 in
+    let all = subst (IsWalk m.kind w 0 None) is (walk_of-walk m.kind w (omega arith)) in
+    let rest = walk-rest m.kind w 0 None s.given more.0 all in
+    let there = subst (λ (n : ℕ). IsWalk m.kind w n rest.0 more.0) (stands_after-given s.given) rest.1 in
+    let begin = recursion_from_All (λ (q : Occurrence). cut_of s ≤ q.start) more.0 more.2 in
+    let inner = occurs-shifted m x (end_of s.given) o within occurs in
+    let here : Occurs (starting_at w (end_of s.given)) (shifted (end_of s.given) o) = (occurs-later w (end_of s.given) (shifted (end_of s.given) o) refl (omega arith)).0 (inner, omega arith) in
+    let late = rest-behind m.kind w (end_of s.given) rest.0 more.0 (cut_of s) (shifted (end_of s.given) o) leftmost (omega arith) some there begin here in
+    omega arith
+
+-- all that comes after where the search began anew, as a part of what comes after the last match
+later-part : (s : StreamProgress) → end_of s.given ≤ s.last → drop (s.last - end_of s.given) (after_given s) ≡ slice_range (read_by s) s.last (length (read_by s))
+later-part s le =
+    let n : end_of s.given + (s.last - end_of s.given) ≡ s.last = omega arith in
+    drop-drop (s.last - end_of s.given) (end_of s.given) (read_by s) ∙ ap (λ (k : ℕ). drop k (read_by s)) n ∙ sym (take_rest (read_by s) s.last)
+
+module _ (s : StreamProgress) (live : ℕ) (decided : IsDecided s) (some : 1 ≤ shortest s.built.dictionary.patterns) (behind : end_of s.given ≤ s.last) (within : s.last ≤ length (read_by s))
+    (alive : IsLive s.built.dictionary false (slice_range (read_by s) s.last (length (read_by s))) (Some live)) where
+  -- the text from there on
+  part-alive : IsLive s.built.dictionary false (drop (s.last - end_of s.given) (after_given s)) (Some live)
+  part-alive = subst (λ (l : List ℕ). IsLive s.built.dictionary false l (Some live)) (sym (later-part s behind)) alive
+
+  inside : s.last - end_of s.given ≤ length (after_given s)
+  inside = let long = length-drop (end_of s.given) (read_by s) in omega (arith, behind, within)
+
+  between : s.built.dictionary.kind ≢ Standard → (o : Occurrence) → Occurs (whole s.built.dictionary (after_given s) false) o → s.last - end_of s.given ≤ o.start
+  between leftmost o occurs = nothing-between s o decided some (omega (arith, behind, within)) leftmost occurs
+
+  -- what comes after the last match isn't dead, where what comes after that place isn't
+  pub given-open : ¬ IsLive s.built.dictionary false (after_given s) None
+  given-open = open-later s.built.dictionary (after_given s) (s.last - end_of s.given) live inside between part-alive
+
+  -- and where nothing of it is live, nothing is of that
+  pub given-anew : NothingIsLive s.built.dictionary (after_given s) → NothingIsLive s.built.dictionary (slice_range (read_by s) s.last (length (read_by s)))
+  given-anew nothing = subst (NothingIsLive s.built.dictionary) (later-part s behind) (nothing-later s.built.dictionary (after_given s) (s.last - end_of s.given) live inside between nothing part-alive)

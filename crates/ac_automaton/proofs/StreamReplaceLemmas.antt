@@ -1,10 +1,11 @@
 -- What a replacement over a stream has read and written, from one read to the next, and at its end.
-use Rattle.std.proofs.Common.{◌≡◌, ◌≢◌, ℕ, ◌+◌, ◌-◌, ◌<◌, ◌≤◌, false, List, [], ◌∷◌, ◌++◌, length, take, drop, Option, None, Result, Ok, Err, refl, sym, ap, ◌∙◌, subst, arith, append_assoc, add-zero}
+use Rattle.std.proofs.Common.{◌≡◌, ◌≢◌, ◌⊎◌, inl, inr, Bool, true, ℕ, ◌+◌, ◌-◌, ◌<◌, ◌≤◌, false, List, [], ◌∷◌, ◌++◌, length, take, drop, Option, None, Result, Ok, Err, refl, sym, ap, ◌∙◌, subst, arith, append_assoc, add-zero}
 use Rattle.std.specs.List.{concat}
 use Rattle.std.specs.Prelude.{slice_index_or, OnOk}
 use Rattle.std.proofs.lemmas.List.{append-nil, drop-drop, length-append, take-append-le, take_all, take_rest}
 use Rattle.std.proofs.lemmas.List.Folds.{concat-append}
-use Rattle.ac_input.specs.declared.search.MatchKind.TheVariants.{Standard}
+use Rattle.ac_input.specs.declared.search.MatchKind.{MatchKind}
+use Rattle.ac_input.specs.declared.search.MatchKind.TheVariants.{Standard, LeftmostFirst, LeftmostLongest}
 use Rattle.ac_input.specs.BeginningLaws.{IsBeginning}
 use Rattle.ac_input.specs.Dictionary.{whole}
 use Rattle.ac_input.specs.Occurrence.{Occurrence, starting_at}
@@ -17,7 +18,7 @@ use Rattle.ac_automaton.specs.Automaton.{Built}
 use Rattle.ac_automaton.specs.Moved.{AllFit, AreFilled, AreWhole, HasGiven, HasMoved, HasTaken, Moved, but_last}
 use Rattle.ac_automaton.specs.Output.{Sends, Sent, Stopped}
 use Rattle.ac_automaton.specs.Replace.{LieInOrder, matches_in}
-use Rattle.ac_automaton.specs.Stream.{CanBeCounted, HasRead, IsNear, IsOnCourse, IsSearched, ReadsMore, StreamProgress, cut_of, fresh_progress, held_by, keep_of, matches_read, read_by, room_of}
+use Rattle.ac_automaton.specs.Stream.{AreAllGiven, CanBeCounted, Decides, HasRead, ReadsNothing, closed_by, may_wait, IsNear, IsOnCourse, ReadsMore, StreamProgress, cut_of, fresh_progress, held_by, keep_of, matches_read, read_by, room_of}
 use Rattle.ac_automaton.specs.StreamAnswer.{WroteToFailedWrite}
 use Rattle.ac_automaton.specs.StreamReplace.{HasReplaced, IsAtCut, IsPlaced, IsReading, IsBegun, IsReplacedFront, ReplacesStream, SendsTo, StopsSending, replaced_in, text_to}
 use Rattle.ac_automaton.specs.Watched.{IsOfWrite, pieces_of, stalls_of}
@@ -28,6 +29,9 @@ use Rattle.ac_automaton.proofs.IterLemmas.{occurs-not_empty}
 pub use Rattle.ac_automaton.proofs.MovedLemmas.{AreFilled-push, given-none, given-push, still-open, taken-none, taken-then}
 use Rattle.ac_automaton.proofs.OutputLemmas.{HasTaken-from_sent, HasTaken-from_stopped}
 use Rattle.ac_automaton.proofs.StreamCutLemmas.{matches-cut, matches-front, matches-walk}
+use Rattle.ac_automaton.proofs.SearchLemmas.{nothing-in_empty}
+use Rattle.ac_automaton.proofs.WalkEndLemmas.{none-alive}
+use Rattle.std.proofs.lemmas.Bool.{false≢true}
 use Rattle.ac_automaton.proofs.StreamSendLemmas.{cut-within, text-begins}
 use Rattle.ac_automaton.proofs.StreamTextLemmas.{replaced-grows}
 
@@ -59,19 +63,27 @@ taken-stopped contents old mid new text bytes stalls h t stalled = taken-then co
 
 -- ---- what is decided
 
+-- what was given is what is decided, where more may come
+pub decides-given : (s : StreamProgress) → IsOnCourse s → AreAllGiven s → s.closed ≡ false → Decides s.built.dictionary (read_by s) s.given
+decides-given s course all unclosed = record {
+  first = λ more. let rest = course.decided more (λ closed. absurd (false≢true (sym unclosed ∙ closed))) in (rest.0, rest.1);
+  all = λ standard. all.all (inl standard);
+  open_ = all.open_;
+}
+
 -- no more is left after the cut than may be kept
-pub near-cut : (s : StreamProgress) (at : ℕ) → IsAtCut s at → IsNear s.built.dictionary (read_by s) at
-near-cut s at place =
+pub near-cut : (s : StreamProgress) (at : ℕ) → IsAtCut s at → s.closed ≡ false → IsNear s.built.dictionary (read_by s) at
+near-cut s at place unclosed =
     let is : at ≡ cut_of s = place.cut in
     let searched : s.at ≡ length (read_by s) = place.all.searched in
-    record { kept = omega arith; all = λ done. let anew = place.all.anew done in omega arith }
+    record { kept = omega arith; all = λ done. let anew = place.all.anew (done s.given (decides-given s place.placed.course place.all unclosed)) in omega arith }
 
 -- the text up to the cut is the front of what was read, replaced
-pub front-at_cut : (b : Built) (replacements : List (List ℕ)) (s : StreamProgress) (at : ℕ) → s.built ≡ b → IsAtCut s at → IsReplacedFront b replacements (read_by s) (text_to s replacements at)
-front-at_cut b replacements s at built place =
+pub front-at_cut : (b : Built) (replacements : List (List ℕ)) (s : StreamProgress) (at : ℕ) → s.built ≡ b → IsAtCut s at → s.closed ≡ false → IsReplacedFront b replacements (read_by s) (text_to s replacements at)
+front-at_cut b replacements s at built place unclosed =
     let x = read_by s in
     let course = place.placed.course in
-    let decided = course.decided [] in
+    let decided = course.decided [] (λ _. refl) in
     let rest = decided.0 in
     let is : matches_in s.built x ≡ s.given ++ rest = ap (matches_in s.built) (sym (append-nil x)) ∙ decided.1 in
     let at_cut : at ≡ cut_of s = place.cut in
@@ -82,18 +94,19 @@ front-at_cut b replacements s at built place =
     subst (λ (c : Built). IsReplacedFront c replacements x (text_to s replacements at)) built (record {
       cut = at;
       is_cut = matches-cut s.built x at patterns s.given rest inside is place.placed.lies begin;
-      near = near-cut s at place;
-      front = ap (replaced_from 0 (take at x) replacements) (sym (matches-front s.built x at patterns s.given rest course.standard course.filled inside is place.placed.lies begin));
+      near = near-cut s at place unclosed;
+      front = ap (replaced_from 0 (take at x) replacements) (sym (matches-front s.built x at patterns s.given rest course.filled inside is place.placed.lies begin));
     })
 
 -- nothing matches in an empty text
-pub nothing-matches : (b : Built) (os : List Occurrence) → 1 ≤ shortest b.dictionary.patterns → IsWalk Standard (whole b.dictionary [] false) 0 None os → [] ≡ os
+pub nothing-matches : (b : Built) (os : List Occurrence) → 1 ≤ shortest b.dictionary.patterns → IsWalk b.dictionary.kind (whole b.dictionary [] false) 0 None os → [] ≡ os
 nothing-matches b [] some walk = refl
 nothing-matches b (o ∷ os) some walk =
     let s = whole b.dictionary [] false in
-    let found = pick-occurs Standard s 0 None o walk.0 in
+    let kind = b.dictionary.kind in
+    let found = pick-occurs kind s 0 None o walk.0 in
     let filled = occurs-not_empty (starting_at s found.0) o (omega arith) some found.2 in
-    let within : o.end ≤ 0 = (pick-within Standard s 0 None o walk.0).2 in
+    let within : o.end ≤ 0 = (pick-within kind s 0 None o walk.0).2 in
     absurd (omega arith)
 
 -- ---- what a read leaves unchanged
@@ -136,10 +149,6 @@ module _ {R : Type 0} (remaining : R → Option (List ℕ)) (s t : StreamProgres
       let last : t.last ≡ s.last = read.last in
       record { course = course; countable = countable; held = omega arith; cut = same-cut; lies = same-lies }
 
-  -- all matches were given, where the read gave nothing
-  pub given-all : piece ≡ [] → t.given ≡ matches_read t
-  given-all none = read.given ∙ place.all.all ∙ ap (λ (c : Built). matches_in c (read_by s)) (sym read.built) ∙ ap (matches_in t.built) (sym (read-same none))
-
 -- ---- from one read to the next
 
 -- no piece that was read is longer than the buffer
@@ -154,8 +163,14 @@ module _ {R W : Type 0} (remaining : R → Option (List ℕ)) (contents : W → 
     place = record {
       placed = record { course = course; countable = omega arith; held = omega arith; cut = omega arith; lies = tt };
       cut = omega arith;
-      all = record { searched = refl; all = nothing-matches b (matches_in b []) course.filled (matches-walk b [] course.standard); anew = λ done. refl };
+      all = record {
+        searched = refl;
+        all = λ each. nothing-matches b (matches_in b []) course.filled (matches-walk b []);
+        open_ = none-alive b.dictionary b.dictionary.kind [] (nothing-in_empty b.dictionary [] course.filled refl);
+        anew = λ done. refl;
+      };
     };
+    unclosed = refl;
     filled = tt;
     read = given-none remaining reader;
     written = taken-none contents writer;
@@ -172,29 +187,28 @@ module _ {R W : Type 0} (remaining : R → Option (List ℕ)) (contents : W → 
     -- the search stands after the read
     pub reading : IsOnCourse t → CanBeCounted (read_by t) → IsReading contents replacements b t at w0 w
     reading course countable =
-        let front = front-at_cut b replacements s at h.built h.place in
+        let front = front-at_cut b replacements s at h.built h.place h.unclosed in
         record {
           built = read.built ∙ h.built;
           placed = placed-after remaining s t at r r1 piece failed h.place read course countable;
-          front = subst (λ (x : List ℕ). IsReplacedFront b replacements x (text_to t replacements at)) (sym (before-last remaining s t at r r1 piece failed h.place read)) (subst (IsReplacedFront b replacements (read_by s)) (sym same-text) front);
+          front = (
+            text_to t replacements at,
+            subst (λ (x : List ℕ). IsReplacedFront b replacements x (text_to t replacements at)) (sym (before-last remaining s t at r r1 piece failed h.place read)) (subst (IsReplacedFront b replacements (read_by s)) (sym same-text) front),
+            ([], sym (append-nil (text_to t replacements at))),
+          );
           written = subst (λ (x : List ℕ). HasTaken contents w0 w x 0 0) (sym same-text) h.written;
         }
 
-    -- all matches were given, where the read gave nothing
-    pub all-given : piece ≡ [] → t.given ≡ matches_read t
-    all-given none =
-        given-all remaining s t at r r1 piece failed h.place read none
+    -- more may still come
+    pub read-unclosed : t.closed ≡ false
+    read-unclosed = read.closed ∙ h.unclosed
 
+    -- all pieces but the last were some
     pub all-whole : piece ≡ [] → AreWhole t.pieces
     all-whole none = (s.pieces, h.filled, read.pieces ∙ ap (λ (x : List ℕ). s.pieces ++ x ∷ []) none)
 
     pub all-filled : piece ≢ [] → AreFilled t.pieces
     all-filled some = subst AreFilled (sym read.pieces) (AreFilled-push s.pieces piece h.filled some)
-
-    pub all-searched : piece ≡ [] → IsSearched t
-    all-searched none =
-        let same : read_by t ≡ read_by s = read-same remaining s t at r r1 piece failed h.place read none in
-        read.at ∙ h.place.all.searched ∙ ap length (sym same)
 
     -- the read failed
     pub ends-failed_read : (error : _) → IsOnCourse t → failed ≡ 1 → piece ≡ [] → ReplacesStream remaining contents b replacements r0 r1 w0 w (Err (Read error))
@@ -204,7 +218,7 @@ module _ {R W : Type 0} (remaining : R → Option (List ℕ)) (contents : W → 
           record { reader = given-more remaining s t r0 r r1 piece failed h.read read; writer = h.written },
           pieces-fit b t (read.built ∙ h.built) course,
           record {
-            written = subst (λ (x : List ℕ). IsReplacedFront b replacements x (text_to s replacements at)) (sym same) (front-at_cut b replacements s at h.built h.place);
+            written = subst (λ (x : List ℕ). IsReplacedFront b replacements x (text_to s replacements at)) (sym same) (front-at_cut b replacements s at h.built h.place h.unclosed);
             failed = (fails, refl, refl);
           },
         )
@@ -226,15 +240,32 @@ module _ {R W : Type 0} (remaining : R → Option (List ℕ)) (contents : W → 
 
   module _ (t : StreamProgress) (at : ℕ) (r0 r1 : Watched R) (w0 w w1 : Watched W) (h : IsReading contents replacements b t at w0 w) (given : HasGiven remaining r0 r1 t.pieces 0) where
     -- all that is decided was written
-    pub replaced-more : (u : StreamProgress) (to : ℕ) → AreFilled t.pieces → SendsTo contents replacements t u at to w w1 [] [] → IsAtCut u to → HasReplaced remaining contents replacements b u to r0 r1 w0 w1
-    replaced-more u to filled sends place =
+    pub replaced-more : (u : StreamProgress) (to : ℕ) → AreFilled t.pieces → t.closed ≡ false → SendsTo contents replacements t u at to w w1 [] [] → IsAtCut u to → HasReplaced remaining contents replacements b u to r0 r1 w0 w1
+    replaced-more u to filled unclosed sends place =
         let same = sends.same in
         let sent = taken-sent contents w0 w w1 (text_to t replacements at) sends.bytes h.written sends.sent in
         record {
           built = same.built ∙ h.built;
+          unclosed = same.closed ∙ unclosed;
           place = place;
           filled = subst AreFilled (sym same.pieces) filled;
           read = subst (λ (ps : List (List ℕ)). HasGiven remaining r0 r1 ps 0) (sym same.pieces) given;
+          written = subst (λ (x : List ℕ). HasTaken contents w0 w1 x 0 0) (sym sends.text) sent;
+        }
+
+    -- what was read and written goes on to be written
+    pub reading-more : (u : StreamProgress) (to : ℕ) → SendsTo contents replacements t u at to w w1 [] [] → IsReading contents replacements b u to w0 w1
+    reading-more u to sends =
+        let same = sends.same in
+        let sent = taken-sent contents w0 w w1 (text_to t replacements at) sends.bytes h.written sends.sent in
+        let longer : IsBeginning h.front.0 (text_to u replacements to) = (
+          h.front.2.0 ++ sends.bytes,
+          sends.text ∙ ap (λ (x : List ℕ). x ++ sends.bytes) h.front.2.1 ∙ append_assoc h.front.0 h.front.2.0 sends.bytes,
+        ) in
+        record {
+          built = same.built ∙ h.built;
+          placed = sends.placed;
+          front = (h.front.0, subst (λ (ps : List (List ℕ)). IsReplacedFront b replacements (concat (but_last ps)) h.front.0) (sym same.pieces) h.front.1, longer);
           written = subst (λ (x : List ℕ). HasTaken contents w0 w1 x 0 0) (sym sends.text) sent;
         }
 
@@ -253,7 +284,7 @@ module _ {R W : Type 0} (remaining : R → Option (List ℕ)) (contents : W → 
           record { pieces = t.pieces; failed_reads = 0; taken = front ++ stopped.gained; failed_writes = 1; stalled_writes = stalls },
           record { reader = given; writer = taken-stopped contents w0 w w1 front bytes stalls stopped h.written stalled },
           pieces-fit b t h.built h.placed.course,
-          record { at_least = (front, h.front, (stopped.gained, refl)); at_most = (stopped.lost ++ begin.0, split); failed = (refl, refl, refl) },
+          record { at_least = (h.front.0, h.front.1, (h.front.2.0 ++ stopped.gained, ap (λ (x : List ℕ). x ++ stopped.gained) h.front.2.1 ∙ append_assoc h.front.0 h.front.2.0 stopped.gained)); at_most = (stopped.lost ++ begin.0, split); failed = (refl, refl, refl) },
         )
 
     -- a write failed
@@ -356,28 +387,35 @@ module _ {R W : Type 0} (remaining : R → Option (List ℕ)) (contents : W → 
   read-kept (Err Memory) read = absurd read
   read-kept (Err Position) read = read-piece read.0 0 read.1
 
-  -- nothing was read: what is left is written, or that stopped
-  pub rest-answers : (n : ℕ) (w1 : Watched W) (bytes : List ℕ) (result : Result (Unit {0}) StreamError) → IsOnCourse t → ReadsMore remaining s t r r1 (Ok n) → n ≤ 0 → bytes ≡ drop at (read_by t)
-      → Sends contents bytes w w1 [] [] result → ReplacesStream remaining contents b replacements r0 r1 w0 w1 result
-  rest-answers n w1 bytes (Ok done) course read none is sent =
-      let piece = piece-none read.0 n read.2 none in
-      let now = reading remaining contents replacements b s t at r0 r r1 w0 w read.0 0 h read.1 course read.3 in
-      let given = given-more remaining s t r0 r r1 read.0 0 h.read read.1 in
-      ends-whole remaining contents replacements b t at r0 r1 w0 w w1 now given
-      (all-whole remaining contents replacements b s t at r0 r r1 w0 w read.0 0 h read.1 piece)
-      (all-given remaining contents replacements b s t at r0 r r1 w0 w read.0 0 h read.1 piece)
-      (subst (Sent contents w w1 [] []) is sent)
-  rest-answers n w1 bytes (Err error) course read none is sent =
-      let piece = piece-none read.0 n read.2 none in
-      let now = reading remaining contents replacements b s t at r0 r r1 w0 w read.0 0 h read.1 course read.3 in
-      let given = given-more remaining s t r0 r r1 read.0 0 h.read read.1 in
-      rest-stopped remaining contents replacements b t at r0 r1 w0 w w1 now given error
-      (all-given remaining contents replacements b s t at r0 r r1 w0 w read.0 0 h read.1 piece)
-      (subst (Stopped contents w w1 []) is sent.0) sent.1
+-- a search that was told that no more comes is on its course
+-- as it was after the last read
+pub closing : {W : Type 0} (contents : W → Option (List ℕ)) (replacements : List (List ℕ)) (b : Built) (t v : StreamProgress) (at : ℕ) (w0 w : Watched W) → v ≡ closed_by t → IsOnCourse v → IsReading contents replacements b t at w0 w → IsReading contents replacements b v at w0 w
+closing contents replacements b t v at w0 w is course h = subst (λ (u : StreamProgress). IsOnCourse u → IsReading contents replacements b u at w0 w) (sym is)
+    (λ on. record {
+      built = h.built;
+      placed = record { course = on; countable = h.placed.countable; held = h.placed.held; cut = h.placed.cut; lies = h.placed.lies };
+      front = h.front;
+      written = h.written;
+    })
+    course
 
-  -- all of it was searched then
-  pub rest-searched : (n : ℕ) → ReadsMore remaining s t r r1 (Ok n) → n ≤ 0 → IsSearched t
-  rest-searched n read none = all-searched remaining contents replacements b s t at r0 r r1 w0 w read.0 0 h read.1 (piece-none read.0 n read.2 none)
+-- all that it has given then is all
+pub each-closed : (kind : MatchKind) (closed : Bool) → closed ≡ may_wait kind → (kind ≡ Standard) ⊎ (closed ≡ true)
+each-closed Standard closed is = inl refl
+each-closed LeftmostFirst closed is = inr is
+each-closed LeftmostLongest closed is = inr is
+
+pub given-closed : (t v u : StreamProgress) (at : ℕ) → v ≡ closed_by t → ReadsNothing v u → IsAtCut u at → u.given ≡ matches_read u
+given-closed t v u at is same place =
+    let built : u.built ≡ t.built = same.built ∙ ap (λ (p : StreamProgress). p.built) is in
+    let closed : u.closed ≡ may_wait u.built.dictionary.kind = same.closed ∙ ap (λ (p : StreamProgress). p.closed) is ∙ ap (λ (b : Built). may_wait b.dictionary.kind) (sym built) in
+    place.all.all (each-closed u.built.dictionary.kind u.closed closed)
+
+module _ {R W : Type 0} (remaining : R → Option (List ℕ)) (contents : W → Option (List ℕ)) (replacements : List (List ℕ)) (b : Built) (u : StreamProgress) (to : ℕ) (r0 r1 : Watched R) (w0 w : Watched W) (h : IsReading contents replacements b u to w0 w) (given : HasGiven remaining r0 r1 u.pieces 0) (whole_input : AreWhole u.pieces) (all : u.given ≡ matches_read u) where
+  -- what is left is written, or that stopped
+  pub rest-answers : (w1 : Watched W) (bytes : List ℕ) (result : Result (Unit {0}) StreamError) → bytes ≡ drop to (read_by u) → Sends contents bytes w w1 [] [] result → ReplacesStream remaining contents b replacements r0 r1 w0 w1 result
+  rest-answers w1 bytes (Ok done) is sent = ends-whole remaining contents replacements b u to r0 r1 w0 w w1 h given whole_input all (subst (Sent contents w w1 [] []) is sent)
+  rest-answers w1 bytes (Err error) is sent = rest-stopped remaining contents replacements b u to r0 r1 w0 w w1 h given error all (subst (Stopped contents w w1 []) is sent.0) sent.1
 
 -- what holds, holds where the result is a value
 pub on-ok : {P : Type 0} (result : Result (Unit {0}) StreamError) → P → OnOk result P

@@ -8,9 +8,11 @@ use Rattle.std.proofs.lemmas.List.Elements.{All-push}
 use Rattle.std.proofs.lemmas.List.Folds.{concat-append}
 use Rattle.ac_input.specs.Number.{StateID}
 use Rattle.ac_input.specs.declared.steps.Steps.{Steps}
-use Rattle.ac_input.specs.declared.search.MatchKind.TheVariants.{Standard}
+use Rattle.ac_input.specs.declared.search.MatchKind.{MatchKind}
+use Rattle.ac_input.specs.declared.search.MatchKind.TheVariants.{Standard, LeftmostFirst, LeftmostLongest}
 use Rattle.ac_input.specs.Dictionary.{IsLive, live_len, whole}
 use Rattle.ac_input.specs.Best.{IsBest}
+use Rattle.ac_input.specs.LiveLaws.{IsOwnInverse}
 use Rattle.ac_input.specs.Walk.{IsWalk}
 use Rattle.ac_input.proofs.BeginningLemmas.{slice_range-append}
 use Rattle.ac_input.specs.Occurrence.{Occurrence}
@@ -20,7 +22,7 @@ use Rattle.ac_automaton.specs.Automaton.{Built}
 use Rattle.ac_automaton.specs.Buffer.{Filled, Held, IsRollPaid, room_for, kept_for, nothing_held, rolled}
 use Rattle.ac_automaton.specs.Replace.{matches_in}
 use Rattle.ac_automaton.specs.StreamSearch.{HoldsRead, IsStreamSearch, StandsInState, since_last, SearchesOn, after_search, progress_at, some_of}
-use Rattle.ac_automaton.specs.Stream.{CanBeCounted, HasRead, IsOnCourse, cut_of, StreamProgress, fresh_progress, room_of, IsDecided, StreamCounts, read_by}
+use Rattle.ac_automaton.specs.Stream.{CanBeCounted, HasRead, IsOnCourse, cut_of, StreamProgress, fresh_progress, room_of, IsDecided, StreamCounts, read_by, read_in_all, closed_by, may_wait}
 use Rattle.ac_automaton.specs.Moved.{HasGiven}
 use Rattle.ac_automaton.specs.declared.watched.Watched.{Watched}
 use Rattle.ac_automaton.specs.declared.stream.search.Progress.{Progress}
@@ -28,8 +30,7 @@ use Rattle.ac_input.specs.declared.search.Anchored.TheVariants.{No}
 use Rattle.ac_automaton.specs.declared.stream.search.StreamSearch.TheInside.{Inside}
 use Rattle.ac_automaton.specs.declared.automaton.Automaton.{Ghosts}
 use Rattle.ac_automaton.specs.declared.stream.search.Searched.{Searched}
-use Rattle.ac_automaton.proofs.IterLemmas.{occurs-not_empty}
-use Rattle.ac_automaton.proofs.SearchLemmas.{live-empty, stands-from}
+use Rattle.ac_automaton.proofs.SearchLemmas.{live-empty, wait-standard, stands-from, nothing-in_empty, alive-none}
 use Rattle.ac_automaton.proofs.StreamLemmas.{walk-any}
 
 -- ---- counting
@@ -57,7 +58,7 @@ added-done looks fresh taken before after none done added =
 -- the matches that were given are as many of all as they are
 pub given-front : (s : StreamProgress) → IsDecided s → take (length s.given) (matches_in s.built (read_by s)) ≡ s.given
 given-front s decided =
-    let rest = decided [] in
+    let rest = decided [] (λ _. refl) in
     let all : matches_in s.built (read_by s) ≡ s.given ++ rest.0 = ap (matches_in s.built) (sym (append-nil (read_by s))) ∙ rest.1 in
     ap (take (length s.given)) all ∙ take-append_seam s.given rest.0
 
@@ -67,11 +68,12 @@ given-front s decided =
 pub next-view : (b : Built) (pieces : List (List ℕ)) (count : ℕ) (p : Progress) (buffer : Held) (sums : Steps) (r : Searched) (looks : ℕ) (more : Steps) (number : ℕ)
     → length (take count (matches_in b (concat pieces))) ≡ count
     → IsDecided (after_search (progress_at b pieces count p buffer sums) r looks)
+    → r.progress.closed ≡ p.closed
     → r.progress.from ≡ p.from
     → number ≡ count + length (some_of r.found)
     → Done looks 0 0 sums more
     → progress_at b pieces number r.progress buffer more ≡ after_search (progress_at b pieces count p buffer sums) r looks
-next-view b pieces count p buffer sums r looks more number is decided from numbered done =
+next-view b pieces count p buffer sums r looks more number is decided closed from numbered done =
     let given : List Occurrence = take count (matches_in b (concat pieces)) in
     let long : number ≡ length (given ++ some_of r.found) = let both = length-append given (some_of r.found) in omega arith in
     let front : take number (matches_in b (concat pieces)) ≡ given ++ some_of r.found = ap (λ (n : ℕ). take n (matches_in b (concat pieces))) long ∙ given-front (after_search (progress_at b pieces count p buffer sums) r looks) decided in
@@ -79,6 +81,7 @@ next-view b pieces count p buffer sums r looks more number is decided from numbe
     λ i. record {
       built = b;
       pieces = pieces;
+      closed = closed i;
       given = front i;
       from = from i;
       at = r.progress.at;
@@ -89,9 +92,9 @@ next-view b pieces count p buffer sums r looks more number is decided from numbe
     }
 
 -- what it keeps then is right
-pub next-stream : (Reaches : List ℕ → StateID → Type 0) (s : StreamProgress) (start sid : StateID) (count : ℕ) (buffer : Held) (over : Bool) (r : Searched) (x y : Steps) (number : ℕ)
-    → IsStreamSearch Reaches s start sid count buffer over → (on : SearchesOn Reaches s start r x y) → number ≡ count + length (some_of r.found) → IsStreamSearch Reaches (after_search s r on.looks) start r.progress.sid number buffer over
-next-stream Reaches s start sid count buffer over r x y number is on numbered = record {
+pub next-stream : (Reaches : List ℕ → StateID → Type 0) (s : StreamProgress) (start sid : StateID) (best : Option Occurrence) (count : ℕ) (buffer : Held) (over : Bool) (r : Searched) (x y : Steps) (number : ℕ)
+    → IsStreamSearch Reaches s start sid best count buffer over → (on : SearchesOn Reaches s start r x y) → number ≡ count + length (some_of r.found) → IsStreamSearch Reaches (after_search s r on.looks) start r.progress.sid r.progress.best number buffer over
+next-stream Reaches s start sid best count buffer over r x y number is on numbered = record {
   stands = on.stands;
   number = let both = length-append s.given (some_of r.found) in let n = is.number in omega arith;
   holds = record { bytes = is.holds.bytes; keep = is.holds.keep; read = is.holds.read; moved = is.holds.moved; paid = is.holds.paid };
@@ -106,20 +109,23 @@ next-counts s r looks fresh taken before after none done added = (looks, 0, 0, a
 -- ---- at first
 
 -- a search that has read nothing stands in the start state
-fresh-stands : (b : Built) (Reaches : List ℕ → StateID → Type 0) (start : StateID) → b.dictionary.kind ≡ Standard → 1 ≤ shortest b.dictionary.patterns → Reaches [] start → ((live : Option ℕ) × IsLive b.dictionary false [] live) → StandsInState Reaches (fresh_progress b) start start
-fresh-stands b Reaches start standard filled begins live =
-    stands-from Reaches (fresh_progress b) start start standard filled (omega arith) (omega arith) (omega arith) (omega arith) (omega arith) (omega arith) (λ k d lt. absurd (omega arith)) refl (omega arith) begins begins
-    (λ o h. let w = h.within in let lt = occurs-not_empty (whole b.dictionary [] false) o (omega arith) filled h in absurd (omega arith))
-    (λ more rest walk. walk-any Standard (whole b.dictionary more false) 0 (Some 0) None rest (omega arith) filled walk)
-    (λ one is. let none = live-empty [] 0 one in (omega arith, omega arith, λ d. refl))
-    live.0 live.1
+fresh-stands : (b : Built) (Reaches : List ℕ → StateID → Type 0) (start : StateID) → 1 ≤ shortest b.dictionary.patterns → Reaches [] start → IsOwnInverse b.dictionary.pairing → ((live : Option ℕ) × IsLive b.dictionary false [] live) → StandsInState Reaches (fresh_progress b) start start None
+fresh-stands b Reaches start filled begins inverse live =
+    let nothing = nothing-in_empty b.dictionary [] filled refl in
+    let alive = alive-none b.dictionary [] live.0 nothing live.1 in
+    let kind = b.dictionary.kind in
+    stands-from Reaches (fresh_progress b) start start None None alive.0 (λ standard. refl) filled (omega arith) (omega arith) (omega arith) (omega arith) (omega arith) (omega arith) (λ k d lt. absurd (omega arith)) refl (omega arith) begins begins
+    refl nothing (λ standard. refl) inverse alive.1
+    (λ more rest follows walk. walk-any kind (whole b.dictionary more false) 0 (Some 0) None rest (omega arith) filled walk)
+    (λ one is. let none = live-empty [] 0 one in (omega arith, omega arith, λ d. omega arith))
 
 -- how far it has come, from what it keeps
 pub fresh-view : (b : Built) (pieces : List (List ℕ)) (count : ℕ) (start : StateID) (n : ℕ) (buffer : Held) (sums : Steps) → pieces ≡ [] → count ≡ 0 → buffer ≡ nothing_held (kept_for n) → AreNone sums
-    → progress_at b pieces count (record { sid = start; from = 0; at = 0; last = 0 }) buffer sums ≡ fresh_progress b
+    → progress_at b pieces count (record { sid = start; from = 0; at = 0; last = 0; best = None; closed = false }) buffer sums ≡ fresh_progress b
 fresh-view b pieces count start n buffer sums none zero_given empty no_sums = λ i. record {
   built = b;
   pieces = none i;
+  closed = false;
   given = take (zero_given i) (matches_in b (concat (none i)));
   from = 0;
   at = 0;
@@ -130,10 +136,10 @@ fresh-view b pieces count start n buffer sums none zero_given empty no_sums = λ
 }
 
 -- and what it keeps is right
-pub fresh-right : (b : Built) (Reaches : List ℕ → StateID → Type 0) (start : StateID) (n count : ℕ) (buffer : Held) → (b.dictionary.kind ≡ Standard) → 1 ≤ shortest b.dictionary.patterns → Reaches [] start → ((live : Option ℕ) × IsLive b.dictionary false [] live)
-    → n ≡ longest b.dictionary.patterns → count ≡ 0 → buffer ≡ nothing_held (kept_for n) → IsRollPaid buffer → IsStreamSearch Reaches (fresh_progress b) start start count buffer false
-fresh-right b Reaches start n count buffer standard filled begins live long none empty paid = record {
-  stands = fresh-stands b Reaches start standard filled begins live;
+pub fresh-right : (b : Built) (Reaches : List ℕ → StateID → Type 0) (start : StateID) (n count : ℕ) (buffer : Held) → 1 ≤ shortest b.dictionary.patterns → Reaches [] start → IsOwnInverse b.dictionary.pairing → ((live : Option ℕ) × IsLive b.dictionary false [] live)
+    → n ≡ longest b.dictionary.patterns → count ≡ 0 → buffer ≡ nothing_held (kept_for n) → IsRollPaid buffer → IsStreamSearch Reaches (fresh_progress b) start start None count buffer false
+fresh-right b Reaches start n count buffer filled begins inverse live long none empty paid = record {
+  stands = fresh-stands b Reaches start filled begins inverse live;
   number = sym none;
   holds = record {
     bytes = ap (λ (h : Held). h.bytes) empty;
@@ -144,6 +150,54 @@ fresh-right b Reaches start n count buffer standard filled begins live long none
   };
   countable = λ e. omega arith;
   uncountable = λ e. absurd (false≢true e);
+}
+
+-- ---- the end of the input
+
+-- where one kind may wait, and is told so, no more comes
+wait-follows : (kind : MatchKind) (closed : Bool) (more : List ℕ) → (kind ≡ Standard → closed ≡ false) → (may_wait kind ≡ true → more ≡ []) → closed ≡ true → more ≡ []
+wait-follows Standard closed more none follows is = absurd (false≢true (sym (none refl) ∙ is))
+wait-follows LeftmostFirst closed more none follows is = follows refl
+wait-follows LeftmostLongest closed more none follows is = follows refl
+
+-- a search that is told that nothing more comes stands where it stood
+closed-stands : (Reaches : List ℕ → StateID → Type 0) (s : StreamProgress) (start sid : StateID) (best : Option Occurrence) → StandsInState Reaches s start sid best → StandsInState Reaches (closed_by s) start sid best
+closed-stands Reaches s start sid best stands =
+    let course = stands.course in
+    let kind = s.built.dictionary.kind in
+    record {
+      course = record {
+        unclosed = λ standard. wait-standard kind standard;
+        filled = course.filled;
+        ordered = course.ordered;
+        kept = course.kept;
+        short = course.short;
+        begun = course.begun;
+        ended = course.ended;
+        decided = λ more follows. course.decided more (wait-follows kind s.closed more course.unclosed follows);
+        paid = record { some = course.paid.some; looked = course.paid.looked; scanned = course.paid.scanned; moved = course.paid.moved };
+      };
+      begins = stands.begins;
+      reads = stands.reads;
+      found = stands.found;
+      kept = stands.kept;
+      told = stands.told;
+      quiet = stands.quiet;
+      inverse = stands.inverse;
+      live = stands.live;
+      alive = stands.alive;
+      goes = λ more rest follows walk. stands.goes more rest (wait-follows kind s.closed more course.unclosed follows) walk;
+      lookups = stands.lookups;
+    }
+
+-- and what it keeps is right
+pub closed-right : (Reaches : List ℕ → StateID → Type 0) (s : StreamProgress) (start sid : StateID) (best : Option Occurrence) (count : ℕ) (buffer : Held) (over : Bool) → IsStreamSearch Reaches s start sid best count buffer over → IsStreamSearch Reaches (closed_by s) start sid best count buffer over
+closed-right Reaches s start sid best count buffer over is = record {
+  stands = closed-stands Reaches s start sid best is.stands;
+  number = is.number;
+  holds = record { bytes = is.holds.bytes; keep = is.holds.keep; read = is.holds.read; moved = is.holds.moved; paid = is.holds.paid };
+  countable = is.countable;
+  uncountable = is.uncountable;
 }
 
 -- ---- a read
@@ -169,8 +223,8 @@ read-on : (s : StreamProgress) (piece more : List ℕ) → read_by (after_read s
 read-on s piece more = ap (λ (l : List ℕ). l ++ more) (read-more s piece) ∙ append_assoc (read_by s) piece more
 
 -- it stands where it stood
-read-stands : (Reaches : List ℕ → StateID → Type 0) (s : StreamProgress) (start sid : StateID) (piece : List ℕ) → StandsInState Reaches s start sid → ((live : Option ℕ) × IsLive s.built.dictionary false (since_last s) live) → length (read_by s ++ piece) ≤ s.from + room_of s.built → length piece ≤ room_of s.built → StandsInState Reaches (after_read s piece) start sid
-read-stands Reaches s start sid piece is live fits short =
+read-stands : (Reaches : List ℕ → StateID → Type 0) (s : StreamProgress) (start sid : StateID) (best : Option Occurrence) (piece : List ℕ) → StandsInState Reaches s start sid best → s.closed ≡ false → length (read_by s ++ piece) ≤ s.from + room_of s.built → length piece ≤ room_of s.built → StandsInState Reaches (after_read s piece) start sid best
+read-stands Reaches s start sid best piece is open_ fits short =
     let m = s.built.dictionary in
     let t = after_read s piece in
     let more = read-more s piece in
@@ -181,17 +235,19 @@ read-stands Reaches s start sid piece is live fits short =
     let moved = course.paid.moved in
     let kept = course.kept in
     let same : since_last t ≡ since_last s = ap (λ (l : List ℕ). slice_range l s.last s.at) more ∙ slice_range-append (read_by s) piece s.last s.at ordered.0 ordered.1 in
-    stands-from Reaches t start sid course.standard course.filled ordered.0 (omega (arith, ordered.1)) course.ended kept.0 kept.1 (omega arith) (All-push (λ l. length l ≤ room_of s.built) s.pieces piece course.short short) course.paid.scanned (omega arith) is.begins
+    stands-from Reaches t start sid best is.found is.live course.unclosed course.filled ordered.0 (omega (arith, ordered.1)) course.ended kept.0 kept.1 (omega arith) (All-push (λ l. length l ≤ room_of s.built) s.pieces piece course.short short) course.paid.scanned (omega arith) is.begins
     (subst (λ (l : List ℕ). Reaches l sid) (sym same) is.reads)
-    (subst (λ (l : List ℕ). IsBest Standard (whole m l false) None) (sym same) is.quiet)
-    (λ after rest walk.
+    is.kept
+    (subst (λ (l : List ℕ). IsBest m.kind (whole m l false) is.found) (sym same) is.told)
+    is.quiet is.inverse
+    (subst (λ (l : List ℕ). IsLive m false l (Some is.live)) (sym same) is.alive)
+    (λ after rest follows walk.
     let e = read-on s piece after in
-    subst (λ (l : List ℕ). IsWalk Standard (whole m l false) 0 None (s.given ++ rest)) (sym e)
-    (is.goes (piece ++ after) rest (subst (λ (l : List ℕ). IsWalk Standard (whole m l false) s.last (Some s.last) rest) e walk)))
+    subst (λ (l : List ℕ). IsWalk m.kind (whole m l false) 0 None (s.given ++ rest)) (sym e)
+    (is.goes (piece ++ after) rest (λ closed. absurd (false≢true (sym open_ ∙ closed))) (subst (λ (l : List ℕ). IsWalk m.kind (whole m l false) s.last (Some s.last) rest) e walk)))
     (λ one alive.
-    subst (λ (l : List ℕ). (s.looked + live_len l one ≤ 2 * s.at) × (s.at ≤ s.looked) × (IsTrue s.built.deterministic → s.looked ≡ s.at)) (sym same)
+    subst (λ (l : List ℕ). (s.looked + live_len l one ≤ 2 * read_in_all s) × (s.at ≤ s.looked) × (IsTrue s.built.deterministic → s.looked ≤ read_in_all s)) (sym same)
     (is.lookups one (subst (λ (l : List ℕ). IsLive m false l one) same alive)))
-    live.0 (subst (λ (l : List ℕ). IsLive m false l live.0) (sym same) live.1)
 
 -- how many bytes are held then
 grown-long : (s : StreamProgress) (old new : Held) (piece : List ℕ) → IsOnCourse s → HoldsRead s old → IsGrown old new piece → length new.bytes + s.from ≡ length (read_by s ++ piece)
@@ -223,10 +279,10 @@ piece-short s old new piece course holds grown =
     omega arith
 
 -- the bytes before the cut are held no longer
-pub roll-right : (Reaches : List ℕ → StateID → Type 0) (s : StreamProgress) (start sid : StateID) (count : ℕ) (old new : Held) (over : Bool) (cut : ℕ)
-    → IsStreamSearch Reaches s start sid count old over → cut ≡ cut_of s → new ≡ rolled old (cut - s.from) → IsRollPaid new
-    → IsStreamSearch Reaches (record s { from = cut; moved = new.moved }) start sid count new over
-roll-right Reaches s start sid count old new over cut is at moves paid =
+pub roll-right : (Reaches : List ℕ → StateID → Type 0) (s : StreamProgress) (start sid : StateID) (best : Option Occurrence) (count : ℕ) (old new : Held) (over : Bool) (cut : ℕ)
+    → IsStreamSearch Reaches s start sid best count old over → cut ≡ cut_of s → new ≡ rolled old (cut - s.from) → IsRollPaid new
+    → IsStreamSearch Reaches (record s { from = cut; moved = new.moved }) start sid best count new over
+roll-right Reaches s start sid best count old new over cut is at moves paid =
     let stands = is.stands in
     let course = stands.course in
     let before = course.kept.0 in
@@ -239,7 +295,7 @@ roll-right Reaches s start sid count old new over cut is at moves paid =
     record {
       stands = record {
         course = record {
-          standard = course.standard;
+          unclosed = course.unclosed;
           filled = course.filled;
           ordered = ordered;
           kept = (omega (arith, at), omega (arith, at, ordered.0), omega (arith, room, before, at));
@@ -251,7 +307,13 @@ roll-right Reaches s start sid count old new over cut is at moves paid =
         };
         begins = stands.begins;
         reads = stands.reads;
+        found = stands.found;
+        kept = stands.kept;
+        told = stands.told;
         quiet = stands.quiet;
+        inverse = stands.inverse;
+        live = stands.live;
+        alive = stands.alive;
         goes = stands.goes;
         lookups = stands.lookups;
       };
@@ -268,19 +330,19 @@ roll-right Reaches s start sid count old new over cut is at moves paid =
     }
 
 -- What a search keeps after a read is right; over says whether there are more bytes than places.
-pub read-right : (Reaches : List ℕ → StateID → Type 0) (s : StreamProgress) (start sid : StateID) (count : ℕ) (old new : Held) (was over : Bool) (piece : List ℕ)
-    → IsStreamSearch Reaches s start sid count old was → IsGrown old new piece
-    → ((live : Option ℕ) × IsLive s.built.dictionary false (since_last s) live)
+pub read-right : (Reaches : List ℕ → StateID → Type 0) (s : StreamProgress) (start sid : StateID) (best : Option Occurrence) (count : ℕ) (old new : Held) (was over : Bool) (piece : List ℕ)
+    → IsStreamSearch Reaches s start sid best count old was → IsGrown old new piece
+    → s.closed ≡ false
     → (over ≡ false → CanBeCounted (read_by s ++ piece)) → (over ≡ true → ¬ CanBeCounted (read_by s ++ piece))
-    → IsStreamSearch Reaches (after_read s piece) start sid count new over
-read-right Reaches s start sid count old new was over piece is grown live few many =
+    → IsStreamSearch Reaches (after_read s piece) start sid best count new over
+read-right Reaches s start sid best count old new was over piece is grown open_ few many =
     let more = read-more s piece in
     let course = is.stands.course in
     let behind = course.kept.1 in
     let inside = course.ordered.1 in
     let le : s.from ≤ length (read_by s) = omega arith in
     record {
-      stands = read-stands Reaches s start sid piece is.stands live (grown-fits s old new piece course is.holds grown) (piece-short s old new piece course is.holds grown);
+      stands = read-stands Reaches s start sid best piece is.stands open_ (grown-fits s old new piece course is.holds grown) (piece-short s old new piece course is.holds grown);
       number = is.number;
       holds = record {
         bytes = grown.bytes ∙ ap (λ (l : List ℕ). l ++ piece) is.holds.bytes ∙ sym (drop-append-le s.from (read_by s) piece le) ∙ ap (drop s.from) (sym more);
@@ -297,17 +359,19 @@ read-right Reaches s start sid count old new was over piece is grown live few ma
 pub read-view : (b : Built) (pieces after : List (List ℕ)) (count : ℕ) (p : Progress) (old new : Held) (sums : Steps) (piece : List ℕ)
     → length (take count (matches_in b (concat pieces))) ≡ count
     → IsDecided (progress_at b pieces count p old sums)
+    → p.closed ≡ false
     → IsGrown old new piece
     → after ≡ pieces ++ piece ∷ []
     → progress_at b after count p new sums ≡ after_read (progress_at b pieces count p old sums) piece
-read-view b pieces after count p old new sums piece number decided grown is =
+read-view b pieces after count p old new sums piece number decided open_ grown is =
     let s : StreamProgress = progress_at b pieces count p old sums in
-    let rest = decided piece in
+    let rest = decided piece (λ closed. absurd (false≢true (sym open_ ∙ closed))) in
     let all : matches_in b (concat after) ≡ s.given ++ rest.0 = ap (λ (l : List (List ℕ)). matches_in b (concat l)) is ∙ ap (matches_in b) (read-more s piece) ∙ rest.1 in
     let front : take count (matches_in b (concat after)) ≡ s.given = ap (take count) all ∙ ap (λ (n : ℕ). take n (s.given ++ rest.0)) (sym number) ∙ take-append_seam s.given rest.0 in
     λ i. record {
       built = b;
       pieces = is i;
+      closed = p.closed;
       given = front i;
       from = p.from;
       at = p.at;
@@ -332,13 +396,13 @@ piece-behind held front piece n is long =
 
 -- After a read that failed: what is kept is right, the read gave an empty piece, and the search is on its course.
 read-failed : {R : Type 0} (remaining : R → Option (List ℕ)) (before after : Watched R) (b : Built) (Reaches : List ℕ → StateID → Type 0) (start : StateID) (pieces all : List (List ℕ)) (count : ℕ) (p : Progress) (old new : Held) (sums : Steps) (over : Bool)
-    → IsStreamSearch Reaches (progress_at b pieces count p old sums) start p.sid count old over
-    → ((live : Option ℕ) × IsLive b.dictionary false (since_last (progress_at b pieces count p old sums)) live)
+    → IsStreamSearch Reaches (progress_at b pieces count p old sums) start p.sid p.best count old over
+    → p.closed ≡ false
     → new ≡ old → IsRollPaid new → all ≡ pieces ++ [] ∷ []
     → HasGiven remaining before after ([] ∷ []) 1
-    → IsStreamSearch Reaches (progress_at b all count p new sums) start p.sid count new over
+    → IsStreamSearch Reaches (progress_at b all count p new sums) start p.sid p.best count new over
     × HasRead remaining (progress_at b pieces count p old sums) (progress_at b all count p new sums) before after [] 1
-read-failed {R} remaining before after b Reaches start pieces all count p old new sums over is live same paid more failed =
+read-failed {R} remaining before after b Reaches start pieces all count p old new sums over is open_ same paid more failed =
     let s : StreamProgress = progress_at b pieces count p old sums in
     let grown : IsGrown old new [] = record {
       bytes = ap (λ (h : Held). h.bytes) same ∙ sym (append-nil old.bytes);
@@ -347,15 +411,16 @@ read-failed {R} remaining before after b Reaches start pieces all count p old ne
       moved = ap (λ (h : Held). h.moved) same;
       paid = paid;
     } in
-    let view = read-view b pieces all count p old new sums [] is.number is.stands.course.decided grown more in
+    let view = read-view b pieces all count p old new sums [] is.number is.stands.course.decided open_ grown more in
     let none = append-nil (read_by s) in (
-      subst (λ (t : StreamProgress). IsStreamSearch Reaches t start p.sid count new over) (sym view)
-          (read-right Reaches s start p.sid count old new over over [] is grown live
+      subst (λ (t : StreamProgress). IsStreamSearch Reaches t start p.sid p.best count new over) (sym view)
+          (read-right Reaches s start p.sid p.best count old new over over [] is grown open_
           (λ e. subst CanBeCounted (sym none) (is.countable e)) (λ e. subst (λ (l : List ℕ). ¬ CanBeCounted l) (sym none) (is.uncountable e))),
       subst (λ (t : StreamProgress). HasRead remaining s t before after [] 1) (sym view)
           (record {
             built = refl;
             pieces = refl;
+            closed = refl;
             given = refl;
             at = refl;
             last = refl;
@@ -367,14 +432,14 @@ read-failed {R} remaining before after b Reaches start pieces all count p old ne
 
 -- After a read that gave some bytes: what is kept is right, and the read gave this piece.
 read-gave : {R : Type 0} (remaining : R → Option (List ℕ)) (before after : Watched R) (b : Built) (Reaches : List ℕ → StateID → Type 0) (start : StateID) (pieces all : List (List ℕ)) (count : ℕ) (p : Progress) (old new : Held) (sums : Steps) (was : Bool) (n : ℕ) (held : List ℕ)
-    → IsStreamSearch Reaches (progress_at b pieces count p old sums) start p.sid count old was
-    → ((live : Option ℕ) × IsLive b.dictionary false (since_last (progress_at b pieces count p old sums)) live)
+    → IsStreamSearch Reaches (progress_at b pieces count p old sums) start p.sid p.best count old was
+    → p.closed ≡ false
     → (filled : Filled remaining old new before after n) → IsRollPaid new
     → held ≡ new.bytes → all ≡ pieces ++ drop (length held - n) held ∷ []
     → p.from ≤ 18446744073709551615
-    → IsStreamSearch Reaches (progress_at b all count p new sums) start p.sid count new (nat_lt (18446744073709551615 - p.from) (length held))
+    → IsStreamSearch Reaches (progress_at b all count p new sums) start p.sid p.best count new (nat_lt (18446744073709551615 - p.from) (length held))
     × HasRead remaining (progress_at b pieces count p old sums) (progress_at b all count p new sums) before after filled.piece 0
-read-gave {R} remaining before after b Reaches start pieces all count p old new sums was n held is live filled paid holds more fits =
+read-gave {R} remaining before after b Reaches start pieces all count p old new sums was n held is open_ filled paid holds more fits =
     let s : StreamProgress = progress_at b pieces count p old sums in
     let piece : List ℕ = filled.piece in
     let grown : IsGrown old new piece = record {
@@ -387,15 +452,16 @@ read-gave {R} remaining before after b Reaches start pieces all count p old new 
     let course = is.stands.course in
     let last = piece-behind held old.bytes piece n (holds ∙ grown.bytes) filled.count in
     let joined : all ≡ pieces ++ piece ∷ [] = more ∙ ap (λ (l : List ℕ). pieces ++ l ∷ []) last in
-    let view = read-view b pieces all count p old new sums piece is.number course.decided grown joined in
+    let view = read-view b pieces all count p old new sums piece is.number course.decided open_ grown joined in
     let long : length held + p.from ≡ length (read_by s ++ piece) = ap (λ (l : List ℕ). length l + p.from) holds ∙ grown-long s old new piece course is.holds grown in
     let test = over-test p.from (length held) (length (read_by s ++ piece)) fits long in
-    let right = read-right Reaches s start p.sid count old new was (nat_lt (18446744073709551615 - p.from) (length held)) piece is grown live test.0 test.1 in (
-      subst (λ (t : StreamProgress). IsStreamSearch Reaches t start p.sid count new (nat_lt (18446744073709551615 - p.from) (length held))) (sym view) right,
+    let right = read-right Reaches s start p.sid p.best count old new was (nat_lt (18446744073709551615 - p.from) (length held)) piece is grown open_ test.0 test.1 in (
+      subst (λ (t : StreamProgress). IsStreamSearch Reaches t start p.sid p.best count new (nat_lt (18446744073709551615 - p.from) (length held))) (sym view) right,
       subst (λ (t : StreamProgress). HasRead remaining s t before after piece 0) (sym view)
           (record {
             built = refl;
             pieces = refl;
+            closed = refl;
             given = refl;
             at = refl;
             last = refl;
@@ -411,10 +477,6 @@ read-gave {R} remaining before after b Reaches start pieces all count p old new 
 abbrev pub come_by : {S : Type 0} → Ghosts S → Inside S → StreamProgress
 come_by A i = progress_at (A.built i.automaton.now) i.pieces.items i.given.value i.progress i.buffer i.sums
 
--- what is live is known of each text that reaches a state
-abbrev pub KnowsLive : {S : Type 0} → Ghosts S → S → Type 0
-KnowsLive A a = (text : List ℕ) (state : StateID) → A.Reaches a No text state → (live : Option ℕ) × IsLive (A.built a).dictionary false text live
-
 module _ {S R : Type 0} (A : Ghosts S) (remaining : R → Option (List ℕ)) (i : Inside S) (before after : Watched R) (all : List (List ℕ)) (new : Held) where
   -- where the search stands after a read
   abbrev pub filled_by : StreamProgress
@@ -422,26 +484,24 @@ module _ {S R : Type 0} (A : Ghosts S) (remaining : R → Option (List ℕ)) (i 
 
   -- After a read: what is kept is right, and the read gave this piece.
   pub record HasFilled (over : Bool) (piece : List ℕ) (errors : ℕ) : Type 0 where
-    pub right : IsStreamSearch (A.Reaches i.automaton.now No) filled_by i.start i.progress.sid i.given.value new over
+    pub right : IsStreamSearch (A.Reaches i.automaton.now No) filled_by i.start i.progress.sid i.progress.best i.given.value new over
     pub read : HasRead remaining (come_by A i) filled_by before after piece errors
 
 -- a read that failed
 pub fill-failed : {S R : Type 0} (A : Ghosts S) (remaining : R → Option (List ℕ)) (i : Inside S) (before after : Watched R) (all : List (List ℕ)) (new : Held)
-    → IsStreamSearch (A.Reaches i.automaton.now No) (come_by A i) i.start i.progress.sid i.given.value i.buffer i.over → KnowsLive A i.automaton.now
+    → IsStreamSearch (A.Reaches i.automaton.now No) (come_by A i) i.start i.progress.sid i.progress.best i.given.value i.buffer i.over → i.progress.closed ≡ false
     → new ≡ i.buffer → IsRollPaid new → all ≡ i.pieces.items ++ [] ∷ [] → HasGiven remaining before after ([] ∷ []) 1 → HasFilled A remaining i before after all new i.over [] 1
-fill-failed A remaining i before after all new is lives same paid more failed =
+fill-failed A remaining i before after all new is open_ same paid more failed =
     let a = i.automaton.now in
-    let r = read-failed remaining before after (A.built a) (A.Reaches a No) i.start i.pieces.items all i.given.value i.progress i.buffer new i.sums i.over is
-    (lives (since_last (come_by A i)) i.progress.sid is.stands.reads) same paid more failed in
+    let r = read-failed remaining before after (A.built a) (A.Reaches a No) i.start i.pieces.items all i.given.value i.progress i.buffer new i.sums i.over is open_ same paid more failed in
     record { right = r.0; read = r.1 }
 
 -- a read that gave some bytes
 pub fill-gave : {S R : Type 0} (A : Ghosts S) (remaining : R → Option (List ℕ)) (i : Inside S) (before after : Watched R) (all : List (List ℕ)) (new : Held) (n : ℕ) (held : List ℕ)
-    → IsStreamSearch (A.Reaches i.automaton.now No) (come_by A i) i.start i.progress.sid i.given.value i.buffer i.over → KnowsLive A i.automaton.now
+    → IsStreamSearch (A.Reaches i.automaton.now No) (come_by A i) i.start i.progress.sid i.progress.best i.given.value i.buffer i.over → i.progress.closed ≡ false
     → (gave : Filled remaining i.buffer new before after n) → IsRollPaid new → held ≡ new.bytes → all ≡ i.pieces.items ++ drop (length held - n) held ∷ [] → i.progress.from ≤ 18446744073709551615
     → HasFilled A remaining i before after all new (nat_lt (18446744073709551615 - i.progress.from) (length held)) gave.piece 0
-fill-gave A remaining i before after all new n held is lives gave paid holds more fits =
+fill-gave A remaining i before after all new n held is open_ gave paid holds more fits =
     let a = i.automaton.now in
-    let r = read-gave remaining before after (A.built a) (A.Reaches a No) i.start i.pieces.items all i.given.value i.progress i.buffer new i.sums i.over n held is
-    (lives (since_last (come_by A i)) i.progress.sid is.stands.reads) gave paid holds more fits in
+    let r = read-gave remaining before after (A.built a) (A.Reaches a No) i.start i.pieces.items all i.given.value i.progress i.buffer new i.sums i.over n held is open_ gave paid holds more fits in
     record { right = r.0; read = r.1 }

@@ -3,6 +3,7 @@ use Rattle.std.proofs.Common.{◌≡◌, ℕ, ◌+◌, ◌-◌, ◌<◌, ◌≤�
 use Rattle.std.specs.List.{All, AllByRecursion, concat}
 use Rattle.std.proofs.lemmas.List.{append-nil, append_cancel_left, drop-drop, get_or-map}
 use Rattle.std.proofs.lemmas.List.Elements.{recursion_from_All}
+use Rattle.ac_input.specs.declared.search.MatchKind.TheVariants.{Standard}
 use Rattle.ac_input.specs.Dictionary.{Dictionary}
 use Rattle.ac_input.specs.Occurrence.{Occurrence}
 use Rattle.ac_input.specs.BeginningLaws.{IsBeginning}
@@ -50,8 +51,8 @@ next-begins all given rest others o cut one two begin =
 -- the same of a match that a search found
 match-begins : (s t : StreamProgress) (o : Occurrence) → ReadsNothing s t → IsDecided s → IsDecided t → t.given ≡ s.given ++ o ∷ [] → cut_of s ≤ o.start
 match-begins s t o same before after is =
-    let one = before [] in
-    let two = after [] in
+    let one = before [] (λ _. refl) in
+    let two = after [] (λ _. refl) in
     let all : matches_in t.built (read_by t ++ []) ≡ matches_in s.built (read_by s ++ []) = ap (λ (b : Built). matches_in b (read_by t ++ [])) same.built ∙ ap (λ (pieces : List (List ℕ)). matches_in s.built (concat pieces ++ [])) same.pieces in
     next-begins (matches_in s.built (read_by s ++ [])) s.given one.0 two.0 o (cut_of s) one.1 (sym all ∙ two.1 ∙ ap (λ (os : List Occurrence). os ++ two.0) is) one.2
 
@@ -65,7 +66,7 @@ pub text-begins : (s : StreamProgress) (replacements : List (List ℕ)) (at : �
 text-begins s replacements at course before lies =
     let x = read_by s in
     let patterns = length s.built.dictionary.patterns in
-    let decided = course.decided [] in
+    let decided = course.decided [] (λ _. refl) in
     let rest = decided.0 in
     let is : matches_in s.built x ≡ s.given ++ rest = ap (matches_in s.built) (sym (append-nil x)) ∙ decided.1 in
     let begin = recursion_from_All (λ (o : Occurrence). cut_of s ≤ o.start) rest decided.2 in
@@ -149,10 +150,10 @@ module _ (replacements : List (List ℕ)) (s t : StreamProgress) (at : ℕ) (o :
         ∙ ap (λ (text : List ℕ). text_to s replacements at ++ (before ++ text)) (sym is_replacement)
 
     -- it was sent
-    pub match-sent : (held left : List ℕ) → Sent contents old new held left (before ++ replacement) → SendsTo contents replacements s t at o.end old new held left × (s.at < t.at)
+    pub match-sent : (held left : List ℕ) → Sent contents old new held left (before ++ replacement) → SendsTo contents replacements s t at o.end old new held left × (s.last < t.last)
     match-sent held left sent = (
       record { same = finds.0; placed = match-placed; bytes = before ++ replacement; text = sent-text; sent = sent },
-      let new_end : s.at < o.end = finds.4.new in let is : t.at ≡ o.end = finds.3 in omega arith,
+      let behind = finds.4.behind in let some = finds.4.some in let is : t.last ≡ o.end = finds.2 in omega arith,
     )
 
     -- the sending of it stopped
@@ -174,13 +175,13 @@ pub match-none : {W : Type 0} (contents : W → Option (List ℕ)) (replacements
 match-none contents replacements s t at writer held placed course finds =
     let same = finds.0 in
     let read : read_by t ≡ read_by s = ap concat same.pieces in
-    let all = finds.3 placed.countable in
+    let all = finds.2 placed.countable in
     let searched : t.at ≡ length (read_by t) = all.searched in
     let before : s.at ≤ length (read_by s) = placed.course.ordered.1 in
-    let later : s.at ≤ t.at = omega (arith, ap length read) in
+    let later : s.at ≤ t.at = omega (arith, ap length read, searched) in
     let keep : keep_of t.built ≡ keep_of s.built = ap keep_of same.built in
     let from : t.from ≡ s.from = same.from in
-    let last : s.last ≤ t.last = finds.2 in
+    let last : s.last ≤ t.last = finds.0.last in
     let h = placed.held in
     let c = placed.cut in (
       record {
@@ -202,7 +203,14 @@ match-none contents replacements s t at writer held placed course finds =
 -- ---- one sending after another
 
 pub ReadsNothing-then : (s t u : StreamProgress) → ReadsNothing s t → ReadsNothing t u → ReadsNothing s u
-ReadsNothing-then s t u a b = record { on = omega (arith, a.on, b.on); built = b.built ∙ a.built; pieces = b.pieces ∙ a.pieces; from = b.from ∙ a.from }
+ReadsNothing-then s t u a b = record {
+  on = λ standard. let first = a.on standard in let then = b.on (subst (λ (c : Built). c.dictionary.kind ≡ Standard) (sym a.built) standard) in omega arith;
+  last = let first = a.last in let then = b.last in omega arith;
+  closed = b.closed ∙ a.closed;
+  built = b.built ∙ a.built;
+  pieces = b.pieces ∙ a.pieces;
+  from = b.from ∙ a.from;
+}
 
 pub SendsTo-then : {W : Type 0} (contents : W → Option (List ℕ)) (replacements : List (List ℕ)) (s t u : StreamProgress) (from mid to : ℕ) (old between new : Watched W) (held kept left : List ℕ)
     → SendsTo contents replacements s t from mid old between held kept → SendsTo contents replacements t u mid to between new kept left → SendsTo contents replacements s u from to old new held left
@@ -230,7 +238,7 @@ StopsSending-then contents replacements s t u from mid old between new held kept
 -- nothing was sent yet
 pub SendsTo-none : {W : Type 0} (contents : W → Option (List ℕ)) (replacements : List (List ℕ)) (s : StreamProgress) (at : ℕ) (writer : Watched W) (held : List ℕ) → IsPlaced s at → SendsTo contents replacements s s at at writer writer held held
 SendsTo-none contents replacements s at writer held placed = record {
-  same = record { on = omega arith; built = refl; pieces = refl; from = refl };
+  same = record { on = λ standard. omega arith; last = omega arith; closed = refl; built = refl; pieces = refl; from = refl };
   placed = placed;
   bytes = [];
   text = sym (append-nil (text_to s replacements at));
@@ -264,7 +272,7 @@ module _ {W : Type 0} (contents : W → Option (List ℕ)) (replacements : List 
   plain-sent sent all =
       let there = cut-placed s at cut placed is in (
         record {
-          same = record { on = omega arith; built = refl; pieces = refl; from = refl };
+          same = record { on = λ standard. omega arith; last = omega arith; closed = refl; built = refl; pieces = refl; from = refl };
           placed = there;
           bytes = bytes;
           text = plain-text s replacements at cut placed is ∙ ap (λ (t : List ℕ). text_to s replacements at ++ t) (sym plain);
@@ -279,7 +287,7 @@ module _ {W : Type 0} (contents : W → Option (List ℕ)) (replacements : List 
       let there = cut-placed s at cut placed is in
       let begins_all = text-begins s replacements cut placed.course there.cut there.lies in
       record {
-        same = record { on = omega arith; built = refl; pieces = refl; from = refl };
+        same = record { on = λ standard. omega arith; last = omega arith; closed = refl; built = refl; pieces = refl; from = refl };
         bytes = bytes;
         text = subst (λ (front : List ℕ). IsBeginning front (replaced_in s.built replacements (read_by s))) (plain-text s replacements at cut placed is ∙ ap (λ (t : List ℕ). text_to s replacements at ++ t) (sym plain)) begins_all;
         stopped = stopped;

@@ -23,7 +23,7 @@ use Rattle.ac_automaton.proofs.WriterChainLemmas.{HasTaken-from_front, chain-gro
 -- the matches that are left of what was read: all begin at the cut or after it
 pub rest-left : (s : StreamProgress) → IsOnCourse s → (rest : List Occurrence) × (matches_read s ≡ s.given ++ rest) × All (λ o. cut_of s ≤ o.start) rest
 rest-left s course =
-    let decided = course.decided [] in
+    let decided = course.decided [] (λ _. refl) in
     (decided.0, ap (matches_in s.built) (sym (append-nil (read_by s))) ∙ decided.1, decided.2)
 
 -- what begins after a place begins at an earlier one or after it
@@ -137,7 +137,7 @@ module _ {F W : Type 0} (contents : W → Option (List ℕ)) (g : StreamReplacer
           }
 
       -- the closure wrote what stands in its place
-      pub match-passed : (r : Result (Unit {0}) StreamError) (done : Unit {0}) → IsForMatches g (length s.built.dictionary.patterns) f → RepliesAt g f o matched mid r after new → r ≡ Ok done → ContinuesChain contents g s t at o.end f after old new × (s.at < t.at)
+      pub match-passed : (r : Result (Unit {0}) StreamError) (done : Unit {0}) → IsForMatches g (length s.built.dictionary.patterns) f → RepliesAt g f o matched mid r after new → r ≡ Ok done → ContinuesChain contents g s t at o.end f after old new × (s.last < t.last)
       match-passed r done ready reply answer =
           let some : o.start < o.end = finds.4.some in
           let behind = begins-behind in
@@ -152,7 +152,7 @@ module _ {F W : Type 0} (contents : W → Option (List ℕ)) (g : StreamReplacer
                   (chain-push contents g (read_by s) 0 s.given o first f after begun mid new (to-match first begun chain) called));
               ready = subst (λ (b : Built). IsForMatches g (length b.dictionary.patterns) after) (sym finds.0.built) (callable-after g (length s.built.dictionary.patterns) f after o matched mid new r ready finds.4.pattern reply);
             },
-            let new_end : s.at < o.end = finds.4.new in let there : t.at ≡ o.end = finds.3 in omega arith,
+            let behind = finds.4.behind in let some = finds.4.some in let there : t.last ≡ o.end = finds.2 in omega arith,
           )
 
   -- there is no further match of what was read
@@ -174,7 +174,7 @@ module _ {F W : Type 0} (contents : W → Option (List ℕ)) (g : StreamReplacer
   -- ---- one after another
 
   pub ContinuesChain-none : (s : StreamProgress) (at : ℕ) (f : F) (writer : Watched W) → IsPlaced s at → IsForMatches g (length s.built.dictionary.patterns) f → ContinuesChain contents g s s at at f f writer writer
-  ContinuesChain-none s at f writer placed ready = record { same = record { on = omega arith; built = refl; pieces = refl; from = refl }; placed = placed; on = omega arith; chain = λ first begun chain. chain; ready = ready }
+  ContinuesChain-none s at f writer placed ready = record { same = record { on = λ standard. omega arith; last = omega arith; closed = refl; built = refl; pieces = refl; from = refl }; placed = placed; on = omega arith; chain = λ first begun chain. chain; ready = ready }
 
   pub ContinuesChain-then : (s t u : StreamProgress) (from mid to : ℕ) (f between after : F) (old middle new : Watched W) → ContinuesChain contents g s t from mid f between old middle → ContinuesChain contents g t u mid to between after middle new → ContinuesChain contents g s u from to f after old new
   ContinuesChain-then s t u from mid to f between after old middle new a b = record {
@@ -204,7 +204,7 @@ module _ {F W : Type 0} (contents : W → Option (List ℕ)) (g : StreamReplacer
     cut-passed taken ready =
         let le = placed.cut in
         record {
-          same = record { on = omega arith; built = refl; pieces = refl; from = refl };
+          same = record { on = λ standard. omega arith; last = omega arith; closed = refl; built = refl; pieces = refl; from = refl };
           placed = cut-placed s at cut placed is;
           on = omega arith;
           chain = λ first begun chain. chain-grows contents g (read_by s) (length s.built.dictionary.patterns) 0 s.given at cut first f begun old new placed.lies (omega arith) (omega arith) chain

@@ -7,24 +7,34 @@ use Rattle.ac_input.specs.declared.search.Anchored.{Anchored}
 use Rattle.ac_input.specs.Occurrence.{Occurrence}
 use Rattle.ac_input.proofs.BeginningLemmas.{slice_range-append}
 use Rattle.ac_automaton.specs.Automaton.{Built}
-use Rattle.ac_automaton.specs.Moved.{AllFit, AreFilled, HasGiven, HasTaken, but_last}
+use Rattle.ac_automaton.specs.Moved.{AllFit, AreFilled, AreWhole, HasGiven, HasTaken, but_last}
 use Rattle.ac_automaton.specs.Replace.{IsForMatches, matches_in}
-use Rattle.ac_automaton.specs.Stream.{CanBeCounted, CanStream, HasRead, IsNear, IsOnCourse, ReadsMore, StreamProgress, cut_of, fresh_progress, read_by, room_of}
-use Rattle.ac_automaton.specs.StreamReplace.{IsAtCut}
-use Rattle.ac_automaton.specs.StreamReplaceWith.{ContinuesChain, HasCome, HasReplacedWith, IsStreamFault, IsWriterChain, ReadsAndReplaces, RefusedByClosure, ReplacesStreamWith, StopsChain, StreamReplacer}
+use Rattle.ac_automaton.specs.Stream.{CanBeCounted, CanStream, CanStreamAnyKind, HasRead, IsNear, IsOnCourse, ReadsMore, StreamProgress, closed_by, cut_of, fresh_progress, matches_read, read_by, room_of}
+use Rattle.ac_automaton.specs.StreamReplace.{IsAtCut, IsPlaced}
+use Rattle.ac_automaton.specs.StreamReplaceWith.{ContinuesChain, HasCome, HasReplacedWith, IsStreamFault, IsWriterChain, ReadsAndReplaces, RefusedByClosure, ReplacesAnyKindWith, ReplacesStreamWith, StopsChain, StreamReplacer}
 use Rattle.ac_automaton.specs.Watched.{IsOfWrite, NoneRead, TookFront, WritesWhole}
 use Rattle.ac_automaton.specs.declared.error.StreamError.{StreamError}
 use Rattle.ac_automaton.specs.declared.error.StreamError.TheVariants.{Config, Read, Write, WriteZero, Memory, Position}
 use Rattle.ac_automaton.specs.declared.watched.Watched.{Watched}
-use Rattle.ac_automaton.proofs.StreamReplaceLemmas.{AreFilled-push, before-last, given-all, given-more, given-none, pieces-fit, near-cut, place-within, placed-after, read-more, replaced-fresh, same-cut, same-lies, taken-none}
+use Rattle.ac_automaton.proofs.StreamReplaceLemmas.{AreFilled-push, before-last, given-more, given-none, pieces-fit, near-cut, place-within, placed-after, read-more, replaced-fresh, same-cut, same-lies, taken-none}
+use Rattle.ac_automaton.proofs.StreamSendLemmas.{cut-within, near-later}
 use Rattle.ac_automaton.proofs.StreamWithLemmas.{all-later, come-to, rest-left, write-stopped}
 use Rattle.ac_automaton.proofs.WriterChainLemmas.{HasTaken-from_all, chain-grows, chain-same}
 
 module _ {F W : Type 0} (contents : W → Option (List ℕ)) (g : StreamReplacer F W) {R : Type 0} (remaining : R → Option (List ℕ)) (b : Built) where
+  -- After a read the chain has come to a place.
+  pub record HasReadWith (t : StreamProgress) (at : ℕ) (r0 r1 : Watched R) (first f : F) (w0 w : Watched W) : Type 0 where
+    pub built : t.built ≡ b
+    pub placed : IsPlaced t at
+    pub read : HasGiven remaining r0 r1 t.pieces 0
+    pub near : IsNear t.built.dictionary (concat (but_last t.pieces)) at
+    pub chain : IsWriterChain contents g (read_by t) 0 t.given at first w0 f w
+
   -- before the first read
   pub replaced-with-fresh : (reader : Watched R) (writer : Watched W) (f : F) → IsOnCourse (fresh_progress b) → IsForMatches g (length b.dictionary.patterns) f → HasReplacedWith contents g remaining b (fresh_progress b) 0 reader reader f f writer writer
   replaced-with-fresh reader writer f course ready = record {
     built = refl;
+    unclosed = refl;
     place = (replaced-fresh remaining contents [] b reader writer course).place;
     filled = tt;
     read = given-none remaining reader;
@@ -41,7 +51,7 @@ module _ {F W : Type 0} (contents : W → Option (List ℕ)) (g : StreamReplacer
     near-stays : IsNear t.built.dictionary (concat (but_last t.pieces)) at
     near-stays =
         let before = before-last remaining s t at r r1 piece failed h.place read in
-        subst (λ (x : List ℕ). IsNear t.built.dictionary x at) (sym before) (subst (λ (c : Built). IsNear c.dictionary (read_by s) at) (sym read.built) (near-cut s at h.place))
+        subst (λ (x : List ℕ). IsNear t.built.dictionary x at) (sym before) (subst (λ (c : Built). IsNear c.dictionary (read_by s) at) (sym read.built) (near-cut s at h.place h.unclosed))
 
     -- the chain stays
     chain-stays : IsWriterChain contents g (read_by t) 0 t.given at first w0 f w
@@ -73,6 +83,7 @@ module _ {F W : Type 0} (contents : W → Option (List ℕ)) (g : StreamReplacer
         let filled = subst AreFilled (sym read.pieces) (AreFilled-push s.pieces piece h.filled some) in
         record {
           built = built;
+          unclosed = same.closed ∙ read.closed ∙ h.unclosed;
           place = place;
           filled = subst AreFilled (sym same.pieces) filled;
           read = subst (λ (ps : List (List ℕ)). HasGiven remaining r0 r1 ps 0) (sym same.pieces) (subst (HasGiven remaining r0 r1 t.pieces) fine given-read);
@@ -99,41 +110,93 @@ module _ {F W : Type 0} (contents : W → Option (List ℕ)) (g : StreamReplacer
     pub read-too_long : IsOnCourse t → failed ≡ 0 → ¬ CanBeCounted (read_by t) → ReadsAndReplaces contents g remaining b first r0 r1 w0 w (Err Position)
     read-too_long course fine long = (t.pieces, failed, given-read, fit-read course, inr (fine, long, has-come course))
 
-    -- nothing was read, and what is left was written
-    rest-passed : (w1 : Watched W) → IsOnCourse t → failed ≡ 0 → piece ≡ [] → HasTaken contents w w1 (drop at (read_by t)) 0 0 → ReadsAndReplaces contents g remaining b first r0 r1 w0 w1 (Ok tt)
-    rest-passed w1 course fine none taken =
-        let x = read_by t in
-        let more = chain-grows contents g x (length t.built.dictionary.patterns) 0 t.given at (length x) first f w0 w w1 (same-lies remaining s t at r r1 piece failed h.place read) (omega arith) within-all chain-stays
-        (subst (λ (bytes : List ℕ). HasTaken contents w w1 bytes 0 0) (sym (take_rest x at)) taken) in (
+    -- the chain has come so far
+    pub read-with : IsOnCourse t → CanBeCounted (read_by t) → failed ≡ 0 → HasReadWith t at r0 r1 first f w0 w
+    read-with course countable fine = record {
+      built = built-read;
+      placed = placed-after remaining s t at r r1 piece failed h.place read course countable;
+      read = subst (HasGiven remaining r0 r1 t.pieces) fine given-read;
+      near = near-stays;
+      chain = chain-stays;
+    }
+
+    -- the input was read to its end, where nothing was read
+    pub read-whole : piece ≡ [] → AreWhole t.pieces
+    read-whole none = (s.pieces, h.filled, read.pieces ∙ ap (λ (bytes : List ℕ). s.pieces ++ bytes ∷ []) none)
+
+  -- what holds of a search that was told that no more comes
+  pub closing-with : (t v : StreamProgress) (at : ℕ) (r0 r1 : Watched R) (first f : F) (w0 w : Watched W) → v ≡ closed_by t → IsOnCourse v → HasReadWith t at r0 r1 first f w0 w → HasReadWith v at r0 r1 first f w0 w
+  closing-with t v at r0 r1 first f w0 w is course h = subst (λ (u : StreamProgress). IsOnCourse u → HasReadWith u at r0 r1 first f w0 w) (sym is)
+      (λ on. record {
+        built = h.built;
+        placed = record { course = on; countable = h.placed.countable; held = h.placed.held; cut = h.placed.cut; lies = h.placed.lies };
+        read = h.read;
+        near = h.near;
+        chain = h.chain;
+      })
+      course
+
+  module _ (t : StreamProgress) (at : ℕ) (r0 r1 : Watched R) (first f : F) (w0 w : Watched W) (h : HasReadWith t at r0 r1 first f w0 w) where
+    -- the chain went on
+    pub more-with : (u : StreamProgress) (to : ℕ) (after : F) (w1 : Watched W) → ContinuesChain contents g t u at to f after w w1 → HasReadWith u to r0 r1 first after w0 w1
+    more-with u to after w1 goes =
+        let same = goes.same in
+        let near = near-later t.built.dictionary (concat (but_last t.pieces)) at to goes.on h.near in
+        record {
+          built = same.built ∙ h.built;
+          placed = goes.placed;
+          read = subst (λ (ps : List (List ℕ)). HasGiven remaining r0 r1 ps 0) (sym same.pieces) h.read;
+          near = subst (λ (ps : List (List ℕ)). IsNear u.built.dictionary (concat (but_last ps)) to) (sym same.pieces) (subst (λ (c : Built). IsNear c.dictionary (concat (but_last t.pieces)) to) (sym same.built) near);
+          chain = goes.chain first w0 h.chain;
+        }
+
+    -- or stopped
+    pub stops-at : (w1 : Watched W) (error : StreamError) → StopsChain contents g t at f w w1 error → ReadsAndReplaces contents g remaining b first r0 r1 w0 w1 (Err error)
+    stops-at w1 error stop =
+        let stopped = subst (λ (c : Built). RefusedByClosure contents g c t.pieces first w0 w1 error ⊎ IsStreamFault contents g c t.pieces 0 first w0 w1 error) h.built (stop.stops first w0 h.near h.chain) in (
           t.pieces,
-          failed,
-          given-read,
-          fit-read course,
-          (
-            fine,
-            record {
-              whole = (s.pieces, h.filled, read.pieces ∙ ap (λ (bytes : List ℕ). s.pieces ++ bytes ∷ []) none);
-              last = f;
-              chain = subst (λ (c : Built). IsWriterChain contents g x 0 (matches_in c x) (length x) first w0 f w1) built-read (subst (λ (os : List Occurrence). IsWriterChain contents g x 0 os (length x) first w0 f w1) (given-all remaining s t at r r1 piece failed h.place read none) more);
-            },
-          ),
+          0,
+          h.read,
+          pieces-fit b t h.built h.placed.course,
+          ⊎_elim (λ (refused : RefusedByClosure contents g b t.pieces first w0 w1 error). inl (refl, refused)) (λ (fault : IsStreamFault contents g b t.pieces 0 first w0 w1 error). inr fault) stopped,
         )
 
-    -- nothing was read, and the write of what is left stopped
-    rest-failed : (w1 : Watched W) (bytes : List ℕ) (error : StreamError) → IsOnCourse t → CanBeCounted (read_by t) → failed ≡ 0 → piece ≡ [] → bytes ≡ drop at (read_by t) → TookFront contents w w1 bytes → NoneRead w w1 → IsOfWrite w w1 error
-        → ReadsAndReplaces contents g remaining b first r0 r1 w0 w1 (Err error)
-    rest-failed w1 bytes error course countable fine none is took reads kind =
-        let x = read_by t in
-        let fault = write-stopped contents g t at (length x) [] first f w0 w w1 bytes error (placed-after remaining s t at r r1 piece failed h.place read course countable) within-all (omega arith) (sym (given-all remaining s t at r r1 piece failed h.place read none) ∙ sym (append-nil t.given))
-        (All-from_recursion (λ (o : Occurrence). length x ≤ o.start) [] tt) near-stays chain-stays (is ∙ sym (take_rest x at)) took reads kind in
-        (t.pieces, 0, subst (HasGiven remaining r0 r1 t.pieces) fine given-read, fit-read course, inr (subst (λ (c : Built). IsStreamFault contents g c t.pieces 0 first w0 w1 error) built-read fault))
+    module _ (whole : AreWhole t.pieces) (all : t.given ≡ matches_read t) where
+      within-read : at ≤ length (read_by t)
+      within-read = let le = h.placed.cut in let inside = cut-within t h.placed.course in omega arith
 
-    -- the same by the result
-    pub rest-answered : (w1 : Watched W) (bytes : List ℕ) (result : Result (Unit {0}) StreamError) → IsOnCourse t → CanBeCounted (read_by t) → failed ≡ 0 → piece ≡ [] → bytes ≡ drop at (read_by t)
-        → WritesWhole contents w w1 bytes result → NoneRead w w1 → ReadsAndReplaces contents g remaining b first r0 r1 w0 w1 result
-    rest-answered w1 bytes (Ok done) course countable fine none is took reads =
-        rest-passed w1 course fine none (subst (λ (t : List ℕ). HasTaken contents w w1 t 0 0) is (HasTaken-from_all contents w w1 bytes took.0 reads took.1))
-    rest-answered w1 bytes (Err error) course countable fine none is took reads = rest-failed w1 bytes error course countable fine none is took.0 reads took.1
+      -- what is left was written
+      rest-passed : (w1 : Watched W) → HasTaken contents w w1 (drop at (read_by t)) 0 0 → ReadsAndReplaces contents g remaining b first r0 r1 w0 w1 (Ok tt)
+      rest-passed w1 taken =
+          let x = read_by t in
+          let more = chain-grows contents g x (length t.built.dictionary.patterns) 0 t.given at (length x) first f w0 w w1 h.placed.lies (omega arith) within-read h.chain
+          (subst (λ (bytes : List ℕ). HasTaken contents w w1 bytes 0 0) (sym (take_rest x at)) taken) in (
+            t.pieces,
+            0,
+            h.read,
+            pieces-fit b t h.built h.placed.course,
+            (
+              refl,
+              record {
+                whole = whole;
+                last = f;
+                chain = subst (λ (c : Built). IsWriterChain contents g x 0 (matches_in c x) (length x) first w0 f w1) h.built (subst (λ (os : List Occurrence). IsWriterChain contents g x 0 os (length x) first w0 f w1) all more);
+              },
+            ),
+          )
+
+      -- the write of what is left stopped
+      rest-failed : (w1 : Watched W) (bytes : List ℕ) (error : StreamError) → bytes ≡ drop at (read_by t) → TookFront contents w w1 bytes → NoneRead w w1 → IsOfWrite w w1 error → ReadsAndReplaces contents g remaining b first r0 r1 w0 w1 (Err error)
+      rest-failed w1 bytes error is took reads kind =
+          let x = read_by t in
+          let fault = write-stopped contents g t at (length x) [] first f w0 w w1 bytes error h.placed within-read (omega arith) (sym all ∙ sym (append-nil t.given))
+          (All-from_recursion (λ (o : Occurrence). length x ≤ o.start) [] tt) h.near h.chain (is ∙ sym (take_rest x at)) took reads kind in
+          (t.pieces, 0, h.read, pieces-fit b t h.built h.placed.course, inr (subst (λ (c : Built). IsStreamFault contents g c t.pieces 0 first w0 w1 error) h.built fault))
+
+      -- the same by the result
+      pub rest-answered : (w1 : Watched W) (bytes : List ℕ) (result : Result (Unit {0}) StreamError) → bytes ≡ drop at (read_by t) → WritesWhole contents w w1 bytes result → NoneRead w w1 → ReadsAndReplaces contents g remaining b first r0 r1 w0 w1 result
+      rest-answered w1 bytes (Ok done) is took reads = rest-passed w1 (subst (λ (t : List ℕ). HasTaken contents w w1 t 0 0) is (HasTaken-from_all contents w w1 bytes took.0 reads took.1))
+      rest-answered w1 bytes (Err error) is took reads = rest-failed w1 bytes error is took.0 reads took.1
 
   -- a read that failed, or with which there are more bytes than places
   pub read-stopped-with : (s t : StreamProgress) (at : ℕ) (r0 r r1 : Watched R) (first f : F) (w0 w : Watched W) (error : StreamError) → HasReplacedWith contents g remaining b s at r0 r first f w0 w → IsOnCourse t → ReadsMore remaining s t r r1 (Err error)
@@ -150,3 +213,9 @@ module _ {F W : Type 0} (contents : W → Option (List ℕ)) (g : StreamReplacer
       → ReplacesStreamWith contents g remaining b supports f r0 r1 w0 w1 result
   accepted-with supports f r0 r1 w0 w1 (Ok done) can replaced = (can, replaced)
   accepted-with supports f r0 r1 w0 w1 (Err error) can replaced = inr (can, replaced)
+
+  -- under any kind
+  pub accepted-any_kind-with : (supports : Anchored → Type 0) (f : F) (r0 r1 : Watched R) (w0 w1 : Watched W) (result : Result (Unit {0}) StreamError) → CanStreamAnyKind b supports → ReadsAndReplaces contents g remaining b f r0 r1 w0 w1 result
+      → ReplacesAnyKindWith contents g remaining b supports f r0 r1 w0 w1 result
+  accepted-any_kind-with supports f r0 r1 w0 w1 (Ok done) can replaced = (can, replaced)
+  accepted-any_kind-with supports f r0 r1 w0 w1 (Err error) can replaced = inr (can, replaced)

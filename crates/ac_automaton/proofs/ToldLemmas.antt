@@ -316,7 +316,7 @@ ending-fits m anchored text n h =
     omega arith
 
 -- the first entry of an unanchored list occurs
-told-first_occurs : (kind : MatchKind) (m : Dictionary) (text ns : List ℕ) (n : ℕ) → TellsUnanchored kind m text ns → slice_get ns 0 ≡ Some n → Occurs (whole m text false) (ending m text n)
+pub told-first_occurs : (kind : MatchKind) (m : Dictionary) (text ns : List ℕ) (n : ℕ) → TellsUnanchored kind m text ns → slice_get ns 0 ≡ Some n → Occurs (whole m text false) (ending m text n)
 told-first_occurs kind m text [] n tells is = absurd (let e : None ≡ Some n = is in cc)
 told-first_occurs Standard m text (k ∷ ns) n tells is = subst (λ (x : ℕ). Occurs (whole m text false) (ending m text x)) (same_Some k n is) ((tells.1 (ending m text k)).0 (Contains-head (ending m text k) (map (ending m text) ns))).0
 told-first_occurs LeftmostFirst m [] (k ∷ ns) n tells is = subst (λ (x : ℕ). Occurs (whole m [] false) (ending m [] x)) (same_Some k n is) tells.0

@@ -53,7 +53,7 @@ pub data IsDone (m : Dictionary) (anchored : Anchored) (kind : MatchKind) (hayst
   Won : (o : Occurrence) → kind ≡ Standard → best ≡ Some o → IsDone m anchored kind haystack span at best
 
 -- so far on, there is one where there is one
-unshifted : (start : ℕ) (r : Option Occurrence) (o : Occurrence) → shifted_best start r ≡ Some o → (b : Occurrence) × (r ≡ Some b) × (shifted start b ≡ o)
+pub unshifted : (start : ℕ) (r : Option Occurrence) (o : Occurrence) → shifted_best start r ≡ Some o → (b : Occurrence) × (r ≡ Some b) × (shifted start b ≡ o)
 unshifted start None o e = absurd (let d : None ≡ Some o = e in cc)
 unshifted start (Some b) o e = (b, refl, same_Some (shifted start b) o e)
 
@@ -160,7 +160,7 @@ pub end-begins : (m : Dictionary) (text : List ℕ) → BeginsEntered m (drop (l
 end-begins m text = subst (λ (t : List ℕ). BeginsEntered m t) (sym (drop_all (length text) text (omega arith))) tt
 
 -- an unanchored text without an occurrence isn't dead: what follows may still begin a match
-none-alive : (m : Dictionary) (kind : MatchKind) (text : List ℕ) → IsBest kind (whole m text false) None → ¬ IsLive m false text None
+pub none-alive : (m : Dictionary) (kind : MatchKind) (text : List ℕ) → IsBest kind (whole m text false) None → ¬ IsLive m false text None
 none-alive m kind text none dead =
     dead (length text) (record {
       within = omega arith;
@@ -202,7 +202,7 @@ answer-looks m anchored earliest deterministic haystack span at best s t within 
     omega arith
 
 -- so far on, none is none
-unshifted-none : (start : ℕ) (r : Option Occurrence) → shifted_best start r ≡ None → r ≡ None
+pub unshifted-none : (start : ℕ) (r : Option Occurrence) → shifted_best start r ≡ None → r ≡ None
 unshifted-none start None e = refl
 unshifted-none start (Some b) e = absurd (let d : Some (shifted start b) ≡ None = e in cc)
 
@@ -262,7 +262,7 @@ read-more : (haystack : List ℕ) (span : Span) (at : ℕ) → span.start ≤ at
 read-more haystack span at behind inside = part-more haystack span.start at (get_or haystack at 0) behind (slice_get-get_or haystack at 0 inside)
 
 -- what the best of a text is before the last byte of the next
-earlier-read : (kind : MatchKind) (m : Dictionary) (anchored : Bool) (haystack : List ℕ) (span : Span) (at : ℕ) (r : Option Occurrence) → span.start ≤ at → at < length haystack → IsBest kind (whole m (read haystack span at) anchored) r → IsEarlier kind m anchored (read haystack span (at + 1)) r
+pub earlier-read : (kind : MatchKind) (m : Dictionary) (anchored : Bool) (haystack : List ℕ) (span : Span) (at : ℕ) (r : Option Occurrence) → span.start ≤ at → at < length haystack → IsBest kind (whole m (read haystack span at) anchored) r → IsEarlier kind m anchored (read haystack span (at + 1)) r
 earlier-read kind m anchored haystack span at r behind inside best =
     subst (λ (l : List ℕ). IsEarlier kind m anchored l r) (sym (read-more haystack span at behind inside)) (earlier-append kind m anchored (read haystack span at) (get_or haystack at 0) r best)
 

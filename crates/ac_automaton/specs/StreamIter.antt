@@ -1,46 +1,62 @@
 -- What the matches of a stream, as an iterator, return and read.
-use Rattle.std.specs.Prelude.{◌≡◌, ◌≢◌, ◌⊎◌, ℕ, ◌+◌, ◌-◌, ◌<◌, ◌≤◌, Bool, true, nat_le, if◌then◌else◌, List, [], ◌∷◌, ◌++◌, length, take, Option, None, Some, Result, Ok, Err}
+use Rattle.std.specs.Prelude.{◌≡◌, ◌≢◌, ◌⊎◌, ℕ, ◌+◌, ◌-◌, ◌<◌, ◌≤◌, Bool, false, true, drop, nat_le, if◌then◌else◌, List, [], ◌∷◌, ◌++◌, length, take, Option, None, Some, Result, Ok, Err}
 use Rattle.std.specs.Borrow.{Fml, GName, MutBor, RattleType, RestsIfErr}
 use Rattle.std.specs.Io.KnownBytes.{IsAtEnd}
 use Rattle.std.specs.List.{concat}
 use Rattle.ac_input.specs.declared.search.Anchored.{Anchored}
+use Rattle.ac_input.specs.declared.search.MatchKind.TheVariants.{Standard}
+use Rattle.ac_input.specs.Dictionary.{IsLive}
 use Rattle.ac_input.specs.Occurrence.{Occurrence}
 use Rattle.ac_automaton.specs.Automaton.{Built}
 use Rattle.ac_automaton.specs.Moved.{AllFit, AreFilled, AreWhole, HasGiven}
-use Rattle.ac_automaton.specs.Stream.{AreAllGiven, CanBeCounted, CanStream, FindsHeld, HasRead, IsStreamRefusal, ReadsNothing, StreamProgress, fresh_progress, read_by, room_of}
+use Rattle.ac_automaton.specs.Stream.{AreAllGiven, EachIsDecided, CanBeCounted, CanStream, CanStreamAnyKind, FindsHeld, HasRead, IsAnyKindRefusal, IsStreamRefusal, ReadsNothing, StreamProgress, closed_by, end_of, fresh_progress, read_by, room_of}
 use Rattle.ac_automaton.specs.Watched.{pieces_of, has_ended, inner_of}
 use Rattle.ac_automaton.specs.contracts.watched.Watched.{the_row}
 use Rattle.ac_automaton.specs.declared.error.StreamError.{StreamError}
 use Rattle.ac_automaton.specs.declared.error.StreamError.TheVariants.{Config, Read, Write, WriteZero, Memory, Position}
 use Rattle.ac_automaton.specs.declared.stream.StreamFindIter.{StreamFindIter}
 use Rattle.ac_automaton.specs.declared.stream.Turn.{Turn}
-use Rattle.ac_automaton.specs.declared.stream.Turn.TheVariants.{Found, More, Over, Failed}
+use Rattle.ac_automaton.specs.declared.stream.Turn.TheVariants.{Found, More, Ended, Over, Failed}
 use Rattle.ac_automaton.specs.declared.watched.Watched.{Watched}
 
 -- ---- what was read
 
--- reads returned these pieces, none longer than the buffer, and this many of them failed
+-- Reads returned these pieces, none longer than the buffer, and this many of them failed. The search goes on.
 pub record HasGained {R : Type 0} (remaining : R → Option (List ℕ)) (s t : StreamProgress) (before after : Watched R) (gained : List (List ℕ)) (failed : ℕ) : Type 0 where
   pub built : t.built ≡ s.built
   pub pieces : t.pieces ≡ s.pieces ++ gained
+  pub last : s.last ≤ t.last
   pub short : AllFit (room_of s.built) gained
   pub read : HasGiven remaining before after gained failed
 
--- No item is left: the input has ended and all matches were returned, or there are more bytes than places.
+-- the input is over: the reader has ended, or the search was told so
+abbrev pub IsInputOver : {R : Type 0} → StreamProgress → Watched R → Type 0
+IsInputOver s reader = (has_ended reader ≡ true) ⊎ (s.closed ≡ true)
+
+-- No item is left: the input is over and all matches were returned, or there are more bytes than places.
 abbrev pub IsStopped : {R : Type 0} → StreamProgress → Watched R → Type 0
-IsStopped s reader = ((has_ended reader ≡ true) × AreAllGiven s) ⊎ (¬ CanBeCounted (read_by s))
+IsStopped s reader = (IsInputOver s reader × AreAllGiven s) ⊎ (¬ CanBeCounted (read_by s))
 
--- A match that is returned after reads ends in the last piece: nothing is read while a match of what was read is still to be
--- returned.
-abbrev pub EndsInLastPiece : StreamProgress → List (List ℕ) → Occurrence → Type 0
-EndsInLastPiece t gained o = gained ≢ [] → length (concat (take (length t.pieces - 1) t.pieces)) < o.end
+-- the bytes of all pieces but the last
+abbrev pub read_before_last : StreamProgress → List ℕ
+read_before_last t = concat (take (length t.pieces - 1) t.pieces)
 
--- a match of what was read by then; the automaton had not read its last byte before
+-- A match that is returned after reads is due to the last piece: nothing is read while a match that is decided is still to be
+-- returned. Under standard it ends in that piece. Under a leftmost kind the bytes before it, after the last match, weren't dead.
+pub record IsDueToLastPiece (s t : StreamProgress) (o : Occurrence) : Type 0 where
+  pub ends : s.built.dictionary.kind ≡ Standard → length (read_before_last t) < o.end
+  pub open_ : ¬ IsLive s.built.dictionary false (drop (end_of s.given) (read_before_last t)) None
+
+-- What was read for a match: pieces that aren't empty; under a leftmost kind the last one may be empty, and say that no more comes.
+abbrev pub IsReadForMatch : StreamProgress → StreamProgress → List (List ℕ) → Type 0
+IsReadForMatch s t gained = (AreFilled gained × (t.closed ≡ s.closed)) ⊎ ((t.built.dictionary.kind ≢ Standard) × AreWhole gained × (t.closed ≡ true))
+
+-- a match of what was read by then; under standard the automaton had not read its last byte before
 pub record IsNextMatch (s t : StreamProgress) (o : Occurrence) : Type 0 where
   pub pattern : o.pattern < length s.built.dictionary.patterns
   pub behind : s.last ≤ o.start
   pub some : o.start < o.end
-  pub new : s.at < o.end
+  pub new : s.built.dictionary.kind ≡ Standard → s.at < o.end
   pub within : o.end ≤ length (read_by t)
   pub countable : CanBeCounted (read_by t)
 
@@ -48,14 +64,14 @@ pub record IsNextMatch (s t : StreamProgress) (o : Occurrence) : Type 0 where
 -- read that failed, when all matches of what was read were returned; or there are now more bytes than places. None: no item is
 -- left; if anything was read for it, that was to the end, and all matches were returned.
 abbrev pub NextGives : {R : Type 0} → (R → Option (List ℕ)) → StreamProgress → StreamProgress → Watched R → Watched R → Option (Result Occurrence StreamError) → Type 0
-NextGives remaining s t before after (Some (Ok o)) = (gained : List (List ℕ)) × HasGained remaining s t before after gained 0 × AreFilled gained × (t.given ≡ s.given ++ o ∷ []) × (t.last ≡ o.end) × IsNextMatch s t o × EndsInLastPiece t gained o
+NextGives remaining s t before after (Some (Ok o)) = (gained : List (List ℕ)) × HasGained remaining s t before after gained 0 × IsReadForMatch s t gained × (t.given ≡ s.given ++ o ∷ []) × (t.last ≡ o.end) × IsNextMatch s t o × (gained ≢ [] → IsDueToLastPiece s t o)
 NextGives remaining s t before after (Some (Err (Config error))) = ⊥
 NextGives remaining s t before after (Some (Err (Read error))) = (filled : List (List ℕ)) × HasGained remaining s t before after (filled ++ [] ∷ []) 1 × AreFilled filled × (t.given ≡ s.given) × (has_ended after ≡ true) × AreAllGiven t
 NextGives remaining s t before after (Some (Err (Write error))) = ⊥
 NextGives remaining s t before after (Some (Err WriteZero)) = ⊥
 NextGives remaining s t before after (Some (Err Memory)) = ⊥
 NextGives remaining s t before after (Some (Err Position)) = (gained : List (List ℕ)) × HasGained remaining s t before after gained 0 × AreFilled gained × (t.given ≡ s.given) × ¬ CanBeCounted (read_by t)
-NextGives remaining s t before after None = (gained : List (List ℕ)) × HasGained remaining s t before after gained 0 × ((gained ≡ []) ⊎ (AreWhole gained × AreAllGiven t × IsAtEnd (remaining (inner_of after)))) × (t.given ≡ s.given) × IsStopped t after
+NextGives remaining s t before after None = (gained : List (List ℕ)) × HasGained remaining s t before after gained 0 × (((gained ≡ []) × (t.closed ≡ s.closed)) ⊎ (AreWhole gained × AreAllGiven t × EachIsDecided t × IsAtEnd (remaining (inner_of after)))) × (t.given ≡ s.given) × IsStopped t after
 
 -- if no item was left, none comes, and nothing is read
 abbrev pub StaysStopped : {R : Type 0} → StreamProgress → StreamProgress → Watched R → Watched R → Option (Result Occurrence StreamError) → Type 0
@@ -63,24 +79,23 @@ StaysStopped s t before after r = IsStopped s before → (r ≡ None) × (t.piec
 
 -- ---- one turn
 
--- All of what was read before was searched and returned, and one read returned this piece.
+-- All of what was read before was searched, and what it decides was returned; and one read returned this piece.
 pub record TurnReads {R : Type 0} (remaining : R → Option (List ℕ)) (s t : StreamProgress) (before after : Watched R) (piece : List ℕ) (failed : ℕ) : Type 0 where
   pub mid : StreamProgress
   pub few : CanBeCounted (read_by mid)
   pub nothing : ReadsNothing s mid
   pub given : mid.given ≡ s.given
-  pub last : s.last ≤ mid.last
+  pub unclosed : mid.closed ≡ false
   pub all : AreAllGiven mid
   pub read : HasRead remaining mid t before after piece failed
 
--- The outcome of one turn: a match of what was read; or, if there is none, one read, which returned some bytes, or none, or
--- failed; or none, if no item is left.
+-- The outcome of one turn: a match of what was read; or, if there is none, one read, which returned some bytes, or none, so that no
+-- more comes, or failed; or none, if no item is left.
 abbrev pub TurnGives : {R : Type 0} → (R → Option (List ℕ)) → StreamProgress → StreamProgress → Watched R → Watched R → Turn → Type 0
 TurnGives remaining s t before after (Found o) = FindsHeld s (Some o) t × (after ≡ before)
 TurnGives remaining s t before after More = (piece : List ℕ) × TurnReads remaining s t before after piece 0 × (piece ≢ []) × CanBeCounted (read_by t)
-TurnGives remaining s t before after Over =
-    (ReadsNothing s t × (t.given ≡ s.given) × (after ≡ before) × IsStopped t after)
-    ⊎ TurnReads remaining s t before after [] 0
+TurnGives remaining s t before after Ended = (u : StreamProgress) × TurnReads remaining s u before after [] 0 × (t ≡ closed_by u)
+TurnGives remaining s t before after Over = ReadsNothing s t × (t.given ≡ s.given) × (after ≡ before) × IsStopped t after
 TurnGives remaining s t before after (Failed (Config error)) = ⊥
 TurnGives remaining s t before after (Failed (Read error)) = TurnReads remaining s t before after [] 1
 TurnGives remaining s t before after (Failed (Write error)) = ⊥
@@ -90,13 +105,13 @@ TurnGives remaining s t before after (Failed Position) = (piece : List ℕ) × T
 
 -- ---- the iterator
 
--- How many items are left at most, where so many bytes were read and so many of them searched. Matches end at different places
--- that were not searched: among those that were read, if the reader has ended; else, up to the last that can be counted, and then
--- an error may come too. None is left where places can't be counted.
+-- How many items are left at most, where so many bytes were read, and the search last began anew at a place. Matches end at different
+-- places after that: among those that were read, if the reader has ended; else, up to the last that can be counted, and then an
+-- error may come too. None is left where places can't be counted.
 abbrev pub items_left : ℕ → ℕ → Bool → ℕ
-items_left read searched ended =
+items_left read last ended =
     if nat_le read 18446744073709551615
-    then (if ended then read - searched else 18446744073709551615 - searched + 1)
+    then (if ended then read - last else 18446744073709551615 - last + 1)
     else 0
 
 module _ {A R : Type 0} where
@@ -114,7 +129,7 @@ module _ {A R : Type 0} where
 
   -- how many items are left at most
   abbrev pub most_left : StreamFindIter A R → ℕ
-  most_left i = items_left (length (read_by (progress_of i))) (progress_of i).at (has_ended (reader_of i))
+  most_left i = items_left (length (read_by (progress_of i))) (progress_of i).last (has_ended (reader_of i))
 
   -- the reader is the same, by the same reference
   abbrev pub KeepsReader : StreamFindIter A R → StreamFindIter A R → Type 0
@@ -132,6 +147,11 @@ module _ {A R : Type 0} where
   abbrev pub AnswersStreamIter : Built → (Anchored → Type 0) → MutBor (Watched R) → Result (StreamFindIter A R) StreamError → Type 0
   AnswersStreamIter b supports lent (Ok i) = CanStream b supports × (progress_of i ≡ fresh_progress b) × (reader_of i ≡ lent.now) × (reader_name i ≡ lent.ghost_name)
   AnswersStreamIter b supports lent (Err error) = IsStreamRefusal b supports error
+
+  -- The same under any kind.
+  abbrev pub AnswersAnyKindIter : Built → (Anchored → Type 0) → MutBor (Watched R) → Result (StreamFindIter A R) StreamError → Type 0
+  AnswersAnyKindIter b supports lent (Ok i) = CanStreamAnyKind b supports × (progress_of i ≡ fresh_progress b) × (reader_of i ≡ lent.now) × (reader_name i ≡ lent.ghost_name)
+  AnswersAnyKindIter b supports lent (Err error) = IsAnyKindRefusal b supports error
 
 -- If the search is an error, the reader is unchanged. Otherwise the search holds the reference to it, and the reader ends as the
 -- last value under that name.

@@ -1,5 +1,5 @@
 -- Replacement over streams: what each result says about what was read and written, and what it costs.
-use Rattle.std.specs.Prelude.{◌≡◌, ℕ, ◌+◌, ◌*◌, ◌<◌, ◌≤◌, List, [], ◌++◌, length, take, Option, Some, None, Result, Ok, Err, OnOk}
+use Rattle.std.specs.Prelude.{◌≡◌, ◌⊎◌, false, ℕ, ◌+◌, ◌*◌, ◌<◌, ◌≤◌, List, [], ◌++◌, length, take, Option, Some, None, Result, Ok, Err, IfErr, OnOk}
 use Rattle.std.specs.List.{concat}
 use Rattle.ac_input.specs.declared.search.Anchored.{Anchored}
 use Rattle.ac_input.specs.declared.steps.Steps.{Steps}
@@ -11,7 +11,7 @@ use Rattle.ac_automaton.specs.Automaton.{Built}
 use Rattle.ac_automaton.specs.Moved.{AllFit, AreFilled, HasGiven, HasMoved, HasTaken, Moved, NoneTouched, but_last}
 use Rattle.ac_automaton.specs.Output.{Sent, Stopped}
 use Rattle.ac_automaton.specs.Replace.{LieInOrder, matches_in, with_replaced}
-use Rattle.ac_automaton.specs.Stream.{AreAllGiven, CanBeCounted, CanStream, IsConfigRefusal, IsFront, IsOnCourse, IsSearched, ReadsNothing, StreamCounts, StreamProgress, cut_of, read_by, room_of}
+use Rattle.ac_automaton.specs.Stream.{AreAllGiven, CanBeCounted, CanStream, CanStreamAnyKind, IsAnyKindConfigRefusal, IsConfigRefusal, IsFront, IsOnCourse, IsSearched, ReadsNothing, StreamCounts, StreamProgress, cut_of, read_again, read_by, room_of}
 use Rattle.ac_automaton.specs.StreamAnswer.{AnswersWriting}
 use Rattle.ac_automaton.specs.Watched.{IsOfWrite, pieces_of}
 use Rattle.ac_automaton.specs.declared.error.StreamError.{StreamError}
@@ -44,6 +44,16 @@ AcceptsReplacing b supports reader_before reader_after writer_before writer_afte
 AcceptsReplacing b supports reader_before reader_after writer_before writer_after (Err Memory) = CanStream b supports × NoneTouched reader_before reader_after writer_before writer_after
 AcceptsReplacing b supports reader_before reader_after writer_before writer_after (Err Position) = CanStream b supports
 
+-- the same under any kind
+abbrev pub AcceptsReplacingAnyKind : {R W : Type 0} → Built → (Anchored → Type 0) → Watched R → Watched R → Watched W → Watched W → Result (Unit {0}) StreamError → Type 0
+AcceptsReplacingAnyKind b supports reader_before reader_after writer_before writer_after (Ok done) = CanStreamAnyKind b supports
+AcceptsReplacingAnyKind b supports reader_before reader_after writer_before writer_after (Err (Config error)) = IsAnyKindConfigRefusal b supports error × NoneTouched reader_before reader_after writer_before writer_after
+AcceptsReplacingAnyKind b supports reader_before reader_after writer_before writer_after (Err (Read error)) = CanStreamAnyKind b supports
+AcceptsReplacingAnyKind b supports reader_before reader_after writer_before writer_after (Err (Write error)) = CanStreamAnyKind b supports
+AcceptsReplacingAnyKind b supports reader_before reader_after writer_before writer_after (Err WriteZero) = CanStreamAnyKind b supports
+AcceptsReplacingAnyKind b supports reader_before reader_after writer_before writer_after (Err Memory) = CanStreamAnyKind b supports × NoneTouched reader_before reader_after writer_before writer_after
+AcceptsReplacingAnyKind b supports reader_before reader_after writer_before writer_after (Err Position) = CanStreamAnyKind b supports
+
 -- ---- what it costs
 
 -- What a search of this many bytes of a stream may cost.
@@ -58,6 +68,30 @@ CostsStream b reader_before reader_after before after result =
     (pieces : List (List ℕ)) × (pieces_of reader_after ≡ pieces_of reader_before ++ pieces)
     × IsStreamCost b (length (concat pieces)) before after
     × OnOk result (looked_of before + length (concat pieces) ≤ looked_of after)
+
+-- the error is one that comes after the first read
+abbrev pub IsBegun : StreamError → Type 0
+IsBegun (Config error) = ⊥
+IsBegun (Read error) = Unit {0}
+IsBegun (Write error) = Unit {0}
+IsBegun WriteZero = Unit {0}
+IsBegun Memory = ⊥
+IsBegun Position = Unit {0}
+
+-- What a search of this many bytes of a stream, with so many matches, may cost under any kind.
+pub record IsAnyKindCost (b : Built) (n matches : ℕ) (before after : Steps) : Type 0 where
+  pub looked : looked_of after ≤ looked_of before + lookups_per_byte b.deterministic * (n + read_again b.dictionary matches)
+  pub scanned : scanned_of after ≡ scanned_of before
+  pub moved : 7 * moved_of after ≤ 7 * moved_of before + n
+
+-- The cost of such a call, by the bytes that it read and by their matches; if it reached the end, each of the bytes was looked at. An
+-- error that came before the first read cost nothing.
+abbrev pub CostsAnyKind : {R : Type 0} → Built → Watched R → Watched R → Steps → Steps → Result (Unit {0}) StreamError → Type 0
+CostsAnyKind b reader_before reader_after before after result =
+    (pieces : List (List ℕ)) × (pieces_of reader_after ≡ pieces_of reader_before ++ pieces)
+    × IsAnyKindCost b (length (concat pieces)) (length (matches_in b (concat pieces))) before after
+    × OnOk result (looked_of before + length (concat pieces) ≤ looked_of after)
+    × IfErr result (λ error. IsBegun error ⊎ (after ≡ before))
 
 -- ---- what stands at each point of it
 
@@ -91,7 +125,7 @@ pub record SendsTo {W : Type 0} (contents : W → Option (List ℕ)) (replacemen
 -- The next match was found and the text sent up to its end; or there is no further match of what was read, and nothing was sent.
 abbrev pub SendsMatch : {W : Type 0} → (W → Option (List ℕ)) → List (List ℕ) → StreamProgress → StreamProgress → ℕ → Watched W → Watched W → List ℕ → List ℕ → Option ℕ → Type 0
 SendsMatch contents replacements s t from old new held_before held_after None = SendsTo contents replacements s t from from old new held_before held_after × AreAllGiven t
-SendsMatch contents replacements s t from old new held_before held_after (Some to) = SendsTo contents replacements s t from to old new held_before held_after × (s.at < t.at)
+SendsMatch contents replacements s t from old new held_before held_after (Some to) = SendsTo contents replacements s t from to old new held_before held_after × (s.last < t.last)
 
 -- The text was sent up to the cut, and nothing is held back.
 abbrev pub SendsDecided : {W : Type 0} → (W → Option (List ℕ)) → List (List ℕ) → StreamProgress → StreamProgress → ℕ → Watched W → Watched W → List ℕ → ℕ → Type 0
@@ -117,16 +151,17 @@ AnswersDecided contents replacements s t from old new held_before held_after (Er
 -- A replacement between two reads: everything that is decided was written.
 pub record HasReplaced {R W : Type 0} (remaining : R → Option (List ℕ)) (contents : W → Option (List ℕ)) (replacements : List (List ℕ)) (b : Built) (s : StreamProgress) (at : ℕ) (reader_before reader_after : Watched R) (writer_before writer_after : Watched W) : Type 0 where
   pub built : s.built ≡ b
+  pub unclosed : s.closed ≡ false
   pub place : IsAtCut s at
   pub filled : AreFilled s.pieces
   pub read : HasGiven remaining reader_before reader_after s.pieces 0
   pub written : HasTaken contents writer_before writer_after (text_to s replacements at) 0 0
 
--- After a read: everything that was decided before it was written.
+-- After a read: at least everything that was decided before it was written.
 pub record IsReading {W : Type 0} (contents : W → Option (List ℕ)) (replacements : List (List ℕ)) (b : Built) (s : StreamProgress) (at : ℕ) (before after : Watched W) : Type 0 where
   pub built : s.built ≡ b
   pub placed : IsPlaced s at
-  pub front : IsReplacedFront b replacements (concat (but_last s.pieces)) (text_to s replacements at)
+  pub front : (early : List ℕ) × IsReplacedFront b replacements (concat (but_last s.pieces)) early × IsBeginning early (text_to s replacements at)
   pub written : HasTaken contents before after (text_to s replacements at) 0 0
 
 -- What a search read and counted in between; if it reached the end, all of it was searched.
@@ -136,12 +171,3 @@ pub record HasSearched {R : Type 0} (s t : StreamProgress) (reader_before reader
   pub counts : StreamCounts s t before after
   pub course : IsOnCourse t
   pub searched : OnOk result (IsSearched t)
-
--- the error is one that comes after the first read
-abbrev pub IsBegun : StreamError → Type 0
-IsBegun (Config error) = ⊥
-IsBegun (Read error) = Unit {0}
-IsBegun (Write error) = Unit {0}
-IsBegun WriteZero = Unit {0}
-IsBegun Memory = ⊥
-IsBegun Position = Unit {0}

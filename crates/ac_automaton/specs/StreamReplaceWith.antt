@@ -1,5 +1,5 @@
 -- Replacement over streams by a closure: the values of the writer, one after another, and what each result says about them.
-use Rattle.std.specs.Prelude.{◌≡◌, ◌⊎◌, ℕ, ◌<◌, ◌≤◌, List, [], ◌∷◌, ◌++◌, length, slice_range, Option, Some, None, Result, Ok, Err}
+use Rattle.std.specs.Prelude.{◌≡◌, ◌⊎◌, false, ℕ, ◌<◌, ◌≤◌, List, [], ◌∷◌, ◌++◌, length, slice_range, Option, Some, None, Result, Ok, Err}
 use Rattle.std.specs.List.{All, concat}
 use Rattle.ac_input.specs.declared.search.Anchored.{Anchored}
 use Rattle.ac_input.specs.Cut.{IsCut}
@@ -7,7 +7,7 @@ use Rattle.ac_input.specs.Occurrence.{Occurrence}
 use Rattle.ac_automaton.specs.Automaton.{Built}
 use Rattle.ac_automaton.specs.Moved.{AllFit, AreFilled, AreWhole, HasGiven, HasTaken, NoneTouched, but_last}
 use Rattle.ac_automaton.specs.Replace.{IsForMatches, Replacer, RepliesAt, matches_in}
-use Rattle.ac_automaton.specs.Stream.{AreAllGiven, CanBeCounted, CanStream, IsNear, IsStreamRefusal, ReadsNothing, StreamProgress, read_by, room_of}
+use Rattle.ac_automaton.specs.Stream.{AreAllGiven, CanBeCounted, CanStream, CanStreamAnyKind, IsAnyKindRefusal, IsNear, IsStreamRefusal, ReadsNothing, StreamProgress, read_by, room_of}
 use Rattle.ac_automaton.specs.StreamReplace.{IsAtCut, IsPlaced}
 use Rattle.ac_automaton.specs.declared.error.StreamError.{StreamError}
 use Rattle.ac_automaton.specs.declared.error.StreamError.TheVariants.{Config, Read, Write, WriteZero, Memory, Position}
@@ -102,11 +102,19 @@ module _ {F W : Type 0} (contents : W → Option (List ℕ)) (g : StreamReplacer
         (IsStreamRefusal b supports error × NoneTouched reader_before reader_after writer_before writer_after)
         ⊎ (CanStream b supports × ReadsAndReplaces b f reader_before reader_after writer_before writer_after (Err error))
 
+    -- the same under any kind
+    abbrev pub ReplacesAnyKindWith : Built → (Anchored → Type 0) → F → Watched R → Watched R → Watched W → Watched W → Result (Unit {0}) StreamError → Type 0
+    ReplacesAnyKindWith b supports f reader_before reader_after writer_before writer_after (Ok done) = CanStreamAnyKind b supports × ReadsAndReplaces b f reader_before reader_after writer_before writer_after (Ok done)
+    ReplacesAnyKindWith b supports f reader_before reader_after writer_before writer_after (Err error) =
+        (IsAnyKindRefusal b supports error × NoneTouched reader_before reader_after writer_before writer_after)
+        ⊎ (CanStreamAnyKind b supports × ReadsAndReplaces b f reader_before reader_after writer_before writer_after (Err error))
+
     -- ---- what stands at each point of it
 
     -- A replacement between two reads: the chain has come to the cut.
     pub record HasReplacedWith (b : Built) (s : StreamProgress) (at : ℕ) (reader_before reader_after : Watched R) (first f : F) (writer_before writer_after : Watched W) : Type 0 where
       pub built : s.built ≡ b
+      pub unclosed : s.closed ≡ false
       pub place : IsAtCut s at
       pub filled : AreFilled s.pieces
       pub read : HasGiven remaining reader_before reader_after s.pieces 0
@@ -124,7 +132,7 @@ module _ {F W : Type 0} (contents : W → Option (List ℕ)) (g : StreamReplacer
   -- The next match was found, and the chain went on to its end; or there is no further match of what was read.
   abbrev pub PassesMatch : StreamProgress → StreamProgress → ℕ → F → F → Watched W → Watched W → Option ℕ → Type 0
   PassesMatch s t from f after old new None = ContinuesChain s t from from f after old new × AreAllGiven t
-  PassesMatch s t from f after old new (Some to) = ContinuesChain s t from to f after old new × (s.at < t.at)
+  PassesMatch s t from f after old new (Some to) = ContinuesChain s t from to f after old new × (s.last < t.last)
 
   -- In between nothing was read, and the chain, which had come to a place, stopped at it or later: the closure failed, or a write
   -- did.

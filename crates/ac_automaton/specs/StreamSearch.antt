@@ -6,13 +6,14 @@ use Rattle.ac_input.specs.declared.search.MatchKind.TheVariants.{Standard}
 use Rattle.ac_input.specs.declared.steps.Steps.{Steps}
 use Rattle.ac_input.specs.Best.{IsBest}
 use Rattle.ac_input.specs.Dictionary.{IsLive, live_len, whole}
+use Rattle.ac_input.specs.LiveLaws.{IsOwnInverse, shifted_best}
 use Rattle.ac_input.specs.Occurrence.{Occurrence}
 use Rattle.ac_input.specs.Steps.{looked_of, scanned_of, Done}
 use Rattle.ac_input.specs.Walk.{IsWalk}
 use Rattle.ac_automaton.specs.Automaton.{Built}
 use Rattle.ac_automaton.specs.Buffer.{Held, IsRollPaid}
 use Rattle.ac_automaton.specs.Replace.{matches_in}
-use Rattle.ac_automaton.specs.Stream.{StreamProgress, CanBeCounted, FindsHeld, IsOnCourse, held_by, keep_of, read_by}
+use Rattle.ac_automaton.specs.Stream.{StreamProgress, CanBeCounted, FindsHeld, IsOnCourse, MayFollow, held_by, keep_of, read_by, read_in_all}
 use Rattle.ac_automaton.specs.declared.stream.search.Progress.{Progress}
 use Rattle.ac_automaton.specs.declared.stream.search.Searched.{Searched}
 
@@ -26,28 +27,37 @@ since_last s = slice_range (read_by s) s.last s.at
 abbrev pub ContinuesWalk : StreamProgress → Type 0
 ContinuesWalk s =
     (more : List ℕ) (rest : List Occurrence)
-    → IsWalk Standard (whole s.built.dictionary (read_by s ++ more) false) s.last (Some s.last) rest
-    → IsWalk Standard (whole s.built.dictionary (read_by s ++ more) false) 0 None (s.given ++ rest)
+    → MayFollow s more
+    → IsWalk s.built.dictionary.kind (whole s.built.dictionary (read_by s ++ more) false) s.last (Some s.last) rest
+    → IsWalk s.built.dictionary.kind (whole s.built.dictionary (read_by s ++ more) false) 0 None (s.given ++ rest)
 
 -- The looks are paid for by the bytes that the automaton has read, and what is live is paid for too.
 abbrev pub IsSearchPaid : StreamProgress → Type 0
 IsSearchPaid s =
     (live : Option ℕ) → IsLive s.built.dictionary false (since_last s) live
-    → (s.looked + live_len (since_last s) live ≤ 2 * s.at) × (s.at ≤ s.looked) × (IsTrue s.built.deterministic → s.looked ≡ s.at)
+    → (s.looked + live_len (since_last s) live ≤ 2 * read_in_all s) × (s.at ≤ s.looked) × (IsTrue s.built.deterministic → s.looked ≤ read_in_all s)
 
--- A search stands in a state: it was reached from the start by the bytes since the last match, and there is no match in these.
-pub record StandsInState (Reaches : List ℕ → StateID → Type 0) (s : StreamProgress) (start sid : StateID) : Type 0 where
+-- A search stands in a state: it was reached from the start by the bytes since the last match, which aren't dead. The best match in
+-- these is still to be decided; under standard there is none.
+pub record StandsInState (Reaches : List ℕ → StateID → Type 0) (s : StreamProgress) (start sid : StateID) (best : Option Occurrence) : Type 0 where
   pub course : IsOnCourse s
   pub begins : Reaches [] start
   pub reads : Reaches (since_last s) sid
-  pub quiet : IsBest Standard (whole s.built.dictionary (since_last s) false) None
+  pub found : Option Occurrence
+  pub kept : best ≡ shifted_best s.last found
+  pub told : IsBest s.built.dictionary.kind (whole s.built.dictionary (since_last s) false) found
+  pub quiet : s.built.dictionary.kind ≡ Standard → found ≡ None
+  pub inverse : IsOwnInverse s.built.dictionary.pairing
+  pub live : ℕ
+  pub alive : IsLive s.built.dictionary false (since_last s) (Some live)
   pub goes : ContinuesWalk s
   pub lookups : IsSearchPaid s
 
 -- what a search over the held bytes is passed about how far it has come
 pub record IsHeldAt (b : Built) (Reaches : List ℕ → StateID → Type 0) (s : StreamProgress) (start : StateID) (p : Progress) (held : List ℕ) : Type 0 where
   pub built : s.built ≡ b
-  pub stands : StandsInState Reaches s start p.sid
+  pub stands : StandsInState Reaches s start p.sid p.best
+  pub closed : p.closed ≡ s.closed
   pub from : p.from ≡ s.from
   pub at : p.at ≡ s.at
   pub last : p.last ≡ s.last
@@ -59,6 +69,14 @@ abbrev pub some_of : Option Occurrence → List Occurrence
 some_of None = []
 some_of (Some o) = o ∷ []
 
+-- the match was found, and the search begins anew at its end
+abbrev pub searched_anew : StateID → Progress → Occurrence → Searched
+searched_anew start p o = record { progress = record { sid = start; from = p.from; at = o.end; last = o.end; best = None; closed = p.closed }; found = Some o }
+
+-- how far a search has come that waits for a match to be decided, where it has read to a place and has looked so often more
+abbrev pub waits : StreamProgress → ℕ → ℕ → StreamProgress
+waits s at looks = record s { at = at; looked = s.looked + looks }
+
 -- how far it has come afterwards
 abbrev pub after_search : StreamProgress → Searched → ℕ → StreamProgress
 after_search s r looks = record s { given = s.given ++ some_of r.found; at = r.progress.at; last = r.progress.last; looked = s.looked + looks }
@@ -67,9 +85,10 @@ after_search s r looks = record s { given = s.given ++ some_of r.found; at = r.p
 pub record SearchesOn (Reaches : List ℕ → StateID → Type 0) (s : StreamProgress) (start : StateID) (r : Searched) (before after : Steps) : Type 0 where
   pub looks : ℕ
   pub done : Done looks 0 0 before after
+  pub closed : r.progress.closed ≡ s.closed
   pub from : r.progress.from ≡ s.from
   pub finds : FindsHeld s r.found (after_search s r looks)
-  pub stands : StandsInState Reaches (after_search s r looks) start r.progress.sid
+  pub stands : StandsInState Reaches (after_search s r looks) start r.progress.sid r.progress.best
 
 -- the buffer holds what the search says
 pub record HoldsRead (s : StreamProgress) (buffer : Held) : Type 0 where
@@ -85,6 +104,7 @@ progress_at b pieces count progress buffer sums =
     record {
       built = b;
       pieces = pieces;
+      closed = progress.closed;
       given = take count (matches_in b (concat pieces));
       from = progress.from;
       at = progress.at;
@@ -95,8 +115,8 @@ progress_at b pieces count progress buffer sums =
     }
 
 -- The state that a search keeps between its calls is right.
-pub record IsStreamSearch (Reaches : List ℕ → StateID → Type 0) (s : StreamProgress) (start sid : StateID) (count : ℕ) (buffer : Held) (over : Bool) : Type 0 where
-  pub stands : StandsInState Reaches s start sid
+pub record IsStreamSearch (Reaches : List ℕ → StateID → Type 0) (s : StreamProgress) (start sid : StateID) (best : Option Occurrence) (count : ℕ) (buffer : Held) (over : Bool) : Type 0 where
+  pub stands : StandsInState Reaches s start sid best
   pub number : length s.given ≡ count
   pub holds : HoldsRead s buffer
   pub countable : over ≡ false → CanBeCounted (read_by s)

@@ -55,9 +55,9 @@ pub trait Automaton {
     ghost use Rattle.ac_automaton.specs.Overlapping.{CameFrom, CountsShown, IsOverlappingCost, AnswersOverlapping, sums_of};
     ghost use Rattle.ac_automaton.specs.OverlappingIter.{AnswersOverlappingIter, rest_of};
     ghost use Rattle.ac_automaton.specs.Items.{AreFewMatches, AreFewForEach, MatchesAreInOrder, EachLiesWithin, FindsWithin};
-    ghost use Rattle.ac_automaton.specs.StreamIter.{AnswersStreamIter};
-    ghost use Rattle.ac_automaton.specs.StreamReplace.{AcceptsReplacing, CostsStream, ReplacesStream};
-    ghost use Rattle.ac_automaton.specs.StreamReplaceWith.{ReplacesStreamWith};
+    ghost use Rattle.ac_automaton.specs.StreamIter.{AnswersAnyKindIter, AnswersStreamIter};
+    ghost use Rattle.ac_automaton.specs.StreamReplace.{AcceptsReplacing, AcceptsReplacingAnyKind, CostsAnyKind, CostsStream, ReplacesStream};
+    ghost use Rattle.ac_automaton.specs.StreamReplaceWith.{ReplacesAnyKindWith, ReplacesStreamWith};
     ghost use Rattle.ac_automaton.specs.Watched.{has_ended};
     ghost use Rattle.ac_automaton.specs.Replace.{IsForMatches, ReplacesText, ReplacesBytes, ReplacesTextWith, ReplacesBytesWith};
 
@@ -416,6 +416,29 @@ pub trait Automaton {
         stream::stream_find_iter(reader, self, alloc)
     }
 
+    /// The same under any kind: under a leftmost one each match is returned once it is decided, so that no byte that follows can
+    /// change it. That is where the automaton's state is dead, or at the end of the input. At most as many bytes are held back as the
+    /// longest pattern has.
+    ///
+    /// After a match under a leftmost kind it reads again what it has read past its end: at most as many bytes as the longest pattern
+    /// has, and one.
+    ///
+    /// Returns an error if the automaton has no start for a search that isn't anchored, or has an empty pattern, checked in that
+    /// order, and then if there is no memory for the buffer.
+    /// A caller: `uses::callers::any_kind::all_matches`.
+    final fn try_stream_find_iter_any_kind<'a, R>(
+        &'a self,
+        alloc: Global,
+        reader: &'a mut Watched<R>,
+    ) -> Result<StreamFindIter<'a, Self, R>, StreamError>
+    where
+        Self: Sized + Search,
+        requires { has_ended reader.old ≡ false }
+        ensures { AnswersAnyKindIter (built self.now) (supports self.now) reader.entry result }
+    {
+        stream::stream_find_iter_any_kind(reader, self, alloc)
+    }
+
     /// The text with each match replaced by the replacement of its pattern. There is one replacement for each pattern. A match
     /// that begins or ends within a character is skipped: its bytes stay.
     ///
@@ -574,5 +597,93 @@ pub trait Automaton {
             (supports self.now) replace_with reader.old reader.new writer.old writer.new result }
     {
         stream::replace_with::replace_all_with(self, alloc, reader, writer, replace_with)
+    }
+
+    /// The same as `try_stream_replace_all` under any kind: under a leftmost one each match is replaced once it is decided. Before
+    /// each read it writes everything, unless the last bytes may still begin or change a match; then it holds back at most as many
+    /// bytes as the longest pattern has.
+    ///
+    /// Returns an error where [`try_stream_find_iter_any_kind`](Automaton::try_stream_find_iter_any_kind) does, and if there is no
+    /// memory for its two buffers; the reader and the writer are then unchanged. It allocates nothing after that.
+    /// A caller: `uses::callers::any_kind::replaced`.
+    final fn try_stream_replace_all_any_kind<R: Read, W: Write>(
+        &self,
+        alloc: Global,
+        reader: &mut Watched<R>,
+        writer: &mut Watched<W>,
+        replacements: &[&[u8]],
+    ) -> Result<(), StreamError>
+    where
+        Self: Search,
+        requires open { has_ended reader.old ≡ false }
+        requires one_each { length replacements.now
+            ≡ length (built self.now).dictionary.patterns }
+        ensures replaced { ReplacesStream R.remaining W.contents (built self.now)
+            (map (λ r. r.now) replacements.now) reader.old reader.new writer.old writer.new result }
+        ensures accepted { AcceptsReplacingAnyKind (built self.now) (supports self.now)
+            reader.old reader.new writer.old writer.new result }
+    {
+        let mut steps = Steps::new();
+        self.try_stream_replace_all_any_kind_counted(
+            alloc,
+            reader,
+            writer,
+            replacements,
+            &mut steps,
+        )
+    }
+
+    /// The same; counts what it does. Beside what `try_stream_replace_all_counted` counts it looks again, after each match under a
+    /// leftmost kind, at what it reads again.
+    /// A caller: `uses::callers::any_kind::replaced`.
+    final fn try_stream_replace_all_any_kind_counted<R: Read, W: Write>(
+        &self,
+        alloc: Global,
+        reader: &mut Watched<R>,
+        writer: &mut Watched<W>,
+        replacements: &[&[u8]],
+        steps: &mut Steps,
+    ) -> Result<(), StreamError>
+    where
+        Self: Search,
+        requires open { has_ended reader.old ≡ false }
+        requires one_each { length replacements.now
+            ≡ length (built self.now).dictionary.patterns }
+        ensures replaced { ReplacesStream R.remaining W.contents (built self.now)
+            (map (λ r. r.now) replacements.now) reader.old reader.new writer.old writer.new result }
+        ensures accepted { AcceptsReplacingAnyKind (built self.now) (supports self.now)
+            reader.old reader.new writer.old writer.new result }
+        ensures cost { CostsAnyKind (built self.now) reader.old reader.new
+            steps.old steps.new result }
+    {
+        stream::replace::replace_all_any_kind_counted(
+            self,
+            alloc,
+            reader,
+            writer,
+            replacements,
+            steps,
+        )
+    }
+
+    /// The same as `try_stream_replace_all_with` under any kind.
+    /// A caller: `uses::callers::any_kind::copied`.
+    final fn try_stream_replace_all_any_kind_with<R: Read, W: Write, F>(
+        &self,
+        alloc: Global,
+        reader: &mut Watched<R>,
+        writer: &mut Watched<W>,
+        replace_with: F,
+    ) -> Result<(), StreamError>
+    where
+        Self: Search,
+        F: FnMut(&Match, &[u8], &mut Watched<W>) -> Result<(), StreamError>,
+        requires open { has_ended reader.old ≡ false }
+        requires ready { IsForMatches F.FnMut (length (built self.now).dictionary.patterns)
+            replace_with }
+        ensures { ReplacesAnyKindWith W.contents F.FnMut R.remaining (built self.now)
+            (supports self.now) replace_with reader.old reader.new writer.old writer.new result }
+    {
+        stream::replace_with::replace_all_any_kind_with(self, alloc, reader, writer, replace_with)
     }
 }

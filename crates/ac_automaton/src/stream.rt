@@ -13,7 +13,7 @@
 ghost use Rattle.std.specs.Prelude.{◌≡◌, false};
 ghost use Rattle.std.specs.Borrow.{sem};
 ghost use Rattle.ac_automaton.specs.Stream.{FindsHeld, GoesOn};
-ghost use Rattle.ac_automaton.specs.StreamIter.{AnswersStreamIter, GivesItem, KeepsReader, RestsIfRefused, TurnGives, progress_of, reader_name, reader_of};
+ghost use Rattle.ac_automaton.specs.StreamIter.{AnswersAnyKindIter, AnswersStreamIter, GivesItem, KeepsReader, RestsIfRefused, TurnGives, progress_of, reader_name, reader_of};
 ghost use Rattle.ac_automaton.specs.Watched.{has_ended};
 
 pub(crate) mod replace;
@@ -54,6 +54,8 @@ enum Turn {
     Found(Match),
     /// All of these were returned, and more bytes were read.
     More,
+    /// All of these were returned, and nothing more comes.
+    Ended,
     /// All were returned, and nothing is left to read.
     Over,
     /// All were returned, and the read failed, or there are more bytes than places.
@@ -78,6 +80,23 @@ pub fn stream_find_iter<'a, A: Search, R>(
     Ok(StreamFindIter { stream, reader })
 }
 
+/// The same under any kind: as
+/// [`try_stream_find_iter_any_kind`](crate::automaton::Automaton::try_stream_find_iter_any_kind), but the reader is the first
+/// parameter.
+pub fn stream_find_iter_any_kind<'a, A: Search, R>(
+    reader: &'a mut Watched<R>,
+    automaton: &'a A,
+    alloc: Global,
+) -> Result<StreamFindIter<'a, A, R>, StreamError>
+    requires { has_ended reader.old ≡ false }
+    ensures* rests { sem 𝓛 (RestsIfRefused R.row reader.entry result) }
+    ensures answer { AnswersAnyKindIter (A.built automaton.now) (A.supports automaton.now)
+        reader.entry result }
+{
+    let stream = StreamSearch::any_kind(automaton, alloc)?;
+    Ok(StreamFindIter { stream, reader })
+}
+
 /// The next match of what was read; or one read, if there is none.
 fn search_or_read<A: Search, R: Read>(
     stream: &mut StreamSearch<'_, A>,
@@ -90,11 +109,14 @@ fn search_or_read<A: Search, R: Read>(
     if let Some(found) = stream.next_held(steps) {
         return Turn::Found(found);
     }
-    if stream.is_over() || reader.ended() {
+    if stream.is_over() || stream.is_closed() || reader.ended() {
         return Turn::Over;
     }
     match stream.read_more(reader, steps) {
-        Ok(0) => Turn::Over,
+        Ok(0) => {
+            stream.close();
+            Turn::Ended
+        }
         Ok(_) => Turn::More,
         Err(error) => Turn::Failed(error),
     }
@@ -133,6 +155,7 @@ impl<'a, A: Search, R: Read> StreamFindIter<'a, A, R> {
         loop {
             match search_or_read(&mut self.stream, self.reader, steps) {
                 Turn::More => {}
+                Turn::Ended => {}
                 Turn::Found(found) => return Some(Ok(found)),
                 Turn::Over => return None,
                 Turn::Failed(error) => return Some(Err(error)),

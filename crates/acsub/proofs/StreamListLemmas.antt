@@ -20,12 +20,12 @@ use Rattle.ac_input.specs.Work.{shortest}
 use Rattle.ac_input.proofs.BeginningLemmas.{listed-beginning, whole-walk_begins}
 use Rattle.ac_input.proofs.TextLemmas.{listed-append}
 use Rattle.ac_automaton.specs.Automaton.{Built}
-use Rattle.ac_automaton.specs.Moved.{AllFit, AreFilled, HasGiven, HasMoved, HasTaken, Moved, but_last}
+use Rattle.ac_automaton.specs.Moved.{AllFit, AreFilled, AreWhole, HasGiven, HasMoved, HasTaken, Moved, but_last}
 use Rattle.ac_automaton.specs.Output.{Sent, Stopped}
 use Rattle.ac_automaton.specs.Replace.{LieInOrder, matches_in}
 use Rattle.ac_automaton.specs.Stream.{AreAllGiven, CanBeCounted, CanStream, FindsHeld, IsConfigRefusal, IsOnCourse, IsSearched, IsStreamRefusal, ReadsNothing, StreamProgress, fresh_progress, matches_read, read_by, room_of}
 use Rattle.ac_automaton.specs.StreamAnswer.{WroteToFailedWrite}
-use Rattle.ac_automaton.specs.StreamIter.{HasGained, NextGives}
+use Rattle.ac_automaton.specs.StreamIter.{HasGained, IsInputOver, NextGives}
 use Rattle.ac_automaton.specs.Watched.{IsOfWrite, has_ended, pieces_of, stalls_of}
 use Rattle.ac_automaton.specs.declared.watched.Watched.{Watched}
 use Rattle.ac_automaton.proofs.MovedLemmas.{given-then, turns-filled}
@@ -33,7 +33,9 @@ use Rattle.ac_automaton.proofs.OutputLemmas.{Sent-none, Sent-then, Stopped-then}
 use Rattle.ac_automaton.proofs.ReplaceLemmas.{matches-lie}
 use Rattle.ac_automaton.proofs.StreamReplaceLemmas.{given-none, nothing-matches, pieces-fit, taken-none, taken-sent, taken-stopped}
 use Rattle.ac_automaton.proofs.StreamCutLemmas.{matches-cut, matches-walk}
+use Rattle.ac_automaton.proofs.SearchLemmas.{nothing-in_empty}
 use Rattle.ac_automaton.proofs.StreamSendLemmas.{ReadsNothing-then}
+use Rattle.ac_automaton.proofs.WalkEndLemmas.{none-alive}
 use Rattle.ac_automaton.specs.StreamReplace.{IsBegun}
 use Rattle.ac_automaton.specs.declared.error.MatchErrorKind.{MatchErrorKind}
 use Rattle.ac_automaton.specs.declared.error.StreamError.{StreamError}
@@ -104,23 +106,24 @@ module _ {W : Type 0} (contents : W → Option (List ℕ)) (s t u : StreamProgre
 
   -- all were given
   pub last-all : CanBeCounted (read_by s) → AreAllGiven u
-  last-all countable = finds.3 (subst (λ (pieces : List (List ℕ)). CanBeCounted (concat pieces)) (sym before.same.pieces) countable)
+  last-all countable = finds.2 (subst (λ (pieces : List (List ℕ)). CanBeCounted (concat pieces)) (sym before.same.pieces) countable)
 
 -- nothing was sent yet
 pub lines-none : {W : Type 0} (contents : W → Option (List ℕ)) (s : StreamProgress) (writer : Watched W) (held : List ℕ) → SendsLines contents s s writer writer held held
 lines-none contents s writer held = record {
-  same = record { on = omega arith; built = refl; pieces = refl; from = refl };
+  same = record { on = λ standard. omega arith; last = omega arith; closed = refl; built = refl; pieces = refl; from = refl };
   more = [];
   given = sym (append-nil s.given);
   sent = Sent-none contents writer held;
 }
 
 -- less is left to search after a match
-pub less-held : (s t u : StreamProgress) (o : Occurrence) → t.pieces ≡ s.pieces → FindsHeld t (Some o) u → length (read_by u) - u.at < length (read_by t) - t.at
+pub less-held : (s t u : StreamProgress) (o : Occurrence) → t.pieces ≡ s.pieces → FindsHeld t (Some o) u → length (read_by u) - u.last < length (read_by t) - t.last
 less-held s t u o same finds =
     let kept : length (read_by u) ≡ length (read_by t) = ap (λ (ps : List (List ℕ)). length (concat ps)) finds.0.pieces in
-    let at : u.at ≡ o.end = finds.3 in
-    let new : t.at < o.end = finds.4.new in
+    let last : u.last ≡ o.end = finds.2 in
+    let behind : t.last ≤ o.start = finds.4.behind in
+    let some : o.start < o.end = finds.4.some in
     let within : o.end ≤ length (read_by t) = finds.4.within in
     omega arith
 
@@ -145,7 +148,7 @@ writing-stopped contents o s t old mid new held first more = record {
 -- the first line stopped
 pub first-stopped : {W : Type 0} (contents : W → Option (List ℕ)) (o : Occurrence) (s : StreamProgress) (old new : Watched W) → Stopped contents old new [] (line o) → StopsWriting contents o s s old new
 first-stopped contents o s old new stopped = record {
-  same = record { on = omega arith; built = refl; pieces = refl; from = refl };
+  same = record { on = λ standard. omega arith; last = omega arith; closed = refl; built = refl; pieces = refl; from = refl };
   more = [];
   given = sym (append-nil s.given);
   stopped = subst (Stopped contents old new []) (sym (listed-one o)) stopped;
@@ -247,8 +250,14 @@ module _ {R W : Type 0} (remaining : R → Option (List ℕ)) (contents : W → 
   pub listed-fresh : (reader : Watched R) (writer : Watched W) → b.dictionary.kind ≡ Standard → 1 ≤ shortest b.dictionary.patterns → has_ended reader ≡ false → HasListed remaining contents b (fresh_progress b) reader reader writer writer
   listed-fresh reader writer standard filled unended = record {
     built = refl;
+    standard = standard;
     countable = omega arith;
-    all = record { searched = refl; all = nothing-matches b (matches_in b []) filled (matches-walk b [] standard); anew = λ done. refl };
+    all = record {
+      searched = refl;
+      all = λ each. nothing-matches b (matches_in b []) filled (matches-walk b []);
+      open_ = none-alive b.dictionary b.dictionary.kind [] (nothing-in_empty b.dictionary [] filled refl);
+      anew = λ done. refl;
+    };
     filled = tt;
     unended = unended;
     read = given-none remaining reader;
@@ -256,9 +265,13 @@ module _ {R W : Type 0} (remaining : R → Option (List ℕ)) (contents : W → 
   }
 
   module _ (s t : StreamProgress) (r0 r r1 : Watched R) (w0 w : Watched W) (h : HasListed remaining contents b s r0 r w0 w) (course : IsOnCourse t) where
+    -- the automaton is still one of the standard kind
+    still-standard : (t.built ≡ s.built) → t.built.dictionary.kind ≡ Standard
+    still-standard built = ap (λ (c : Built). c.dictionary.kind) (built ∙ h.built) ∙ h.standard
+
     -- where all is given, and nothing new was, the lines that were written are those of all that was read
     lines-same : (t.built ≡ s.built) → (t.given ≡ s.given) → AreAllGiven t → listed s.given ≡ listed_in b (read_by t)
-    lines-same built given all = ap listed (sym given ∙ all.all ∙ ap (λ (c : Built). matches_in c (read_by t)) (built ∙ h.built))
+    lines-same built given all = ap listed (sym given ∙ all.all (inl (still-standard built)) ∙ ap (λ (c : Built). matches_in c (read_by t)) (built ∙ h.built))
 
     -- in any case they are a beginning of these
     lines-begin : (t.built ≡ s.built) → (t.given ≡ s.given) → IsBeginning (listed s.given) (listed_in b (read_by t))
@@ -269,10 +282,13 @@ module _ {R W : Type 0} (remaining : R → Option (List ℕ)) (contents : W → 
     -- the input has ended
     pub ends-whole : NextGives remaining s t r r1 None → ListsStream remaining contents b r0 r1 w0 w (Ok tt) × IsSearched t
     ends-whole (gained, has, (inl none), given, stopped) =
-        let unread : read_by t ≡ read_by s = read-gained remaining s t r r1 gained 0 has ∙ ap (λ (ps : List (List ℕ)). read_by s ++ concat ps) none ∙ append-nil (read_by s) in
-        let still : has_ended r1 ≡ has_ended r = turns-filled (has_ended r) (has_ended r1) gained has.read.turns (subst AreFilled (sym none) tt) in
+        let unread : read_by t ≡ read_by s = read-gained remaining s t r r1 gained 0 has ∙ ap (λ (ps : List (List ℕ)). read_by s ++ concat ps) none.0 ∙ append-nil (read_by s) in
+        let still : has_ended r1 ≡ has_ended r = turns-filled (has_ended r) (has_ended r1) gained has.read.turns (subst AreFilled (sym none.0) tt) in
         absurd (⊎_elim
-        (λ (ended : (has_ended r1 ≡ true) × AreAllGiven t). false≢true (sym h.unended ∙ sym still ∙ ended.0))
+        (λ (over : IsInputOver t r1 × AreAllGiven t). ⊎_elim
+        (λ (ended : has_ended r1 ≡ true). false≢true (sym h.unended ∙ sym still ∙ ended))
+        (λ (closed : t.closed ≡ true). false≢true (sym (course.unclosed (still-standard has.built)) ∙ closed))
+        over.0)
         (λ (many : ¬ CanBeCounted (read_by t)). many (subst CanBeCounted (sym unread) h.countable))
         stopped)
     ends-whole (gained, has, (inr whole), given, stopped) = (
@@ -313,7 +329,7 @@ module _ {R W : Type 0} (remaining : R → Option (List ℕ)) (contents : W → 
       read-longer : length (read_by s) < length (read_by t)
       read-longer =
           let searched : s.at ≡ length (read_by s) = h.all.searched in
-          let new : s.at < o.end = next.5.new in
+          let new : s.at < o.end = next.5.new (ap (λ (c : Built). c.dictionary.kind) h.built ∙ h.standard) in
           let within : o.end ≤ length (read_by t) = next.5.within in
           omega arith
 
@@ -331,8 +347,12 @@ module _ {R W : Type 0} (remaining : R → Option (List ℕ)) (contents : W → 
           let longer = read-longer in
           omega arith
 
+      -- under standard no piece is empty
+      next-filled : AreFilled next.0
+      next-filled = ⊎_elim (λ (filled : AreFilled next.0 × (t.closed ≡ s.closed)). filled.0) (λ (other : (t.built.dictionary.kind ≢ Standard) × AreWhole next.0 × (t.closed ≡ true)). absurd (other.0 (still-standard next.1.built))) next.2
+
       now-filled : AreFilled (s.pieces ++ next.0)
-      now-filled = filled-append s.pieces next.0 h.filled next.2
+      now-filled = filled-append s.pieces next.0 h.filled next-filled
 
       now-given : HasGiven remaining r0 r1 t.pieces 0
       now-given = given-gained remaining s t r0 r r1 next.0 0 h.read h.filled next.1
@@ -344,10 +364,10 @@ module _ {R W : Type 0} (remaining : R → Option (List ℕ)) (contents : W → 
       written-front : listed_in b (concat (but_last t.pieces)) ≡ listed s.given
       written-front =
           let begun = course.begun in
-          let all : s.given ≡ matches_in b (read_by s) = h.all.all ∙ ap (λ (c : Built). matches_in c (read_by s)) h.built in
+          let standard : s.built.dictionary.kind ≡ Standard = ap (λ (c : Built). c.dictionary.kind) h.built ∙ h.standard in
+          let all : s.given ≡ matches_in b (read_by s) = h.all.all (inl standard) ∙ ap (λ (c : Built). matches_in c (read_by s)) h.built in
           let others : matches_in b (read_by t) ≡ (s.given ++ o ∷ []) ++ begun.0 = ap (λ (c : Built). matches_in c (read_by t)) (sym now-built) ∙ begun.1 ∙ ap (λ (os : List Occurrence). os ++ begun.0) next.3 in
-          let standard = subst (λ (c : Built). c.dictionary.kind ≡ Standard) now-built course.standard in
-          ap listed (front-given b s.pieces next.0 t.pieces s.given begun.0 o standard gained-some next.1.pieces all (next.6 gained-some) others)
+          ap listed (front-given b s.pieces next.0 t.pieces s.given begun.0 o h.standard gained-some next.1.pieces all ((next.6 gained-some).ends standard) others)
 
       -- the lines of what was given since, and of all before
       lines-since : (u : StreamProgress) (more : List Occurrence) → u.given ≡ t.given ++ more → listed u.given ≡ listed s.given ++ listed (o ∷ more)
@@ -357,10 +377,11 @@ module _ {R W : Type 0} (remaining : R → Option (List ℕ)) (contents : W → 
       pub listed-more : (u : StreamProgress) (w1 : Watched W) → WritesLines contents o t u w w1 → HasListed remaining contents b u r0 r1 w0 w1
       listed-more u w1 lines = record {
         built = lines.same.built ∙ now-built;
+        standard = h.standard;
         countable = subst (λ (ps : List (List ℕ)). CanBeCounted (concat ps)) (sym lines.same.pieces) next.5.countable;
         all = lines.all;
         filled = subst AreFilled (sym (lines.same.pieces ∙ next.1.pieces)) now-filled;
-        unended = turns-filled (has_ended r) (has_ended r1) next.0 next.1.read.turns next.2 ∙ h.unended;
+        unended = turns-filled (has_ended r) (has_ended r1) next.0 next.1.read.turns next-filled ∙ h.unended;
         read = subst (λ (ps : List (List ℕ)). HasGiven remaining r0 r1 ps 0) (sym lines.same.pieces) now-given;
         written = subst (λ (x : List ℕ). HasTaken contents w0 w1 x 0 0) (sym (lines-since u lines.more lines.given)) (taken-sent contents w0 w w1 (listed s.given) (listed (o ∷ lines.more)) h.written lines.sent);
       }

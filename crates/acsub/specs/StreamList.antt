@@ -2,6 +2,7 @@
 use Rattle.std.specs.Prelude.{◌≡◌, ℕ, List, ◌∷◌, ◌++◌, [], false, Option, Result}
 use Rattle.ac_input.specs.Occurrence.{Occurrence}
 use Rattle.ac_input.specs.Text.{listed}
+use Rattle.ac_input.specs.declared.search.MatchKind.TheVariants.{Standard}
 use Rattle.ac_input.specs.declared.steps.Steps.{Steps}
 use Rattle.ac_automaton.specs.Automaton.{Built}
 use Rattle.ac_automaton.specs.Moved.{AllFit, AreFilled, HasGiven, HasMoved, HasTaken, Moved}
@@ -80,6 +81,7 @@ pub record StopsWriting {W : Type 0} (contents : W → Option (List ℕ)) (o : O
 -- A list between two reads: all matches of what was read were given, and a line for each was written; nothing is held back.
 pub record HasListed {R W : Type 0} (remaining : R → Option (List ℕ)) (contents : W → Option (List ℕ)) (b : Built) (s : StreamProgress) (reader_before reader_after : Watched R) (writer_before writer_after : Watched W) : Type 0 where
   pub built : s.built ≡ b
+  pub standard : b.dictionary.kind ≡ Standard
   pub countable : CanBeCounted (read_by s)
   pub all : AreAllGiven s
   pub filled : AreFilled s.pieces

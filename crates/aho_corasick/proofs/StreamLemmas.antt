@@ -1,5 +1,5 @@
 -- What streams over texts in memory read and write.
-use Rattle.std.proofs.Common.{◌≡◌, ℕ, ◌≤◌, false, List, [], ◌∷◌, ◌++◌, length, take, Option, Some, None, Result, Ok, Err, inl, inr, refl, sym, ap, ◌∙◌, subst, append_assoc, length-append, arith}
+use Rattle.std.proofs.Common.{◌≡◌, ℕ, ◌≤◌, false, true, List, [], ◌∷◌, ◌++◌, length, take, Option, Some, None, Result, Ok, Err, inl, inr, refl, sym, ap, ◌∙◌, subst, append_assoc, length-append, arith}
 use Rattle.std.specs.Prelude.{slice_range, OnOk}
 use Rattle.std.specs.Borrow.{Bor, MutBor}
 use Rattle.std.specs.Fn.{Called}
@@ -9,18 +9,19 @@ use Rattle.std.proofs.KnownBytes.{Consumes-whole}
 use Rattle.std.proofs.Math.Seq.{take-length}
 use Rattle.std.proofs.lemmas.Grind.{common_steps}
 use Rattle.std.proofs.lemmas.Bool.{false≢true}
-use Rattle.std.proofs.lemmas.List.{append-nil}
+use Rattle.std.proofs.lemmas.List.{append-nil, append_cancel_left}
 use Rattle.std.proofs.lemmas.List.Folds.{concat-append}
 use Rattle.ac_input.specs.declared.search.Anchored.{Anchored}
+use Rattle.ac_input.specs.declared.steps.Steps.{Steps}
 use Rattle.ac_input.specs.Occurrence.{Occurrence}
 use Rattle.ac_automaton.specs.Automaton.{Built}
 use Rattle.ac_automaton.specs.Moved.{AreFilled}
 use Rattle.ac_automaton.specs.Replace.{LieInOrder, matches_in}
-use Rattle.ac_automaton.specs.Stream.{StreamProgress, read_by}
+use Rattle.ac_automaton.specs.Stream.{StreamProgress, fresh_progress, read_by}
 use Rattle.ac_automaton.specs.StreamIter.{HasGained, NextGives}
-use Rattle.ac_automaton.specs.StreamReplace.{ReplacesStream, replaced_in}
-use Rattle.ac_automaton.specs.StreamReplaceWith.{IsWriterChain, ReplacesStreamWith, StreamReplacer}
-use Rattle.ac_automaton.specs.Watched.{has_ended, inner_of, taken_of}
+use Rattle.ac_automaton.specs.StreamReplace.{CostsAnyKind, IsAnyKindCost, ReplacesStream, replaced_in}
+use Rattle.ac_automaton.specs.StreamReplaceWith.{IsWriterChain, ReadsAndReplaces, ReplacesAnyKindWith, ReplacesStreamWith, StreamReplacer}
+use Rattle.ac_automaton.specs.Watched.{has_ended, inner_of, pieces_of, taken_of}
 use Rattle.ac_automaton.specs.declared.error.StreamError.{StreamError}
 use Rattle.ac_automaton.specs.declared.watched.Watched.{Watched}
 use Rattle.ac_automaton.proofs.CursorLemmas.{slice_range-split}
@@ -48,38 +49,75 @@ stream-read rest text s t before after gained failed is gains =
     ∙ sym (append_assoc (read_by s) (concat gained) (rest (inner_of after)))
     ∙ ap (λ (u : List ℕ). u ++ rest (inner_of after)) (sym (ap concat gains.pieces ∙ concat-append s.pieces gained))
 
--- A search of a text stands somewhere: what it read, and what it gave.
+-- what is joined to something and gives nothing is nothing
+append-none : (xs ys : List ℕ) → xs ++ ys ≡ [] → ys ≡ []
+append-none [] ys none = none
+append-none (x ∷ xs) ys none = absurd (let e : x ∷ (xs ++ ys) ≡ [] = none in cc)
+
+-- A search of a text stands somewhere: what it read, and what it gave. Where the reader has ended, the search was told that no more
+-- comes, and nothing is left.
 pub record HasFound {R : Type 0} (rest : R → List ℕ) (b : Built) (text : List ℕ) (s : StreamProgress) (reader : Watched R) (found : List Occurrence) : Type 0 where
   pub built : s.built ≡ b
-  pub unended : has_ended reader ≡ false
+  pub closed : has_ended reader ≡ true → s.closed ≡ true
+  pub over : s.closed ≡ true → rest (inner_of reader) ≡ []
   pub read : text ≡ read_by s ++ rest (inner_of reader)
   pub given : found ≡ s.given
 
+-- before the first read
+pub found-fresh : {R : Type 0} (rest : R → List ℕ) (b : Built) (text : List ℕ) (s : StreamProgress) (reader : Watched R) → s ≡ fresh_progress b → has_ended reader ≡ false → rest (inner_of reader) ≡ text → HasFound rest b text s reader []
+found-fresh rest b text s reader fresh open_ is =
+    subst (λ (t : StreamProgress). HasFound rest b text t reader []) (sym fresh) (record {
+      built = refl;
+      closed = λ ended. absurd (false≢true (sym open_ ∙ ended));
+      over = λ closed. absurd (false≢true closed);
+      read = sym is;
+      given = refl;
+    })
+
 -- it gave one more match
 pub found-more : {R : Type 0} (rest : R → List ℕ) (b : Built) (text : List ℕ) (s t : StreamProgress) (before after : Watched R) (found more : List Occurrence) (o : Occurrence) → HasFound rest b text s before found → NextGives (λ r. Some (rest r)) s t before after (Some (Ok o)) → more ≡ found ++ o ∷ [] → HasFound rest b text t after more
-found-more rest b text s t before after found more o has gives is =
+found-more {R} rest b text s t before after found more o has gives is =
     record {
       built = gives.1.built ∙ has.built;
-      unended = turns-filled (has_ended before) (has_ended after) gives.0 gives.1.read.turns gives.2 ∙ has.unended;
+      closed = closed;
+      over = over;
       read = stream-read rest text s t before after gives.0 0 has.read gives.1;
       given = is ∙ ap (λ (os : List Occurrence). os ++ o ∷ []) has.given ∙ sym gives.3;
     }
+  where
+    closed : has_ended after ≡ true → t.closed ≡ true
+    closed ended = elim gives.2 [
+      | inl (filled, same) ↦ same ∙ has.closed (sym (turns-filled (has_ended before) (has_ended after) gives.0 gives.1.read.turns filled) ∙ ended)
+      | inr (leftmost, whole, known) ↦ known
+    ]
+
+    over : t.closed ≡ true → rest (inner_of after) ≡ []
+    over known = elim gives.2 [
+      | inl (filled, same) ↦
+          let none : rest (inner_of before) ≡ [] = has.over (sym same ∙ known) in
+          append-none (concat gives.0) (rest (inner_of after)) (sym gives.1.read.device ∙ none)
+      | inr (leftmost, whole, closed) ↦ gives.1.read.at_end refl whole
+    ]
 
 -- it gave all matches
 pub found-all : {R : Type 0} (rest : R → List ℕ) (b : Built) (text : List ℕ) (s t : StreamProgress) (before after : Watched R) (found : List Occurrence) → length text ≤ 18446744073709551615 → HasFound rest b text s before found → NextGives (λ r. Some (rest r)) s t before after None → found ≡ matches_in b text
 found-all rest b text s t before after found few has gives =
     let read = stream-read rest text s t before after gives.0 0 has.read gives.1 in
     elim gives.2 [
-      | inl none ↦
-          let unended : has_ended after ≡ false = turns-filled (has_ended before) (has_ended after) gives.0 gives.1.read.turns (subst AreFilled (sym none) tt) ∙ has.unended in
+      | inl (none, same) ↦
+          let still : has_ended after ≡ has_ended before = turns-filled (has_ended before) (has_ended after) gives.0 gives.1.read.turns (subst AreFilled (sym none) tt) in
           let count = simp length-append at (ap length read) in
           elim gives.4 [
-            | inl (stopped, all) ↦ absurd (false≢true (sym unended ∙ stopped))
+            | inl (over, all) ↦
+                let closed : s.closed ≡ true = elim over [ inl ended ↦ has.closed (sym still ∙ ended) | inr known ↦ sym same ∙ known ] in
+                let left : rest (inner_of after) ≡ [] = append-none (concat gives.0) (rest (inner_of after)) (sym gives.1.read.device ∙ has.over closed) in
+                let whole : text ≡ read_by t = read ∙ ap (λ (u : List ℕ). read_by t ++ u) left ∙ append-nil (read_by t) in
+                has.given ∙ sym gives.3 ∙ all.all (inr (same ∙ closed)) ∙ ap (λ (c : Built). matches_in c (read_by t)) (gives.1.built ∙ has.built) ∙ ap (matches_in b) (sym whole)
             | inr long ↦ absurd (long (omega (arith, count, few)))
           ]
-      | inr (whole, all, ended) ↦
+      | inr (whole, all, each, ended) ↦
           let same : text ≡ read_by t = read ∙ ap (λ (u : List ℕ). read_by t ++ u) ended ∙ append-nil (read_by t) in
-          has.given ∙ sym gives.3 ∙ all.all ∙ ap (λ (c : Built). matches_in c (read_by t)) (gives.1.built ∙ has.built) ∙ ap (matches_in b) (sym same)
+          has.given ∙ sym gives.3 ∙ all.all each ∙ ap (λ (c : Built). matches_in c (read_by t)) (gives.1.built ∙ has.built) ∙ ap (matches_in b) (sym same)
     ]
 
 -- ---- closures that write what matched
@@ -113,18 +151,24 @@ chain-writes items g x patterns at (o ∷ os) to f old last new writes lies chai
     ∙ joined-slices x (items (inner_of old)) at o.start o.end to lies.1 lies.2 lies.3
 
 -- the whole of a stream
-pub stream-writes : {F W R : Type 0} (remaining : R → Option (List ℕ)) (items : W → List ℕ) (g : StreamReplacer F W) (b : Built) (supports : Anchored → Type 0) (f : F) (text : List ℕ) (reader_before reader_after : Watched R) (old new : Watched W) (result : Result (Unit {0}) StreamError) → remaining (inner_of reader_before) ≡ Some text → WritesMatched items g
-    → ReplacesStreamWith (λ w. Some (items w)) g remaining b supports f reader_before reader_after old new result → OnOk result (items (inner_of new) ≡ items (inner_of old) ++ text)
-stream-writes remaining items g b supports f text reader_before reader_after old new (Ok done) is writes replaces =
-    let pieces = replaces.1.0 in
-    let given = replaces.1.2 in
-    let whole = replaces.1.4.1 in
+whole-writes : {F W R : Type 0} (remaining : R → Option (List ℕ)) (items : W → List ℕ) (g : StreamReplacer F W) (b : Built) (f : F) (text : List ℕ) (reader_before reader_after : Watched R) (old new : Watched W) → remaining (inner_of reader_before) ≡ Some text → WritesMatched items g
+    → ReadsAndReplaces (λ w. Some (items w)) g remaining b f reader_before reader_after old new (Ok tt) → items (inner_of new) ≡ items (inner_of old) ++ text
+whole-writes remaining items g b f text reader_before reader_after old new is writes (pieces, failed, given, fit, (none, whole)) =
     let x = concat pieces in
-    let read = consumed-whole _ _ text x is given.device (given.at_end replaces.1.4.0 whole.whole) in
+    let read = consumed-whole _ _ text x is given.device (given.at_end none whole.whole) in
     let written = chain-writes items g x (length b.dictionary.patterns) 0 (matches_in b x) (length x) f old whole.last new writes (matches-lie b x) whole.chain in
     let all : slice_range x 0 (length x) ≡ x = let front : slice_range x 0 (length x) ≡ take (length x) x = grind (arith, common_steps) in front ∙ take-length x in
     written ∙ ap (λ (t : List ℕ). items (inner_of old) ++ t) (all ∙ sym read)
+
+pub stream-writes : {F W R : Type 0} (remaining : R → Option (List ℕ)) (items : W → List ℕ) (g : StreamReplacer F W) (b : Built) (supports : Anchored → Type 0) (f : F) (text : List ℕ) (reader_before reader_after : Watched R) (old new : Watched W) (result : Result (Unit {0}) StreamError) → remaining (inner_of reader_before) ≡ Some text → WritesMatched items g
+    → ReplacesStreamWith (λ w. Some (items w)) g remaining b supports f reader_before reader_after old new result → OnOk result (items (inner_of new) ≡ items (inner_of old) ++ text)
+stream-writes remaining items g b supports f text reader_before reader_after old new (Ok done) is writes replaces = whole-writes remaining items g b f text reader_before reader_after old new is writes replaces.1
 stream-writes remaining items g b supports f text reader_before reader_after old new (Err error) is writes replaces = tt
+
+pub any_kind-writes : {F W R : Type 0} (remaining : R → Option (List ℕ)) (items : W → List ℕ) (g : StreamReplacer F W) (b : Built) (supports : Anchored → Type 0) (f : F) (text : List ℕ) (reader_before reader_after : Watched R) (old new : Watched W) (result : Result (Unit {0}) StreamError) → remaining (inner_of reader_before) ≡ Some text → WritesMatched items g
+    → ReplacesAnyKindWith (λ w. Some (items w)) g remaining b supports f reader_before reader_after old new result → OnOk result (items (inner_of new) ≡ items (inner_of old) ++ text)
+any_kind-writes remaining items g b supports f text reader_before reader_after old new (Ok done) is writes replaces = whole-writes remaining items g b f text reader_before reader_after old new is writes replaces.1
+any_kind-writes remaining items g b supports f text reader_before reader_after old new (Err error) is writes replaces = tt
 
 -- ---- replacements
 
@@ -135,6 +179,15 @@ stream-replaces remaining items b replacements text reader_before reader_after o
     let read = consumed-whole _ _ text (concat m.pieces) is moved.reader.device (moved.reader.at_end whole.failed.0 whole.whole) in
     moved.writer.device ∙ ap (λ (t : List ℕ). items (inner_of old) ++ t) (whole.written ∙ ap (replaced_in b replacements) (sym read))
 stream-replaces remaining items b replacements text reader_before reader_after old new (Err error) is replaces = tt
+
+-- what that costs, by the text
+pub stream-costs : {W R : Type 0} (remaining : R → Option (List ℕ)) (contents : W → Option (List ℕ)) (b : Built) (replacements : List (List ℕ)) (text : List ℕ) (reader_before reader_after : Watched R) (old new : Watched W) (before after : Steps) (result : Result (Unit {0}) StreamError) → remaining (inner_of reader_before) ≡ Some text
+    → ReplacesStream remaining contents b replacements reader_before reader_after old new result → CostsAnyKind b reader_before reader_after before after result → OnOk result (IsAnyKindCost b (length text) (length (matches_in b text)) before after)
+stream-costs remaining contents b replacements text reader_before reader_after old new before after (Ok done) is (m, moved, fit, whole) (pieces, read, cost, all, unread) =
+    let same : pieces ≡ m.pieces = append_cancel_left (pieces_of reader_before) pieces m.pieces (sym read ∙ moved.reader.pieces) in
+    let text_read : text ≡ concat pieces = consumed-whole _ _ text (concat m.pieces) is moved.reader.device (moved.reader.at_end whole.failed.0 whole.whole) ∙ ap concat (sym same) in
+    subst (λ (x : List ℕ). IsAnyKindCost b (length x) (length (matches_in b x)) before after) (sym text_read) cost
+stream-costs remaining contents b replacements text reader_before reader_after old new before after (Err error) is replaces costs = tt
 
 -- so reads returned all that there was, and the writer took it, replaced
 pub stream-replaced : {R W : Type 0} (remaining : R → Option (List ℕ)) (contents : W → Option (List ℕ)) (ac : AhoCorasick) (replacements : List (List ℕ)) (reader_before reader_after : Watched R) (writer_before writer_after : Watched W) (result : Result (Unit {0}) StreamError)

@@ -4,6 +4,7 @@
 use crate::answers::Asks::{self, List, Walk};
 use crate::answers::Text::{self, Bound, BoundEarliest, BoundPart, Earliest, Part, Whole};
 use crate::answers::{by_plain, input};
+use crate::any_kind;
 use crate::engines::{Asked, ENGINES, Letters, Pick, each, pick};
 use crate::prefilters::built;
 use crate::rows::{Row, packed_table_holds, table_of};
@@ -167,6 +168,7 @@ fn each_is_alike<'a, T: Abort>(
             let drawn = Drawn { asked, text };
             prefilter_is_lawful(rt, alloc, drawn)?;
             searches_are_alike(rt, alloc, drawn, Walk)?;
+            any_kind::is_alike(rt, alloc, asked, text)?;
             if kind == MatchKind::Standard {
                 searches_are_alike(rt, alloc, drawn, List)?;
             }
@@ -182,7 +184,8 @@ fn seed_is_alike<T: Abort>(rt: &T, alloc: Global, seed: u8) -> Result<(), Fail> 
     each_is_alike(rt, alloc, &patterns, from_there(&letters, 30, 14))
 }
 
-/// 30 lists of patterns, each for three kinds and with three pairings: 2,160 searches, each by every automaton in every setting.
+/// 30 lists of patterns, each for three kinds and with three pairings: 2,160 searches, each by every automaton in every setting,
+/// and the matches of streams.
 #[test]
 fn small_searches(rt: HostRuntime) -> Result<(), Fail> {
     for seed in 0..30 {

@@ -7,6 +7,8 @@
 #[cfg(test)]
 mod answers;
 #[cfg(test)]
+mod any_kind;
+#[cfg(test)]
 mod automata;
 #[cfg(test)]
 mod calls;

@@ -32,10 +32,11 @@ pub const FRONTS: [&str; 6] = [
     "A sloth and a sloth.",
 ];
 
-/// Replacement over a stream: what it comes to.
+/// Replacement over a stream, also by the call for any kind: what it comes to.
 fn replacement_outcome<A: Search>(
     alloc: Global,
     automaton: &A,
+    of_any_kind: bool,
     tally: &Tally,
 ) -> Result<Outcome, AllocError> {
     if automaton.patterns_len() != 1 {
@@ -44,13 +45,12 @@ fn replacement_outcome<A: Search>(
     let mut reader = Watched::new(Source::new(Given::Whole(b"a fox"), 2, &[], tally));
     let mut writer = Watched::new(Sink::new(alloc, AMPLE, tally)?);
     let mut steps = Steps::new();
-    let answer = automaton.try_stream_replace_all_counted(
-        alloc,
-        &mut reader,
-        &mut writer,
-        &[b"sloth"],
-        &mut steps,
-    );
+    let sloth: &[&[u8]] = &[b"sloth"];
+    let answer = if of_any_kind {
+        automaton.try_stream_replace_all_any_kind(alloc, &mut reader, &mut writer, sloth)
+    } else {
+        automaton.try_stream_replace_all_counted(alloc, &mut reader, &mut writer, sloth, &mut steps)
+    };
     Ok(Outcome::of(&answer))
 }
 
@@ -128,7 +128,14 @@ impl Case for InMemory {
         let outcome = search_outcome(alloc, automaton, &tally);
         assert!(rt; outcome == Outcome::Done || outcome == Outcome::Memory);
         assert_eq!(rt; tally.reads.get(), 0);
-        came(rt, replacement_outcome(alloc, automaton, &tally), &tally);
+        for of_any_kind in [false, true] {
+            let tally = Tally::new();
+            came(
+                rt,
+                replacement_outcome(alloc, automaton, of_any_kind, &tally),
+                &tally,
+            );
+        }
         let tally = Tally::new();
         came(rt, closure_outcome(alloc, automaton, &tally), &tally);
         is_made_of_bytes(rt, alloc, automaton);

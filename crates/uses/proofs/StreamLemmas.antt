@@ -1,31 +1,20 @@
 -- What is sent, piece by piece.
-use Rattle.std.proofs.Common.{◌≡◌, ℕ, zero, suc, ◌+◌, ◌≤◌, ◌<◌, false, List, [], ◌∷◌, ◌++◌, length, map, take, get_or, Option, Some, None, Result, Ok, Err, inl, inr, sym, ap, ◌∙◌, subst, append_assoc, length-append, arith}
-use Rattle.std.specs.Prelude.{slice_range, OnOk}
-use Rattle.std.specs.Borrow.{Bor, MutBor}
-use Rattle.std.specs.Fn.{Called}
-use Rattle.std.specs.Io.KnownBytes.{Consumes, IsAtEnd}
+use Rattle.std.proofs.Common.{◌≡◌, ℕ, zero, suc, ◌+◌, ◌<◌, List, [], ◌∷◌, ◌++◌, length, map, take, get_or, Some, inl, inr, sym, ap, ◌∙◌, subst, append_assoc, arith}
+use Rattle.std.specs.Borrow.{Bor}
 use Rattle.std.specs.List.{concat}
-use Rattle.std.proofs.Math.Seq.{take-length}
-use Rattle.std.proofs.lemmas.Grind.{common_steps}
-use Rattle.std.proofs.lemmas.Bool.{false≢true}
 use Rattle.std.proofs.lemmas.List.{append-nil}
-use Rattle.std.proofs.lemmas.List.Folds.{concat-append}
-use Rattle.ac_input.specs.declared.search.Anchored.{Anchored}
-use Rattle.ac_input.specs.Occurrence.{Occurrence}
-use Rattle.ac_automaton.specs.Automaton.{Built}
+use Rattle.ac_input.specs.declared.search.MatchKind.TheVariants.{Standard}
 use Rattle.ac_automaton.specs.Moved.{AreFilled}
 use Rattle.ac_automaton.specs.Output.{Sent}
-use Rattle.ac_automaton.specs.Replace.{LieInOrder, matches_in}
-use Rattle.ac_automaton.specs.Stream.{StreamProgress, read_by}
-use Rattle.ac_automaton.specs.StreamIter.{HasGained, NextGives}
-use Rattle.ac_automaton.specs.StreamReplace.{ReplacesStream, replaced_in}
-use Rattle.ac_automaton.specs.StreamReplaceWith.{IsWriterChain, ReplacesStreamWith, StreamReplacer}
-use Rattle.ac_automaton.specs.Watched.{has_ended, inner_of}
-use Rattle.ac_automaton.specs.declared.error.StreamError.{StreamError}
+use Rattle.ac_automaton.specs.Stream.{StreamProgress}
+use Rattle.ac_automaton.specs.StreamIter.{IsReadForMatch}
+use Rattle.ac_automaton.specs.Watched.{inner_of}
 use Rattle.ac_automaton.specs.declared.watched.Watched.{Watched}
-use Rattle.ac_automaton.proofs.CursorLemmas.{slice_range-split}
-use Rattle.ac_automaton.proofs.MovedLemmas.{turns-filled}
-use Rattle.ac_automaton.proofs.ReplaceLemmas.{matches-lie}
+
+-- under standard no piece that was read for a match is empty
+pub filled-standard : (s t : StreamProgress) (gained : List (List ℕ)) → t.built.dictionary.kind ≡ Standard → IsReadForMatch s t gained → AreFilled gained
+filled-standard s t gained standard (inl (filled, same)) = filled
+filled-standard s t gained standard (inr (leftmost, whole, closed)) = absurd (leftmost standard)
 
 -- one more piece
 pub joined-step : (pieces : List (Bor (List ℕ))) (i : ℕ) (d : Bor (List ℕ)) → i < length pieces → concat (map (λ p. p.now) (take (i + 1) pieces)) ≡ concat (map (λ p. p.now) (take i pieces)) ++ (get_or pieces i d).now

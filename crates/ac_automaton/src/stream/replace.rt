@@ -9,7 +9,7 @@
 //! Nothing is tried again, and nothing is flushed. Both buffers are allocated before the first read, and no memory after that.
 ghost use Rattle.std.specs.Prelude.{◌≡◌, ◌+◌, ◌-◌, ◌≤◌, [], drop, false, length, map, slice_range, IfErr, IfOk, OnErr, OnOk};
 ghost use Rattle.ac_automaton.specs.Stream.{GoesOn, IsOnCourse, fresh_progress};
-ghost use Rattle.ac_automaton.specs.StreamReplace.{AcceptsReplacing, AnswersDecided, AnswersMatch, CostsStream, HasSearched, IsBegun, IsPlaced, ReplacesStream};
+ghost use Rattle.ac_automaton.specs.StreamReplace.{AcceptsReplacing, AcceptsReplacingAnyKind, AnswersDecided, AnswersMatch, CostsAnyKind, CostsStream, HasSearched, IsBegun, IsPlaced, ReplacesStream};
 ghost use Rattle.ac_automaton.specs.Watched.{has_ended};
 
 use super::search::StreamSearch;
@@ -115,8 +115,10 @@ fn replace_read<A: Search, R: Read, W: Write>(
     while stream.read_more(reader, steps)? > 0 {
         at = send_decided(stream, replacements, at, output, writer, steps)?;
     }
+    stream.close();
+    let end = send_decided(stream, replacements, at, output, writer, steps)?;
     let from = stream.from();
-    output.send_all(writer, rest(stream.held(), from, at))
+    output.send_all(writer, rest(stream.held(), from, end))
 }
 
 /// Writes the input with each match replaced by the replacement of its pattern, and counts what it does.
@@ -139,6 +141,37 @@ pub fn replace_all_counted<A: Search, R: Read, W: Write>(
         steps.old steps.new result }
 {
     let mut stream = StreamSearch::new(automaton, alloc)?;
+    let mut output = Output::new(alloc)?;
+    replace_read(
+        &mut stream,
+        &mut output,
+        reader,
+        writer,
+        replacements,
+        steps,
+    )
+}
+
+/// The same under any kind.
+pub fn replace_all_any_kind_counted<A: Search, R: Read, W: Write>(
+    automaton: &A,
+    alloc: Global,
+    reader: &mut Watched<R>,
+    writer: &mut Watched<W>,
+    replacements: &[&[u8]],
+    steps: &mut Steps,
+) -> Result<(), StreamError>
+    requires open { has_ended reader.old ≡ false }
+    requires one_each { length replacements.now
+        ≡ length (A.built automaton.now).dictionary.patterns }
+    ensures replaced { ReplacesStream R.remaining W.contents (A.built automaton.now)
+        (map (λ r. r.now) replacements.now) reader.old reader.new writer.old writer.new result }
+    ensures accepted { AcceptsReplacingAnyKind (A.built automaton.now) (A.supports automaton.now)
+        reader.old reader.new writer.old writer.new result }
+    ensures cost { CostsAnyKind (A.built automaton.now) reader.old reader.new
+        steps.old steps.new result }
+{
+    let mut stream = StreamSearch::any_kind(automaton, alloc)?;
     let mut output = Output::new(alloc)?;
     replace_read(
         &mut stream,

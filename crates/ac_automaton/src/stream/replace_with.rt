@@ -10,7 +10,7 @@ ghost use Rattle.std.specs.Prelude.{◌≡◌, ◌+◌, false, length, IfErr, If
 ghost use Rattle.ac_automaton.specs.Replace.{IsForMatches, RepliesAt, TakesMatches};
 ghost use Rattle.ac_automaton.specs.Stream.{IsOnCourse, fresh_progress};
 ghost use Rattle.ac_automaton.specs.StreamReplace.{IsAtCut, IsPlaced};
-ghost use Rattle.ac_automaton.specs.StreamReplaceWith.{ContinuesChain, PassesMatch, ReadsAndReplaces, ReplacesStreamWith, StopsChain};
+ghost use Rattle.ac_automaton.specs.StreamReplaceWith.{ReplacesAnyKindWith, ContinuesChain, PassesMatch, ReadsAndReplaces, ReplacesStreamWith, StopsChain};
 ghost use Rattle.ac_automaton.specs.Watched.{has_ended};
 
 use super::replace::{part, rest};
@@ -123,8 +123,10 @@ where
     while stream.read_more(reader, &mut steps)? > 0 {
         at = replace_decided(stream, at, writer, f, &mut steps)?;
     }
+    stream.close();
+    let end = replace_decided(stream, at, writer, f, &mut steps)?;
     let from = stream.from();
-    write_whole(writer, rest(stream.held(), from, at))
+    write_whole(writer, rest(stream.held(), from, end))
 }
 
 /// Writes the input, and in place of each match what the closure writes.
@@ -145,5 +147,26 @@ where
         result }
 {
     let mut stream = StreamSearch::new(automaton, alloc)?;
+    replace_read(&mut stream, reader, writer, &mut replace_with)
+}
+
+/// The same under any kind.
+pub fn replace_all_any_kind_with<A: Search, R: Read, W: Write, F>(
+    automaton: &A,
+    alloc: Global,
+    reader: &mut Watched<R>,
+    writer: &mut Watched<W>,
+    mut replace_with: F,
+) -> Result<(), StreamError>
+where
+    F: FnMut(&Match, &[u8], &mut Watched<W>) -> Result<(), StreamError>,
+    requires open { has_ended reader.old ≡ false }
+    requires ready { IsForMatches F.FnMut (length (A.built automaton.now).dictionary.patterns)
+        replace_with }
+    ensures { ReplacesAnyKindWith W.contents F.FnMut R.remaining (A.built automaton.now)
+        (A.supports automaton.now) replace_with reader.old reader.new writer.old writer.new
+        result }
+{
+    let mut stream = StreamSearch::any_kind(automaton, alloc)?;
     replace_read(&mut stream, reader, writer, &mut replace_with)
 }

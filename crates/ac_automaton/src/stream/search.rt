@@ -14,13 +14,16 @@
 //! The hot path is [`Automaton::advance_to_match`] over the bytes of a read. Between two matches nothing else is done for a byte,
 //! even if the automaton has a prefilter, which a stream doesn't use. An automaton that can walk over several parts of these bytes
 //! side by side reads ahead of the search: see [`ahead`](crate::ahead).
-ghost use Rattle.std.specs.Prelude.{◌≡◌, ◌≢◌, ◌↔◌, ◌+◌, ◌-◌, ◌≤◌, ◌<◌, ℕ, List, [], false, true, length, IfErr, IfOk, OnOk, IsTrue};
+ghost use Rattle.std.specs.Prelude.{◌≡◌, ◌≢◌, ◌↔◌, ◌+◌, ◌-◌, ◌≤◌, ◌<◌, ℕ, List, [], None, false, true, length, IfErr, IfOk, OnOk, IsTrue};
 ghost use Rattle.ac_input.specs.declared.search.Anchored.TheVariants.{No};
 ghost use Rattle.ac_automaton.specs.Ahead.{AreNotes};
-ghost use Rattle.ac_automaton.specs.StreamSearch.{some_of};
+ghost use Rattle.ac_automaton.specs.StreamSearch.{searched_anew, some_of};
 ghost use Rattle.ac_automaton.specs.StreamWalk.{MayWalk, WalksOn};
-ghost use Rattle.ac_automaton.specs.Stream.{AnswersNew, CanBeCounted, CanStream, CountsNothing, FindsHeld, HasRoom, IsConfigRefusal, IsOnCourse, IsRolled, IsSearched, ReadsMore, StreamCounts, StreamProgress, cut_of, held_by, read_by};
+ghost use Rattle.ac_input.specs.Work.{shortest};
+ghost use Rattle.ac_automaton.specs.Stream.{AnswersNew, AnswersNewAnyKind, CanBeCounted, CanStreamAnyKind, IsAnyKindConfigRefusal, IsMemory, closed_by, fresh_progress, may_wait, CanStream, CountsNothing, FindsHeld, HasRoom, IsConfigRefusal, IsOnCourse, IsRolled, IsSearched, ReadsMore, StreamCounts, StreamProgress, cut_of, held_by, read_by};
 ghost use Rattle.ac_automaton.specs.Watched.{has_ended};
+
+mod decide;
 
 use crate::ahead::{Ahead, advance_to_match};
 use crate::automaton::Automaton;
@@ -33,18 +36,22 @@ use ac_input::history::{Count, Pieces};
 use ac_input::primitives::StateID;
 use ac_input::search::{Anchored, Match, MatchKind};
 use ac_input::steps::Steps;
+use decide::decide;
 use std::alloc::Global;
 use std::io::Read;
 use std::marker::Model;
 
-/// Where a search stands: in which state; and, counted from the first byte of the stream, the place of the first byte that is
-/// held, the place up to which the automaton has read, and the place where the search last began anew.
+/// Where a search stands: in which state; counted from the first byte of the stream, the place of the first byte that is held, the
+/// place up to which the automaton has read, and the place where the search last began anew; the best match since then, where what
+/// follows may still change it; and whether nothing follows any more.
 #[derive(Clone, Copy)]
 pub struct Progress {
     sid: StateID,
     from: usize,
     at: usize,
     last: usize,
+    best: Option<Match>,
+    closed: bool,
 }
 
 /// The new place of a search over the held bytes, and the match that it found.
@@ -83,7 +90,7 @@ impl<'a, A: Search> Model for StreamSearch<'a, A> {
     ghost invariant = { λ i. IsStreamSearch (A.Reaches i.automaton.now No)
         (progress_at (A.built i.automaton.now) i.pieces.items i.given.value
         i.progress i.buffer i.sums)
-        i.start i.progress.sid i.given.value i.buffer i.over
+        i.start i.progress.sid i.progress.best i.given.value i.buffer i.over
         × AreNotes (A.Reaches i.automaton.now No) (A.matches i.automaton.now) i.buffer.bytes
         i.ahead.notes };
 }
@@ -106,8 +113,50 @@ fn configured<A: Automaton>(automaton: &A) -> Result<StateID, MatchError>
     Ok(start)
 }
 
-/// Searches the held bytes from where a search stands, up to the next match or to the last byte. After a match the search begins
-/// anew, and also if it reaches the last byte in a start: nothing of what was read is live there.
+/// The same under any kind.
+fn configured_any_kind<A: Automaton>(automaton: &A) -> Result<StateID, MatchError>
+    ensures start { IfOk result (λ sid. A.Reaches automaton.now Anchored.No [] sid) }
+    ensures can { OnOk result (CanStreamAnyKind (A.built automaton.now) (A.supports automaton.now)) }
+    ensures error { IfErr result (IsAnyKindConfigRefusal (A.built automaton.now)
+        (A.supports automaton.now)) }
+{
+    let start = automaton.start_state(Anchored::No)?;
+    if automaton.min_pattern_len() == 0 {
+        return Err(MatchError::unsupported_empty());
+    }
+    Ok(start)
+}
+
+/// Whether a match that is met may wait to be decided: under a leftmost kind.
+#[inline]
+fn may_wait<A: Automaton>(automaton: &A) -> bool
+    ensures { result ≡ may_wait (A.built automaton.now).dictionary.kind }
+{
+    match automaton.match_kind() {
+        MatchKind::Standard => false,
+        MatchKind::LeftmostFirst | MatchKind::LeftmostLongest => true,
+    }
+}
+
+/// The match that is decided. The search begins anew at its end.
+fn decided(start: StateID, progress: &Progress, found: Match) -> Searched
+    ensures { result ≡ searched_anew start progress.now found }
+{
+    Searched {
+        progress: Progress {
+            sid: start,
+            from: progress.from,
+            at: found.end(),
+            last: found.end(),
+            best: None,
+            closed: progress.closed,
+        },
+        found: Some(found),
+    }
+}
+
+/// Searches the held bytes from where a search stands, up to the next match that is decided or to the last byte. After such a match
+/// the search begins anew at its end, and also if it reaches the last byte in a start: nothing of what was read is live there.
 pub(crate) fn search<A: Automaton>(
     automaton: &A,
     start: StateID,
@@ -124,24 +173,58 @@ pub(crate) fn search<A: Automaton>(
     ensures known { AreNotes (A.Reaches automaton.now No) (A.matches automaton.now) held.now
         ahead.new.notes }
 {
+    match progress.best {
+        Some(best) => decide(automaton, start, progress, best, held, steps),
+        None => search_first(automaton, start, progress, held, ahead, steps),
+    }
+}
+
+/// The same, where no match has been met since the search began anew. Under standard the first one that is met is decided.
+fn search_first<A: Automaton>(
+    automaton: &A,
+    start: StateID,
+    progress: &Progress,
+    held: &[u8],
+    ahead: &mut Ahead,
+    steps: &mut Steps,
+) -> Searched
+    requires none { progress.now.best ≡ None }
+    requires walk { MayWalk A.Automaton automaton.now start progress.now held.now }
+    requires known { AreNotes (A.Reaches automaton.now No) (A.matches automaton.now) held.now
+        ahead.old.notes }
+    ensures walk { WalksOn A.Automaton automaton.now start progress.now held.now result
+        steps.old steps.new }
+    ensures known { AreNotes (A.Reaches automaton.now No) (A.matches automaton.now) held.now
+        ahead.new.notes }
+{
     let from = progress.at - progress.from;
     let stop = advance_to_match(automaton, progress.sid, held, from, ahead, steps);
     let at = progress.at + stop.taken;
-    let anew = Progress {
-        sid: start,
-        from: progress.from,
-        at,
-        last: at,
-    };
     if automaton.is_match(stop.sid) {
-        return Searched {
-            progress: anew,
-            found: Some(first_match(automaton, stop.sid, at)),
-        };
+        let found = first_match(automaton, stop.sid, at);
+        if may_wait(automaton) {
+            let there = Progress {
+                sid: stop.sid,
+                from: progress.from,
+                at,
+                last: progress.last,
+                best: Some(found),
+                closed: progress.closed,
+            };
+            return decide(automaton, start, &there, found, held, steps);
+        }
+        return decided(start, progress, found);
     }
     if automaton.is_start(stop.sid) {
         return Searched {
-            progress: anew,
+            progress: Progress {
+                sid: start,
+                from: progress.from,
+                at,
+                last: at,
+                best: None,
+                closed: progress.closed,
+            },
             found: None,
         };
     }
@@ -151,6 +234,8 @@ pub(crate) fn search<A: Automaton>(
             from: progress.from,
             at,
             last: progress.last,
+            best: None,
+            closed: progress.closed,
         },
         found: None,
     }
@@ -167,12 +252,19 @@ fn given_then(given: &Count, found: &Option<Match>) -> Count
 }
 
 impl<'a, A: Search> StreamSearch<'a, A> {
-    /// A search of a stream, which has read nothing yet. Returns an error if the automaton can't make one, and otherwise if there
-    /// is no memory for the buffer; it takes no memory after that.
-    pub fn new(automaton: &'a A, alloc: Global) -> Result<StreamSearch<'a, A>, StreamError>
-        ensures { AnswersNew (A.built automaton.now) (A.supports automaton.now) result }
+    /// A search of a stream that begins in this start state, which has read nothing yet. Returns an error if there is no memory for
+    /// the buffer; it takes no memory after that.
+    fn beginning(
+        automaton: &'a A,
+        start: StateID,
+        alloc: Global,
+    ) -> Result<StreamSearch<'a, A>, StreamError>
+        requires starts { A.Reaches automaton.now No [] start }
+        requires filled { 1 ≤ shortest (A.built automaton.now).dictionary.patterns }
+        ensures fresh { IfOk result (λ s. s ≡ fresh_progress (A.built automaton.now)) }
+        ensures kept { IfOk result IsOnCourse }
+        ensures error { IfErr result IsMemory }
     {
-        let start = configured(automaton)?;
         let buffer = Buffer::new(alloc, automaton.max_pattern_len())?;
         Ok(StreamSearch {
             automaton,
@@ -183,6 +275,8 @@ impl<'a, A: Search> StreamSearch<'a, A> {
                 from: 0,
                 at: 0,
                 last: 0,
+                best: None,
+                closed: false,
             },
             over: false,
             ahead: Ahead::none(true),
@@ -190,6 +284,23 @@ impl<'a, A: Search> StreamSearch<'a, A> {
             pieces: Pieces::empty(),
             sums: Steps::new(),
         })
+    }
+
+    /// A search of a stream under the standard kind. Returns an error if the automaton can't make one, and otherwise if there is no
+    /// memory for the buffer.
+    pub fn new(automaton: &'a A, alloc: Global) -> Result<StreamSearch<'a, A>, StreamError>
+        ensures { AnswersNew (A.built automaton.now) (A.supports automaton.now) result }
+    {
+        let start = configured(automaton)?;
+        StreamSearch::beginning(automaton, start, alloc)
+    }
+
+    /// The same under any kind.
+    pub fn any_kind(automaton: &'a A, alloc: Global) -> Result<StreamSearch<'a, A>, StreamError>
+        ensures { AnswersNewAnyKind (A.built automaton.now) (A.supports automaton.now) result }
+    {
+        let start = configured_any_kind(automaton)?;
+        StreamSearch::beginning(automaton, start, alloc)
     }
 
     /// The held bytes: the last ones of those that were read.
@@ -252,6 +363,22 @@ impl<'a, A: Search> StreamSearch<'a, A> {
         searched.found
     }
 
+    /// Whether it was told that nothing more comes.
+    pub fn is_closed(&self) -> bool
+        ensures closed { result ≡ self.now.closed }
+        ensures kept { IsOnCourse self.now }
+    {
+        self.progress.closed
+    }
+
+    /// Tells the search that nothing more comes, so that the match that it has met is decided.
+    pub fn close(&mut self)
+        ensures closed { self.new ≡ closed_by self.old }
+        ensures kept { IsOnCourse self.new }
+    {
+        self.progress.closed = may_wait(self.automaton);
+    }
+
     /// Moves the bytes after the cut to the front of the buffer, if no room is left.
     fn make_room(&mut self, steps: &mut Steps)
         requires { IsSearched self.old }
@@ -279,6 +406,7 @@ impl<'a, A: Search> StreamSearch<'a, A> {
         steps: &mut Steps,
     ) -> Result<usize, StreamError>
         requires open { has_ended reader.old ≡ false }
+        requires unclosed { self.old.closed ≡ false }
         requires searched { IsSearched self.old }
         ensures read { ReadsMore R.remaining self.old self.new reader.old reader.new result }
         ensures counts { StreamCounts self.old self.new steps.old steps.new }
@@ -291,6 +419,7 @@ impl<'a, A: Search> StreamSearch<'a, A> {
     /// One read; there is room.
     fn fill<R: Read>(&mut self, reader: &mut Watched<R>) -> Result<usize, StreamError>
         requires open { has_ended reader.old ≡ false }
+        requires unclosed { self.old.closed ≡ false }
         requires searched { IsSearched self.old }
         requires room { HasRoom self.old }
         ensures read { ReadsMore R.remaining self.old self.new reader.old reader.new result }

@@ -3,14 +3,17 @@
 //! A stream is searched under the standard kind, by an unanchored search, without an empty pattern. The calls with `try_` return
 //! an error if that isn't so; [`AhoCorasick::stream_find_iter`] requires it. One buffer is allocated before the first read, and no
 //! memory after it.
+//!
+//! The calls whose names have `any_kind` search under any kind. Under a leftmost kind they hold a match back until no byte that
+//! follows can change it. The Rust crate has none of them.
 ghost use Rattle.std.specs.Prelude.{◌≡◌, false, length, IfOk, OnOk};
 ghost use Rattle.ac_literal.specs.Packed.{bytes_of};
 ghost use Rattle.ac_automaton.specs.declared.error.StreamError.TheVariants.{Memory};
 ghost use Rattle.ac_automaton.specs.Replace.{IsForMatches};
-ghost use Rattle.ac_automaton.specs.Stream.{CanStream};
-ghost use Rattle.ac_automaton.specs.StreamIter.{AnswersStreamIter};
-ghost use Rattle.ac_automaton.specs.StreamReplace.{AcceptsReplacing, CostsStream, ReplacesStream};
-ghost use Rattle.ac_automaton.specs.StreamReplaceWith.{ReplacesStreamWith};
+ghost use Rattle.ac_automaton.specs.Stream.{CanStream, CanStreamAnyKind};
+ghost use Rattle.ac_automaton.specs.StreamIter.{AnswersAnyKindIter, AnswersStreamIter};
+ghost use Rattle.ac_automaton.specs.StreamReplace.{AcceptsReplacing, AcceptsReplacingAnyKind, CostsAnyKind, CostsStream, ReplacesStream};
+ghost use Rattle.ac_automaton.specs.StreamReplaceWith.{ReplacesAnyKindWith, ReplacesStreamWith};
 ghost use Rattle.ac_automaton.specs.Watched.{has_ended};
 ghost use Rattle.aho_corasick.specs.AhoCorasick.{as_built, supported_by, pattern_count};
 ghost use Rattle.aho_corasick.specs.Streamed.{IsStreamOver, IsStreamReplaced};
@@ -155,5 +158,132 @@ impl AhoCorasick {
             (supported_by self.now) replace_with reader.old reader.new writer.old writer.new result }
     {
         Automaton::try_stream_replace_all_with(self, alloc, reader, writer, replace_with)
+    }
+
+    /// All matches of a stream under any kind, one after another: see [`AhoCorasick::try_stream_find_iter_any_kind`].
+    ///
+    /// It requires that the reader has not ended, that the start kind has unanchored searches, and that no pattern is empty. Returns
+    /// an error only if memory runs out.
+    ///
+    /// A caller: `uses::callers::any_kind::search_of`.
+    pub fn stream_find_iter_any_kind<'a, R>(
+        &'a self,
+        alloc: Global,
+        reader: &'a mut Watched<R>,
+    ) -> Result<StreamFindIter<'a, R>, AllocError>
+        requires open { has_ended reader.old ≡ false }
+        requires can { CanStreamAnyKind (as_built self.now) (supported_by self.now) }
+        ensures { IfOk result (IsStreamOver (as_built self.now) reader.entry) }
+    {
+        match self.try_stream_find_iter_any_kind(alloc, reader) {
+            Ok(matches) => Ok(matches),
+            Err(error) => Err(out_of_memory(error)),
+        }
+    }
+
+    /// All matches of a stream under any kind, one after another: see [`StreamFindIter`]. Under the standard kind it is
+    /// [`AhoCorasick::try_stream_find_iter`]. Under a leftmost kind each match is returned after the read with which it is decided: no
+    /// byte that follows can change it, since nothing that began no later is live any more. At the end of the input all are. At most
+    /// as many bytes are held back as the longest pattern has, and after each match at most so many bytes and one are read again.
+    ///
+    /// It takes the buffer of [`AhoCorasick::try_stream_find_iter`], and requires that the reader has not ended.
+    ///
+    /// Returns an error if the automaton has no start for an unanchored search, or has an empty pattern, checked in that order, and
+    /// then if there is no memory for the buffer. Nothing was read then.
+    ///
+    /// A caller: `uses::callers::any_kind::all_matches`.
+    pub fn try_stream_find_iter_any_kind<'a, R>(
+        &'a self,
+        alloc: Global,
+        reader: &'a mut Watched<R>,
+    ) -> Result<StreamFindIter<'a, R>, StreamError>
+        requires { has_ended reader.old ≡ false }
+        ensures { AnswersAnyKindIter (as_built self.now) (supported_by self.now) reader.entry
+            result }
+    {
+        Automaton::try_stream_find_iter_any_kind(self, alloc, reader)
+    }
+
+    /// Writes the input with each match replaced by the replacement of its pattern, under any kind. Before each read everything is
+    /// written that no later byte can change; it holds back at most as many bytes as the longest pattern has. The writer isn't
+    /// flushed.
+    ///
+    /// It takes, reads, writes and fails as [`AhoCorasick::try_stream_replace_all`] does, but is an error only where
+    /// [`AhoCorasick::try_stream_find_iter_any_kind`] is.
+    ///
+    /// A caller: `uses::callers::any_kind::replaced`. An example: `uses::examples::streams::longest_masked`.
+    pub fn try_stream_replace_all_any_kind<R: Read, W: Write>(
+        &self,
+        alloc: Global,
+        reader: &mut Watched<R>,
+        writer: &mut Watched<W>,
+        replacements: &[&[u8]],
+    ) -> Result<(), StreamError>
+        requires open { has_ended reader.old ≡ false }
+        requires one_each { length replacements.now ≡ pattern_count self.now }
+        ensures replaced { OnOk result (IsStreamReplaced R.remaining W.contents self.now
+            (bytes_of replacements.now) reader.old reader.new writer.old writer.new) }
+        ensures moved { ReplacesStream R.remaining W.contents (as_built self.now)
+            (bytes_of replacements.now) reader.old reader.new writer.old writer.new result }
+        ensures accepted { AcceptsReplacingAnyKind (as_built self.now) (supported_by self.now)
+            reader.old reader.new writer.old writer.new result }
+    {
+        Automaton::try_stream_replace_all_any_kind(self, alloc, reader, writer, replacements)
+    }
+
+    /// The same, and counts what it does.
+    ///
+    /// A caller: `uses::callers::any_kind::replaced_counted`.
+    pub fn try_stream_replace_all_any_kind_counted<R: Read, W: Write>(
+        &self,
+        alloc: Global,
+        reader: &mut Watched<R>,
+        writer: &mut Watched<W>,
+        replacements: &[&[u8]],
+        steps: &mut Steps,
+    ) -> Result<(), StreamError>
+        requires open { has_ended reader.old ≡ false }
+        requires one_each { length replacements.now ≡ pattern_count self.now }
+        ensures replaced { OnOk result (IsStreamReplaced R.remaining W.contents self.now
+            (bytes_of replacements.now) reader.old reader.new writer.old writer.new) }
+        ensures moved { ReplacesStream R.remaining W.contents (as_built self.now)
+            (bytes_of replacements.now) reader.old reader.new writer.old writer.new result }
+        ensures accepted { AcceptsReplacingAnyKind (as_built self.now) (supported_by self.now)
+            reader.old reader.new writer.old writer.new result }
+        ensures cost { CostsAnyKind (as_built self.now) reader.old reader.new
+            steps.old steps.new result }
+    {
+        Automaton::try_stream_replace_all_any_kind_counted(
+            self,
+            alloc,
+            reader,
+            writer,
+            replacements,
+            steps,
+        )
+    }
+
+    /// Writes the input under any kind, and in place of each match what the closure writes. It requires of the closure what
+    /// [`AhoCorasick::try_stream_replace_all_with`] does.
+    ///
+    /// It reads, writes and fails as [`AhoCorasick::try_stream_replace_all_any_kind`] does. The closure's first error ends the call
+    /// and is returned unchanged.
+    ///
+    /// A caller: `uses::callers::any_kind::copied`.
+    pub fn try_stream_replace_all_any_kind_with<R: Read, W: Write, F>(
+        &self,
+        alloc: Global,
+        reader: &mut Watched<R>,
+        writer: &mut Watched<W>,
+        replace_with: F,
+    ) -> Result<(), StreamError>
+    where
+        F: FnMut(&Match, &[u8], &mut Watched<W>) -> Result<(), StreamError>,
+        requires open { has_ended reader.old ≡ false }
+        requires ready { IsForMatches F.FnMut (pattern_count self.now) replace_with }
+        ensures { ReplacesAnyKindWith W.contents F.FnMut R.remaining (as_built self.now)
+            (supported_by self.now) replace_with reader.old reader.new writer.old writer.new result }
+    {
+        Automaton::try_stream_replace_all_any_kind_with(self, alloc, reader, writer, replace_with)
     }
 }

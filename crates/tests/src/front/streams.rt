@@ -1,6 +1,6 @@
 //! Streams by the front's own calls: what is found, what is written, and what is an error before the first read.
 ghost use Rattle.std.specs.Prelude.{◌≡◌, false};
-ghost use Rattle.ac_automaton.specs.Stream.{CanStream};
+ghost use Rattle.ac_automaton.specs.Stream.{CanStream, CanStreamAnyKind};
 ghost use Rattle.ac_automaton.specs.Watched.{has_ended};
 ghost use Rattle.aho_corasick.specs.AhoCorasick.{as_built, supported_by};
 
@@ -22,6 +22,7 @@ use std::test::Fail;
 /// A text, its matches, and what is written of it: with a replacement for each match, and with the number of its pattern.
 struct Row {
     patterns: &'static [&'static [u8]],
+    kind: MatchKind,
     letters: Letters,
     text: &'static [u8],
     finds: &'static [Pick],
@@ -44,7 +45,20 @@ enum Way {
     List,
     Counted,
     Closure,
+    ListOfAnyKind,
+    CountedOfAnyKind,
+    ClosureOfAnyKind,
 }
+
+/// The calls that serve the standard kind.
+const OF_STANDARD: [Way; 3] = [Way::List, Way::Counted, Way::Closure];
+
+/// The calls that serve every kind.
+const OF_ANY_KIND: [Way; 3] = [
+    Way::ListOfAnyKind,
+    Way::CountedOfAnyKind,
+    Way::ClosureOfAnyKind,
+];
 
 /// The numbers of patterns.
 const NUMBERS: &[&[u8]] = &[b"0", b"1", b"2"];
@@ -59,6 +73,26 @@ fn write_numbers<R: Read, W: Write>(
     requires { has_ended reader.old ≡ false }
 {
     ac.try_stream_replace_all_with(
+        alloc,
+        reader,
+        writer,
+        |found: &Match, _matched: &[u8], writer: &mut Watched<W>| -> Result<(), StreamError> {
+            let number = found.pattern().as_usize();
+            write_whole(writer, NUMBERS.get(number).ok_or(StreamError::Position)?)
+        },
+    )
+}
+
+/// The same under any kind.
+fn write_numbers_of_any_kind<R: Read, W: Write>(
+    ac: &AhoCorasick,
+    alloc: Global,
+    reader: &mut Watched<R>,
+    writer: &mut Watched<W>,
+) -> Result<(), StreamError>
+    requires { has_ended reader.old ≡ false }
+{
+    ac.try_stream_replace_all_any_kind_with(
         alloc,
         reader,
         writer,
@@ -91,6 +125,17 @@ fn replaces(
             ac.try_stream_replace_all_counted(alloc, &mut reader, &mut writer, list, &mut steps)
         }
         Way::Closure => write_numbers(ac, alloc, &mut reader, &mut writer),
+        Way::ListOfAnyKind => {
+            ac.try_stream_replace_all_any_kind(alloc, &mut reader, &mut writer, list)
+        }
+        Way::CountedOfAnyKind => ac.try_stream_replace_all_any_kind_counted(
+            alloc,
+            &mut reader,
+            &mut writer,
+            list,
+            &mut Steps::new(),
+        ),
+        Way::ClosureOfAnyKind => { write_numbers_of_any_kind(ac, alloc, &mut reader, &mut writer) }
     };
     Ok((Outcome::of(&answer), writer.into_inner().taken))
 }
@@ -118,17 +163,45 @@ fn is_found<T: Abort>(
     Ok(())
 }
 
-/// Asserts what each call writes, by this many bytes a read.
-fn is_written<T: Abort>(
+/// Asserts the same by the calls for any kind.
+fn is_found_of_any_kind<T: Abort>(
     rt: &T,
     alloc: Global,
     ac: &AhoCorasick,
     row: &Row,
     most: usize,
+) -> Result<(), Fail>
+    requires { CanStreamAnyKind (as_built ac.now) (supported_by ac.now) }
+{
+    let tally = Tally::new();
+    let given = Given::Whole(row.text);
+    let mut reader = Watched::new(Source::new(given, most, &[], &tally));
+    are_left(
+        rt,
+        &mut ac.stream_find_iter_any_kind(alloc, &mut reader)?,
+        row.finds,
+    );
+    let mut reader = Watched::new(Source::new(given, most, &[], &tally));
+    are_left(
+        rt,
+        &mut ac.try_stream_find_iter_any_kind(alloc, &mut reader)?,
+        row.finds,
+    );
+    Ok(())
+}
+
+/// Asserts what each of these calls writes, by this many bytes a read.
+fn is_written<T: Abort>(
+    rt: &T,
+    alloc: Global,
+    ac: &AhoCorasick,
+    row: &Row,
+    ways: &[Way],
+    most: usize,
 ) -> Result<(), Fail> {
-    for way in [Way::List, Way::Counted, Way::Closure] {
-        let (outcome, taken) = replaces(alloc, ac, row, way, most, &Tally::new())?;
-        let want = if matches!(way, Way::Closure) {
+    for way in ways {
+        let (outcome, taken) = replaces(alloc, ac, row, *way, most, &Tally::new())?;
+        let want = if matches!(way, Way::Closure | Way::ClosureOfAnyKind) {
             row.numbered
         } else {
             row.writes
@@ -143,19 +216,22 @@ impl OwnCase for Row {
     fn built_of(&self) -> Asked<'_> {
         Asked {
             patterns: self.patterns,
-            kind: MatchKind::Standard,
+            kind: self.kind,
             letters: self.letters,
         }
     }
 
     fn check_own<T: Abort>(&self, rt: &T, alloc: Global, ac: &AhoCorasick) -> Result<(), Fail> {
-        let is_standard = ac.match_kind() == MatchKind::Standard;
-        if !serves(ac.start_kind(), Anchored::No) || !is_standard || ac.min_pattern_len() == 0 {
+        if !serves(ac.start_kind(), Anchored::No) || ac.min_pattern_len() == 0 {
             return Err("a stream can be searched".into());
         }
         for most in [1, 2, 7, 100] {
-            is_found(rt, alloc, ac, self, most)?;
-            is_written(rt, alloc, ac, self, most)?;
+            is_found_of_any_kind(rt, alloc, ac, self, most)?;
+            is_written(rt, alloc, ac, self, &OF_ANY_KIND, most)?;
+            if ac.match_kind() == MatchKind::Standard {
+                is_found(rt, alloc, ac, self, most)?;
+                is_written(rt, alloc, ac, self, &OF_STANDARD, most)?;
+            }
         }
         Ok(())
     }
@@ -164,6 +240,7 @@ impl OwnCase for Row {
 const ROWS: &[Row] = &[
     Row {
         patterns: &[b"fox", b"brown", b"quick"],
+        kind: MatchKind::Standard,
         letters: Cased,
         text: b"The quick brown fox.",
         finds: &[(2, 4, 9), (1, 10, 15), (0, 16, 19)],
@@ -173,12 +250,33 @@ const ROWS: &[Row] = &[
     },
     Row {
         patterns: &[b"FOO", b"bAr", b"BaZ"],
+        kind: MatchKind::Standard,
         letters: Folded,
         text: b"foo bar baz",
         finds: &[(0, 0, 3), (1, 4, 7), (2, 8, 11)],
         replacements: &[b"x", b"", b"yy"],
         writes: b"x  yy",
         numbered: b"0 1 2",
+    },
+    Row {
+        patterns: &[b"pass", b"password", b"word"],
+        kind: MatchKind::LeftmostLongest,
+        letters: Cased,
+        text: b"a password, pass, word",
+        finds: &[(1, 2, 10), (0, 12, 16), (2, 18, 22)],
+        replacements: &[b"****", b"********", b"w"],
+        writes: b"a ********, ****, w",
+        numbered: b"a 1, 0, 2",
+    },
+    Row {
+        patterns: &[b"pass", b"password", b"word"],
+        kind: MatchKind::LeftmostFirst,
+        letters: Cased,
+        text: b"a password, pass",
+        finds: &[(0, 2, 6), (2, 6, 10), (0, 12, 16)],
+        replacements: &[b"-", b"", b"+"],
+        writes: b"a -+, -",
+        numbered: b"a 02, 0",
     },
 ];
 
@@ -211,6 +309,7 @@ fn search_outcome(alloc: Global, ac: &AhoCorasick, tally: &Tally) -> Outcome {
 /// The text over which each replacement returns an error.
 const UNREAD: Row = Row {
     patterns: &[],
+    kind: MatchKind::Standard,
     letters: Cased,
     text: b"ab",
     finds: &[],
@@ -232,7 +331,7 @@ impl OwnCase for Refused {
         let tally = &Tally::new();
         let want = Outcome::Config(self.why);
         assert_eq!(rt; search_outcome(alloc, ac, tally), want);
-        for way in [Way::List, Way::Counted, Way::Closure] {
+        for way in OF_STANDARD {
             let (outcome, taken) = replaces(alloc, ac, &UNREAD, way, 1, tally)?;
             assert_eq!(rt; (outcome, taken.len()), (want, 0), "{way:?}");
         }

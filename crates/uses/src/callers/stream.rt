@@ -1,6 +1,7 @@
 //! Streams. Readers and writers here are slices and `Vec`s, whose bytes a contract can name.
 ghost use Rattle.std.specs.Prelude.{◌≡◌, ◌↔◌, ◌+◌, ◌*◌, ◌<◌, ◌≤◌, ◌++◌, false, length, map, take, IfOk, IfSome, IsTrue, OnOk};
 ghost use Rattle.std.specs.List.{concat};
+ghost use Rattle.ac_input.specs.declared.search.MatchKind.TheVariants.{Standard};
 ghost use Rattle.ac_input.specs.Steps.{looked_of};
 ghost use Rattle.ac_automaton.specs.Replace.{matches_in};
 ghost use Rattle.ac_automaton.specs.Stream.{AreAllGiven, CanBeCounted, read_by};
@@ -37,11 +38,12 @@ pub fn all_matches<A: Search>(
     Ok(found)
 }
 
-/// The next match of a stream. Where there is one, the reader has not ended.
+/// The next match of a stream. Where there is one, the reader has not ended: under standard no match waits for the end.
 pub fn next_match<A: Search, R: Read>(
     matches: &mut StreamFindIter<'_, A, R>,
 ) -> Result<Option<Match>, StreamError>
-    requires { has_ended (reader_of matches.old) ≡ false }
+    requires unended { has_ended (reader_of matches.old) ≡ false }
+    requires standard { (progress_of matches.old).built.dictionary.kind ≡ Standard }
     ensures open { IfOk result
         (λ it. IfSome it (λ o. has_ended (reader_of matches.new) ≡ false)) }
     ensures same_reference { reader_name matches.new ≡ reader_name matches.old }

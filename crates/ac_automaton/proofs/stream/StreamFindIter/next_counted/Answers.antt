@@ -1,7 +1,7 @@
 -- Turn by turn, up to an item or to the end.
 use Rattle.std.proofs.Common.{[], refl, arith}
 use Rattle.ac_automaton.proofs.StreamSearchLemmas.{counts-none}
-use Rattle.ac_automaton.proofs.StreamIterLemmas.{counts-join, gained-none, stopped-failed, stopped-found, stopped-over, turn-smaller, turned-failed, turned-found, turned-more, turned-over}
+use Rattle.ac_automaton.proofs.StreamIterLemmas.{GoesOnReading, counts-join, ended-smaller, gained-none, stopped-failed, stopped-found, stopped-over, turn-smaller, turned-ended, turned-failed, turned-found, turned-more, turned-over}
 use Rattle.ac_automaton.proofs.stream.StreamFindIter.next_counted.Goals as goal
 
 pub loop-found-init : goal.loop-found-init
@@ -9,26 +9,34 @@ loop-found-init g c = record {
   turned = record {
     gained = [];
     has = gained-none g.R.Read.remaining c.args.self.now.stream c.args.self.now.reader.now;
-    filled = tt;
+    how = GoesOnReading tt (λ some. absurd (some refl));
     given = refl;
     fresh = λ some. absurd (some refl);
     first = λ none. (refl, refl);
     unended = λ some. absurd (some refl);
-    on = omega arith;
-    last = omega arith;
+    on = λ standard. omega arith;
     counts = counts-none c.args.self.now.stream c.args.steps.now;
   };
   same_reference = refl;
 }
 
-pub loop-found-preserved : goal.loop-found-preserved
-loop-found-preserved g c = record {
+pub loop-found-preserved-in-More : goal.loop-found-preserved-in-More
+loop-found-preserved-in-More g c = record {
   turned = turned-more g.R.Read.remaining c.args.self.now.stream c.loop-found.self.stream c.search_or_read.new.stream c.args.self.now.reader.now c.loop-found.self.reader.now c.search_or_read.new.reader c.args.steps.now c.loop-found.steps c.search_or_read.new.steps c.loop-found.invariant.turned c.in-More.ensures.gives c.search_or_read.ensures.goes.0;
   same_reference = c.loop-found.invariant.same_reference;
 }
 
+pub loop-found-smaller-in-More : goal.loop-found-smaller-in-More
+loop-found-smaller-in-More g c = turn-smaller g.R.Read.remaining c.loop-found.self.stream c.search_or_read.new.stream c.loop-found.self.reader.now c.search_or_read.new.reader c.in-More.ensures.gives
+
+pub loop-found-preserved : goal.loop-found-preserved
+loop-found-preserved g c = record {
+  turned = turned-ended g.R.Read.remaining c.args.self.now.stream c.loop-found.self.stream c.search_or_read.new.stream c.args.self.now.reader.now c.loop-found.self.reader.now c.search_or_read.new.reader c.args.steps.now c.loop-found.steps c.search_or_read.new.steps c.loop-found.invariant.turned c.in-Ended.ensures.gives c.search_or_read.ensures.goes.0;
+  same_reference = c.loop-found.invariant.same_reference;
+}
+
 pub loop-found-smaller : goal.loop-found-smaller
-loop-found-smaller g c = turn-smaller g.R.Read.remaining c.loop-found.self.stream c.search_or_read.new.stream c.loop-found.self.reader.now c.search_or_read.new.reader c.in-More.ensures.gives
+loop-found-smaller g c = ended-smaller g.R.Read.remaining c.loop-found.self.stream c.search_or_read.new.stream c.loop-found.self.reader.now c.search_or_read.new.reader c.in-Ended.ensures.gives
 
 pub returns-in-Found-clause-gives : goal.returns-in-Found-clause-gives
 returns-in-Found-clause-gives g c = (

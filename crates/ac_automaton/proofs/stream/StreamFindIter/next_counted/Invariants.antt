@@ -1,6 +1,8 @@
-use Rattle.std.proofs.Common.{◌≡◌, ◌-◌, length}
+-- Some turns have been made, by the same reference to the reader.
+use Rattle.std.proofs.Common.{◌≡◌, length}
 use Rattle.ac_automaton.specs.Stream.{read_by}
-use Rattle.ac_automaton.proofs.StreamIterLemmas.{HasTurned}
+use Rattle.ac_automaton.specs.Watched.{has_ended}
+use Rattle.ac_automaton.proofs.StreamIterLemmas.{HasTurned, turns_left}
 use Rattle.ac_automaton.proofs.stream.StreamFindIter.next_counted.Given as goal
 
 abbrev pub invariant-loop-found : goal.invariant-loop-found
@@ -10,4 +12,4 @@ invariant-loop-found g l = record {
 }
 
 abbrev pub decreases-loop-found : goal.decreases-loop-found
-decreases-loop-found g l = 18446744073709551616 - length (read_by l.self.stream)
+decreases-loop-found g l = turns_left (length (read_by l.self.stream)) (has_ended l.self.reader.now)

@@ -42,4 +42,4 @@ pub returns-clause-accepted : goal.returns-clause-accepted
 returns-clause-accepted g c = accepted-later (g.A.Automaton.built c.args.automaton.now) (g.A.Automaton.supports c.args.automaton.now) c.args.reader.now c.replace_read.new.reader c.args.writer.now c.replace_read.new.writer c.replace_read.result c.in_ok-stream.ensures.0 c.replace_read.ensures.begun
 
 pub returns-clause-cost : goal.returns-clause-cost
-returns-clause-cost g c = cost-read (g.A.Automaton.built c.args.automaton.now) c.in_ok-stream.stream c.replace_read.new.stream c.args.reader.now c.replace_read.new.reader c.args.steps.now c.replace_read.new.steps c.replace_read.result c.in_ok-stream.ensures.1 c.replace_read.ensures.read
+returns-clause-cost g c = cost-read (g.A.Automaton.built c.args.automaton.now) c.in_ok-stream.stream c.replace_read.new.stream c.args.reader.now c.replace_read.new.reader c.args.steps.now c.replace_read.new.steps c.replace_read.result c.in_ok-stream.ensures.0.1 c.in_ok-stream.ensures.1 c.replace_read.ensures.read

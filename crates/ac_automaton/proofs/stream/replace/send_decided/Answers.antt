@@ -35,7 +35,7 @@ returns-in_err-send_all-clause-sent g c =
     let t = c.send_match.new.stream in
     let placed = none.0.placed in
     let le : c.from-from.result ≤ c.loop-end.written = let is = c.from-from.ensures.from in let held = placed.held in omega arith in
-    let bytes = part-read t t _ _ _ _ _ _ (record { on = omega arith; built = refl; pieces = refl; from = refl }) c.held.ensures.held c.from-from.ensures.from refl le c.part.ensures in
+    let bytes = part-read t t _ _ _ _ _ _ (record { on = λ standard. omega arith; last = omega arith; closed = refl; built = refl; pieces = refl; from = refl }) c.held.ensures.held c.from-from.ensures.from refl le c.part.ensures in
     let stopped = plain-stopped g.W.Write.contents (map (λ r. r.now) c.args.replacements.now) t c.loop-end.written c.cut-cut.result c.send_match.new.writer c.send_all.new.writer c.send_match.new.output _ placed c.cut-cut.ensures.cut bytes c.in_err-send_all.ensures.sent.0 in
     rw (p.1, p.2) (StopsSending-then _ _ _ _ _ _ _ _ _ _ _ _ (SendsTo-then _ _ _ _ _ _ _ _ _ _ _ _ _ _ c.loop-end.invariant.sent none.0) stopped, IsOfWrite-then c.args.writer.now c.send_match.new.writer c.send_all.new.writer _ (none.0.sent.fine.stalls ∙ c.loop-end.invariant.sent.sent.fine.stalls) c.in_err-send_all.ensures.sent.1)
 
@@ -48,7 +48,7 @@ returns-clause-sent g c =
     let t = c.send_match.new.stream in
     let placed = none.0.placed in
     let le : c.from-from.result ≤ c.loop-end.written = let is = c.from-from.ensures.from in let held = placed.held in omega arith in
-    let bytes = part-read t t _ _ _ _ _ _ (record { on = omega arith; built = refl; pieces = refl; from = refl }) c.held.ensures.held c.from-from.ensures.from refl le c.part.ensures in
+    let bytes = part-read t t _ _ _ _ _ _ (record { on = λ standard. omega arith; last = omega arith; closed = refl; built = refl; pieces = refl; from = refl }) c.held.ensures.held c.from-from.ensures.from refl le c.part.ensures in
     let sent = plain-sent g.W.Write.contents (map (λ r. r.now) c.args.replacements.now) t c.loop-end.written c.cut-cut.result c.send_match.new.writer c.send_all.new.writer c.send_match.new.output _ placed c.cut-cut.ensures.cut bytes c.in_ok-send_all.ensures.sent none.1 in
     (SendsTo-then _ _ _ _ _ _ _ _ _ _ _ _ _ _ (SendsTo-then _ _ _ _ _ _ _ _ _ _ _ _ _ _ c.loop-end.invariant.sent none.0) sent.0, sent.1, c.in_ok-send_all.ensures.none)
 

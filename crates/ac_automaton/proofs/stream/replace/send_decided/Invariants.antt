@@ -10,4 +10,4 @@ invariant-loop-end g l = record {
 }
 
 abbrev pub decreases-loop-end : goal.decreases-loop-end
-decreases-loop-end g l = length (read_by l.stream) - l.stream.at
+decreases-loop-end g l = length (read_by l.stream) - l.stream.last

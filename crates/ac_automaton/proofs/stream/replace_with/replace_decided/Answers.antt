@@ -18,7 +18,7 @@ returns-in_err-write_whole-clause-stops g c =
     let t = c.replace_match.new.stream in
     let placed = none.0.placed in
     let le : c.from-from.result ≤ c.loop-end.written = let is = c.from-from.ensures.from in let held = placed.held in omega arith in
-    let bytes = part-read t t _ _ _ _ _ _ (record { on = omega arith; built = refl; pieces = refl; from = refl }) c.held.ensures.held c.from-from.ensures.from refl le c.part.ensures in
+    let bytes = part-read t t _ _ _ _ _ _ (record { on = λ standard. omega arith; last = omega arith; closed = refl; built = refl; pieces = refl; from = refl }) c.held.ensures.held c.from-from.ensures.from refl le c.part.ensures in
     let stopped = cut-stopped g.W.Write.contents g.F.FnMut t c.loop-end.written c.cut-cut.result c.replace_match.new.f c.replace_match.new.writer c.write_whole.new.writer _ placed c.cut-cut.ensures.cut bytes _ c.in_err-write_whole.ensures.took.0 c.write_whole.ensures.reads c.in_err-write_whole.ensures.took.1 in
     rw (p.1, p.2) (StopsChain-then _ _ _ _ _ _ _ _ _ _ _ _ (ContinuesChain-then _ _ _ _ _ _ _ _ _ _ _ _ _ _ c.loop-end.invariant none.0) stopped)
 
@@ -28,7 +28,7 @@ returns-clause-goes_on g c =
     let t = c.replace_match.new.stream in
     let placed = none.0.placed in
     let le : c.from-from.result ≤ c.loop-end.written = let is = c.from-from.ensures.from in let held = placed.held in omega arith in
-    let bytes = part-read t t _ _ _ _ _ _ (record { on = omega arith; built = refl; pieces = refl; from = refl }) c.held.ensures.held c.from-from.ensures.from refl le c.part.ensures in
+    let bytes = part-read t t _ _ _ _ _ _ (record { on = λ standard. omega arith; last = omega arith; closed = refl; built = refl; pieces = refl; from = refl }) c.held.ensures.held c.from-from.ensures.from refl le c.part.ensures in
     let taken = HasTaken-from_all g.W.Write.contents c.replace_match.new.writer c.write_whole.new.writer _ c.in_ok-write_whole.ensures.took.0 c.write_whole.ensures.reads c.in_ok-write_whole.ensures.took.1 in
     let passed = cut-passed g.W.Write.contents g.F.FnMut t c.loop-end.written c.cut-cut.result c.replace_match.new.f c.replace_match.new.writer c.write_whole.new.writer _ placed c.cut-cut.ensures.cut bytes taken none.0.ready in
     ContinuesChain-then _ _ _ _ _ _ _ _ _ _ _ _ _ _ (ContinuesChain-then _ _ _ _ _ _ _ _ _ _ _ _ _ _ c.loop-end.invariant none.0) passed

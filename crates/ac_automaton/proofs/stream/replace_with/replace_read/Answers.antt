@@ -1,10 +1,10 @@
 -- Before each read all that is decided is written, and at the end what is left.
-use Rattle.std.proofs.Common.{◌≤◌, arith, refl, sym, subst}
+use Rattle.std.proofs.Common.{◌≡◌, ◌≤◌, ◌∙◌, ap, arith, refl, sym, subst}
 use Rattle.std.proofs.lemmas.Result.{err_from_is_err_and}
 use Rattle.ac_automaton.specs.Stream.{IsOnCourse, StreamProgress}
 use Rattle.ac_automaton.specs.StreamReplaceWith.{HasReplacedWith}
-use Rattle.ac_automaton.proofs.StreamReplaceLemmas.{less-left, piece-none, piece-some, placed-after, rest-read, still-open}
-use Rattle.ac_automaton.proofs.StreamWithReadLemmas.{goes-on-with, read-stopped-with, replaced-with-fresh, rest-answered, stops-with}
+use Rattle.ac_automaton.proofs.StreamReplaceLemmas.{given-closed, less-left, piece-none, piece-some, rest-read, still-open}
+use Rattle.ac_automaton.proofs.StreamWithReadLemmas.{closing-with, goes-on-with, more-with, read-stopped-with, read-whole, read-with, replaced-with-fresh, rest-answered, stops-at, stops-with}
 use Rattle.ac_automaton.proofs.stream.replace_with.replace_read.Goals as goal
 
 pub loop-stream-init : goal.loop-stream-init
@@ -44,13 +44,29 @@ loop-stream-preserved g c =
       more = still-open _ read.0 read.1.read.turns.1 some;
     }
 
+pub returns-in_err-end : goal.returns-in_err-end
+returns-in_err-end g c =
+    let p = err_from_is_err_and c.from_residual-in_err-end.result c.from_residual-in_err-end.ensures.1 in
+    let t = c.read_more.new.self in
+    let read = c.in_ok-read_more.ensures.read in
+    let now = read-with g.W.Write.contents g.F.FnMut g.R.Read.remaining c.args.stream.now.built c.loop-stream.stream t c.loop-stream.at c.args.reader.now c.loop-stream.reader c.read_more.new.reader c.args.f.now c.loop-stream.f c.args.writer.now c.loop-stream.writer read.0 0
+    c.loop-stream.invariant.replaced read.1 c.in_ok-read_more.ensures.kept read.3 refl in
+    let over = closing-with _ _ _ _ t c.close.new.self _ _ _ _ _ _ _ c.close.ensures.closed c.close.ensures.kept now in
+    rw (p.1, p.2) (stops-at _ _ _ _ c.close.new.self _ _ _ _ _ _ _ over c.replace_decided-2.new.writer _ c.in_err-end.ensures.stops)
+
 pub returns : goal.returns
 returns g c =
     let t = c.read_more.new.self in
+    let u = c.replace_decided-2.new.stream in
     let read = c.in_ok-read_more.ensures.read in
-    let h = c.loop-stream.invariant.replaced in
-    let placed = placed-after g.R.Read.remaining c.loop-stream.stream t c.loop-stream.at c.loop-stream.reader c.read_more.new.reader read.0 0 h.place read.1 c.in_ok-read_more.ensures.kept read.3 in
-    let le : c.from-from.result ≤ c.loop-stream.at = let is = c.from-from.ensures.from in let held = placed.held in omega arith in
-    let bytes = rest-read t _ _ _ _ c.held.ensures.held c.from-from.ensures.from le c.rest.ensures in
-    rest-answered g.W.Write.contents g.F.FnMut g.R.Read.remaining c.args.stream.now.built c.loop-stream.stream t c.loop-stream.at c.args.reader.now c.loop-stream.reader c.read_more.new.reader c.args.f.now c.loop-stream.f c.args.writer.now c.loop-stream.writer read.0 0 h read.1
-    c.write_whole.new.writer _ c.write_whole.result c.in_ok-read_more.ensures.kept read.3 refl (piece-none read.0 _ read.2 c.if-branch-gt0.false) bytes c.write_whole.ensures.took c.write_whole.ensures.reads
+    let now = read-with g.W.Write.contents g.F.FnMut g.R.Read.remaining c.args.stream.now.built c.loop-stream.stream t c.loop-stream.at c.args.reader.now c.loop-stream.reader c.read_more.new.reader c.args.f.now c.loop-stream.f c.args.writer.now c.loop-stream.writer read.0 0
+    c.loop-stream.invariant.replaced read.1 c.in_ok-read_more.ensures.kept read.3 refl in
+    let whole = read-whole g.W.Write.contents g.F.FnMut g.R.Read.remaining c.args.stream.now.built c.loop-stream.stream t c.loop-stream.at c.args.reader.now c.loop-stream.reader c.read_more.new.reader c.args.f.now c.loop-stream.f c.args.writer.now c.loop-stream.writer read.0 0
+    c.loop-stream.invariant.replaced read.1 (piece-none read.0 _ read.2 c.if-branch-gt0.false) in
+    let over = closing-with _ _ _ _ t c.close.new.self _ _ _ _ _ _ _ c.close.ensures.closed c.close.ensures.kept now in
+    let goes = c.in_ok-end.ensures.goes_on in
+    let written = more-with _ _ _ _ c.close.new.self _ _ _ _ _ _ _ over u c.in_ok-end.end _ _ goes in
+    let same : u.pieces ≡ t.pieces = goes.same.pieces ∙ ap (λ (v : StreamProgress). v.pieces) c.close.ensures.closed in
+    let le : c.from-from.result ≤ c.in_ok-end.end = let is = c.from-from.ensures.from in let held = written.placed.held in omega arith in
+    let bytes = rest-read u _ _ _ _ c.held.ensures.held c.from-from.ensures.from le c.rest.ensures in
+    rest-answered _ _ _ _ u c.in_ok-end.end _ _ _ _ _ _ written (rw same whole) (given-closed t c.close.new.self u c.in_ok-end.end c.close.ensures.closed goes.same c.in_ok-end.ensures.at_cut) c.write_whole.new.writer _ c.write_whole.result bytes c.write_whole.ensures.took c.write_whole.ensures.reads

@@ -30,7 +30,7 @@ pub returns-in_err-found-clause-costs : goal.returns-in_err-found-clause-costs
 returns-in_err-found-clause-costs g c =
     let p = err_from_is_err_and c.from_residual.result c.from_residual.ensures.1 in
     let told = stopped-read g.R.Read.remaining g.W.Write.contents c.args.matches.now.stream.built c.loop-next.matches.stream c.next_counted.new.self.stream c.args.matches.now.reader.now c.loop-next.matches.reader.now c.next_counted.new.self.reader.now c.args.writer.now c.loop-next.writer c.loop-next.invariant.listed c.next_counted.ensures.goes.1 c.in_err-found.field-0.0 (rw c.in_err-found.was at c.in-Some.ensures.gives.0) in
-    rw p.1 (cost-read c.args.matches.now.stream.built c.args.matches.now.stream c.next_counted.new.self.stream c.args.matches.now.reader.now c.next_counted.new.self.reader.now c.args.steps.now c.next_counted.new.steps (Err p.0) c.requires.fresh (record {
+    rw p.1 (cost-read c.args.matches.now.stream.built c.args.matches.now.stream c.next_counted.new.self.stream c.args.matches.now.reader.now c.next_counted.new.self.reader.now c.args.steps.now c.next_counted.new.steps (Err p.0) c.requires.standard c.requires.fresh (record {
       built = told.0;
       read = told.1;
       counts = StreamCounts-then c.args.matches.now.stream c.loop-next.matches.stream c.next_counted.new.self.stream c.args.steps.now c.loop-next.steps c.next_counted.new.steps c.loop-next.invariant.counted c.next_counted.ensures.goes.0;
@@ -68,7 +68,7 @@ returns-in_err-write_lines-clause-costs g c =
     let next = rw c.in_ok-found.was at c.in-Some.ensures.gives.0 in
     let told = found-read g.R.Read.remaining g.W.Write.contents c.args.matches.now.stream.built c.loop-next.matches.stream c.next_counted.new.self.stream c.args.matches.now.reader.now c.loop-next.matches.reader.now c.next_counted.new.self.reader.now c.args.writer.now c.loop-next.writer c.loop-next.invariant.listed c.next_counted.ensures.goes.1 c.in_ok-found.found next c.write_lines.new.matches.stream c.in_err-write_lines.ensures.stopped.same in
     let first = StreamCounts-then c.args.matches.now.stream c.loop-next.matches.stream c.next_counted.new.self.stream c.args.steps.now c.loop-next.steps c.next_counted.new.steps c.loop-next.invariant.counted c.next_counted.ensures.goes.0 in
-    rw p.1 (cost-read c.args.matches.now.stream.built c.args.matches.now.stream c.write_lines.new.matches.stream c.args.matches.now.reader.now c.write_lines.new.matches.reader.now c.args.steps.now c.write_lines.new.steps (Err p.0) c.requires.fresh (record {
+    rw p.1 (cost-read c.args.matches.now.stream.built c.args.matches.now.stream c.write_lines.new.matches.stream c.args.matches.now.reader.now c.write_lines.new.matches.reader.now c.args.steps.now c.write_lines.new.steps (Err p.0) c.requires.standard c.requires.fresh (record {
       built = told.0;
       read = rw c.write_lines.ensures.reader told.1;
       counts = StreamCounts-then c.args.matches.now.stream c.next_counted.new.self.stream c.write_lines.new.matches.stream c.args.steps.now c.next_counted.new.steps c.write_lines.new.steps first c.write_lines.ensures.counts;
@@ -85,7 +85,7 @@ pub returns-clause-costs : goal.returns-clause-costs
 returns-clause-costs g c =
     let next = c.in_default.ensures.gives.0 in
     let told = ended-read g.R.Read.remaining g.W.Write.contents c.args.matches.now.stream.built c.loop-next.matches.stream c.next_counted.new.self.stream c.args.matches.now.reader.now c.loop-next.matches.reader.now c.next_counted.new.self.reader.now c.args.writer.now c.loop-next.writer c.loop-next.invariant.listed c.next_counted.ensures.goes.1 next in
-    cost-read c.args.matches.now.stream.built c.args.matches.now.stream c.next_counted.new.self.stream c.args.matches.now.reader.now c.next_counted.new.self.reader.now c.args.steps.now c.next_counted.new.steps (Ok tt) c.requires.fresh (record {
+    cost-read c.args.matches.now.stream.built c.args.matches.now.stream c.next_counted.new.self.stream c.args.matches.now.reader.now c.next_counted.new.self.reader.now c.args.steps.now c.next_counted.new.steps (Ok tt) c.requires.standard c.requires.fresh (record {
       built = told.0;
       read = told.1;
       counts = StreamCounts-then c.args.matches.now.stream c.loop-next.matches.stream c.next_counted.new.self.stream c.args.steps.now c.loop-next.steps c.next_counted.new.steps c.loop-next.invariant.counted c.next_counted.ensures.goes.0;

@@ -1,6 +1,10 @@
 -- Both buffers are taken first; then the list reads on.
+use Rattle.std.proofs.Common.{ap, rules, subst}
 use Rattle.std.proofs.lemmas.Result.{err_from_is_err_and}
+use Rattle.ac_automaton.specs.Stream.{StreamProgress}
 use Rattle.ac_automaton.proofs.StreamAnswerLemmas.{cost-none}
+use Rattle.ac_automaton.specs.declared.watched.Watched.{Watched}
+use Rattle.acsub.specs.StreamList.{ListsStream}
 use Rattle.acsub.proofs.StreamListLemmas.{begun-accepted, never-memory, nothing-listed, refused-memory}
 use Rattle.acsub.proofs.stream.list.list_stream.Goals as goal
 
@@ -28,3 +32,10 @@ returns-clause-memory g c = never-memory _ c.list_read-outcome.result c.list_rea
 
 pub returns-clause-accepted : goal.returns-clause-accepted
 returns-clause-accepted g c = begun-accepted c.list_read-outcome.result c.list_read-outcome.ensures.begun
+
+pub returns-clause-lists : goal.returns-clause-lists
+returns-clause-lists g c =
+    let answer = c.in_ok-matches.ensures.answer in
+    let built = ap (λ (p : StreamProgress). p.built) answer.1 in
+    let lists = rw (built, answer.2) at c.list_read-outcome.ensures.list in
+    subst (λ (reader : Watched _). ListsStream g.R.Read.remaining g.W.Write.contents (g.A.Automaton.built c.args.engine.now) c.args.reader.now reader c.args.writer.now c.list_read-outcome.new.writer c.list_read-outcome.result) (search rules) lists

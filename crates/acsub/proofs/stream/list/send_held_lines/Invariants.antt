@@ -13,4 +13,4 @@ invariant-loop-found g l = record {
 }
 
 abbrev pub decreases-loop-found : goal.decreases-loop-found
-decreases-loop-found g l = length (read_by (progress_of l.matches)) - (progress_of l.matches).at
+decreases-loop-found g l = length (read_by (progress_of l.matches)) - (progress_of l.matches).last

@@ -8,4 +8,4 @@ abbrev pub invariant-loop-next : goal.invariant-loop-next
 invariant-loop-next l = HasFound (λ r. r.now) (as_built l.ac) l.fn.text (progress_of l.matches) (reader_of l.matches) l.found.items
 
 abbrev pub decreases-loop-next : goal.decreases-loop-next
-decreases-loop-next l = 18446744073709551616 - (progress_of l.matches).at
+decreases-loop-next l = 18446744073709551616 - (progress_of l.matches).last

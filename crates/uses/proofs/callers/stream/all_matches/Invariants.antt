@@ -7,4 +7,4 @@ abbrev pub invariant-loop-next : goal.invariant-loop-next
 invariant-loop-next g l = HasFound (λ r. r.now) (g.A.Automaton.built l.automaton) l.fn.text (progress_of l.matches) (reader_of l.matches) l.found.items
 
 abbrev pub decreases-loop-next : goal.decreases-loop-next
-decreases-loop-next g l = 18446744073709551616 - (progress_of l.matches).at
+decreases-loop-next g l = 18446744073709551616 - (progress_of l.matches).last

@@ -18,4 +18,4 @@ returns-clause-reader g c = c.next_held_counted.ensures.reader.0 ∙ c.loop.inva
 pub returns-clause-all : goal.returns-clause-all
 returns-clause-all g c =
     let read = ap length c.loop.invariant.read in
-    c.in_default.ensures.finds.3 (omega (arith, read, c.requires))
+    c.in_default.ensures.finds.2 (omega (arith, read, c.requires))

@@ -10,4 +10,4 @@ invariant-loop g l = record {
 }
 
 abbrev pub decreases-loop : goal.decreases-loop
-decreases-loop g l = length (read_by (progress_of l.matches)) - (progress_of l.matches).at
+decreases-loop g l = length (read_by (progress_of l.matches)) - (progress_of l.matches).last

@@ -1,5 +1,5 @@
 -- What a read gave is kept after what was held.
-use Rattle.std.proofs.Common.{[], ◌-◌, length, nat_lt, subst, arith}
+use Rattle.std.proofs.Common.{[], ◌-◌, ◌∙◌, ap, length, nat_lt, subst, arith}
 use Rattle.std.proofs.lemmas.List.{take_rest}
 use Rattle.ac_input.specs.declared.search.Anchored.TheVariants.{No}
 use Rattle.ac_automaton.specs.Stream.{HasRead, StreamProgress}
@@ -12,7 +12,7 @@ use Rattle.ac_automaton.proofs.stream.search.StreamSearch.fill.Goals as goal
 failed : (g : Over) (c : goal.After-self-1 g) → HasFilled g.A.Automaton g.R.Read.remaining c.self.inside c.args.reader.now c.fill.new.reader c.and-self-inside.result.items c.fill.new.self c.self.inside.over [] 1
 failed g c =
     let i = c.self.inside in
-    fill-failed g.A.Automaton g.R.Read.remaining i c.args.reader.now c.fill.new.reader c.and-self-inside.result.items c.fill.new.self c.self.invariant.0 (g.met.A.Automaton.lives i.automaton.now No) c.in-Err.ensures.gave.1 c.in-Err.ensures.paid c.and-self-inside.ensures c.in-Err.ensures.gave.0
+    fill-failed g.A.Automaton g.R.Read.remaining i c.args.reader.now c.fill.new.reader c.and-self-inside.result.items c.fill.new.self c.self.invariant.0 (ap (λ (t : StreamProgress). t.closed) c.self.view_is ∙ c.requires.unclosed) c.in-Err.ensures.gave.1 c.in-Err.ensures.paid c.and-self-inside.ensures c.in-Err.ensures.gave.0
 
 pub invariant_of-self : goal.invariant_of-self
 invariant_of-self g c = ((failed g c).right, blank-notes (g.A.Automaton.Reaches c.self.inside.automaton.now No) (g.A.Automaton.matches c.self.inside.automaton.now) _ _ c.forget.ensures)
@@ -27,7 +27,7 @@ returns-in-Err-clause-kept g c = (failed g c).right.stands.course
 past : (g : Over) (c : goal.Then-self g) → HasFilled g.A.Automaton g.R.Read.remaining c.self.inside c.args.reader.now c.fill.new.reader c.and-self-inside-2.result.items c.fill.new.self (nat_lt (18446744073709551615 - c.self.inside.progress.from) (length c.held-held.result.now)) c.in-Ok.ensures.gave.piece 0
 past g c =
     let i = c.self.inside in
-    fill-gave g.A.Automaton g.R.Read.remaining i c.args.reader.now c.fill.new.reader c.and-self-inside-2.result.items c.fill.new.self c.in-Ok.n c.held-held.result.now c.self.invariant.0 (g.met.A.Automaton.lives i.automaton.now No) c.in-Ok.ensures.gave c.in-Ok.ensures.paid c.held-held.ensures (rw take_rest at c.and-self-inside-2.ensures) (omega arith)
+    fill-gave g.A.Automaton g.R.Read.remaining i c.args.reader.now c.fill.new.reader c.and-self-inside-2.result.items c.fill.new.self c.in-Ok.n c.held-held.result.now c.self.invariant.0 (ap (λ (t : StreamProgress). t.closed) c.self.view_is ∙ c.requires.unclosed) c.in-Ok.ensures.gave c.in-Ok.ensures.paid c.held-held.ensures (rw take_rest at c.and-self-inside-2.ensures) (omega arith)
 
 pub invariant_of-self-then-self : goal.invariant_of-self-then-self
 invariant_of-self-then-self g c = ((past g c).right, blank-notes (g.A.Automaton.Reaches c.self.inside.automaton.now No) (g.A.Automaton.matches c.self.inside.automaton.now) _ _ c.forget.ensures)
@@ -45,7 +45,7 @@ returns-then-self-clause-kept g c = (past g c).right.stands.course
 within : (g : Over) (c : goal.Else-self g) → HasFilled g.A.Automaton g.R.Read.remaining c.self.inside c.args.reader.now c.fill.new.reader c.and-self-inside-2.result.items c.fill.new.self (nat_lt (18446744073709551615 - c.self.inside.progress.from) (length c.held-held.result.now)) c.in-Ok.ensures.gave.piece 0
 within g c =
     let i = c.self.inside in
-    fill-gave g.A.Automaton g.R.Read.remaining i c.args.reader.now c.fill.new.reader c.and-self-inside-2.result.items c.fill.new.self c.in-Ok.n c.held-held.result.now c.self.invariant.0 (g.met.A.Automaton.lives i.automaton.now No) c.in-Ok.ensures.gave c.in-Ok.ensures.paid c.held-held.ensures (rw take_rest at c.and-self-inside-2.ensures) (omega arith)
+    fill-gave g.A.Automaton g.R.Read.remaining i c.args.reader.now c.fill.new.reader c.and-self-inside-2.result.items c.fill.new.self c.in-Ok.n c.held-held.result.now c.self.invariant.0 (ap (λ (t : StreamProgress). t.closed) c.self.view_is ∙ c.requires.unclosed) c.in-Ok.ensures.gave c.in-Ok.ensures.paid c.held-held.ensures (rw take_rest at c.and-self-inside-2.ensures) (omega arith)
 
 pub invariant_of-self-2 : goal.invariant_of-self-2
 invariant_of-self-2 g c = ((within g c).right, blank-notes (g.A.Automaton.Reaches c.self.inside.automaton.now No) (g.A.Automaton.matches c.self.inside.automaton.now) _ _ c.forget.ensures)

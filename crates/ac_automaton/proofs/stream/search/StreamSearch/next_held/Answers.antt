@@ -17,11 +17,11 @@ invariant_of-self g c =
     let Reaches = g.A.Automaton.Reaches i.automaton.now No in
     let s : StreamProgress = progress_at b i.pieces.items i.given.value i.progress i.buffer i.sums in
     let inv = c.self.invariant.0 in
-    let on : SearchesOn Reaches s i.start c.search_stream-searched.result _ _ = c.search_stream-searched.ensures.walk s (record { built = refl; stands = inv.stands; from = refl; at = refl; last = refl; bytes = c.held.ensures ∙ inv.holds.bytes; countable = inv.countable c.if-self.false }) in
+    let on : SearchesOn Reaches s i.start c.search_stream-searched.result _ _ = c.search_stream-searched.ensures.walk s (record { built = refl; stands = inv.stands; closed = refl; from = refl; at = refl; last = refl; bytes = c.held.ensures ∙ inv.holds.bytes; countable = inv.countable c.if-self.false }) in
     let done = added-done on.looks _ _ _ _ c.new-taken.ensures on.done c.add-2.ensures in
-    let view = next-view b i.pieces.items i.given.value i.progress i.buffer i.sums c.search_stream-searched.result on.looks _ _ inv.number on.stands.course.decided on.from c.given_then-self-inside.ensures done in (
-      subst (λ (t : StreamProgress). IsStreamSearch Reaches t i.start c.search_stream-searched.result.progress.sid c.given_then-self-inside.result.value i.buffer i.over) (sym view)
-          (next-stream Reaches s i.start i.progress.sid i.given.value i.buffer i.over c.search_stream-searched.result _ _ c.given_then-self-inside.result.value inv on c.given_then-self-inside.ensures),
+    let view = next-view b i.pieces.items i.given.value i.progress i.buffer i.sums c.search_stream-searched.result on.looks _ _ inv.number on.stands.course.decided on.closed on.from c.given_then-self-inside.ensures done in (
+      subst (λ (t : StreamProgress). IsStreamSearch Reaches t i.start c.search_stream-searched.result.progress.sid c.search_stream-searched.result.progress.best c.given_then-self-inside.result.value i.buffer i.over) (sym view)
+          (next-stream Reaches s i.start i.progress.sid i.progress.best i.given.value i.buffer i.over c.search_stream-searched.result _ _ c.given_then-self-inside.result.value inv on c.given_then-self-inside.ensures),
       subst (λ (bytes : List ℕ). AreNotes Reaches (g.A.Automaton.matches i.automaton.now) bytes c.search_stream-searched.new.ahead.notes) c.held.ensures c.search_stream-searched.ensures.known,
     )
 
@@ -32,9 +32,9 @@ returns-clause-finds g c =
     let Reaches = g.A.Automaton.Reaches i.automaton.now No in
     let s : StreamProgress = progress_at b i.pieces.items i.given.value i.progress i.buffer i.sums in
     let inv = c.self.invariant.0 in
-    let on : SearchesOn Reaches s i.start c.search_stream-searched.result _ _ = c.search_stream-searched.ensures.walk s (record { built = refl; stands = inv.stands; from = refl; at = refl; last = refl; bytes = c.held.ensures ∙ inv.holds.bytes; countable = inv.countable c.if-self.false }) in
+    let on : SearchesOn Reaches s i.start c.search_stream-searched.result _ _ = c.search_stream-searched.ensures.walk s (record { built = refl; stands = inv.stands; closed = refl; from = refl; at = refl; last = refl; bytes = c.held.ensures ∙ inv.holds.bytes; countable = inv.countable c.if-self.false }) in
     let done = added-done on.looks _ _ _ _ c.new-taken.ensures on.done c.add-2.ensures in
-    let view = next-view b i.pieces.items i.given.value i.progress i.buffer i.sums c.search_stream-searched.result on.looks _ _ inv.number on.stands.course.decided on.from c.given_then-self-inside.ensures done in
+    let view = next-view b i.pieces.items i.given.value i.progress i.buffer i.sums c.search_stream-searched.result on.looks _ _ inv.number on.stands.course.decided on.closed on.from c.given_then-self-inside.ensures done in
     subst (λ (t : StreamProgress). FindsHeld t c.search_stream-searched.result.found (progress_at b i.pieces.items c.given_then-self-inside.result.value c.search_stream-searched.result.progress i.buffer c.add-2.new.self)) c.self.view_is
     (subst (λ (t : StreamProgress). FindsHeld s c.search_stream-searched.result.found t) (sym view) on.finds)
 
@@ -45,9 +45,9 @@ returns-clause-counts g c =
     let Reaches = g.A.Automaton.Reaches i.automaton.now No in
     let s : StreamProgress = progress_at b i.pieces.items i.given.value i.progress i.buffer i.sums in
     let inv = c.self.invariant.0 in
-    let on : SearchesOn Reaches s i.start c.search_stream-searched.result _ _ = c.search_stream-searched.ensures.walk s (record { built = refl; stands = inv.stands; from = refl; at = refl; last = refl; bytes = c.held.ensures ∙ inv.holds.bytes; countable = inv.countable c.if-self.false }) in
+    let on : SearchesOn Reaches s i.start c.search_stream-searched.result _ _ = c.search_stream-searched.ensures.walk s (record { built = refl; stands = inv.stands; closed = refl; from = refl; at = refl; last = refl; bytes = c.held.ensures ∙ inv.holds.bytes; countable = inv.countable c.if-self.false }) in
     let done = added-done on.looks _ _ _ _ c.new-taken.ensures on.done c.add-2.ensures in
-    let view = next-view b i.pieces.items i.given.value i.progress i.buffer i.sums c.search_stream-searched.result on.looks _ _ inv.number on.stands.course.decided on.from c.given_then-self-inside.ensures done in
+    let view = next-view b i.pieces.items i.given.value i.progress i.buffer i.sums c.search_stream-searched.result on.looks _ _ inv.number on.stands.course.decided on.closed on.from c.given_then-self-inside.ensures done in
     subst (λ (t : StreamProgress). StreamCounts t (progress_at b i.pieces.items c.given_then-self-inside.result.value c.search_stream-searched.result.progress i.buffer c.add-2.new.self) c.args.steps.now c.add.new.self) c.self.view_is
     (subst (λ (t : StreamProgress). StreamCounts s t c.args.steps.now c.add.new.self) (sym view) (next-counts s c.search_stream-searched.result on.looks _ _ _ _ c.new-taken.ensures on.done c.add.ensures))
 
@@ -58,7 +58,7 @@ returns-clause-kept g c =
     let Reaches = g.A.Automaton.Reaches i.automaton.now No in
     let s : StreamProgress = progress_at b i.pieces.items i.given.value i.progress i.buffer i.sums in
     let inv = c.self.invariant.0 in
-    let on : SearchesOn Reaches s i.start c.search_stream-searched.result _ _ = c.search_stream-searched.ensures.walk s (record { built = refl; stands = inv.stands; from = refl; at = refl; last = refl; bytes = c.held.ensures ∙ inv.holds.bytes; countable = inv.countable c.if-self.false }) in
+    let on : SearchesOn Reaches s i.start c.search_stream-searched.result _ _ = c.search_stream-searched.ensures.walk s (record { built = refl; stands = inv.stands; closed = refl; from = refl; at = refl; last = refl; bytes = c.held.ensures ∙ inv.holds.bytes; countable = inv.countable c.if-self.false }) in
     let done = added-done on.looks _ _ _ _ c.new-taken.ensures on.done c.add-2.ensures in
-    let view = next-view b i.pieces.items i.given.value i.progress i.buffer i.sums c.search_stream-searched.result on.looks _ _ inv.number on.stands.course.decided on.from c.given_then-self-inside.ensures done in
+    let view = next-view b i.pieces.items i.given.value i.progress i.buffer i.sums c.search_stream-searched.result on.looks _ _ inv.number on.stands.course.decided on.closed on.from c.given_then-self-inside.ensures done in
     subst IsOnCourse (sym view) on.stands.course

@@ -1,0 +1,13 @@
+-- However far the search had come, it has waited since, and the best match that it has met is still to be decided.
+use Rattle.std.proofs.Common.{◌+◌, ◌-◌, length}
+use Rattle.ac_input.specs.declared.search.Anchored.TheVariants.{No}
+use Rattle.ac_automaton.specs.Stream.{StreamProgress}
+use Rattle.ac_automaton.specs.StreamWalk.{StandsAfter}
+use Rattle.ac_automaton.proofs.DecideLemmas.{HasWaited}
+use Rattle.ac_automaton.proofs.stream.search.decide.decide.Given as goal
+
+abbrev pub invariant-loop-at : goal.invariant-loop-at
+invariant-loop-at g l = (s : StreamProgress) → StandsAfter g.A.Automaton l.automaton s l.start l.fn.progress l.held → HasWaited (g.A.Automaton.Reaches l.automaton No) s l.start l.sid l.at l.best l.initial.steps l.steps
+
+abbrev pub decreases-loop-at : goal.decreases-loop-at
+decreases-loop-at g l = length l.held + l.progress.from - l.at

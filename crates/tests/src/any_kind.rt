@@ -1,0 +1,678 @@
+//! Streams under any kind: what is found, by how many bytes, and what is written before each read.
+//!
+//! Under a leftmost kind a match is given after the first byte with which nothing is live any more that began no later, or at the end
+//! of the input. All these texts are cut at many places, and end in a failed read at each of them.
+ghost use Rattle.std.specs.Prelude.{◌≡◌, false};
+ghost use Rattle.ac_automaton.specs.Watched.{has_ended};
+
+use crate::answers::Asks::Walk;
+use crate::answers::Text::Whole;
+use crate::answers::{by_plain, input};
+use crate::devices::{AMPLE, Given, Outcome, Room, Sink, Source, Tally};
+use crate::engines::Letters::{Cased, Folded};
+use crate::engines::{Asked, Case, FEW, FIRST, Letters, Pick, all, each, serves};
+use crate::streams::next_pick;
+use ac_automaton::error::{MatchErrorKind, StreamError};
+use ac_automaton::watched::{Watched, write_whole};
+use ac_input::search::MatchKind::{LeftmostFirst, LeftmostLongest, Standard};
+use ac_input::search::{Anchored, Match, MatchKind, StartKind};
+use ac_input::steps::Steps;
+use ac_noncontiguous::Search;
+use std::alloc::Global;
+use std::io::{ErrorKind, Read, Write};
+use std::process::Abort;
+use std::test::Fail;
+
+/// A place that comes after all bytes: a match with it is decided by the end of the input alone.
+const END: usize = usize::MAX;
+
+/// A text under a kind, and its matches, each with the number of bytes that decide it.
+#[derive(Clone, Copy)]
+struct Row<'a> {
+    shows: &'static str,
+    patterns: &'a [&'a [u8]],
+    kind: MatchKind,
+    letters: Letters,
+    text: &'a [u8],
+    finds: &'a [(Pick, usize)],
+}
+
+impl Row<'_> {
+    /// Asserts the matches, each after the read that gave the byte which decides it, and then none for good. If the reader fails where
+    /// the text ends, they are those that the text decides, and then comes the error.
+    fn gives<T: Abort, A: Search>(
+        &self,
+        rt: &T,
+        alloc: Global,
+        automaton: &A,
+        text: &[u8],
+        fails: bool,
+        most: usize,
+    ) -> Result<(), Fail> {
+        let shows = self.shows;
+        let given = if fails {
+            Given::Fails(text, b"x")
+        } else {
+            Given::Pauses(text, b"x")
+        };
+        let tally = Tally::new();
+        let mut reader = Watched::new(Source::new(given, most, &[], &tally));
+        let mut matches = automaton.try_stream_find_iter_any_kind(alloc, &mut reader)?;
+        let all = text.len().div_ceil(most.max(1)).saturating_add(1);
+        for (want, decided) in self.finds {
+            if *decided > text.len() && fails {
+                break;
+            }
+            assert_eq!(rt;
+                next_pick(&mut matches, most == 2),
+                Ok(Some(*want)),
+                "{shows}"
+            );
+            let reads = decided.div_ceil(most.max(1)).min(all);
+            assert_eq!(rt; tally.reads.get(), reads, "{shows}");
+        }
+        if fails {
+            let failed = Err(Outcome::Read(ErrorKind::Interrupted));
+            assert_eq!(rt; next_pick(&mut matches, false), failed, "{shows}");
+        }
+        assert_eq!(rt; next_pick(&mut matches, true), Ok(None), "{shows}");
+        assert_eq!(rt; next_pick(&mut matches, false), Ok(None), "{shows}");
+        assert_eq!(rt; tally.reads.get(), all, "{shows}");
+        Ok(())
+    }
+
+    /// Asserts them for a reader that fails after each front of the text.
+    fn stops<T: Abort, A: Search>(&self, rt: &T, alloc: Global, automaton: &A) -> Result<(), Fail> {
+        for len in 0..=self.text.len() {
+            let front = self.text.get(..len).ok_or("a front of the text")?;
+            self.gives(rt, alloc, automaton, front, true, 1)?;
+            self.gives(rt, alloc, automaton, front, true, 3)?;
+        }
+        Ok(())
+    }
+}
+
+impl Case for Row<'_> {
+    fn asked(&self) -> Asked<'_> {
+        Asked {
+            patterns: self.patterns,
+            kind: self.kind,
+            letters: self.letters,
+        }
+    }
+
+    fn check<T: Abort, A: Search>(
+        &self,
+        rt: &T,
+        alloc: Global,
+        automaton: &A,
+        starts: StartKind,
+    ) -> Result<(), Fail> {
+        if !serves(starts, Anchored::No) {
+            return Ok(());
+        }
+        for most in [1, 2, 3, 4, 5, 7, 100] {
+            self.gives(rt, alloc, automaton, self.text, false, most)?;
+        }
+        self.stops(rt, alloc, automaton)
+    }
+}
+
+/// One pattern inside another, and one that goes on.
+const INSIDE: Row<'static> = Row {
+    shows: "one pattern inside another, and one that goes on",
+    patterns: &[b"b", b"abc", b"abcd"],
+    kind: LeftmostLongest,
+    letters: Cased,
+    text: b"abcd",
+    finds: &[((2, 0, 4), END)],
+};
+
+/// What ends first is no match where a longer one failed.
+const BACK: Row<'static> = Row {
+    shows: "the search goes on from the end of the match, not from where it was decided",
+    patterns: &[b"z", b"abcdefghi", b"hz", b"abcdefgh"],
+    kind: LeftmostLongest,
+    letters: Cased,
+    text: b"abcdefghz",
+    finds: &[((3, 0, 8), 9), ((0, 8, 9), END)],
+};
+
+/// One pattern begins another, which begins a third.
+const APPEND: Row<'static> = Row {
+    shows: "the longest of three patterns, one of which begins another",
+    patterns: &[b"append", b"appendage", b"app"],
+    kind: LeftmostLongest,
+    letters: Cased,
+    text: b"append the app to the appendage",
+    finds: &[((0, 0, 6), 7), ((2, 11, 14), 15), ((1, 22, 31), END)],
+};
+
+const ROWS: &[Row<'static>] = &[
+    INSIDE,
+    Row {
+        text: b"abcx",
+        finds: &[((1, 0, 3), 4)],
+        ..INSIDE
+    },
+    Row {
+        text: b"ab",
+        finds: &[((0, 1, 2), END)],
+        ..INSIDE
+    },
+    Row {
+        text: b"abcabcd",
+        finds: &[((1, 0, 3), 4), ((2, 3, 7), END)],
+        ..INSIDE
+    },
+    Row {
+        kind: LeftmostFirst,
+        finds: &[((1, 0, 3), 4)],
+        ..INSIDE
+    },
+    Row {
+        kind: LeftmostFirst,
+        text: b"abcx",
+        finds: &[((1, 0, 3), 4)],
+        ..INSIDE
+    },
+    Row {
+        kind: LeftmostFirst,
+        text: b"ab",
+        finds: &[((0, 1, 2), END)],
+        ..INSIDE
+    },
+    Row {
+        kind: LeftmostFirst,
+        text: b"abcabcd",
+        finds: &[((1, 0, 3), 4), ((1, 3, 6), 7)],
+        ..INSIDE
+    },
+    BACK,
+    Row {
+        kind: LeftmostFirst,
+        ..BACK
+    },
+    APPEND,
+    Row {
+        shows: "the first of three patterns, which begins another",
+        kind: LeftmostFirst,
+        finds: &[((0, 0, 6), 7), ((2, 11, 14), 15), ((0, 22, 28), 29)],
+        ..APPEND
+    },
+    Row {
+        shows: "under standard, what ends first",
+        kind: Standard,
+        finds: &[((2, 0, 3), 3), ((2, 11, 14), 14), ((2, 22, 25), 25)],
+        ..APPEND
+    },
+    Row {
+        shows: "a word that begins another, in both cases",
+        patterns: &[b"pass", b"PASSWORD"],
+        letters: Folded,
+        text: b"Pass passwords PASSW",
+        finds: &[((0, 0, 4), 5), ((1, 5, 13), 14), ((0, 15, 19), END)],
+        ..INSIDE
+    },
+    Row {
+        shows: "nothing but a beginning",
+        patterns: &[b"appendage"],
+        text: b"append",
+        finds: &[],
+        ..INSIDE
+    },
+    Row {
+        shows: "no patterns",
+        patterns: &[],
+        text: b"ab",
+        finds: &[],
+        ..INSIDE
+    },
+    Row {
+        shows: "no bytes",
+        text: b"",
+        finds: &[],
+        ..INSIDE
+    },
+];
+
+/// A thousand times the same letter, which is a pattern; another pattern begins with twenty of them. Each match is decided by the
+/// twenty-first letter from its start on, and the last twenty by the end of the input.
+fn many<T: Abort>(rt: &T, alloc: Global) -> Result<(), Fail> {
+    let mut finds = Vec::new(alloc);
+    for at in 0..1000 {
+        let decided = if at < 980 { at + 21 } else { END };
+        finds.push(((0, at, at + 1), decided))?;
+    }
+    let row = Thousand(&finds);
+    each(rt, alloc, &row, FEW)
+}
+
+/// The matches of a thousand letters.
+#[derive(Clone, Copy)]
+struct Thousand<'a>(&'a [(Pick, usize)]);
+
+impl Case for Thousand<'_> {
+    fn asked(&self) -> Asked<'_> {
+        Asked {
+            patterns: &[b"a", b"aaaaaaaaaaaaaaaaaaaab"],
+            kind: LeftmostLongest,
+            letters: Cased,
+        }
+    }
+
+    fn check<T: Abort, A: Search>(
+        &self,
+        rt: &T,
+        alloc: Global,
+        automaton: &A,
+        _starts: StartKind,
+    ) -> Result<(), Fail> {
+        let row = Row {
+            shows: "a match for each letter, though twenty of them begin a longer pattern",
+            finds: self.0,
+            ..INSIDE
+        };
+        for most in [1, 7, 1000] {
+            row.gives(rt, alloc, automaton, &[b'a'; 1000], false, most)?;
+        }
+        Ok(())
+    }
+}
+
+/// Asserts the matches of a text, by this many bytes a read.
+fn are_found<T: Abort, A: Search>(
+    rt: &T,
+    alloc: Global,
+    automaton: &A,
+    text: &[u8],
+    most: usize,
+    finds: &[Pick],
+) -> Result<(), Fail> {
+    let tally = Tally::new();
+    let mut reader = Watched::new(Source::new(Given::Whole(text), most, &[], &tally));
+    let mut matches = automaton.try_stream_find_iter_any_kind(alloc, &mut reader)?;
+    for want in finds {
+        assert_eq!(rt; next_pick(&mut matches, false), Ok(Some(*want)));
+    }
+    assert_eq!(rt; next_pick(&mut matches, false), Ok(None));
+    Ok(())
+}
+
+/// A match across the end of the buffer, another where it is full again, and one that ends with the input.
+struct Long;
+
+impl Case for Long {
+    fn asked(&self) -> Asked<'_> {
+        Asked {
+            patterns: &[b"lynx", b"lynxes"],
+            kind: LeftmostLongest,
+            letters: Cased,
+        }
+    }
+
+    fn check<T: Abort, A: Search>(
+        &self,
+        rt: &T,
+        alloc: Global,
+        automaton: &A,
+        _starts: StartKind,
+    ) -> Result<(), Fail> {
+        let lines: &[u8] = &[b'-'; 65_534];
+        let text = [lines, b"lynx", lines, b"lynxes", lines, b"lynx"].concat(alloc)?;
+        let finds = [
+            (0, 65_534, 65_538),
+            (1, 131_072, 131_078),
+            (0, 196_612, 196_616),
+        ];
+        for most in [5, 4099, 65_536] {
+            are_found(rt, alloc, automaton, &text, most, &finds)?;
+        }
+        Ok(())
+    }
+}
+
+// ---- replacement
+
+/// What is written of a text, and how much of it before each read of one byte.
+struct Written {
+    patterns: &'static [&'static [u8]],
+    kind: MatchKind,
+    text: &'static [u8],
+    replacements: &'static [&'static [u8]],
+    due: &'static [usize],
+    written: &'static [u8],
+}
+
+/// Writes the replacement of each match's pattern by a closure.
+fn write_by_closure<A: Search, R: Read, W: Write>(
+    automaton: &A,
+    alloc: Global,
+    reader: &mut Watched<R>,
+    writer: &mut Watched<W>,
+    replacements: &[&[u8]],
+) -> Result<(), StreamError>
+    requires { has_ended reader.old ≡ false }
+{
+    automaton.try_stream_replace_all_any_kind_with(
+        alloc,
+        reader,
+        writer,
+        |found: &Match, _matched: &[u8], writer: &mut Watched<W>| -> Result<(), StreamError> {
+            let number = found.pattern().as_usize();
+            write_whole(
+                writer,
+                replacements.get(number).ok_or(StreamError::Position)?,
+            )
+        },
+    )
+}
+
+/// Which call replaces.
+#[derive(Clone, Copy, Debug)]
+enum Way {
+    List,
+    Counted,
+    Closure,
+}
+
+/// All of them.
+const WAYS: [Way; 3] = [Way::List, Way::Counted, Way::Closure];
+
+/// Replaces what a reader gives by this call, for a writer that has this room: the result, and what was written.
+fn replaces<A: Search>(
+    alloc: Global,
+    automaton: &A,
+    list: &[&[u8]],
+    reader: Source<'_>,
+    writer: Sink<'_>,
+    way: Way,
+) -> Result<(Outcome, Vec<u8>), Fail> {
+    if automaton.patterns_len() != list.len() {
+        return Err("a replacement for each pattern".into());
+    }
+    let mut reader = Watched::new(reader);
+    let mut writer = Watched::new(writer);
+    let mut steps = Steps::new();
+    let answer = match way {
+        Way::List => {
+            automaton.try_stream_replace_all_any_kind(alloc, &mut reader, &mut writer, list)
+        }
+        Way::Counted => automaton.try_stream_replace_all_any_kind_counted(
+            alloc,
+            &mut reader,
+            &mut writer,
+            list,
+            &mut steps,
+        ),
+        Way::Closure => write_by_closure(automaton, alloc, &mut reader, &mut writer, list),
+    };
+    Ok((Outcome::of(&answer), writer.into_inner().taken))
+}
+
+impl Written {
+    /// Asserts what is written, so much of it before each read as is due, by one byte a read; and by more bytes a read.
+    fn is_written<T: Abort, A: Search>(
+        &self,
+        rt: &T,
+        alloc: Global,
+        automaton: &A,
+        way: Way,
+    ) -> Result<(), Fail> {
+        for most in [1, 2, 3, 7, 100] {
+            let due = if most == 1 { self.due } else { &[] };
+            let tally = Tally::new();
+            let reader = Source::new(Given::Whole(self.text), most, due, &tally);
+            let writer = Sink::new(alloc, AMPLE, &tally)?;
+            let (outcome, taken) = replaces(
+                alloc,
+                automaton,
+                self.replacements,
+                reader,
+                writer,
+                way,
+            )?;
+            assert_eq!(rt; outcome, Outcome::Done, "{way:?}");
+            assert_eq!(rt; taken.as_slice(), self.written, "{way:?}");
+        }
+        Ok(())
+    }
+
+    /// Asserts that a read which fails after a front of the text leaves written what was due by then.
+    fn stops<T: Abort, A: Search>(
+        &self,
+        rt: &T,
+        alloc: Global,
+        automaton: &A,
+        way: Way,
+    ) -> Result<(), Fail> {
+        for (len, due) in self.due.iter().enumerate() {
+            let front = self.text.get(..len).ok_or("a front of the text")?;
+            let tally = Tally::new();
+            let reader = Source::new(Given::Fails(front, b"x"), 1, &[], &tally);
+            let writer = Sink::new(alloc, AMPLE, &tally)?;
+            let (outcome, taken) = replaces(
+                alloc,
+                automaton,
+                self.replacements,
+                reader,
+                writer,
+                way,
+            )?;
+            assert_eq!(rt; outcome, Outcome::Read(ErrorKind::Interrupted), "{way:?}");
+            assert_eq!(rt; Some(taken.as_slice()), self.written.get(..*due), "{way:?}");
+        }
+        Ok(())
+    }
+
+    /// Asserts that a writer without room for all takes a front of the text.
+    fn is_cut<T: Abort, A: Search>(
+        &self,
+        rt: &T,
+        alloc: Global,
+        automaton: &A,
+        way: Way,
+    ) -> Result<(), Fail> {
+        for bytes in 0..self.written.len() {
+            let tally = Tally::new();
+            let reader = Source::new(Given::Whole(self.text), 3, &[], &tally);
+            let room = Room {
+                bytes,
+                fails: true,
+                ..AMPLE
+            };
+            let writer = Sink::new(alloc, room, &tally)?;
+            let (outcome, taken) = replaces(
+                alloc,
+                automaton,
+                self.replacements,
+                reader,
+                writer,
+                way,
+            )?;
+            assert_eq!(rt; outcome, Outcome::Write(ErrorKind::Interrupted), "{way:?}");
+            assert_eq!(rt;
+                Some(taken.as_slice()),
+                self.written.get(..bytes),
+                "{way:?}"
+            );
+        }
+        Ok(())
+    }
+}
+
+impl Case for Written {
+    fn asked(&self) -> Asked<'_> {
+        Asked {
+            patterns: self.patterns,
+            kind: self.kind,
+            letters: Cased,
+        }
+    }
+
+    fn check<T: Abort, A: Search>(
+        &self,
+        rt: &T,
+        alloc: Global,
+        automaton: &A,
+        starts: StartKind,
+    ) -> Result<(), Fail> {
+        if !serves(starts, Anchored::No) {
+            return Ok(());
+        }
+        for way in WAYS {
+            self.is_written(rt, alloc, automaton, way)?;
+            self.stops(rt, alloc, automaton, way)?;
+            self.is_cut(rt, alloc, automaton, way)?;
+        }
+        Ok(())
+    }
+}
+
+const WRITTEN: &[Written] = &[
+    Written {
+        patterns: &[b"b", b"abc", b"abcd"],
+        kind: LeftmostLongest,
+        text: b"abcxx ab",
+        replacements: &[b"0", b"1", b"2"],
+        due: &[0, 0, 0, 0, 2, 3, 4, 4, 4],
+        written: b"1xx a0",
+    },
+    Written {
+        patterns: &[b"pass", b"password"],
+        kind: LeftmostLongest,
+        text: b"pass: passwords",
+        replacements: &[b"****", b"********"],
+        due: &[0, 0, 0, 0, 0, 5, 6, 6, 6, 6, 6, 6, 6, 6, 6, 15],
+        written: b"****: ********s",
+    },
+    Written {
+        patterns: &[b"append", b"appendage", b"app"],
+        kind: LeftmostFirst,
+        text: b"an app",
+        replacements: &[b"x", b"y", b"z"],
+        due: &[0, 0, 2, 3, 3, 3, 3],
+        written: b"an z",
+    },
+];
+
+// ---- what is refused
+
+/// An automaton that can't search a stream, and why. Where it has no start for a search that isn't anchored, that is the reason.
+struct Refused(MatchKind);
+
+/// Makes a search of a stream, and drops it.
+fn try_stream<'a, A: Search, R: Read>(
+    alloc: Global,
+    automaton: &'a A,
+    reader: &'a mut Watched<R>,
+) -> Result<(), StreamError>
+    requires { has_ended reader.old ≡ false }
+{
+    automaton.try_stream_find_iter_any_kind(alloc, reader)?;
+    Ok(())
+}
+
+impl Case for Refused {
+    fn asked(&self) -> Asked<'_> {
+        Asked {
+            patterns: &[b"ab", b""],
+            kind: self.0,
+            letters: Cased,
+        }
+    }
+
+    fn check<T: Abort, A: Search>(
+        &self,
+        rt: &T,
+        alloc: Global,
+        automaton: &A,
+        starts: StartKind,
+    ) -> Result<(), Fail> {
+        let why = if serves(starts, Anchored::No) {
+            MatchErrorKind::UnsupportedEmpty
+        } else {
+            MatchErrorKind::InvalidInputUnanchored
+        };
+        let tally = Tally::new();
+        let mut reader = Watched::new(Source::new(Given::Whole(b"ab"), 1, &[], &tally));
+        let searched = Outcome::of(&try_stream(alloc, automaton, &mut reader));
+        assert_eq!(rt; searched, Outcome::Config(why));
+        for way in WAYS {
+            let reader = Source::new(Given::Whole(b"ab"), 1, &[], &tally);
+            let writer = Sink::new(alloc, AMPLE, &tally)?;
+            let (outcome, _) = replaces(alloc, automaton, &[b"-", b"+"], reader, writer, way)?;
+            assert_eq!(rt; outcome, Outcome::Config(why), "{way:?}");
+        }
+        assert_eq!(rt; (tally.reads.get(), tally.writes.get()), (0, 0));
+        Ok(())
+    }
+}
+
+#[test]
+fn streams_of_any_kind(rt: HostRuntime) -> Result<(), Fail> {
+    all(&rt, rt.alloc(), ROWS)?;
+    all(&rt, rt.alloc(), WRITTEN)?;
+    all(
+        &rt,
+        rt.alloc(),
+        &[
+            Refused(LeftmostFirst),
+            Refused(LeftmostLongest),
+            Refused(Standard),
+        ],
+    )?;
+    many(&rt, rt.alloc())?;
+    each(&rt, rt.alloc(), &Long, FIRST)
+}
+
+// ---- compared
+
+/// A text, and its matches by the plain program, cut at every place.
+#[derive(Clone, Copy)]
+struct Alike<'a> {
+    asked: Asked<'a>,
+    text: &'a [u8],
+    gives: &'a [Pick],
+}
+
+impl Case for Alike<'_> {
+    fn asked(&self) -> Asked<'_> {
+        self.asked
+    }
+
+    fn check<T: Abort, A: Search>(
+        &self,
+        rt: &T,
+        alloc: Global,
+        automaton: &A,
+        starts: StartKind,
+    ) -> Result<(), Fail> {
+        if !serves(starts, Anchored::No) {
+            return Ok(());
+        }
+        for most in 1..=self.text.len() {
+            are_found(rt, alloc, automaton, self.text, most, self.gives)?;
+        }
+        Ok(())
+    }
+}
+
+/// Compares the matches of a stream, cut at every place, with those of the plain program, where no pattern is empty.
+pub fn is_alike<T: Abort>(
+    rt: &T,
+    alloc: Global,
+    asked: Asked<'_>,
+    text: &[u8],
+) -> Result<(), Fail> {
+    if asked.patterns.iter().any(|it| it.is_empty()) {
+        return Ok(());
+    }
+    let gives = by_plain(alloc, asked, Walk, &input(&Whole(text))?)?;
+    let alike = Alike {
+        asked,
+        text,
+        gives: &gives,
+    };
+    each(rt, alloc, &alike, FEW)
+}

@@ -40,5 +40,5 @@ abbrev pub IsFirstExclusion : Settings → List Rule → SettingError → Type 0
 IsFirstExclusion s rules e = IsExcluded s rules e × ((earlier : SettingError) → place_of earlier < place_of e → ¬ IsExcluded s rules earlier)
 
 -- whether settings are accepted, with these rules, and if not why
-abbrev pub Decides : Settings → List Rule → Result (Unit {0}) SettingError → Type 0
-Decides s rules result = MatchResult result (λ _. IsAccepted s rules) (IsFirstExclusion s rules)
+abbrev pub AnswersCheck : Settings → List Rule → Result (Unit {0}) SettingError → Type 0
+AnswersCheck s rules result = MatchResult result (λ _. IsAccepted s rules) (IsFirstExclusion s rules)

@@ -3,7 +3,7 @@
 //! The settings say which text is written, what counts as a match, and by which engine matches are found. The engine and its
 //! own settings never change the text. Some settings exclude one another; [`check`] says which, before anything is read.
 ghost use Rattle.std.specs.Prelude.{◌↔◌, IsTrue};
-ghost use Rattle.acsub.specs.Settings.{Decides, HasEmptyPattern};
+ghost use Rattle.acsub.specs.Settings.{AnswersCheck, HasEmptyPattern};
 ghost use Rattle.acsub.specs.Transformed.{IsStreamed};
 
 use crate::rules::Rules;
@@ -97,7 +97,7 @@ impl Error for SettingError {}
 /// Whether the settings go together, with these rules. Of several reasons against it, the first in the order of [`SettingError`]
 /// is returned.
 pub fn check(settings: &Settings, rules: &Rules) -> Result<(), SettingError>
-    ensures { Decides settings.now rules.now result }
+    ensures { AnswersCheck settings.now rules.now result }
 {
     if settings.mode == Mode::Overlap && settings.kind != MatchKind::Standard {
         return Err(SettingError::OverlapLeftmost);

@@ -21,6 +21,7 @@ complete -c acsub -n '__acsub_placed 0' -a list -d 'A line for each match'
 complete -c acsub -n '__acsub_placed 0' -a overlap -d 'A line for each occurrence'
 complete -c acsub -n '__acsub_placed 1' -F
 complete -c acsub -l text -d 'Read the rule file as plain text'
+complete -c acsub -l stream -d 'Write while reading under every kind'
 complete -c acsub -l kind -x -a 'standard leftmost-first leftmost-longest' -d 'Which of several matches is taken'
 complete -c acsub -l fold -d 'Match ASCII letters in either case'
 complete -c acsub -l pairs -x -d 'Match the two bytes of each pair'

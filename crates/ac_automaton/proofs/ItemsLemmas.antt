@@ -1,5 +1,5 @@
 -- Where the matches of an input lie, and how many there are at most.
-use Rattle.std.proofs.Common.{◌≡◌, ℕ, zero, suc, ◌+◌, ◌-◌, ◌*◌, ◌≤◌, Bool, true, false, cond, ◌&&◌, eqb, leb, IfSome, List, [], ◌∷◌, length, Option, Some, None, slice_get, slice_range, sym, ap, subst, arith, length-append, mul-suc}
+use Rattle.std.proofs.Common.{◌≡◌, ℕ, zero, suc, ◌+◌, ◌-◌, ◌*◌, ◌≤◌, Bool, true, false, cond, ◌&&◌, eqb, leb, IfSome, List, [], ◌∷◌, length, Option, Some, None, Result, Ok, Err, IfOk, slice_get, slice_range, sym, ap, subst, ◌∙◌, arith, length-append, mul-suc}
 use Rattle.std.specs.Iterator.{YieldsFirst, Yields}
 use Rattle.std.specs.Iterator.Runs.{EachRunFrom, AllItems}
 use Rattle.std.specs.List.{Contains, filter}
@@ -8,6 +8,7 @@ use Rattle.std.proofs.iter.runs.Lists.{Everywhere}
 use Rattle.std.proofs.iter.runs.Made.{took, each}
 use Rattle.std.proofs.lemmas.Bool.Decides.{nat_tests}
 use Rattle.std.proofs.lemmas.Option.{slice_get_within}
+use Rattle.ac_input.specs.declared.search.Anchored.{Anchored}
 use Rattle.ac_input.specs.Computed.{at_place, from_place, occurrences, to_place}
 use Rattle.ac_input.specs.Input.{Asked, whole_of}
 use Rattle.ac_input.specs.Laws.{IsApart}
@@ -18,9 +19,10 @@ use Rattle.ac_input.proofs.ListingLemmas.{listing_of-lists}
 use Rattle.ac_input.proofs.WalkLemmas.{walk-occurs_somewhere, walk-rising, walk-within, walk_of-walk}
 use Rattle.ac_automaton.specs.Automaton.{Built, IsFound, kind_asked, listing_in, searched, walk_in}
 use Rattle.ac_automaton.specs.Items.{AreFewMatches, AreFewForEach, MatchesAreInOrder, EachLiesWithin, LiesWithin}
-use Rattle.ac_automaton.specs.Iter.{Walk, left_of}
+use Rattle.ac_automaton.specs.Iter.{AnswersFindIter, AnswersFindIterFrom, Walk, left_of, walk_from_place}
 use Rattle.ac_automaton.specs.OverlappingIter.{Run, rest_of}
 use Rattle.ac_automaton.specs.Replace.{LieInOrder, matches_in}
+use Rattle.ac_automaton.specs.declared.error.MatchErrorKind.{MatchErrorKind}
 use Rattle.ac_automaton.proofs.ReplaceLemmas.{walk-lies}
 
 -- ---- items
@@ -103,6 +105,28 @@ walks-few b asked inside =
 -- so are those that a walk has left which has not begun
 pub walk-few : (b : Built) (asked : Asked) (w : Walk) → asked.span.end ≤ length asked.haystack → left_of w ≡ walk_in b asked → AreFewMatches asked w
 walk-few b asked w inside all = omega (arith, ap length all, walks-few b asked inside)
+
+-- a walk from the place where its input begins is all of the walk of the input
+from-begin : (b : Built) (asked : Asked) (at : ℕ) (w : Walk) → at ≡ asked.span.start → w ≡ walk_from_place b asked (record { start = at; last = None }) → left_of w ≡ walk_in b asked
+from-begin b asked at w e h = ap left_of h ∙ ap (λ (start : ℕ). left_of (walk_from_place b asked (record { start = start; last = None }))) e
+
+-- so what such a call returns holds few matches, and they lie in order
+pub from-few : (b : Built) (supports : Anchored → Type 0) (asked : Asked) (at : ℕ) (r : Result Walk MatchErrorKind) → asked.span.end ≤ length asked.haystack → at ≡ asked.span.start
+    → AnswersFindIterFrom b supports asked (record { start = at; last = None }) r → IfOk r (AreFewMatches asked)
+from-few b supports asked at (Ok w) inside e h = walk-few b asked w inside (from-begin b asked at w e h.1)
+from-few b supports asked at (Err error) inside e h = tt
+
+pub from-in-order : (b : Built) (supports : Anchored → Type 0) (asked : Asked) (at : ℕ) (r : Result Walk MatchErrorKind) → asked.span.end ≤ length asked.haystack → at ≡ asked.span.start
+    → AnswersFindIterFrom b supports asked (record { start = at; last = None }) r → IfOk r (MatchesAreInOrder b asked)
+from-in-order b supports asked at (Ok w) inside e h = walk-in-order b asked w inside (from-begin b asked at w e h.1)
+from-in-order b supports asked at (Err error) inside e h = tt
+
+-- and it answers as one from the beginning
+pub from-answers : (b : Built) (supports : Anchored → Type 0) (asked : Asked) (at : ℕ) (r : Result Walk MatchErrorKind) → at ≡ asked.span.start
+    → AnswersFindIterFrom b supports asked (record { start = at; last = None }) r → AnswersFindIter b supports asked r
+from-answers b supports asked at (Ok w) e h =
+    (h.0, h.1 ∙ ap (λ (start : ℕ). walk_from_place b asked (record { start = start; last = None })) e, from-begin b asked at w e h.1)
+from-answers b supports asked at (Err error) e h = h
 
 -- and those of a whole text
 pub matches-few : (b : Built) (text : List ℕ) → length (matches_in b text) ≤ length text + 1

@@ -12,6 +12,7 @@ pub mod WalkLemmas
 pub mod WalkEndLemmas
 pub mod BestOnLemmas
 pub mod DecideLemmas
+pub mod DeathLemmas
 pub mod DecideWalkLemmas
 pub mod IterLemmas
 pub mod OverlappingLemmas
@@ -33,13 +34,18 @@ pub mod StreamLemmas
 pub mod SearchLemmas
 pub mod StreamCutLemmas
 pub mod StreamSendLemmas
+pub mod StreamReplacerLemmas
 pub mod StreamCountLemmas
 pub mod MovedLemmas
 pub mod StreamReplaceLemmas
 pub mod StreamSearchLemmas
+pub mod StreamPushLemmas
 pub mod StreamIterLemmas
 pub mod StreamLeftLemmas
 pub mod StreamAnswerLemmas
+pub mod StreamListingLemmas
+pub mod StreamListingSearchLemmas
+pub mod StreamOverlappingIterLemmas
 pub mod WriterChainLemmas
 pub mod StreamWithLemmas
 pub mod StreamWithReadLemmas

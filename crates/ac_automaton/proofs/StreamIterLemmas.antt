@@ -428,5 +428,5 @@ stopped-over {R} remaining s t u before mid after x y has over = λ stopped.
       refl,
       over.0.pieces ∙ ap (λ (z : StreamProgress). z.pieces) same.0,
       over.1 ∙ ap (λ (z : StreamProgress). z.given) same.0,
-      ap (λ (r : Watched R). pieces_of r) (over.2 ∙ same.1),
+      over.2 ∙ same.1,
     )

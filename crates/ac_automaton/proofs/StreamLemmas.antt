@@ -22,7 +22,7 @@ use Rattle.ac_input.proofs.OrderLemmas.{slice_range-length}
 use Rattle.ac_input.proofs.ShiftLemmas.{back_by, occurs-shifted}
 use Rattle.ac_input.proofs.SpanLemmas.{best-of_rest, occurs-in_whole_of_span, occurs-later}
 use Rattle.ac_input.proofs.StateLemmas.{alive-shifted, new-behind, occurs-behind}
-use Rattle.ac_input.proofs.WalkLemmas.{occurs-earlier, occurs-whole, walk_after-walk, walk_of-walk, walk-computed, walk-occurs}
+use Rattle.ac_input.proofs.WalkLemmas.{occurs-earlier, occurs-whole, pick-within, walk_after-walk, walk_of-walk, walk-computed, walk-occurs}
 use Rattle.ac_automaton.specs.Automaton.{Built}
 use Rattle.ac_automaton.specs.Replace.{matches_in}
 use Rattle.ac_automaton.specs.StreamSearch.{ContinuesWalk, since_last}
@@ -261,7 +261,7 @@ none-ends_before m x last at to o standard g h inside quiet tells occurs lt =
 -- ---- what lies between the last match and where the search began anew
 
 -- where the walk stands after some picks
-stands_after : ℕ → List Occurrence → ℕ
+pub stands_after : ℕ → List Occurrence → ℕ
 stands_after at [] = at
 stands_after at (o ∷ os) = stands_after o.end os
 
@@ -272,16 +272,22 @@ stands_after-end at o [] = refl
 stands_after-end at o (q ∷ os) = stands_after-end o.end q os
 
 -- at first it stands where nothing ends
-stands_after-given : (os : List Occurrence) → stands_after 0 os ≡ end_of os
+pub stands_after-given : (os : List Occurrence) → stands_after 0 os ≡ end_of os
 unfolding stands_after
 stands_after-given [] = refl
 stands_after-given (o ∷ os) = stands_after-end 0 o os
 
 -- the rest of a walk is the walk from there
-walk-rest : (kind : MatchKind) (w : Search) (at : ℕ) (last : Option ℕ) (given rest : List Occurrence) → IsWalk kind w at last (given ++ rest) → (before : Option ℕ) × IsWalk kind w (stands_after at given) before rest
+pub walk-rest : (kind : MatchKind) (w : Search) (at : ℕ) (last : Option ℕ) (given rest : List Occurrence) → IsWalk kind w at last (given ++ rest) → (before : Option ℕ) × IsWalk kind w (stands_after at given) before rest
 unfolding stands_after
 walk-rest kind w at last [] rest walk = (last, walk)
 walk-rest kind w at last (o ∷ os) rest walk = walk-rest kind w o.end (Some o.end) os rest walk.1
+
+-- after some picks a walk stands within its text
+pub stands-within : (kind : MatchKind) (w : Search) (at : ℕ) (last : Option ℕ) (os rest : List Occurrence) → at ≤ w.end → IsWalk kind w at last (os ++ rest) → stands_after at os ≤ w.end
+unfolding stands_after
+stands-within kind w at last [] rest le walk = le
+stands-within kind w at last (o ∷ os) rest le walk = stands-within kind w o.end (Some o.end) os rest (pick-within kind w at last o walk.0).2 walk.1
 
 -- the best from a place on is the first of the walk from there
 rest-best : (kind : MatchKind) (w : Search) (at : ℕ) (last : Option ℕ) (r : Option Occurrence) → w.end ≤ length w.haystack → 1 ≤ shortest w.patterns → IsPick kind w at last r → IsBest kind (starting_at w at) r

@@ -250,7 +250,7 @@ read-stands Reaches s start sid best piece is open_ fits short =
     (is.lookups one (subst (λ (l : List ℕ). IsLive m false l one) same alive)))
 
 -- how many bytes are held then
-grown-long : (s : StreamProgress) (old new : Held) (piece : List ℕ) → IsOnCourse s → HoldsRead s old → IsGrown old new piece → length new.bytes + s.from ≡ length (read_by s ++ piece)
+pub grown-long : (s : StreamProgress) (old new : Held) (piece : List ℕ) → IsOnCourse s → HoldsRead s old → IsGrown old new piece → length new.bytes + s.from ≡ length (read_by s ++ piece)
 grown-long s old new piece course holds grown =
     let bytes = ap length grown.bytes in
     let joined = length-append old.bytes piece in
@@ -430,6 +430,22 @@ read-failed {R} remaining before after b Reaches start pieces all count p old ne
           }),
     )
 
+-- After a piece was taken: what is kept is right, and how far the search has come then.
+pub grown-right : (b : Built) (Reaches : List ℕ → StateID → Type 0) (start : StateID) (pieces all : List (List ℕ)) (count : ℕ) (p : Progress) (old new : Held) (sums : Steps) (was : Bool) (piece held : List ℕ)
+    → IsStreamSearch Reaches (progress_at b pieces count p old sums) start p.sid p.best count old was
+    → p.closed ≡ false
+    → IsGrown old new piece → held ≡ new.bytes → all ≡ pieces ++ piece ∷ [] → p.from ≤ 18446744073709551615
+    → IsStreamSearch Reaches (progress_at b all count p new sums) start p.sid p.best count new (nat_lt (18446744073709551615 - p.from) (length held))
+    × (progress_at b all count p new sums ≡ after_read (progress_at b pieces count p old sums) piece)
+grown-right b Reaches start pieces all count p old new sums was piece held is open_ grown holds joined fits =
+    let s : StreamProgress = progress_at b pieces count p old sums in
+    let course = is.stands.course in
+    let view = read-view b pieces all count p old new sums piece is.number course.decided open_ grown joined in
+    let long : length held + p.from ≡ length (read_by s ++ piece) = ap (λ (l : List ℕ). length l + p.from) holds ∙ grown-long s old new piece course is.holds grown in
+    let test = over-test p.from (length held) (length (read_by s ++ piece)) fits long in
+    let right = read-right Reaches s start p.sid p.best count old new was (nat_lt (18446744073709551615 - p.from) (length held)) piece is grown open_ test.0 test.1 in
+    (subst (λ (t : StreamProgress). IsStreamSearch Reaches t start p.sid p.best count new (nat_lt (18446744073709551615 - p.from) (length held))) (sym view) right, view)
+
 -- After a read that gave some bytes: what is kept is right, and the read gave this piece.
 read-gave : {R : Type 0} (remaining : R → Option (List ℕ)) (before after : Watched R) (b : Built) (Reaches : List ℕ → StateID → Type 0) (start : StateID) (pieces all : List (List ℕ)) (count : ℕ) (p : Progress) (old new : Held) (sums : Steps) (was : Bool) (n : ℕ) (held : List ℕ)
     → IsStreamSearch Reaches (progress_at b pieces count p old sums) start p.sid p.best count old was
@@ -452,12 +468,9 @@ read-gave {R} remaining before after b Reaches start pieces all count p old new 
     let course = is.stands.course in
     let last = piece-behind held old.bytes piece n (holds ∙ grown.bytes) filled.count in
     let joined : all ≡ pieces ++ piece ∷ [] = more ∙ ap (λ (l : List ℕ). pieces ++ l ∷ []) last in
-    let view = read-view b pieces all count p old new sums piece is.number course.decided open_ grown joined in
-    let long : length held + p.from ≡ length (read_by s ++ piece) = ap (λ (l : List ℕ). length l + p.from) holds ∙ grown-long s old new piece course is.holds grown in
-    let test = over-test p.from (length held) (length (read_by s ++ piece)) fits long in
-    let right = read-right Reaches s start p.sid p.best count old new was (nat_lt (18446744073709551615 - p.from) (length held)) piece is grown open_ test.0 test.1 in (
-      subst (λ (t : StreamProgress). IsStreamSearch Reaches t start p.sid p.best count new (nat_lt (18446744073709551615 - p.from) (length held))) (sym view) right,
-      subst (λ (t : StreamProgress). HasRead remaining s t before after piece 0) (sym view)
+    let right = grown-right b Reaches start pieces all count p old new sums was piece held is open_ grown holds joined fits in (
+      right.0,
+      subst (λ (t : StreamProgress). HasRead remaining s t before after piece 0) (sym right.1)
           (record {
             built = refl;
             pieces = refl;
@@ -475,33 +488,33 @@ read-gave {R} remaining before after b Reaches start pieces all count p old new 
 
 -- how far a search has come that keeps this
 abbrev pub come_by : {S : Type 0} → Ghosts S → Inside S → StreamProgress
-come_by A i = progress_at (A.built i.automaton.now) i.pieces.items i.given.value i.progress i.buffer i.sums
+come_by A i = progress_at (A.built i.automaton) i.pieces.items i.given.value i.progress i.buffer i.sums
 
 module _ {S R : Type 0} (A : Ghosts S) (remaining : R → Option (List ℕ)) (i : Inside S) (before after : Watched R) (all : List (List ℕ)) (new : Held) where
   -- where the search stands after a read
   abbrev pub filled_by : StreamProgress
-  filled_by = progress_at (A.built i.automaton.now) all i.given.value i.progress new i.sums
+  filled_by = progress_at (A.built i.automaton) all i.given.value i.progress new i.sums
 
   -- After a read: what is kept is right, and the read gave this piece.
   pub record HasFilled (over : Bool) (piece : List ℕ) (errors : ℕ) : Type 0 where
-    pub right : IsStreamSearch (A.Reaches i.automaton.now No) filled_by i.start i.progress.sid i.progress.best i.given.value new over
+    pub right : IsStreamSearch (A.Reaches i.automaton No) filled_by i.start i.progress.sid i.progress.best i.given.value new over
     pub read : HasRead remaining (come_by A i) filled_by before after piece errors
 
 -- a read that failed
 pub fill-failed : {S R : Type 0} (A : Ghosts S) (remaining : R → Option (List ℕ)) (i : Inside S) (before after : Watched R) (all : List (List ℕ)) (new : Held)
-    → IsStreamSearch (A.Reaches i.automaton.now No) (come_by A i) i.start i.progress.sid i.progress.best i.given.value i.buffer i.over → i.progress.closed ≡ false
+    → IsStreamSearch (A.Reaches i.automaton No) (come_by A i) i.start i.progress.sid i.progress.best i.given.value i.buffer i.over → i.progress.closed ≡ false
     → new ≡ i.buffer → IsRollPaid new → all ≡ i.pieces.items ++ [] ∷ [] → HasGiven remaining before after ([] ∷ []) 1 → HasFilled A remaining i before after all new i.over [] 1
 fill-failed A remaining i before after all new is open_ same paid more failed =
-    let a = i.automaton.now in
+    let a = i.automaton in
     let r = read-failed remaining before after (A.built a) (A.Reaches a No) i.start i.pieces.items all i.given.value i.progress i.buffer new i.sums i.over is open_ same paid more failed in
     record { right = r.0; read = r.1 }
 
 -- a read that gave some bytes
 pub fill-gave : {S R : Type 0} (A : Ghosts S) (remaining : R → Option (List ℕ)) (i : Inside S) (before after : Watched R) (all : List (List ℕ)) (new : Held) (n : ℕ) (held : List ℕ)
-    → IsStreamSearch (A.Reaches i.automaton.now No) (come_by A i) i.start i.progress.sid i.progress.best i.given.value i.buffer i.over → i.progress.closed ≡ false
+    → IsStreamSearch (A.Reaches i.automaton No) (come_by A i) i.start i.progress.sid i.progress.best i.given.value i.buffer i.over → i.progress.closed ≡ false
     → (gave : Filled remaining i.buffer new before after n) → IsRollPaid new → held ≡ new.bytes → all ≡ i.pieces.items ++ drop (length held - n) held ∷ [] → i.progress.from ≤ 18446744073709551615
     → HasFilled A remaining i before after all new (nat_lt (18446744073709551615 - i.progress.from) (length held)) gave.piece 0
 fill-gave A remaining i before after all new n held is open_ gave paid holds more fits =
-    let a = i.automaton.now in
+    let a = i.automaton in
     let r = read-gave remaining before after (A.built a) (A.Reaches a No) i.start i.pieces.items all i.given.value i.progress i.buffer new i.sums i.over n held is open_ gave paid holds more fits in
     record { right = r.0; read = r.1 }

@@ -169,10 +169,9 @@ module _ (replacements : List (List ℕ)) (s t : StreamProgress) (at : ℕ) (o :
           stopped = stopped;
         }
 
--- There is no further match of what was read: nothing was sent, and all of it was searched.
-pub match-none : {W : Type 0} (contents : W → Option (List ℕ)) (replacements : List (List ℕ)) (s t : StreamProgress) (at : ℕ) (writer : Watched W) (held : List ℕ) → IsPlaced s at → IsOnCourse t → FindsHeld s None t
-    → SendsTo contents replacements s t at at writer writer held held × AreAllGiven t
-match-none contents replacements s t at writer held placed course finds =
+-- where there is no further match of what was read, the text may be written up to the same place
+pub none-placed : (s t : StreamProgress) (at : ℕ) → IsPlaced s at → IsOnCourse t → FindsHeld s None t → IsPlaced t at
+none-placed s t at placed course finds =
     let same = finds.0 in
     let read : read_by t ≡ read_by s = ap concat same.pieces in
     let all = finds.2 placed.countable in
@@ -183,21 +182,29 @@ match-none contents replacements s t at writer held placed course finds =
     let from : t.from ≡ s.from = same.from in
     let last : s.last ≤ t.last = finds.0.last in
     let h = placed.held in
-    let c = placed.cut in (
+    let c = placed.cut in
+    record {
+      course = course;
+      countable = subst CanBeCounted (sym read) placed.countable;
+      held = omega arith;
+      cut = omega arith;
+      lies = subst (λ (b : Built). LieInOrder (length b.dictionary.patterns) at 0 t.given) (sym same.built) (subst (LieInOrder (length s.built.dictionary.patterns) at 0) (sym finds.1) placed.lies);
+    }
+
+-- There is no further match of what was read: nothing was sent, and all of it was searched.
+pub match-none : {W : Type 0} (contents : W → Option (List ℕ)) (replacements : List (List ℕ)) (s t : StreamProgress) (at : ℕ) (writer : Watched W) (held : List ℕ) → IsPlaced s at → IsOnCourse t → FindsHeld s None t
+    → SendsTo contents replacements s t at at writer writer held held × AreAllGiven t
+match-none contents replacements s t at writer held placed course finds =
+    let same = finds.0 in
+    let read : read_by t ≡ read_by s = ap concat same.pieces in (
       record {
         same = same;
-        placed = record {
-          course = course;
-          countable = subst CanBeCounted (sym read) placed.countable;
-          held = omega arith;
-          cut = omega arith;
-          lies = subst (λ (b : Built). LieInOrder (length b.dictionary.patterns) at 0 t.given) (sym same.built) (subst (LieInOrder (length s.built.dictionary.patterns) at 0) (sym finds.1) placed.lies);
-        };
+        placed = none-placed s t at placed course finds;
         bytes = [];
         text = ap (λ (y : List ℕ). replaced_from 0 (take at y) replacements t.given) read ∙ ap (replaced_from 0 (take at (read_by s)) replacements) finds.1 ∙ sym (append-nil (text_to s replacements at));
         sent = Sent-none contents writer held;
       },
-      all,
+      finds.2 placed.countable,
     )
 
 -- ---- one sending after another

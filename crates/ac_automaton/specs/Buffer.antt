@@ -47,6 +47,10 @@ pub record Filled {R : Type 0} (remaining : R → Option (List ℕ)) (old new : 
   pub held : new ≡ record old { bytes = old.bytes ++ piece; read = old.read + n }
   pub read : HasGiven remaining before after (piece ∷ []) 0
 
+-- these bytes were taken, which are held after the others
+abbrev pub taken_into : Held → List ℕ → Held
+taken_into old bytes = record old { bytes = old.bytes ++ bytes; read = old.read + length bytes }
+
 -- a read filled the buffer further, or failed and left it unchanged
 abbrev pub Fills : {R E : Type 0} → (R → Option (List ℕ)) → Held → Held → Watched R → Watched R → Result ℕ E → Type 0
 Fills remaining old new before after (Ok n) = Filled remaining old new before after n

@@ -13,6 +13,7 @@ use Rattle.ac_input.specs.Walk.{IsPick}
 use Rattle.ac_input.specs.Work.{CountsBytes, HasCounted, bytes_counted, come_at_least, lookups_per_byte, longest, shortest, over_at}
 use Rattle.ac_automaton.specs.Automaton.{Built, IsStartRefusal, kind_asked, prefilter_for, searched, walk_in}
 use Rattle.ac_automaton.specs.declared.error.MatchErrorKind.{MatchErrorKind}
+use Rattle.ac_automaton.specs.declared.iter.WalkPlace.{WalkPlace}
 
 -- A walk: the automaton and the input; the place where it stands, and where its last pick ended; and how many states it looked at,
 -- how many places it scanned and how many bytes it moved so far.
@@ -42,6 +43,18 @@ walk_at b first left last sums =
       moved = moved_of sums;
     }
 
+-- where a walk stands, as a plain value
+abbrev pub place_of : Walk → WalkPlace
+place_of w = record { start = w.at; last = w.last }
+
+-- a place at which a walk over the input may stand
+abbrev pub IsPlaceIn : Asked → WalkPlace → Type 0
+IsPlaceIn asked place = (place.start ≤ asked.span.end + 1) × IfSome place.last (λ end. end ≤ place.start)
+
+-- a walk that goes on from a place, of which nothing is counted yet
+abbrev pub walk_from_place : Built → Asked → WalkPlace → Walk
+walk_from_place b asked place = record (fresh_walk b (record asked { span = record asked.span { start = place.start } })) { last = place.last }
+
 -- the kind that a walk uses
 abbrev pub walk_kind : Walk → MatchKind
 walk_kind w = kind_asked w.built w.asked
@@ -58,6 +71,11 @@ left_of w = walk_after (walk_kind w) (search_of_walk w) w.at w.last
 abbrev pub AnswersFindIter : Built → (Anchored → Type 0) → Asked → Result Walk MatchErrorKind → Type 0
 AnswersFindIter b supports asked (Ok walk) = supports asked.anchored × (walk ≡ fresh_walk b asked) × (left_of walk ≡ walk_in b asked)
 AnswersFindIter b supports asked (Err error) = IsStartRefusal supports asked.anchored error
+
+-- the result is a walk that goes on from the place, if there is a start for it
+abbrev pub AnswersFindIterFrom : Built → (Anchored → Type 0) → Asked → WalkPlace → Result Walk MatchErrorKind → Type 0
+AnswersFindIterFrom b supports asked place (Ok walk) = supports asked.anchored × (walk ≡ walk_from_place b asked place)
+AnswersFindIterFrom b supports asked place (Err error) = IsStartRefusal supports asked.anchored error
 
 -- the next pick of a walk
 abbrev pub IsNextPick : Walk → Option Occurrence → Type 0

@@ -36,9 +36,17 @@ pub mod Buffer
 pub mod Stream
 pub mod StreamSearch
 pub mod StreamWalk
+pub mod StreamPush
 pub mod Moved
 pub mod Output
 pub mod StreamAnswer
 pub mod StreamReplace
 pub mod StreamReplaceWith
+pub mod StreamReplacer
+pub mod StreamReplacerNext
 pub mod StreamIter
+pub mod StreamLaws
+pub mod StreamListing
+pub mod StreamListingSearch
+pub mod StreamListingWalk
+pub mod StreamOverlappingIter

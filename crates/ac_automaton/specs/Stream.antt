@@ -92,10 +92,14 @@ end_of (o ∷ (next ∷ os)) = end_of (next ∷ os)
 abbrev pub NothingIsLive : Dictionary → List ℕ → Type 0
 NothingIsLive m text = IsLive m false text (Some (length text))
 
+-- however a text goes on, these are its first matches
+abbrev pub AreDecided : Dictionary → List ℕ → List Occurrence → Type 0
+AreDecided m x os = (more : List ℕ) → IsBeginning os (walk_of m.kind (whole m (x ++ more) false))
+
 -- The matches that a text decides: however it goes on, they are the first ones. Under standard they are all of its own. Under a
 -- leftmost kind the rest of the text after the last of them isn't dead, so what follows may still change the next one.
 pub record Decides (m : Dictionary) (x : List ℕ) (os : List Occurrence) : Type 0 where
-  pub first : (more : List ℕ) → IsBeginning os (walk_of m.kind (whole m (x ++ more) false))
+  pub first : AreDecided m x os
   pub all : m.kind ≡ Standard → os ≡ walk_of m.kind (whole m x false)
   pub open_ : ¬ IsLive m false (drop (end_of os) x) None
 

@@ -73,9 +73,9 @@ NextGives remaining s t before after (Some (Err Memory)) = ⊥
 NextGives remaining s t before after (Some (Err Position)) = (gained : List (List ℕ)) × HasGained remaining s t before after gained 0 × AreFilled gained × (t.given ≡ s.given) × ¬ CanBeCounted (read_by t)
 NextGives remaining s t before after None = (gained : List (List ℕ)) × HasGained remaining s t before after gained 0 × (((gained ≡ []) × (t.closed ≡ s.closed)) ⊎ (AreWhole gained × AreAllGiven t × EachIsDecided t × IsAtEnd (remaining (inner_of after)))) × (t.given ≡ s.given) × IsStopped t after
 
--- if no item was left, none comes, and nothing is read
+-- if no item was left, none comes, and the reader is unchanged
 abbrev pub StaysStopped : {R : Type 0} → StreamProgress → StreamProgress → Watched R → Watched R → Option (Result Occurrence StreamError) → Type 0
-StaysStopped s t before after r = IsStopped s before → (r ≡ None) × (t.pieces ≡ s.pieces) × (t.given ≡ s.given) × (pieces_of after ≡ pieces_of before)
+StaysStopped s t before after r = IsStopped s before → (r ≡ None) × (t.pieces ≡ s.pieces) × (t.given ≡ s.given) × (after ≡ before)
 
 -- ---- one turn
 

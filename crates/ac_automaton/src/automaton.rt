@@ -16,11 +16,12 @@ pub mod reference;
 
 use crate::ahead::Note;
 use crate::error::{MatchError, ReplaceError, StreamError};
-use crate::iter::FindIter;
 use crate::iter::ahead::{self, FindIterAhead};
+use crate::iter::{FindIter, WalkPlace};
 use crate::overlapping::{FindOverlappingIter, OverlappingState};
 use crate::search::Search;
-use crate::stream::{self, StreamFindIter};
+use crate::stream::overlapping::{self as stream_overlapping, StreamFindOverlappingIter};
+use crate::stream::{self, StreamFindIter, StreamReplacer, StreamSearch};
 use crate::watched::Watched;
 use crate::{iter, overlapping, replace};
 use ac_input::primitives::{PatternID, StateID};
@@ -51,13 +52,16 @@ pub trait Automaton {
     ghost use Rattle.ac_input.specs.Work.{longest, shortest};
     ghost use Rattle.ac_automaton.specs.Automaton.{Built, IsReached, IsState, AtEach, Leads, IsReadCost, TellsDead, TellsStart, IsSpecial, Advances, AdvancesToMatch, OwnsPrefilter, AnswersStart, AnswersFind, CostsFind};
     ghost use Rattle.ac_automaton.specs.Ahead.{AreNotes};
-    ghost use Rattle.ac_automaton.specs.Iter.{AnswersFindIter};
+    ghost use Rattle.ac_automaton.specs.Iter.{AnswersFindIter, AnswersFindIterFrom, IsPlaceIn};
     ghost use Rattle.ac_automaton.specs.Overlapping.{CameFrom, CountsShown, IsOverlappingCost, AnswersOverlapping, sums_of};
     ghost use Rattle.ac_automaton.specs.OverlappingIter.{AnswersOverlappingIter, rest_of};
     ghost use Rattle.ac_automaton.specs.Items.{AreFewMatches, AreFewForEach, MatchesAreInOrder, EachLiesWithin, FindsWithin};
+    ghost use Rattle.ac_automaton.specs.Stream.{AnswersNewAnyKind};
     ghost use Rattle.ac_automaton.specs.StreamIter.{AnswersAnyKindIter, AnswersStreamIter};
+    ghost use Rattle.ac_automaton.specs.StreamOverlappingIter.{AnswersStreamListing};
     ghost use Rattle.ac_automaton.specs.StreamReplace.{AcceptsReplacing, AcceptsReplacingAnyKind, CostsAnyKind, CostsStream, ReplacesStream};
     ghost use Rattle.ac_automaton.specs.StreamReplaceWith.{ReplacesAnyKindWith, ReplacesStreamWith};
+    ghost use Rattle.ac_automaton.specs.StreamReplacer.{AnswersReplacer};
     ghost use Rattle.ac_automaton.specs.Watched.{has_ended};
     ghost use Rattle.ac_automaton.specs.Replace.{IsForMatches, ReplacesText, ReplacesBytes, ReplacesTextWith, ReplacesBytesWith};
 
@@ -336,6 +340,37 @@ pub trait Automaton {
         iter::find_iter(self, input)
     }
 
+    /// The matches of the input from a place on at which a walk over it stands, as [`FindIter::place`] returned it. Returns an error
+    /// where `try_find` does.
+    /// A caller: `aho_corasick::AhoCorasick::try_find_iter_from`.
+    final fn try_find_iter_from<'a, 'h>(
+        &'a self,
+        input: Input<'h>,
+        place: WalkPlace,
+    ) -> Result<FindIter<'a, 'h, Self>, MatchError>
+    where
+        Self: Sized + Search,
+        requires { IsPlaceIn input place }
+        ensures { AnswersFindIterFrom (built self.now) (supports self.now) input.entry place result }
+    {
+        iter::find_iter_from(self, input, place)
+    }
+
+    /// The same matches from a place on, for many of them in a long text: see [`FindIterAhead`].
+    /// A caller: `aho_corasick::AhoCorasick::try_find_iter_ahead_from`.
+    final fn try_find_iter_ahead_from<'a, 'h>(
+        &'a self,
+        input: Input<'h>,
+        place: WalkPlace,
+    ) -> Result<FindIterAhead<'a, 'h, Self>, MatchError>
+    where
+        Self: Sized + Search,
+        requires { IsPlaceIn input place }
+        ensures { AnswersFindIterFrom (built self.now) (supports self.now) input.entry place result }
+    {
+        ahead::find_iter_ahead_from(self, input, place)
+    }
+
     /// The same matches, for many of them in a long text with hundreds of patterns and more: see [`FindIterAhead`].
     /// A caller: `uses::callers::iterate::all_matches_ahead`.
     final fn try_find_iter_ahead<'a, 'h>(
@@ -437,6 +472,58 @@ pub trait Automaton {
         ensures { AnswersAnyKindIter (built self.now) (supports self.now) reader.entry result }
     {
         stream::stream_find_iter_any_kind(reader, self, alloc)
+    }
+
+    /// A search of a stream whose pieces are pushed when they come: see [`StreamSearch`]. It searches under any kind, as
+    /// [`try_stream_find_iter_any_kind`](Automaton::try_stream_find_iter_any_kind) does, and takes the same buffer. It borrows the
+    /// automaton; [`StreamSearch::any_kind`] makes a search that owns it.
+    ///
+    /// Returns an error if the automaton has no start for a search that isn't anchored, or has an empty pattern, checked in that
+    /// order, and then if there is no memory for the buffer.
+    final fn try_stream_search<'a>(
+        &'a self,
+        alloc: Global,
+    ) -> Result<StreamSearch<&'a Self>, StreamError>
+    where
+        Self: Sized + Search,
+        ensures { AnswersNewAnyKind (built self.now) (supports self.now) result }
+    {
+        StreamSearch::any_kind(self, alloc)
+    }
+
+    /// A replacement over a stream whose pieces are pushed when they come, and whose text comes out in slices: see [`StreamReplacer`].
+    /// It borrows the automaton; [`StreamReplacer::any_kind`] makes one that owns it.
+    ///
+    /// It takes the buffer of [`try_stream_search`](Automaton::try_stream_search), and returns an error where that does.
+    final fn try_stream_replacer<'a>(
+        &'a self,
+        alloc: Global,
+    ) -> Result<StreamReplacer<&'a Self>, StreamError>
+    where
+        Self: Sized + Search,
+        ensures { AnswersReplacer (built self.now) (supports self.now) result }
+    {
+        StreamReplacer::any_kind(self, alloc)
+    }
+
+    /// Every occurrence in a stream, one after another: see [`StreamFindOverlappingIter`]. Each is returned after the read that
+    /// returned its last byte, and before the next one, by end, start and number. It allocates one buffer of 64 KiB, and nothing after
+    /// that.
+    ///
+    /// Returns an error if the automaton has no start for a search that isn't anchored, isn't of the standard kind, or has an empty
+    /// pattern, checked in that order, and then if there is no memory for the buffer. Nothing was read then.
+    /// A caller: `uses::callers::stream_overlap::all_occurrences`.
+    final fn try_stream_find_overlapping_iter<'a, R>(
+        &'a self,
+        alloc: Global,
+        reader: &'a mut Watched<R>,
+    ) -> Result<StreamFindOverlappingIter<'a, Self, R>, StreamError>
+    where
+        Self: Sized + Search,
+        requires { has_ended reader.old ≡ false }
+        ensures { AnswersStreamListing (built self.now) (supports self.now) reader.entry result }
+    {
+        stream_overlapping::stream_find_overlapping_iter(reader, self, alloc)
     }
 
     /// The text with each match replaced by the replacement of its pattern. There is one replacement for each pattern. A match

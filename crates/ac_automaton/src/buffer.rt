@@ -1,13 +1,14 @@
 //! The bytes of a stream that are held in memory.
 //!
-//! A stream is searched by pieces, in one buffer of a size that never changes. Each read goes after what is held. A match may
+//! A stream is searched by pieces, in one buffer of a size that never changes. Each piece goes after what is held, read from a reader
+//! or taken from a slice. A match may
 //! begin in one piece and end in another, so of the held bytes as many are kept as the longest pattern has. They are moved to the
 //! front only when no room is left after them. They are an eighth of the buffer at most, and the rest of it is read before they
 //! are moved again: so seven bytes are read for each byte that is moved. One function moves bytes, and counts them.
-ghost use Rattle.std.specs.Prelude.{◌≡◌, ◌+◌, ◌-◌, ◌≤◌, ◌<◌, ◌↔◌, false, length, IfOk, IsTrue, vec_len};
+ghost use Rattle.std.specs.Prelude.{◌≡◌, ◌+◌, ◌-◌, ◌≤◌, ◌<◌, ◌↔◌, false, length, min, take, IfOk, IsTrue, vec_len};
 ghost use Rattle.std.specs.List.{copy_within};
 ghost use Rattle.ac_input.specs.Steps.{Done};
-ghost use Rattle.ac_automaton.specs.Buffer.{Fills, IsRollPaid, kept_for, nothing_held, rolled};
+ghost use Rattle.ac_automaton.specs.Buffer.{Fills, IsRollPaid, kept_for, nothing_held, rolled, taken_into};
 ghost use Rattle.ac_automaton.specs.Watched.{has_ended};
 
 use crate::stream::LEAST_ROOM;
@@ -109,6 +110,20 @@ impl Buffer {
         self.filled += n;
         self.read = self.read.more(&n);
         Ok(n)
+    }
+
+    /// Takes as many of the bytes as there is room for, the first ones. Returns how many.
+    pub fn take(&mut self, bytes: &[u8]) -> usize
+        ensures many { result ≡ min (length bytes.now) (self.old.room - length self.old.bytes) }
+        ensures took { self.new ≡ taken_into self.old (take result bytes.now) }
+        ensures paid { IsRollPaid self.new }
+    {
+        let n = bytes.len().min(self.bytes.len() - self.filled);
+        let filled = self.filled + n;
+        self.bytes[self.filled..filled].copy_from_slice(&bytes[..n]);
+        self.filled = filled;
+        self.read = self.read.more(&n);
+        n
     }
 
     /// Moves the held bytes from a place on to the front, if there is no room after them.

@@ -7,11 +7,14 @@
 //! [`FindIter`] is the walk as an iterator. It holds two references and a few numbers, and takes no memory. Under the standard
 //! kind it reads on from the end of each match, so it reads each byte of the span once. Under a leftmost kind it has to read past
 //! a match, by as much as the longest pattern, before it knows that it is the one; it reads those bytes again.
-ghost use Rattle.std.specs.Prelude.{◌↔◌, ◌≤◌, IfOk, IfSome, IsTrue};
+//!
+//! Where a walk stands is two numbers, a [`WalkPlace`]. A caller who can't keep an iterator keeps the place, and goes on from there
+//! by [`find_iter_from`].
+ghost use Rattle.std.specs.Prelude.{◌≡◌, ◌↔◌, ◌≤◌, IfOk, IfSome, IsTrue};
 ghost use Rattle.std.specs.Iterator.{YieldsFirst, item_count};
 ghost use Rattle.ac_input.specs.Walk.{Repeats};
 ghost use Rattle.ac_automaton.specs.Automaton.{IsFound, IsFindCost};
-ghost use Rattle.ac_automaton.specs.Iter.{AnswersFindIter, GivesPick, CostsPick, left_of, IsPickOf, IsPickCost, IsRestOf, IsOnItsWay, CountsPick, PickCounts};
+ghost use Rattle.ac_automaton.specs.Iter.{AnswersFindIter, AnswersFindIterFrom, GivesPick, CostsPick, left_of, place_of, IsPickOf, IsPickCost, IsPlaceIn, IsRestOf, IsOnItsWay, CountsPick, PickCounts};
 ghost use Rattle.ac_automaton.specs.Items.{AreFewMatches, MatchesAreInOrder};
 
 pub mod ahead;
@@ -50,6 +53,40 @@ impl<'a, 'h, A: Search> Model for FindIter<'a, 'h, A> {
         × CountsWalk (walk_at (A.built i.automaton.now) i.first.value i.input i.last i.sums) };
 }
 
+/// Where a walk stands between two matches: the place from which it searches on, and where its last match ended, if it had one. It
+/// holds nothing else, so a caller may keep it as long as the automaton and the haystack are the same.
+#[derive(Clone, Copy, Debug, PartialEq, Eq)]
+pub struct WalkPlace {
+    /// From where on it searches; one past the span's end after the last match.
+    pub start: usize,
+    /// Where its last match ended.
+    pub last: Option<usize>,
+}
+
+/// The matches of the input from a place on at which a walk over it stands: those that are left of that walk. What it does is counted
+/// from there.
+pub fn find_iter_from<'a, 'h, A: Search>(
+    automaton: &'a A,
+    input: Input<'h>,
+    place: WalkPlace,
+) -> Result<FindIter<'a, 'h, A>, MatchError>
+    requires { IsPlaceIn input place }
+    ensures { AnswersFindIterFrom (A.built automaton.now) (A.supports automaton.now) input.entry place
+        result }
+{
+    automaton.start_state(input.get_anchored())?;
+    let mut input = input;
+    input.set_start(place.start);
+    let first = Count::zero().more(&place.start);
+    Ok(FindIter {
+        automaton,
+        input,
+        last: place.last,
+        first,
+        sums: Steps::new(),
+    })
+}
+
 /// All matches of the input, one after another.
 pub fn find_iter<'a, 'h, A: Search>(
     automaton: &'a A,
@@ -60,15 +97,8 @@ pub fn find_iter<'a, 'h, A: Search>(
     ensures few { IfOk result (AreFewMatches input.entry) }
     ensures lie { IfOk result (MatchesAreInOrder (A.built automaton.now) input.entry) }
 {
-    automaton.start_state(input.get_anchored())?;
-    let first = Count::zero().more(&input.start());
-    Ok(FindIter {
-        automaton,
-        input,
-        last: None,
-        first,
-        sums: Steps::new(),
-    })
+    let start = input.start();
+    find_iter_from(automaton, input, WalkPlace { start, last: None })
 }
 
 /// The match of an input that the automaton supports.
@@ -118,6 +148,17 @@ pub(crate) fn next_pick<A: Search>(
 }
 
 impl<'a, 'h, A: Search> FindIter<'a, 'h, A> {
+    /// Where the walk stands. [`find_iter_from`] goes on from there.
+    pub fn place(&self) -> WalkPlace
+        ensures value { result ≡ place_of self.now }
+        ensures within { IsPlaceIn self.now.asked result }
+    {
+        WalkPlace {
+            start: self.input.start(),
+            last: self.last,
+        }
+    }
+
     /// The next match, as `next` returns it; counts what it does.
     /// A caller: `uses::callers::iterate::pass_matches`.
     pub fn next_counted(&mut self, steps: &mut Steps) -> Option<Match>

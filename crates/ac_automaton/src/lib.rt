@@ -12,6 +12,7 @@ mod gain;
 pub mod held;
 pub mod iter;
 pub mod lanes;
+pub mod laws;
 pub mod look;
 pub mod output;
 pub mod overlapping;

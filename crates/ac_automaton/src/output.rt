@@ -60,6 +60,7 @@ impl Output {
 
     /// Sends the bytes. Some of them may be held back.
     /// A caller: `uses::callers::stream::joined`.
+    #[inline(always)]
     pub fn send<W: Write>(
         &mut self,
         writer: &mut Watched<W>,
@@ -72,6 +73,19 @@ impl Output {
             self.hold_back(bytes);
             return Ok(());
         }
+        self.send_past(writer, bytes)
+    }
+
+    /// The same, where what is held back may have to be written first.
+    #[inline(never)]
+    fn send_past<W: Write>(
+        &mut self,
+        writer: &mut Watched<W>,
+        bytes: &[u8],
+    ) -> Result<(), StreamError>
+        ensures sent { Sends W.contents bytes.now writer.old writer.new self.old self.new
+            result }
+    {
         self.send_held(writer)?;
         if bytes.len() <= LEAST_ROOM {
             self.hold_back(bytes);
@@ -103,7 +117,28 @@ impl Output {
 
     /// Sends the text before a match, and what is put in its place.
     /// A caller: `uses::callers::stream::exchanged`.
+    #[inline(always)]
     pub fn send_exchanged<W: Write>(
+        &mut self,
+        writer: &mut Watched<W>,
+        before: &[u8],
+        replacement: &[u8],
+    ) -> Result<(), StreamError>
+        ensures sent { Sends W.contents (before.now ++ replacement.now) writer.old writer.new
+            self.old self.new result }
+    {
+        let room = LEAST_ROOM - self.filled;
+        if before.len() <= room && replacement.len() <= room - before.len() {
+            self.hold_back(before);
+            self.hold_back(replacement);
+            return Ok(());
+        }
+        self.send_both(writer, before, replacement)
+    }
+
+    /// The same, one after the other.
+    #[inline(never)]
+    fn send_both<W: Write>(
         &mut self,
         writer: &mut Watched<W>,
         before: &[u8],

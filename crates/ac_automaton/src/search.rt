@@ -1,4 +1,5 @@
-//! The searches that an automaton runs whole: for one match, for the next occurrence, and for the next match of a stream.
+//! The searches that an automaton runs whole: for one match, for the next occurrence, and for the next match or occurrence of a
+//! stream.
 //!
 //! [`Search`] needs nothing but the calls on states, so for most automata an implementation is an empty one. An automaton that
 //! stands for one of several, as that of the crate `aho_corasick` does, passes each search on to the one that serves. So it
@@ -9,6 +10,7 @@ use crate::ahead::Ahead;
 use crate::automaton::Automaton;
 use crate::error::MatchError;
 use crate::overlapping::{Position, Shown};
+use crate::stream::overlapping::{ListPlace, Listed};
 use crate::stream::{Progress, Searched};
 use crate::{find, find_ahead, overlapping, stream};
 use ac_input::primitives::StateID;
@@ -25,6 +27,7 @@ pub trait Search: Automaton {
     ghost use Rattle.ac_automaton.specs.FindAhead.{AreNotesOf, MayReadAhead};
     ghost use Rattle.ac_automaton.specs.Items.{FindsWithin};
     ghost use Rattle.ac_automaton.specs.OverlappingSearch.{CountsOn, HasLeft, KeepsPaying, ShowsNextAt};
+    ghost use Rattle.ac_automaton.specs.StreamListingWalk.{ListsNext, MayList};
     ghost use Rattle.ac_automaton.specs.StreamWalk.{MayWalk, WalksOn};
 
     /// The match of the input, if it has one, as [`Automaton::try_find_counted`] returns it; counts what it does.
@@ -122,6 +125,27 @@ pub trait Search: Automaton {
     {
         stream::search_held(self, start, progress, held, ahead, steps)
     }
+
+    /// The next occurrence in a stream among the bytes of the last read, of a search that has come this far; counts what it does, and
+    /// keeps notes of what it read ahead of these bytes. Its caller is the search of a stream for every occurrence, which alone makes
+    /// and keeps a [`ListPlace`].
+    fn search_stream_overlapping(
+        &self,
+        place: &ListPlace,
+        held: &[u8],
+        ahead: &mut Ahead,
+        steps: &mut Steps,
+    ) -> Listed
+        requires stands { MayList Self.Automaton self.now place.now held.now }
+        requires known { AreNotes (Self.Reaches self.now No) (Self.matches self.now) held.now
+            ahead.old.notes }
+        ensures lists { ListsNext Self.Automaton self.now place.now held.now result
+            steps.old steps.new }
+        ensures known { AreNotes (Self.Reaches self.now No) (Self.matches self.now) held.now
+            ahead.new.notes }
+    {
+        stream::overlapping::next_listed(self, place, held, ahead, steps)
+    }
 }
 
 impl<'a, A: Search> Search for &'a A {
@@ -169,5 +193,15 @@ impl<'a, A: Search> Search for &'a A {
         steps: &mut Steps,
     ) -> Searched {
         (**self).search_stream(start, progress, held, ahead, steps)
+    }
+
+    fn search_stream_overlapping(
+        &self,
+        place: &ListPlace,
+        held: &[u8],
+        ahead: &mut Ahead,
+        steps: &mut Steps,
+    ) -> Listed {
+        (**self).search_stream_overlapping(place, held, ahead, steps)
     }
 }

@@ -1,23 +1,30 @@
 //! The matches of a stream, one after another.
 //!
-//! A stream is read in pieces into one buffer, which is allocated before the first read, and each piece is searched before the
-//! next one is read. So a match is returned as soon as its last byte was read, a stream may be as long as places can be counted,
-//! and no memory is taken on the way. A match may begin in one piece and end in another; the sizes of the pieces change nothing.
+//! A stream comes in pieces. They are held in one buffer, which is allocated before the first piece, and each piece is searched before
+//! the next one is taken. So a match is returned as soon as it is decided, a stream may be as long as places can be counted, and no
+//! memory is taken on the way. A match may begin in one piece and end in another; how a text is cut into pieces changes nothing.
 //!
-//! Only an automaton of the standard kind can do so: a leftmost match may depend on bytes far after it. An empty pattern is an
-//! error, since it would match at each place before anything is read. No prefilter is used.
+//! Under the standard kind a match is decided with its last byte. Under a leftmost kind it may depend on bytes far after it, and is held
+//! back until none of them can change it; only the calls with `any_kind`, and those whose pieces are pushed, search so. An empty pattern
+//! is an error, since it would match at each place before anything is read. No prefilter is used.
 //!
-//! [`StreamFindIter`] is the search as an iterator, from
-//! [`try_stream_find_iter`](crate::automaton::Automaton::try_stream_find_iter). The first empty read ends it, and so does the first
-//! error.
+//! - [`StreamFindIter`] is the search as an iterator that reads from a reader, from
+//!   [`try_stream_find_iter`](crate::automaton::Automaton::try_stream_find_iter). The first empty read ends it, and so does the first
+//!   error.
+//! - [`StreamSearch`] owns no reader: its pieces are pushed when they come. From
+//!   [`try_stream_search`](crate::automaton::Automaton::try_stream_search).
+//! - [`StreamReplacer`] is passed its pieces too, and hands out the text with each match replaced. From
+//!   [`try_stream_replacer`](crate::automaton::Automaton::try_stream_replacer).
 ghost use Rattle.std.specs.Prelude.{◌≡◌, false};
 ghost use Rattle.std.specs.Borrow.{sem};
 ghost use Rattle.ac_automaton.specs.Stream.{FindsHeld, GoesOn};
 ghost use Rattle.ac_automaton.specs.StreamIter.{AnswersAnyKindIter, AnswersStreamIter, GivesItem, KeepsReader, RestsIfRefused, TurnGives, progress_of, reader_name, reader_of};
 ghost use Rattle.ac_automaton.specs.Watched.{has_ended};
 
+pub mod overlapping;
 pub(crate) mod replace;
 pub(crate) mod replace_with;
+mod replacer;
 mod search;
 
 use crate::error::StreamError;
@@ -25,9 +32,9 @@ use crate::search::Search;
 use crate::watched::Watched;
 use ac_input::search::Match;
 use ac_input::steps::Steps;
-use search::StreamSearch;
+pub use replacer::StreamReplacer;
 pub(crate) use search::search as search_held;
-pub use search::{Progress, Searched};
+pub use search::{Progress, Searched, StreamSearch};
 use std::alloc::Global;
 use std::io::Read;
 
@@ -44,7 +51,7 @@ pub const LEAST_ROOM: usize = 65536;
 /// A caller: `uses::callers::plain::places_in_stream`.
 #[derive(Drop)]
 pub struct StreamFindIter<'a, A: Search, R> {
-    stream: StreamSearch<'a, A>,
+    stream: StreamSearch<&'a A>,
     reader: &'a mut Watched<R>,
 }
 
@@ -99,14 +106,14 @@ pub fn stream_find_iter_any_kind<'a, A: Search, R>(
 
 /// The next match of what was read; or one read, if there is none.
 fn search_or_read<A: Search, R: Read>(
-    stream: &mut StreamSearch<'_, A>,
+    stream: &mut StreamSearch<A>,
     reader: &mut Watched<R>,
     steps: &mut Steps,
 ) -> Turn
     ensures gives { TurnGives R.remaining stream.old stream.new reader.old reader.new result }
     ensures goes { GoesOn stream.old stream.new steps.old steps.new }
 {
-    if let Some(found) = stream.next_held(steps) {
+    if let Some(found) = stream.next_counted(steps) {
         return Turn::Found(found);
     }
     if stream.is_over() || stream.is_closed() || reader.ended() {
@@ -114,7 +121,7 @@ fn search_or_read<A: Search, R: Read>(
     }
     match stream.read_more(reader, steps) {
         Ok(0) => {
-            stream.close();
+            stream.finish();
             Turn::Ended
         }
         Ok(_) => Turn::More,
@@ -143,7 +150,7 @@ impl<'a, A: Search, R: Read> StreamFindIter<'a, A, R> {
         ensures reader { KeepsReader self.old self.new }
         ensures goes { GoesOn (progress_of self.old) (progress_of self.new) steps.old steps.new }
     {
-        self.stream.next_held(steps)
+        self.stream.next_counted(steps)
     }
 
     /// The next item, as `next` returns it; counts what it does.

@@ -23,6 +23,10 @@ impl Model for Count {
     ghost also_owns = { λ _. ftrue };
 }
 
+unsafe impl Send for Count {}
+
+unsafe impl Sync for Count {}
+
 impl Count {
     /// It has not happened yet.
     pub fn zero() -> Count
@@ -67,6 +71,10 @@ impl Model for Pieces {
     ghost also_owns = { λ _. ftrue };
 }
 
+unsafe impl Send for Pieces {}
+
+unsafe impl Sync for Pieces {}
+
 impl Pieces {
     /// None has come yet.
     pub fn empty() -> Pieces
@@ -102,6 +110,10 @@ pub struct Taken {
 impl Model for Taken {
     ghost also_owns = { λ _. ftrue };
 }
+
+unsafe impl Send for Taken {}
+
+unsafe impl Sync for Taken {}
 
 impl Taken {
     /// None was taken yet.

@@ -4,7 +4,8 @@ use Rattle.std.specs.List.{concat}
 use Rattle.std.specs.Prelude.{IsTrue}
 use Rattle.std.proofs.lemmas.List.{append-nil}
 use Rattle.ac_input.specs.Dictionary.{Dictionary}
-use Rattle.ac_input.specs.Input.{Asked, whole_of}
+use Rattle.ac_input.specs.Computed.{walk_of}
+use Rattle.ac_input.specs.Input.{Asked, search_in, whole_of}
 use Rattle.ac_input.specs.Occurrence.{Occurrence}
 use Rattle.ac_input.specs.Steps.{looked_of}
 use Rattle.ac_input.specs.Work.{lookups_per_byte}
@@ -13,6 +14,8 @@ use Rattle.ac_input.specs.declared.steps.Steps.{Steps}
 use Rattle.ac_automaton.specs.Automaton.{Built}
 use Rattle.ac_automaton.specs.Iter.{AnswersFindIter, IsWalkAfter, IsWithinBudget, Walk, WalkCounts, fresh_walk, passed}
 use Rattle.ac_automaton.specs.OverlappingIter.{AnswersOverlappingIter, IsRunAfter, IsWithinOneWalk, Run, RunCounts, fresh_run}
+use Rattle.ac_automaton.specs.Replace.{matches_in}
+use Rattle.ac_automaton.specs.Stream.{read_again}
 use Rattle.ac_automaton.specs.Watched.{pieces_of}
 use Rattle.ac_automaton.specs.declared.error.MatchErrorKind.{MatchErrorKind}
 use Rattle.ac_automaton.specs.declared.watched.Watched.{Watched}
@@ -20,9 +23,9 @@ use Rattle.acsub.specs.Finder.{IsServing}
 use Rattle.acsub.specs.Input.{ReadsWhole}
 use Rattle.acsub.specs.Matches.{IsCounted, IsHeldCost, IsListingCounted, IsWalkCounted}
 use Rattle.acsub.specs.Plan.{Plan}
-use Rattle.acsub.specs.Run.{CostsRun}
+use Rattle.acsub.specs.Run.{CostsRun, read_in_all}
 use Rattle.acsub.specs.Served.{AreLooksFor, IsServedByDfa}
-use Rattle.ac_automaton.specs.StreamReplace.{CostsStream}
+use Rattle.acsub.specs.Stream.{CostsStreaming}
 use Rattle.acsub.specs.Transformed.{IsStreamed}
 use Rattle.acsub.specs.declared.error.RunError.{RunError}
 use Rattle.acsub.specs.declared.error.RunError.TheVariants as errors
@@ -80,7 +83,7 @@ listing-counted run later r before after goes counts paid plan n begun h =
 
 -- ---- at first nothing was counted
 
-module _ (plan : Plan) (b : Built) (supports : Anchored → Type 0) (input : List ℕ) (serves : IsServing plan b supports) (now : Steps) where
+module _ (plan : Plan) (b : Built) (supports : Anchored → Type 0) (input : List ℕ) (serves : IsServing plan.settings plan.rules b supports) (now : Steps) where
   pub walk-uncounted : IsWalkCounted plan (length input) now now (fresh_walk b (whole_of input))
   walk-uncounted =
       record {
@@ -101,7 +104,7 @@ module _ (plan : Plan) (b : Built) (supports : Anchored → Type 0) (input : Lis
       }
 
 -- so it is of the walk over a whole input that an automaton gave
-pub walk-fresh : (b : Built) (supports : Anchored → Type 0) (inside plan : Plan) (input : List ℕ) (asked : Asked) (given : Result Walk MatchErrorKind) (walk : Walk) → inside ≡ plan → IsServing inside b supports
+pub walk-fresh : (b : Built) (supports : Anchored → Type 0) (inside plan : Plan) (input : List ℕ) (asked : Asked) (given : Result Walk MatchErrorKind) (walk : Walk) → inside ≡ plan → IsServing inside.settings inside.rules b supports
     → AnswersFindIter b supports asked given → given ≡ Ok walk → asked ≡ whole_of input → (now : Steps) → IsWalkCounted plan (length input) now now walk
 walk-fresh b supports inside plan input asked given walk same serves answers is over now =
     let answer = subst (λ (r : Result Walk MatchErrorKind). AnswersFindIter b supports asked r) is answers in
@@ -110,7 +113,7 @@ walk-fresh b supports inside plan input asked given walk same serves answers is 
     (subst (λ (p : Plan). IsWalkCounted p (length input) now now (fresh_walk b (whole_of input))) same (walk-uncounted inside b supports input serves now))
 
 -- and of the run through all that overlap in it
-pub listing-fresh : (b : Built) (supports : Anchored → Type 0) (inside plan : Plan) (input : List ℕ) (asked : Asked) (given : Result Run MatchErrorKind) (run : Run) → inside ≡ plan → IsServing inside b supports
+pub listing-fresh : (b : Built) (supports : Anchored → Type 0) (inside plan : Plan) (input : List ℕ) (asked : Asked) (given : Result Run MatchErrorKind) (run : Run) → inside ≡ plan → IsServing inside.settings inside.rules b supports
     → AnswersOverlappingIter b supports asked given → given ≡ Ok run → asked ≡ whole_of input → (now : Steps) → IsListingCounted plan (length input) now now run
 listing-fresh b supports inside plan input asked given run same serves answers is over now =
     let answer = subst (λ (r : Result Run MatchErrorKind). AnswersOverlappingIter b supports asked r) is answers in
@@ -168,13 +171,13 @@ nothing_cost plan r steps error =
     record {
       gained = [];
       read = sym (append-nil (pieces_of r));
-      streamed = λ _. record { looked = no-looks plan 0 steps; scanned = refl; moved = omega arith };
+      streamed = λ _. record { looked = no-looks plan (read_in_all plan []) steps; scanned = refl; moved = omega arith };
       whole = λ _. tt;
       whole_input = λ _. nothing-counted plan 0 steps;
     }
 
 -- a run that holds its input costs what finding costs
-pub held-cost : {R : Type 0} (plan : Plan) (r r' : Watched R) (before after : Steps) (result : Result (Unit {0}) RunError) (pieces : List (List ℕ)) (input : List ℕ) → ¬ IsStreamed plan.settings plan.rules → pieces_of r' ≡ pieces_of r ++ pieces → input ≡ concat pieces
+pub held-cost : {R : Type 0} (plan : Plan) (r r' : Watched R) (before after : Steps) (result : Result (Unit {0}) RunError) (pieces : List (List ℕ)) (input : List ℕ) → ¬ IsStreamed plan → pieces_of r' ≡ pieces_of r ++ pieces → input ≡ concat pieces
     → IsHeldCost plan (length input) before after → CostsRun plan r r' before after result
 held-cost plan r r' before after result pieces input held read is cost =
     record {
@@ -186,7 +189,7 @@ held-cost plan r r' before after result pieces input held read is cost =
     }
 
 -- it counts nothing where the input could not be read to its end
-pub unread-cost : {R : Type 0} (remaining : R → Option (List ℕ)) (plan : Plan) (r r' : Watched R) (steps : Steps) (e : RunError) → ¬ IsStreamed plan.settings plan.rules → ReadsWhole remaining r r' (Err e) → CostsRun plan r r' steps steps (Err e)
+pub unread-cost : {R : Type 0} (remaining : R → Option (List ℕ)) (plan : Plan) (r r' : Watched R) (steps : Steps) (e : RunError) → ¬ IsStreamed plan → ReadsWhole remaining r r' (Err e) → CostsRun plan r r' steps steps (Err e)
 unread-cost remaining plan r r' steps (errors.Rule e) held h = absurd h
 unread-cost remaining plan r r' steps (errors.Setting e) held h = absurd h
 unread-cost remaining plan r r' steps (errors.Build kind) held h = absurd h
@@ -197,12 +200,16 @@ unread-cost remaining plan r r' steps errors.Memory held h = held-cost plan r r'
 unread-cost remaining plan r r' steps errors.Position held h = absurd h
 
 -- a run that writes while it reads costs what the search of the stream costs
-pub streamed-cost : {R : Type 0} (plan : Plan) (b : Built) (supports : Anchored → Type 0) (r r' : Watched R) (before after : Steps) (result : Result (Unit {0}) RunError) → IsServing plan b supports → IsStreamed plan.settings plan.rules → CostsStream b r r' before after result → CostsRun plan r r' before after result
+pub streamed-cost : {R : Type 0} (plan : Plan) (b : Built) (supports : Anchored → Type 0) (r r' : Watched R) (before after : Steps) (result : Result (Unit {0}) RunError) → IsServing plan.settings plan.rules b supports → IsStreamed plan → CostsStreaming b r r' before after result → CostsRun plan r r' before after result
 streamed-cost plan b supports r r' before after result serves streamed (pieces, read, cost, whole) =
+    let x = concat pieces in
+    let n = read_in_all plan x in
+    let same : length x + read_again b.dictionary (length (matches_in b x)) ≡ n = ap (λ (m : Dictionary). length x + read_again m (length (walk_of m.kind (search_in m (whole_of x))))) serves.dictionary in
+    let looked = subst (λ (k : ℕ). looked_of after ≤ looked_of before + lookups_per_byte b.deterministic * k) same cost.looked in
     record {
       gained = pieces;
       read = read;
-      streamed = λ _. record { looked = looks-for plan b.deterministic (lookups_per_byte b.deterministic * length (concat pieces)) (length (concat pieces)) (length (concat pieces)) before after serves.looks (omega arith) (omega arith) cost.looked; scanned = cost.scanned; moved = cost.moved };
+      streamed = λ _. record { looked = looks-for plan b.deterministic (lookups_per_byte b.deterministic * n) n n before after serves.looks (omega arith) (omega arith) looked; scanned = cost.scanned; moved = cost.moved };
       whole = λ _. whole;
       whole_input = λ held. absurd (held streamed);
     }

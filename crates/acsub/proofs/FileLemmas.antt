@@ -10,9 +10,8 @@ use Rattle.acsub.specs.declared.rules.RuleError.{RuleError}
 use Rattle.acsub.specs.declared.rules.RuleError.TheVariants as rule_errors
 use Rattle.acsub.specs.declared.error.RunError.{RunError}
 use Rattle.acsub.specs.declared.error.RunError.TheVariants as errors
-use Rattle.acsub.specs.declared.settings.Settings.{Settings}
 use Rattle.acsub.specs.File.{IsBadLineOf, IsFileOf, ReadsRules}
-use Rattle.acsub.specs.Plan.{plan_for}
+use Rattle.acsub.specs.Plan.{Plan}
 use Rattle.acsub.specs.Run.{AnswersIn, AnswersRules, CostsIn, CostsRun, HasBegun, RanIn, RanRules, ReadsByBuffer, RefusesIn, RefusesRules, not_read}
 use Rattle.acsub.proofs.CountLemmas.{nothing_cost}
 use Rattle.acsub.proofs.RunLemmas.{HasMoved-nothing, memory_answer, nothing}
@@ -37,13 +36,13 @@ bad_none false file n rules p q = FirstBadLine-none file n rules p q
 
 -- ---- a run by the rules of a file
 
-module _ (text : Bool) (settings : Settings) (file : List ℕ) (rules : List Rule) (grammar : IsFileOf text file rules) where
+module _ (text : Bool) (plan : List Rule → Plan) (file : List ℕ) (rules : List Rule) (grammar : IsFileOf text file rules) where
   -- what holds by these rules holds by all rules of the file
   all_rules : (P : List Rule → Type 0) → P rules → (other : List Rule) → IsFileOf text file other → P other
   all_rules P p other same = subst P (file_one text file rules other grammar same) p
 
   -- a result says of the file what it says of the rules
-  answer_in : (m : Moved) (result : Result (Unit {0}) RunError) → AnswersRules (plan_for settings rules) m result → AnswersIn text settings file m result
+  answer_in : (m : Moved) (result : Result (Unit {0}) RunError) → AnswersRules (plan rules) m result → AnswersIn text plan file m result
   answer_in m (Ok done) a = (rules, grammar, a)
   answer_in m (Err (errors.Rule e)) a = absurd a
   answer_in m (Err (errors.Setting e)) a = (rules, grammar, a)
@@ -56,21 +55,21 @@ module _ (text : Bool) (settings : Settings) (file : List ℕ) (rules : List Rul
 
   module _ {R : Type 0} (r r' : Watched R) (result : Result (Unit {0}) RunError) where
     module _ {W : Type 0} (w w' : Watched W) where
-      pub ran_in : (remaining : R → Option (List ℕ)) (contents : W → Option (List ℕ)) → RanRules remaining contents r r' w w' (plan_for settings rules) result → RanIn text remaining contents r r' w w' settings file result
+      pub ran_in : (remaining : R → Option (List ℕ)) (contents : W → Option (List ℕ)) → RanRules remaining contents r r' w w' (plan rules) result → RanIn text remaining contents r r' w w' plan file result
       ran_in remaining contents ran = (ran.0, ran.1, answer_in ran.0 result ran.2)
 
       -- a run by rules reports no line, and their file has no bad one
-      pub refuses_in : (m : Moved) → AnswersRules (plan_for settings rules) m result → RefusesRules (plan_for settings rules) r r' w w' result → RefusesIn text settings file r r' w w' result
+      pub refuses_in : (m : Moved) → AnswersRules (plan rules) m result → RefusesRules (plan rules) r r' w w' result → RefusesIn text plan file r r' w w' result
       refuses_in m a refuses = record {
-        bad_line = λ n. (λ is. absurd (subst (AnswersRules (plan_for settings rules) m) is a), λ bad. absurd (bad_none text file n rules grammar bad));
+        bad_line = λ n. (λ is. absurd (subst (AnswersRules (plan rules) m) is a), λ bad. absurd (bad_none text file n rules grammar bad));
         untouched = refuses.untouched;
-        rules = all_rules (λ rs. RefusesRules (plan_for settings rs) r r' w w' result) refuses;
+        rules = all_rules (λ rs. RefusesRules (plan rs) r r' w w' result) refuses;
       }
 
-    pub costs_in : (before after : Steps) → CostsRun (plan_for settings rules) r r' before after result → ReadsByBuffer (plan_for settings rules) r r' → CostsIn text settings file r r' before after result
+    pub costs_in : (before after : Steps) → CostsRun (plan rules) r r' before after result → ReadsByBuffer (plan rules) r r' → CostsIn text plan file r r' before after result
     costs_in before after cost short = record {
-      steps = all_rules (λ rs. CostsRun (plan_for settings rs) r r' before after result) cost;
-      short = all_rules (λ rs. ReadsByBuffer (plan_for settings rs) r r') short;
+      steps = all_rules (λ rs. CostsRun (plan rs) r r' before after result) cost;
+      short = all_rules (λ rs. ReadsByBuffer (plan rs) r r') short;
     }
 
 -- ---- a file of which no rules were read
@@ -80,14 +79,14 @@ unread_begun : (e : RuleError) → ¬ HasBegun (Err (not_read e))
 unread_begun (rule_errors.Line n) begun = begun
 unread_begun rule_errors.Memory begun = begun
 
-module _ (text : Bool) (settings : Settings) (file : List ℕ) (why : RuleError) (read : ReadsRules text file (Err why)) where
+module _ (text : Bool) (plan : List Rule → Plan) (file : List ℕ) (why : RuleError) (read : ReadsRules text file (Err why)) where
   -- what the result says
-  unread_answer : AnswersIn text settings file nothing (Err (not_read why))
+  unread_answer : AnswersIn text plan file nothing (Err (not_read why))
   unread_answer = go why read
     where
-      go : (e : RuleError) → ReadsRules text file (Err e) → AnswersIn text settings file nothing (Err (not_read e))
+      go : (e : RuleError) → ReadsRules text file (Err e) → AnswersIn text plan file nothing (Err (not_read e))
       go (rule_errors.Line n) h = (h.bad n).0 refl
-      go rule_errors.Memory h = let had = h.memory refl in (had.0, had.1, memory_answer (plan_for settings had.0))
+      go rule_errors.Memory h = let had = h.memory refl in (had.0, had.1, memory_answer (plan had.0))
 
   -- the line that is reported is the first bad one
   unread_line : (n : ℕ) → ((let r : Result (Unit {0}) RunError = Err (not_read why) in r) ≡ Err (errors.Rule (rule_errors.Line n))) ↔ IsBadLineOf text file n
@@ -99,18 +98,18 @@ module _ (text : Bool) (settings : Settings) (file : List ℕ) (why : RuleError)
 
   module _ {R : Type 0} (r : Watched R) where
     module _ {W : Type 0} (w : Watched W) where
-      pub unread_ran : (remaining : R → Option (List ℕ)) (contents : W → Option (List ℕ)) → RanIn text remaining contents r r w w settings file (Err (not_read why))
+      pub unread_ran : (remaining : R → Option (List ℕ)) (contents : W → Option (List ℕ)) → RanIn text remaining contents r r w w plan file (Err (not_read why))
       unread_ran remaining contents = (nothing, HasMoved-nothing remaining contents r w, unread_answer)
 
-      pub unread_refuses : RefusesIn text settings file r r w w (Err (not_read why))
+      pub unread_refuses : RefusesIn text plan file r r w w (Err (not_read why))
       unread_refuses = record {
         bad_line = unread_line;
         untouched = λ refusal. (refl, refl);
         rules = λ rules grammar. record { untouched = λ refusal. (refl, refl); memory = λ out streamed. (refl, refl); within = λ begun. absurd (unread_begun why begun) };
       }
 
-    pub unread_costs : (steps : Steps) → CostsIn text settings file r r steps steps (Err (not_read why))
+    pub unread_costs : (steps : Steps) → CostsIn text plan file r r steps steps (Err (not_read why))
     unread_costs steps = record {
-      steps = λ rules grammar. nothing_cost (plan_for settings rules) r steps (not_read why);
-      short = λ rules grammar. nothing_short (plan_for settings rules) r;
+      steps = λ rules grammar. nothing_cost (plan rules) r steps (not_read why);
+      short = λ rules grammar. nothing_short (plan rules) r;
     }

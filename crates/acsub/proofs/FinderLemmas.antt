@@ -22,7 +22,7 @@ use Rattle.acsub.specs.Finder.{IsFinderOf, IsServing, whole_search, whole_walk, 
 use Rattle.acsub.specs.Lines.{rule_at}
 use Rattle.acsub.specs.Settings.{IsAccepted}
 use Rattle.acsub.specs.Sides.{rule_patterns}
-use Rattle.acsub.specs.Plan.{Plan}
+use Rattle.acsub.specs.Plan.{Plan, plan_for}
 use Rattle.acsub.specs.declared.prepared.Finder.TheVariants as finders
 use Rattle.acsub.specs.declared.settings.Engine.TheVariants as engine
 use Rattle.acsub.specs.declared.settings.Mode.TheVariants as mode
@@ -39,17 +39,17 @@ packed-walk built supports plan input searcher serves =
     ∙ walk_after-unpaired plan.settings.kind (whole_search plan.settings (rule_patterns plan.rules) input) [] plan.settings.pairing (λ byte. refl) serves.1 0 None
 
 -- so is the walk of an automaton that serves it
-pub automaton-walk : (b : Built) (supports : Anchored → Type 0) (plan : Plan) (input : List ℕ) → IsServing plan b supports
+pub automaton-walk : (b : Built) (supports : Anchored → Type 0) (plan : Plan) (input : List ℕ) → IsServing plan.settings plan.rules b supports
     → walk_in b (whole_of input) ≡ whole_walk plan input
 automaton-walk b supports plan input serves = ap (λ (m : Dictionary). walk_of m.kind (search_in m (whole_of input))) serves.dictionary
 
 -- and its listing
-pub automaton-listing : (b : Built) (supports : Anchored → Type 0) (plan : Plan) (input : List ℕ) → IsServing plan b supports
+pub automaton-listing : (b : Built) (supports : Anchored → Type 0) (plan : Plan) (input : List ℕ) → IsServing plan.settings plan.rules b supports
     → listing_in b (whole_of input) ≡ whole_listing plan input
 automaton-listing b supports plan input serves = ap (λ (m : Dictionary). listing_of (search_in m (whole_of input))) serves.dictionary
 
 -- under the standard kind it can list
-pub automaton-runs : (b : Built) (supports : Anchored → Type 0) (plan : Plan) (input : List ℕ) → IsServing plan b supports
+pub automaton-runs : (b : Built) (supports : Anchored → Type 0) (plan : Plan) (input : List ℕ) → IsServing plan.settings plan.rules b supports
     → plan.settings.kind ≡ kind.Standard → CanRun b supports (whole_of input)
 automaton-runs b supports plan input serves standard = ((serves.start, ap (λ (m : Dictionary). m.kind) serves.dictionary ∙ standard), refl)
 
@@ -59,10 +59,10 @@ packed-leftmost packed_kind.LeftmostFirst e = cc
 packed-leftmost packed_kind.LeftmostLongest e = cc
 
 -- the picks of a whole input lie in order
-pub whole-lies : (settings : Settings) (rules : List Rule) (input : List ℕ) → LieInOrder (length rules) (length input) 0 (whole_walk (record { settings = settings; rules = rules }) input)
+pub whole-lies : (settings : Settings) (rules : List Rule) (input : List ℕ) → LieInOrder (length rules) (length input) 0 (whole_walk (plan_for settings rules) input)
 whole-lies settings rules input =
     let lies = walk-lies settings.kind (whole_search settings (rule_patterns rules) input) 0 None _ (walk_of-walk settings.kind (whole_search settings (rule_patterns rules) input) (omega arith)) in
-    subst (λ (count : ℕ). LieInOrder count (length input) 0 (whole_walk (record { settings = settings; rules = rules }) input)) (length-map rules (λ (rule : Rule). rule.0)) lies
+    subst (λ (count : ℕ). LieInOrder count (length input) 0 (whole_walk (plan_for settings rules) input)) (length-map rules (λ (rule : Rule). rule.0)) lies
 
 -- overlapping matches are only found under the standard kind
 overlap-kind : (s : Settings) (rules : List Rule) (k : kinds.MatchKind) → IsAccepted s rules → s.mode ≡ mode.Overlap → s.kind ≡ k → k ≡ kind.Standard

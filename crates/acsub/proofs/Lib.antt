@@ -18,3 +18,4 @@ pub mod StreamListLemmas
 pub mod StreamedLemmas
 pub mod OutcomeLemmas
 pub mod FileLemmas
+pub mod CutLemmas

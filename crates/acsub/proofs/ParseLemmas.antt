@@ -51,17 +51,17 @@ module _ (old : Command) (lists : Lists) (is : app_of old ≡ command_with lists
   rules_is : map rule_of (args_of old) ≡ (command_with lists).top.rules
   rules_is = ap (λ (a : App). a.top.rules) is
 
-  ten : length (args_of old) ≡ 10
-  ten = sym (length-map (args_of old) rule_of) ∙ ap length rules_is
+  eleven : length (args_of old) ≡ 11
+  eleven = sym (length-map (args_of old) rule_of) ∙ ap length rules_is
 
-  rule_at : (k : ℕ) (d : Arg) → k < 10 → rule_of (slice_index_or (args_of old) k d) ≡ slice_index_or (command_with lists).top.rules k (rule_of d)
+  rule_at : (k : ℕ) (d : Arg) → k < 11 → rule_of (slice_index_or (args_of old) k d) ≡ slice_index_or (command_with lists).top.rules k (rule_of d)
   rule_at k d lt =
-      let low : k < length (args_of old) = omega (arith, ten) in
+      let low : k < length (args_of old) = omega (arith, eleven) in
       sym (get_or-map rule_of (args_of old) k d (rule_of d) low) ∙ ap (λ rs. slice_index_or rs k (rule_of d)) rules_is
 
 -- the ids, in their order
 abbrev ids : List Text
-ids = codes "mode" ∷ codes "rules" ∷ codes "text" ∷ codes "kind" ∷ codes "fold" ∷ codes "pairs" ∷ codes "engine" ∷ codes "no-prefilter" ∷ codes "dense-depth" ∷ codes "no-byte-classes" ∷ []
+ids = codes "mode" ∷ codes "rules" ∷ codes "text" ∷ codes "stream" ∷ codes "kind" ∷ codes "fold" ∷ codes "pairs" ∷ codes "engine" ∷ codes "no-prefilter" ∷ codes "dense-depth" ∷ codes "no-byte-classes" ∷ []
 
 -- no place but k has this id
 abbrev only_at : ℕ → ℕ → Text → Bool
@@ -89,13 +89,13 @@ differs : (a b : Text) → not (bytes_eq a b) ≡ true → a ≡ b → ⊥
 differs a b h e = let same : bytes_eq a b ≡ true = (bytes_eq-Decides a b).1 e in let bad : false ≡ true = rw same at h in true≢false (sym bad)
 
 module _ (old : Command) (lists : Lists) (is : app_of old ≡ command_with lists) where
-  id_at : (k : ℕ) (d : Arg) → k < 10 → (slice_index_or (args_of old) k d).id.now ≡ get_or ids k []
+  id_at : (k : ℕ) (d : Arg) → k < 11 → (slice_index_or (args_of old) k d).id.now ≡ get_or ids k []
   id_at k d lt = ap (λ (r : Rule). r.id) (rule_at old lists is k d lt) ∙ sym (get_or-map (λ (r : Rule). r.id) (command_with lists).top.rules k (rule_of d) [] lt)
 
   -- each argument's id is its own
-  own_at : (k : ℕ) (d : Arg) → k < 10 → only_at 10 k (get_or ids k []) ≡ true → is_apart (get_or ids k []) ≡ true → IsOwn old k (slice_index_or (args_of old) k d)
+  own_at : (k : ℕ) (d : Arg) → k < 11 → only_at 11 k (get_or ids k []) ≡ true → is_apart (get_or ids k []) ≡ true → IsOwn old k (slice_index_or (args_of old) k d)
   own_at k d lt only apart =
-      let len = ten old lists is in
+      let len = eleven old lists is in
       let low : k < length (args_of old) = omega arith in
       let id = id_at k d lt in
       let parts = and_parts _ _ apart in
@@ -104,8 +104,8 @@ module _ (old : Command) (lists : Lists) (is : app_of old ≡ command_with lists
         lt = low;
         at = λ e. get_or_default (args_of old) k e d low;
         unique = λ j e high same.
-            let small : j < 10 = subst (λ n. j < n) len high in
-            only_there 10 k j (get_or ids k []) only small (rw (← id_at j e small, ← id) same);
+            let small : j < 11 = subst (λ n. j < n) len high in
+            only_there 11 k j (get_or ids k []) only small (rw (← id_at j e small, ← id) same);
         named = λ e. differs _ _ parts.0 (sym id ∙ e);
         no_flag = λ auto. elim auto [ inl h ↦ differs _ _ flags.0 (sym id ∙ h) | inr h ↦ differs _ _ flags.1 (sym id ∙ h) ];
       }
@@ -150,21 +150,21 @@ module _ (old : Command) (lists : Lists) (names : HasNames lists) (is : app_of o
   negates = ap (λ (a : App). a.top.subcommand_negates_reqs) is
 
   -- an argument that takes a value has one where it has an entry
-  with_value : (k : ℕ) (d : Arg) → k < 10 → IsOwn old k (slice_index_or (args_of old) k d)
+  with_value : (k : ℕ) (d : Arg) → k < 11 → IsOwn old k (slice_index_or (args_of old) k d)
       → (slice_index_or (args_of old) k d).action ≡ Some Set → (slice_index_or (args_of old) k d).num_vals ≡ None
       → is_some (matched_of (found_of m) (slice_index_or (args_of old) k d).id.now) ≡ true
       → is_some (first_value (found_of m) (slice_index_or (args_of old) k d).id.now) ≡ true
   with_value k d lt own set range has =
       has_value old m p plain local k (slice_index_or (args_of old) k d) own set (simple.args k d own.lt).delimiter (least_is (slice_index_or (args_of old) k d) range) has
 
-  required_value : (k : ℕ) (d : Arg) → k < 10 → IsOwn old k (slice_index_or (args_of old) k d)
+  required_value : (k : ℕ) (d : Arg) → k < 11 → IsOwn old k (slice_index_or (args_of old) k d)
       → (slice_index_or (args_of old) k d).action ≡ Some Set → (slice_index_or (args_of old) k d).num_vals ≡ None
       → (slice_index_or (args_of old) k d).required ≡ true
       → is_some (first_value (found_of m) (slice_index_or (args_of old) k d).id.now) ≡ true
   required_value k d lt own set range required =
       with_value k d lt own set range (present_has_entry (found_of m) _ (required_present old m p plain local negates k d own.lt required))
 
-  default_value : (k : ℕ) (d : Arg) (t : Text) → k < 10 → IsOwn old k (slice_index_or (args_of old) k d)
+  default_value : (k : ℕ) (d : Arg) (t : Text) → k < 11 → IsOwn old k (slice_index_or (args_of old) k d)
       → (slice_index_or (args_of old) k d).action ≡ Some Set → (slice_index_or (args_of old) k d).num_vals ≡ None
       → texts (items_of (slice_index_or (args_of old) k d).default_vals) ≡ t ∷ []
       → is_some (first_value (found_of m) (slice_index_or (args_of old) k d).id.now) ≡ true
@@ -187,7 +187,7 @@ module _ (old : Command) (lists : Lists) (names : HasNames lists) (is : app_of o
       rw first (any_named list (λ n. is_some (what n)) some.0 one all)
 
   an_arg : Arg
-  an_arg = head (args_of old) (subst (λ n. 0 < n) (sym (ten old lists is)) (lit< tt))
+  an_arg = head (args_of old) (subst (λ n. 0 < n) (sym (eleven old lists is)) (lit< tt))
 
   mode_rule_is : rule_of (slice_index_or (args_of old) 0 an_arg) ≡ mode_rule lists.modes
   mode_rule_is = rule_at old lists is 0 an_arg (lit< tt)
@@ -208,27 +208,27 @@ module _ (old : Command) (lists : Lists) (names : HasNames lists) (is : app_of o
 
   kind_typed : is_some (match_kind_of (rows_of (found_of m))) ≡ true
   kind_typed =
-      let r : rule_of (slice_index_or (args_of old) 3 an_arg) ≡ kind_rule lists.kinds = rule_at old lists is 3 an_arg (lit< tt) in
-      let own = own_at old lists is 3 an_arg (lit< tt) refl refl in
-      choice kind_named 3 an_arg (codes "kind") lists.kinds kind_names own (ap (λ (x : Rule). x.id) r) (ap (λ (x : Rule). x.parser) r) (ap (λ (x : Rule). x.ignore_case) r) names.kinds refl
-      (default_value 3 an_arg (codes "standard") (lit< tt) own (ap (λ (x : Rule). x.action) r) (ap (λ (x : Rule). x.range) r) (ap (λ (x : Rule). x.defaults) r))
+      let r : rule_of (slice_index_or (args_of old) 4 an_arg) ≡ kind_rule lists.kinds = rule_at old lists is 4 an_arg (lit< tt) in
+      let own = own_at old lists is 4 an_arg (lit< tt) refl refl in
+      choice kind_named 4 an_arg (codes "kind") lists.kinds kind_names own (ap (λ (x : Rule). x.id) r) (ap (λ (x : Rule). x.parser) r) (ap (λ (x : Rule). x.ignore_case) r) names.kinds refl
+      (default_value 4 an_arg (codes "standard") (lit< tt) own (ap (λ (x : Rule). x.action) r) (ap (λ (x : Rule). x.range) r) (ap (λ (x : Rule). x.defaults) r))
 
   engine_typed : is_some (engine_of (rows_of (found_of m))) ≡ true
   engine_typed =
-      let r : rule_of (slice_index_or (args_of old) 6 an_arg) ≡ engine_rule lists.engines = rule_at old lists is 6 an_arg (lit< tt) in
-      let own = own_at old lists is 6 an_arg (lit< tt) refl refl in
-      choice engine_named 6 an_arg (codes "engine") lists.engines engine_names own (ap (λ (x : Rule). x.id) r) (ap (λ (x : Rule). x.parser) r) (ap (λ (x : Rule). x.ignore_case) r) names.engines refl
-      (default_value 6 an_arg (codes "auto") (lit< tt) own (ap (λ (x : Rule). x.action) r) (ap (λ (x : Rule). x.range) r) (ap (λ (x : Rule). x.defaults) r))
+      let r : rule_of (slice_index_or (args_of old) 7 an_arg) ≡ engine_rule lists.engines = rule_at old lists is 7 an_arg (lit< tt) in
+      let own = own_at old lists is 7 an_arg (lit< tt) refl refl in
+      choice engine_named 7 an_arg (codes "engine") lists.engines engine_names own (ap (λ (x : Rule). x.id) r) (ap (λ (x : Rule). x.parser) r) (ap (λ (x : Rule). x.ignore_case) r) names.engines refl
+      (default_value 7 an_arg (codes "auto") (lit< tt) own (ap (λ (x : Rule). x.action) r) (ap (λ (x : Rule). x.range) r) (ap (λ (x : Rule). x.defaults) r))
 
   depth_typed : (t : Text) → one_of (codes "dense-depth") (rows_of (found_of m)) ≡ Some t → IsUnsignedIn 0 greatest_depth t
   depth_typed t e =
-      let r : rule_of (slice_index_or (args_of old) 8 an_arg) ≡ depth_rule = rule_at old lists is 8 an_arg (lit< tt) in
-      let own = own_at old lists is 8 an_arg (lit< tt) refl refl in
+      let r : rule_of (slice_index_or (args_of old) 9 an_arg) ≡ depth_rule = rule_at old lists is 9 an_arg (lit< tt) in
+      let own = own_at old lists is 9 an_arg (lit< tt) refl refl in
       let q = parser.Unsigned 0 greatest_depth in
-      let id : (slice_index_or (args_of old) 8 an_arg).id.now ≡ codes "dense-depth" = ap (λ (x : Rule). x.id) r in
-      let same = same_reading old m p plain local 8 (slice_index_or (args_of old) 8 an_arg) own q (ap (λ (x : Rule). x.parser) r) refl in
-      let here : one_text (found_of m) (slice_index_or (args_of old) 8 an_arg).id.now ≡ Some t = subst (λ (i : Text). one_text (found_of m) i ≡ Some t) (sym id) (one_text-rows (found_of m) (codes "dense-depth") ∙ e) in
-      first_accepted old m p plain local 8 (slice_index_or (args_of old) 8 an_arg) own q (ap (λ (x : Rule). x.parser) r) t (sym same ∙ here)
+      let id : (slice_index_or (args_of old) 9 an_arg).id.now ≡ codes "dense-depth" = ap (λ (x : Rule). x.id) r in
+      let same = same_reading old m p plain local 9 (slice_index_or (args_of old) 9 an_arg) own q (ap (λ (x : Rule). x.parser) r) refl in
+      let here : one_text (found_of m) (slice_index_or (args_of old) 9 an_arg).id.now ≡ Some t = subst (λ (i : Text). one_text (found_of m) i ≡ Some t) (sym id) (one_text-rows (found_of m) (codes "dense-depth") ∙ e) in
+      first_accepted old m p plain local 9 (slice_index_or (args_of old) 9 an_arg) own q (ap (λ (x : Rule). x.parser) r) t (sym same ∙ here)
 
   -- what clap lets through is what the program asks for
   pub typed : IsTyped (rows_of (found_of m))

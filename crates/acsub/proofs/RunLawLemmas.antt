@@ -19,7 +19,7 @@ output-alike settings other rules input alike =
     ∙ ap (λ (pairing : List ℕ). text_in other.mode other.kind (replacements_of rules) (record (whole_search settings (rule_patterns rules) input) { pairing = pairing })) alike.pairing
 
 pub runs_write_alike : RunsWriteAlike
-runs_write_alike settings other file m n alike same ran again =
+runs_write_alike settings other stream another file m n alike same ran again =
     ran.2.written
     ∙ ap (λ (rules : List Rule). output_of settings rules (concat m.pieces)) (IsRuleFile-one file ran.0 again.0 ran.1 again.1)
     ∙ ap (output_of settings again.0) same

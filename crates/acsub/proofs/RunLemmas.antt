@@ -2,7 +2,6 @@
 use Rattle.std.proofs.Common.{◌≡◌, ◌≢◌, ℕ, Option, List, [], Result, Ok, Err, refl, sym, ap, ◌∙◌, subst, add-zero}
 use Rattle.std.specs.List.{concat}
 use Rattle.std.proofs.lemmas.List.{append-nil}
-use Rattle.ac_input.specs.Rules.{Rule}
 use Rattle.ac_automaton.specs.Moved.{AreWhole, HasGiven, HasMoved, Moved}
 use Rattle.ac_automaton.specs.Output.{Sent, Stopped}
 use Rattle.ac_automaton.specs.Watched.{IsOfWrite}
@@ -14,14 +13,13 @@ use Rattle.ac_automaton.proofs.MovedLemmas.{given-none, taken-none}
 use Rattle.ac_automaton.proofs.OutputLemmas.{HasTaken-from_sent, HasTaken-from_stopped}
 use Rattle.acsub.specs.declared.error.RunError.{RunError}
 use Rattle.acsub.specs.declared.error.RunError.TheVariants as errors
-use Rattle.acsub.specs.declared.settings.Settings.{Settings}
 use Rattle.acsub.specs.Input.{ReadsWhole}
 use Rattle.acsub.specs.Settings.{IsAccepted}
 use Rattle.acsub.specs.Stream.{IsReturnedAs}
 use Rattle.acsub.specs.Transformed.{IsStreamed, output_of}
 use Rattle.acsub.specs.Run.{AnswersRules, HasBegun, Prepares, RanPrepared, RanToFailedWrite}
 use Rattle.acsub.specs.Finder.{Builds, FailsToBuild}
-use Rattle.acsub.specs.Plan.{Plan, plan_for}
+use Rattle.acsub.specs.Plan.{Plan}
 
 -- nothing was moved
 abbrev pub nothing : Moved
@@ -35,58 +33,58 @@ pub memory_answer : (plan : Plan) → AnswersRules plan nothing (Err errors.Memo
 memory_answer plan = record { accepted = λ some. absurd (some refl); streamed = λ _. refl; filled = tt; written = refl; failed = (refl, refl, refl) }
 
 -- the result where the input could not be read to its end
-pub read_answer : {R W : Type 0} (remaining : R → Option (List ℕ)) (contents : W → Option (List ℕ)) (settings : Settings) (rules : List Rule) (r r' : Watched R) (w : Watched W) (e : RunError) → IsAccepted settings rules → ¬ IsStreamed settings rules → ReadsWhole remaining r r' (Err e)
-    → RanPrepared remaining contents r r' w w (plan_for settings rules) (Err e)
-read_answer remaining contents settings rules r r' w (errors.Rule e) accepted held h = absurd h
-read_answer remaining contents settings rules r r' w (errors.Setting e) accepted held h = absurd h
-read_answer remaining contents settings rules r r' w (errors.Build kind) accepted held h = absurd h
-read_answer remaining contents settings rules r r' w (errors.Read e) accepted held h = (
+pub read_answer : {R W : Type 0} (remaining : R → Option (List ℕ)) (contents : W → Option (List ℕ)) (plan : Plan) (r r' : Watched R) (w : Watched W) (e : RunError) → IsAccepted plan.settings plan.rules → ¬ IsStreamed plan → ReadsWhole remaining r r' (Err e)
+    → RanPrepared remaining contents r r' w w plan (Err e)
+read_answer remaining contents plan r r' w (errors.Rule e) accepted held h = absurd h
+read_answer remaining contents plan r r' w (errors.Setting e) accepted held h = absurd h
+read_answer remaining contents plan r r' w (errors.Build kind) accepted held h = absurd h
+read_answer remaining contents plan r r' w (errors.Read e) accepted held h = (
   record { pieces = h.0; failed_reads = 1; taken = []; failed_writes = 0; stalled_writes = 0 },
   record { reader = h.1; writer = taken-none contents w },
   λ refusal. refusal,
   record { accepted = accepted; streamed = λ streamed. absurd (held streamed); whole_input = λ _. refl; written = (_, refl); failed = (refl, refl, refl) },
 )
-read_answer remaining contents settings rules r r' w (errors.Write e) accepted held h = absurd h
-read_answer remaining contents settings rules r r' w errors.WriteZero accepted held h = absurd h
-read_answer remaining contents settings rules r r' w errors.Memory accepted held h = (
+read_answer remaining contents plan r r' w (errors.Write e) accepted held h = absurd h
+read_answer remaining contents plan r r' w errors.WriteZero accepted held h = absurd h
+read_answer remaining contents plan r r' w errors.Memory accepted held h = (
   record { pieces = h.0; failed_reads = 0; taken = []; failed_writes = 0; stalled_writes = 0 },
   record { reader = h.1; writer = taken-none contents w },
   λ refusal. refusal,
   record { accepted = λ _. accepted; streamed = λ streamed. absurd (held streamed); filled = h.2; written = refl; failed = (refl, refl, refl) },
 )
-read_answer remaining contents settings rules r r' w errors.Position accepted held h = absurd h
+read_answer remaining contents plan r r' w errors.Position accepted held h = absurd h
 
 -- the result where a write stopped after the input was read to its end
-write_failed : {W : Type 0} (contents : W → Option (List ℕ)) (settings : Settings) (rules : List Rule) (w w' : Watched W) (pieces : List (List ℕ)) (input : List ℕ) (stalls : ℕ) (s : Stopped contents w w' [] (output_of settings rules input)) → IsAccepted settings rules → ¬ IsStreamed settings rules → AreWhole pieces → input ≡ concat pieces
-    → RanToFailedWrite (plan_for settings rules) (record { pieces = pieces; failed_reads = 0; taken = s.gained; failed_writes = 1; stalled_writes = stalls }) stalls
-write_failed contents settings rules w w' pieces input stalls s accepted held whole is =
-    record { accepted = accepted; streamed = λ streamed. absurd (held streamed); whole_input = λ _. whole; written = (s.lost, ap (output_of settings rules) (sym is) ∙ sym s.order); failed = (refl, refl, refl) }
+write_failed : {W : Type 0} (contents : W → Option (List ℕ)) (plan : Plan) (w w' : Watched W) (pieces : List (List ℕ)) (input : List ℕ) (stalls : ℕ) (s : Stopped contents w w' [] (output_of plan.settings plan.rules input)) → IsAccepted plan.settings plan.rules → ¬ IsStreamed plan → AreWhole pieces → input ≡ concat pieces
+    → RanToFailedWrite plan (record { pieces = pieces; failed_reads = 0; taken = s.gained; failed_writes = 1; stalled_writes = stalls }) stalls
+write_failed contents plan w w' pieces input stalls s accepted held whole is =
+    record { accepted = accepted; streamed = λ streamed. absurd (held streamed); whole_input = λ _. whole; written = (s.lost, ap (output_of plan.settings plan.rules) (sym is) ∙ sym s.order); failed = (refl, refl, refl) }
 
-module _ {R W : Type 0} (remaining : R → Option (List ℕ)) (contents : W → Option (List ℕ)) (settings : Settings) (rules : List Rule) (r r' : Watched R) (w w' : Watched W) (pieces : List (List ℕ)) (input : List ℕ) (accepted : IsAccepted settings rules) (held : ¬ IsStreamed settings rules) (gave : HasGiven remaining r r' pieces 0) (whole : AreWhole pieces) (is : input ≡ concat pieces) where
+module _ {R W : Type 0} (remaining : R → Option (List ℕ)) (contents : W → Option (List ℕ)) (plan : Plan) (r r' : Watched R) (w w' : Watched W) (pieces : List (List ℕ)) (input : List ℕ) (accepted : IsAccepted plan.settings plan.rules) (held : ¬ IsStreamed plan) (gave : HasGiven remaining r r' pieces 0) (whole : AreWhole pieces) (is : input ≡ concat pieces) where
   -- the result after the input was read to its end and its text was written
-  pub written_answer : Sent contents w w' [] [] (output_of settings rules input) → RanPrepared remaining contents r r' w w' (plan_for settings rules) (Ok tt)
+  pub written_answer : Sent contents w w' [] [] (output_of plan.settings plan.rules input) → RanPrepared remaining contents r r' w w' plan (Ok tt)
   written_answer sent = (
     record { pieces = pieces; failed_reads = 0; taken = sent.gained; failed_writes = 0; stalled_writes = 0 },
     record { reader = gave; writer = HasTaken-from_sent contents w w' [] [] _ sent },
     λ refusal. refusal,
-    record { accepted = accepted; whole = whole; written = sym (append-nil sent.gained) ∙ sent.order ∙ ap (output_of settings rules) is; failed = (refl, refl, refl) },
+    record { accepted = accepted; whole = whole; written = sym (append-nil sent.gained) ∙ sent.order ∙ ap (output_of plan.settings plan.rules) is; failed = (refl, refl, refl) },
   )
 
   -- the same, where a write stopped
-  pub write_answer : (error : StreamError) (result : Result (Unit {0}) RunError) → IsReturnedAs (Err error) result → Stopped contents w w' [] (output_of settings rules input) → IsOfWrite w w' error → RanPrepared remaining contents r r' w w' (plan_for settings rules) result
+  pub write_answer : (error : StreamError) (result : Result (Unit {0}) RunError) → IsReturnedAs (Err error) result → Stopped contents w w' [] (output_of plan.settings plan.rules input) → IsOfWrite w w' error → RanPrepared remaining contents r r' w w' plan result
   write_answer (stream.Config error) result t stopped kind = absurd kind
   write_answer (stream.Read error) result t stopped kind = absurd kind
-  write_answer (stream.Write error) result t stopped kind = subst (RanPrepared remaining contents r r' w w' (plan_for settings rules)) (sym t) (
+  write_answer (stream.Write error) result t stopped kind = subst (RanPrepared remaining contents r r' w w' plan) (sym t) (
     record { pieces = pieces; failed_reads = 0; taken = stopped.gained; failed_writes = 1; stalled_writes = 0 },
     record { reader = gave; writer = HasTaken-from_stopped contents w w' [] _ 0 stopped (kind ∙ sym (add-zero _)) },
     λ refusal. refusal,
-    write_failed contents settings rules w w' pieces input 0 stopped accepted held whole is,
+    write_failed contents plan w w' pieces input 0 stopped accepted held whole is,
   )
-  write_answer stream.WriteZero result t stopped kind = subst (RanPrepared remaining contents r r' w w' (plan_for settings rules)) (sym t) (
+  write_answer stream.WriteZero result t stopped kind = subst (RanPrepared remaining contents r r' w w' plan) (sym t) (
     record { pieces = pieces; failed_reads = 0; taken = stopped.gained; failed_writes = 1; stalled_writes = 1 },
     record { reader = gave; writer = HasTaken-from_stopped contents w w' [] _ 1 stopped kind },
     λ refusal. refusal,
-    write_failed contents settings rules w w' pieces input 1 stopped accepted held whole is,
+    write_failed contents plan w w' pieces input 1 stopped accepted held whole is,
   )
   write_answer stream.Memory result t stopped kind = absurd kind
   write_answer stream.Position result t stopped kind = absurd kind
@@ -133,6 +131,6 @@ built_error asked errors.Memory accepted h = tt
 built_error asked errors.Position accepted h = absurd h
 
 -- what was built of rules that are accepted is prepared
-pub built_answer : (settings : Settings) (rules : List Rule) (result : Result Plan RunError) → IsAccepted settings rules → Builds settings rules result → Prepares (plan_for settings rules) result
-built_answer settings rules (Ok plan) accepted (same, buildable) = (same, accepted, buildable)
-built_answer settings rules (Err e) accepted h = built_error (plan_for settings rules) e accepted h
+pub built_answer : (asked : Plan) (result : Result Plan RunError) → IsAccepted asked.settings asked.rules → Builds asked result → Prepares asked result
+built_answer asked (Ok plan) accepted (same, buildable) = (same, accepted, buildable)
+built_answer asked (Err e) accepted h = built_error asked e accepted h

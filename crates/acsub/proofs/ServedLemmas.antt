@@ -55,7 +55,7 @@ module _ (settings : Settings) (rules : List Rule) (patterns : List (List ℕ)) 
     made = built.served.1.dictionary ∙ handed
 
     -- what was built serves
-    pub built-serves : IsServing (record { settings = settings; rules = rules }) (as_built ac) (supported_by ac)
+    pub built-serves : IsServing settings rules (as_built ac) (supported_by ac)
     built-serves = record {
       dictionary = (made-follows (builder_settings settings) from (serving_engine ac) built.served.2.0).dictionary ∙ made;
       looks = λ by_dfa. dfa-deterministic (serving_engine ac) (served-dfa settings rules from (kind_served (serving_engine ac)) made built.served.2.1 by_dfa);

@@ -1,9 +1,10 @@
 -- What a list over a stream has read and written, from one read to the next, and at its end.
-use Rattle.std.proofs.Common.{◌≡◌, ◌≢◌, ⊎_elim, inl, inr, ℕ, suc, ◌+◌, ◌-◌, ◌<◌, ◌≤◌, true, false, List, [], ◌∷◌, ◌++◌, length, take, Option, Some, None, Result, Ok, Err, refl, sym, ap, ◌∙◌, subst, arith, append_assoc, add-zero}
-use Rattle.std.specs.List.{concat}
+use Rattle.std.proofs.Common.{◌≡◌, ◌≢◌, ◌⊎◌, ⊎_elim, inl, inr, ℕ, suc, ◌+◌, ◌-◌, ◌<◌, ◌≤◌, true, false, List, [], ◌∷◌, ◌++◌, length, drop, take, Option, Some, None, Result, Ok, Err, refl, sym, ap, ◌∙◌, subst, arith, append_assoc, add-zero}
+use Rattle.std.specs.Io.KnownBytes.{IsAtEnd}
+use Rattle.std.specs.List.{concat, slice_index_or}
 use Rattle.std.specs.Prelude.{IfErr, OnOk}
 use Rattle.std.proofs.lemmas.Bool.{false≢true}
-use Rattle.std.proofs.lemmas.List.{append-nil, append_cancel_left, take_all}
+use Rattle.std.proofs.lemmas.List.{append-nil, append_cancel_left}
 use Rattle.std.proofs.lemmas.List.Folds.{concat-append}
 use Rattle.ac_input.specs.declared.search.Anchored.{Anchored}
 use Rattle.ac_input.specs.declared.search.Anchored.TheVariants.{No}
@@ -11,8 +12,7 @@ use Rattle.ac_input.specs.declared.search.MatchKind.{MatchKind}
 use Rattle.ac_input.specs.declared.search.MatchKind.TheVariants.{Standard}
 use Rattle.ac_input.specs.BeginningLaws.{IsBeginning}
 use Rattle.ac_input.specs.Computed.{walk_of}
-use Rattle.ac_input.specs.Cut.{IsCut}
-use Rattle.ac_input.specs.Dictionary.{Dictionary, whole}
+use Rattle.ac_input.specs.Dictionary.{Dictionary, IsLive, whole}
 use Rattle.ac_input.specs.Occurrence.{Occurrence}
 use Rattle.ac_input.specs.Rules.{Rule}
 use Rattle.ac_input.specs.Text.{line, listed}
@@ -23,33 +23,36 @@ use Rattle.ac_automaton.specs.Automaton.{Built}
 use Rattle.ac_automaton.specs.Moved.{AllFit, AreFilled, AreWhole, HasGiven, HasMoved, HasTaken, Moved, but_last}
 use Rattle.ac_automaton.specs.Output.{Sent, Stopped}
 use Rattle.ac_automaton.specs.Replace.{LieInOrder, matches_in}
-use Rattle.ac_automaton.specs.Stream.{AreAllGiven, CanBeCounted, CanStream, FindsHeld, IsConfigRefusal, IsOnCourse, IsSearched, IsStreamRefusal, ReadsNothing, StreamProgress, fresh_progress, matches_read, read_by, room_of}
+use Rattle.ac_automaton.specs.Stream.{AreAllGiven, CanBeCounted, CanStreamAnyKind, Decides, EachIsDecided, FindsHeld, IsAnyKindConfigRefusal, IsAnyKindRefusal, IsOnCourse, IsSearched, ReadsNothing, StreamProgress, cut_of, end_of, fresh_progress, matches_read, read_by, room_of}
 use Rattle.ac_automaton.specs.StreamAnswer.{WroteToFailedWrite}
-use Rattle.ac_automaton.specs.StreamIter.{HasGained, IsInputOver, NextGives}
-use Rattle.ac_automaton.specs.Watched.{IsOfWrite, has_ended, pieces_of, stalls_of}
+use Rattle.ac_automaton.specs.StreamIter.{HasGained, IsInputOver, IsStopped, NextGives, StaysStopped, read_before_last}
+use Rattle.ac_automaton.specs.Watched.{IsOfWrite, has_ended, inner_of, pieces_of, stalls_of}
 use Rattle.ac_automaton.specs.declared.watched.Watched.{Watched}
 use Rattle.ac_automaton.proofs.MovedLemmas.{given-then, turns-filled}
 use Rattle.ac_automaton.proofs.OutputLemmas.{Sent-none, Sent-then, Stopped-then}
 use Rattle.ac_automaton.proofs.ReplaceLemmas.{matches-lie}
 use Rattle.ac_automaton.proofs.StreamReplaceLemmas.{given-none, nothing-matches, pieces-fit, taken-none, taken-sent, taken-stopped}
-use Rattle.ac_automaton.proofs.StreamCutLemmas.{matches-cut, matches-walk}
+use Rattle.ac_automaton.proofs.StreamCutLemmas.{matches-walk}
 use Rattle.ac_automaton.proofs.SearchLemmas.{nothing-in_empty}
 use Rattle.ac_automaton.proofs.StreamSendLemmas.{ReadsNothing-then}
 use Rattle.ac_automaton.proofs.WalkEndLemmas.{none-alive}
-use Rattle.ac_automaton.specs.StreamReplace.{IsBegun}
+use Rattle.ac_automaton.specs.StreamReplace.{HasSearched, IsBegun}
+use Rattle.ac_automaton.proofs.StreamAnswerLemmas.{cost-read-any_kind}
+use Rattle.ac_input.specs.declared.steps.Steps.{Steps}
 use Rattle.ac_automaton.specs.declared.error.MatchErrorKind.{MatchErrorKind}
 use Rattle.ac_automaton.specs.declared.error.StreamError.{StreamError}
 use Rattle.ac_automaton.specs.declared.error.StreamError.TheVariants as reads
-use Rattle.acsub.specs.Finder.{whole_search}
+use Rattle.acsub.specs.Finder.{IsBuiltFor, whole_search}
+use Rattle.acsub.specs.Plan.{Plan, plan_for}
 use Rattle.acsub.specs.Served.{dictionary_for}
 use Rattle.acsub.specs.Sides.{rule_patterns, replacements_of}
-use Rattle.acsub.specs.Stream.{IsReturnedAs, Streams}
-use Rattle.acsub.specs.Transformed.{IsOutputFront, IsStreamed, output_of, text_in}
+use Rattle.acsub.specs.Stream.{CostsStreaming, IsReturnedAs, Streams}
+use Rattle.acsub.specs.Transformed.{IsDecidedList, IsOutputFront, IsStreamed, output_of, text_in}
 use Rattle.acsub.specs.declared.settings.Mode.{Mode}
 use Rattle.acsub.specs.declared.settings.Mode.TheVariants as modes
 use Rattle.acsub.specs.declared.settings.Settings.{Settings}
 use Rattle.acsub.proofs.StreamedLemmas.{answers-alike, filled-shortest, pieces-within}
-use Rattle.acsub.specs.StreamList.{HasListed, IsListedFront, ListsStream, SendsLines, StopsLines, StopsWriting, WritesLines, listed_in}
+use Rattle.acsub.specs.StreamList.{HasListed, IsListedFront, IsOpen, IsOver, ListsStream, SendsLines, StopsLines, StopsWriting, WritesLines, listed_in}
 use Rattle.acsub.specs.declared.error.RunError.{RunError}
 
 -- ---- lines
@@ -235,6 +238,44 @@ front-given b before (g ∷ gs) pieces given others o standard some is all late 
     ∙ matches-between b (concat before) mid (concat last.0) others o standard (omega arith) (ap (matches_in b) (sym text) ∙ whole_text ∙ ap (λ (os : List Occurrence). (os ++ o ∷ []) ++ others) all)
     ∙ sym all
 
+-- the bytes of all pieces but the last, where more were read
+before-last : (before gained pieces : List (List ℕ)) → gained ≢ [] → pieces ≡ before ++ gained → concat (but_last pieces) ≡ concat before ++ concat (but_last gained)
+before-last before [] pieces some is = absurd (some refl)
+before-last before (g ∷ gs) pieces some is = ap (λ (ps : List (List ℕ)). concat (but_last ps)) is ∙ ap concat (but_last-gained before g gs) ∙ concat-append before (but_last (g ∷ gs))
+
+-- ---- what is decided
+
+-- an empty text decides no match
+decides-nothing : (b : Built) → 1 ≤ shortest b.dictionary.patterns → Decides b.dictionary [] []
+decides-nothing b filled = record {
+  first = λ more. (matches_in b more, refl);
+  all = λ standard. nothing-matches b (matches_in b []) filled (matches-walk b []);
+  open_ = none-alive b.dictionary b.dictionary.kind [] (nothing-in_empty b.dictionary [] filled refl);
+}
+
+-- a search that has read nothing is on its course
+fresh-course : (b : Built) → 1 ≤ shortest b.dictionary.patterns → IsOnCourse (fresh_progress b)
+fresh-course b filled = record {
+  unclosed = λ standard. refl;
+  filled = filled;
+  ordered = (omega arith, omega arith);
+  kept = (omega arith, omega arith, omega arith);
+  short = λ k d lt. absurd (omega arith);
+  begun = (matches_in b [], refl);
+  ended = omega arith;
+  decided = λ more may. (matches_in b more, refl, λ k d lt. let z : cut_of (fresh_progress b) ≤ (slice_index_or (matches_in b more) k d).start = omega arith in z);
+  paid = record { some = omega arith; looked = omega arith; scanned = refl; moved = omega arith };
+}
+
+-- a beginning of a beginning is one of the whole
+begins-then : {X : Type 0} (front mid all : List X) → IsBeginning front mid → IsBeginning mid all → IsBeginning front all
+begins-then front mid all x y = (x.0 ++ y.0, y.1 ∙ ap (λ (t : List _). t ++ y.0) x.1 ∙ append_assoc front x.0 y.0)
+
+-- some pieces, or none
+none-or-some : (pieces : List (List ℕ)) → (pieces ≡ []) ⊎ (pieces ≢ [])
+none-or-some [] = inl refl
+none-or-some (p ∷ ps) = inr (λ e. let d : p ∷ ps ≡ [] = e in cc)
+
 -- ---- from one read to the next
 
 -- more pieces were read
@@ -245,12 +286,17 @@ given-gained remaining s t old mid new gained failed g filled h = subst (λ (ps 
 read-gained : {R : Type 0} (remaining : R → Option (List ℕ)) (s t : StreamProgress) (mid new : Watched R) (gained : List (List ℕ)) (failed : ℕ) → HasGained remaining s t mid new gained failed → read_by t ≡ read_by s ++ concat gained
 read-gained remaining s t mid new gained failed h = ap concat h.pieces ∙ concat-append s.pieces gained
 
+-- pieces that end the input, after some that don't
+whole-append : (before gained all : List (List ℕ)) → AreFilled before → AreWhole gained → all ≡ before ++ gained → AreWhole all
+whole-append before gained all filled whole is =
+    (before ++ whole.0, filled-append before whole.0 filled whole.1, is ∙ ap (λ (ps : List (List ℕ)). before ++ ps) whole.2 ∙ sym (append_assoc before whole.0 ([] ∷ [])))
+
 module _ {R W : Type 0} (remaining : R → Option (List ℕ)) (contents : W → Option (List ℕ)) (b : Built) where
   -- before the first read
-  pub listed-fresh : (reader : Watched R) (writer : Watched W) → b.dictionary.kind ≡ Standard → 1 ≤ shortest b.dictionary.patterns → has_ended reader ≡ false → HasListed remaining contents b (fresh_progress b) reader reader writer writer
-  listed-fresh reader writer standard filled unended = record {
+  pub listed-fresh : (reader : Watched R) (writer : Watched W) → 1 ≤ shortest b.dictionary.patterns → has_ended reader ≡ false → HasListed remaining contents b (fresh_progress b) reader reader writer writer
+  listed-fresh reader writer filled unended = record {
     built = refl;
-    standard = standard;
+    course = fresh-course b filled;
     countable = omega arith;
     all = record {
       searched = refl;
@@ -258,20 +304,16 @@ module _ {R W : Type 0} (remaining : R → Option (List ℕ)) (contents : W → 
       open_ = none-alive b.dictionary b.dictionary.kind [] (nothing-in_empty b.dictionary [] filled refl);
       anew = λ done. refl;
     };
-    filled = tt;
-    unended = unended;
+    early = ([], decides-nothing b filled, ([], refl));
+    input = inl (tt, refl, unended);
     read = given-none remaining reader;
     written = taken-none contents writer;
   }
 
   module _ (s t : StreamProgress) (r0 r r1 : Watched R) (w0 w : Watched W) (h : HasListed remaining contents b s r0 r w0 w) (course : IsOnCourse t) where
-    -- the automaton is still one of the standard kind
-    still-standard : (t.built ≡ s.built) → t.built.dictionary.kind ≡ Standard
-    still-standard built = ap (λ (c : Built). c.dictionary.kind) (built ∙ h.built) ∙ h.standard
-
-    -- where all is given, and nothing new was, the lines that were written are those of all that was read
-    lines-same : (t.built ≡ s.built) → (t.given ≡ s.given) → AreAllGiven t → listed s.given ≡ listed_in b (read_by t)
-    lines-same built given all = ap listed (sym given ∙ all.all (inl (still-standard built)) ∙ ap (λ (c : Built). matches_in c (read_by t)) (built ∙ h.built))
+    -- where all matches were given, the lines that were written are those of all that was read
+    lines-same : (t.built ≡ s.built) → (t.given ≡ s.given) → t.given ≡ matches_read t → listed s.given ≡ listed_in b (read_by t)
+    lines-same built given all = ap listed (sym given ∙ all ∙ ap (λ (c : Built). matches_in c (read_by t)) (built ∙ h.built))
 
     -- in any case they are a beginning of these
     lines-begin : (t.built ≡ s.built) → (t.given ≡ s.given) → IsBeginning (listed s.given) (listed_in b (read_by t))
@@ -279,118 +321,179 @@ module _ {R W : Type 0} (remaining : R → Option (List ℕ)) (contents : W → 
         let begins = subst (λ (os : List Occurrence). IsBeginning os (matches_read t)) given course.begun in
         listed-beginning s.given (matches_in b (read_by t)) (subst (λ (c : Built). IsBeginning s.given (matches_in c (read_by t))) (built ∙ h.built) begins)
 
-    -- the input has ended
-    pub ends-whole : NextGives remaining s t r r1 None → ListsStream remaining contents b r0 r1 w0 w (Ok tt) × IsSearched t
-    ends-whole (gained, has, (inl none), given, stopped) =
+    -- however what was read goes on, the matches that were given are its first ones
+    given-first : (x y more : List ℕ) → s.closed ≡ false → x ≡ read_by s ++ y → IsBeginning s.given (matches_in b (x ++ more))
+    given-first x y more unclosed is =
+        let rest = h.course.decided (y ++ more) (λ closed. absurd (false≢true (sym unclosed ∙ closed))) in (
+          rest.0,
+          ap (λ (z : List ℕ). matches_in b (z ++ more)) is ∙ ap (matches_in b) (append_assoc (read_by s) y more) ∙ ap (λ (c : Built). matches_in c (read_by s ++ (y ++ more))) (sym h.built) ∙ rest.1,
+        )
+
+    -- where no more was given, they are those that what was read decides
+    decides-since : (gained : List (List ℕ)) (failed : ℕ) → s.closed ≡ false → HasGained remaining s t r r1 gained failed → t.given ≡ s.given → AreAllGiven t → Decides b.dictionary (read_by t) s.given
+    decides-since gained failed unclosed has given all =
+        let built : t.built ≡ b = has.built ∙ h.built in
+        record {
+          first = λ more. given-first (read_by t) (concat gained) more unclosed (read-gained remaining s t r r1 gained failed has);
+          all = λ standard. sym given ∙ all.all (inl (ap (λ (c : Built). c.dictionary.kind) built ∙ standard)) ∙ ap (λ (c : Built). matches_in c (read_by t)) built;
+          open_ = λ dead. all.open_ (subst (λ (c : Built). IsLive c.dictionary false (drop (end_of t.given) (read_by t)) None) (sym built) (subst (λ (os : List Occurrence). IsLive b.dictionary false (drop (end_of os) (read_by t)) None) (sym given) dead));
+        }
+
+    -- where the search was told that no more comes, no item is left
+    over-stopped : IsOver s → IsStopped s r
+    over-stopped over = inl (inr over.1, h.all)
+
+    -- so where one is left, more may be read
+    pub still-open : (item : Result Occurrence StreamError) → StaysStopped s t r r1 (Some item) → IsOpen s r
+    still-open item stays = ⊎_elim (λ (may : IsOpen s r). may) (λ (over : IsOver s). let none : Some item ≡ None = (stays (over-stopped over)).0 in absurd (cc)) h.input
+
+    -- the input has ended, and all was given
+    ends : HasGiven remaining r0 r1 t.pieces 0 → t.built ≡ s.built → t.given ≡ s.given → AreWhole t.pieces → t.given ≡ matches_read t → ListsStream remaining contents b r0 r1 w0 w (Ok tt)
+    ends gave built given whole all = (
+      record { pieces = t.pieces; failed_reads = 0; taken = listed s.given; failed_writes = 0; stalled_writes = 0 },
+      record { reader = gave; writer = h.written },
+      pieces-fit b t (built ∙ h.built) course,
+      record { whole = whole; written = lines-same built given all; failed = (refl, refl, refl) },
+    )
+
+    -- no item is left where more could be read: it was read to its end
+    ends-open : NextGives remaining s t r r1 None → IsOpen s r → ListsStream remaining contents b r0 r1 w0 w (Ok tt) × IsSearched t
+    ends-open (gained, has, (inl none), given, stopped) may =
         let unread : read_by t ≡ read_by s = read-gained remaining s t r r1 gained 0 has ∙ ap (λ (ps : List (List ℕ)). read_by s ++ concat ps) none.0 ∙ append-nil (read_by s) in
         let still : has_ended r1 ≡ has_ended r = turns-filled (has_ended r) (has_ended r1) gained has.read.turns (subst AreFilled (sym none.0) tt) in
         absurd (⊎_elim
         (λ (over : IsInputOver t r1 × AreAllGiven t). ⊎_elim
-        (λ (ended : has_ended r1 ≡ true). false≢true (sym h.unended ∙ sym still ∙ ended))
-        (λ (closed : t.closed ≡ true). false≢true (sym (course.unclosed (still-standard has.built)) ∙ closed))
+        (λ (ended : has_ended r1 ≡ true). false≢true (sym may.2 ∙ sym still ∙ ended))
+        (λ (closed : t.closed ≡ true). false≢true (sym may.1 ∙ sym none.1 ∙ closed))
         over.0)
         (λ (many : ¬ CanBeCounted (read_by t)). many (subst CanBeCounted (sym unread) h.countable))
         stopped)
-    ends-whole (gained, has, (inr whole), given, stopped) = (
-      (
-        record { pieces = t.pieces; failed_reads = 0; taken = listed s.given; failed_writes = 0; stalled_writes = 0 },
-        record { reader = given-gained remaining s t r0 r r1 gained 0 h.read h.filled has; writer = h.written },
-        pieces-fit b t (has.built ∙ h.built) course,
-        record {
-          whole = (s.pieces ++ whole.0.0, filled-append s.pieces whole.0.0 h.filled whole.0.1, has.pieces ∙ ap (λ (ps : List (List ℕ)). s.pieces ++ ps) whole.0.2 ∙ sym (append_assoc s.pieces whole.0.0 ([] ∷ [])));
-          written = lines-same has.built given whole.1;
-          failed = (refl, refl, refl);
-        },
-      ),
+    ends-open (gained, has, (inr whole), given, stopped) may = (
+      ends (given-gained remaining s t r0 r r1 gained 0 h.read may.0 has) has.built given (whole-append s.pieces gained t.pieces may.0 whole.0 has.pieces) (whole.1.all whole.2),
       whole.1.searched,
     )
 
+    -- no item is left after the end: the reader is unchanged
+    ends-over : NextGives remaining s t r r1 None → StaysStopped s t r r1 None → (IsStopped s r → r1 ≡ r) → IsOver s → ListsStream remaining contents b r0 r1 w0 w (Ok tt) × IsSearched t
+    ends-over next stays unread over =
+        let stopped = over-stopped over in
+        let same = stays stopped in
+        let counted : CanBeCounted (read_by t) = subst (λ (ps : List (List ℕ)). CanBeCounted (concat ps)) (sym same.1) h.countable in
+        let all : AreAllGiven t = ⊎_elim (λ (done : IsInputOver t r1 × AreAllGiven t). done.1) (λ (many : ¬ CanBeCounted (read_by t)). absurd (many counted)) next.4 in
+        let each : EachIsDecided t = ⊎_elim (λ (none : (next.0 ≡ []) × (t.closed ≡ s.closed)). inr (none.1 ∙ over.1)) (λ (whole : AreWhole next.0 × AreAllGiven t × EachIsDecided t × IsAtEnd (remaining (inner_of r1))). whole.2) next.2 in
+        let gave : HasGiven remaining r0 r t.pieces 0 = subst (λ (ps : List (List ℕ)). HasGiven remaining r0 r ps 0) (sym same.1) h.read in (
+          ends (subst (λ (x : Watched R). HasGiven remaining r0 x t.pieces 0) (sym (unread stopped)) gave) next.1.built same.2 (subst AreWhole (sym same.1) over.0) (all.all each),
+          all.searched,
+        )
+
+    pub ends-whole : NextGives remaining s t r r1 None → StaysStopped s t r r1 None → (IsStopped s r → r1 ≡ r) → ListsStream remaining contents b r0 r1 w0 w (Ok tt) × IsSearched t
+    ends-whole next stays unread = ⊎_elim (λ (may : IsOpen s r). ends-open next may) (λ (over : IsOver s). ends-over next stays unread over) h.input
+
     -- a read failed
-    pub ends-failed_read : (error : _) (filled : List (List ℕ)) → HasGained remaining s t r r1 (filled ++ [] ∷ []) 1 → t.given ≡ s.given → AreAllGiven t → ListsStream remaining contents b r0 r1 w0 w (Err (reads.Read error))
-    ends-failed_read error filled has given all = (
+    pub ends-failed_read : (error : _) (filled : List (List ℕ)) → IsOpen s r → HasGained remaining s t r r1 (filled ++ [] ∷ []) 1 → t.given ≡ s.given → AreAllGiven t → ListsStream remaining contents b r0 r1 w0 w (Err (reads.Read error))
+    ends-failed_read error filled may has given all = (
       record { pieces = t.pieces; failed_reads = 1; taken = listed s.given; failed_writes = 0; stalled_writes = 0 },
-      record { reader = given-gained remaining s t r0 r r1 (filled ++ [] ∷ []) 1 h.read h.filled has; writer = h.written },
+      record { reader = given-gained remaining s t r0 r r1 (filled ++ [] ∷ []) 1 h.read may.0 has; writer = h.written },
       pieces-fit b t (has.built ∙ h.built) course,
-      record { written = lines-same has.built given all; failed = (refl, refl, refl) },
+      record { written = (s.given, decides-since (filled ++ [] ∷ []) 1 may.1 has given all, refl); failed = (refl, refl, refl) },
     )
 
     -- the input is too long
-    pub ends-too_long : (gained : List (List ℕ)) → HasGained remaining s t r r1 gained 0 → AreFilled gained → t.given ≡ s.given → ¬ CanBeCounted (read_by t) → ListsStream remaining contents b r0 r1 w0 w (Err reads.Position)
-    ends-too_long gained has filled given many = (
+    pub ends-too_long : (gained : List (List ℕ)) → IsOpen s r → HasGained remaining s t r r1 gained 0 → t.given ≡ s.given → ¬ CanBeCounted (read_by t) → ListsStream remaining contents b r0 r1 w0 w (Err reads.Position)
+    ends-too_long gained may has given many = (
       record { pieces = t.pieces; failed_reads = 0; taken = listed s.given; failed_writes = 0; stalled_writes = 0 },
-      record { reader = given-gained remaining s t r0 r r1 gained 0 h.read h.filled has; writer = h.written },
+      record { reader = given-gained remaining s t r0 r r1 gained 0 h.read may.0 has; writer = h.written },
       pieces-fit b t (has.built ∙ h.built) course,
       record { long = many; written = lines-begin has.built given; failed = (refl, refl, refl) },
     )
 
     -- what was read until the next match
-    module _ (o : Occurrence) (next : NextGives remaining s t r r1 (Some (Ok o))) where
-      -- something was read
-      read-longer : length (read_by s) < length (read_by t)
-      read-longer =
-          let searched : s.at ≡ length (read_by s) = h.all.searched in
-          let new : s.at < o.end = next.5.new (ap (λ (c : Built). c.dictionary.kind) h.built ∙ h.standard) in
+    module _ (o : Occurrence) (next : NextGives remaining s t r r1 (Some (Ok o))) (may : IsOpen s r) where
+      -- less is left to search, where places can be counted
+      pub less-left : (u : StreamProgress) → t.last ≤ u.last → 18446744073709551616 - u.last < 18446744073709551616 - s.last
+      less-left u on =
+          let last : t.last ≡ o.end = next.4 in
+          let behind : s.last ≤ o.start = next.5.behind in
+          let some : o.start < o.end = next.5.some in
           let within : o.end ≤ length (read_by t) = next.5.within in
-          omega arith
-
-      gained-some : next.0 ≢ []
-      gained-some none =
-          let same : length (read_by t) ≡ length (read_by s) = ap length (read-gained remaining s t r r1 next.0 0 next.1 ∙ ap (λ (ps : List (List ℕ)). read_by s ++ concat ps) none ∙ append-nil (read_by s)) in
-          let longer = read-longer in
-          absurd (omega arith)
-
-      -- less is left to read, where places can be counted
-      pub less-left : (u : StreamProgress) → u.pieces ≡ t.pieces → 18446744073709551616 - length (read_by u) < 18446744073709551616 - length (read_by s)
-      less-left u same =
-          let kept : length (read_by u) ≡ length (read_by t) = ap (λ (ps : List (List ℕ)). length (concat ps)) same in
           let few : length (read_by t) ≤ 18446744073709551615 = next.5.countable in
-          let longer = read-longer in
           omega arith
-
-      -- under standard no piece is empty
-      next-filled : AreFilled next.0
-      next-filled = ⊎_elim (λ (filled : AreFilled next.0 × (t.closed ≡ s.closed)). filled.0) (λ (other : (t.built.dictionary.kind ≢ Standard) × AreWhole next.0 × (t.closed ≡ true)). absurd (other.0 (still-standard next.1.built))) next.2
-
-      now-filled : AreFilled (s.pieces ++ next.0)
-      now-filled = filled-append s.pieces next.0 h.filled next-filled
 
       now-given : HasGiven remaining r0 r1 t.pieces 0
-      now-given = given-gained remaining s t r0 r r1 next.0 0 h.read h.filled next.1
+      now-given = given-gained remaining s t r0 r r1 next.0 0 h.read may.0 next.1
 
       now-built : t.built ≡ b
       now-built = next.1.built ∙ h.built
 
-      -- what was written are the lines of all that matches before the last piece
-      written-front : listed_in b (concat (but_last t.pieces)) ≡ listed s.given
-      written-front =
+      -- where something was read for it, the matches before it are those that were decided before the last piece
+      given-early : next.0 ≢ [] → Decides b.dictionary (concat (but_last t.pieces)) s.given
+      given-early some =
           let begun = course.begun in
-          let standard : s.built.dictionary.kind ≡ Standard = ap (λ (c : Built). c.dictionary.kind) h.built ∙ h.standard in
-          let all : s.given ≡ matches_in b (read_by s) = h.all.all (inl standard) ∙ ap (λ (c : Built). matches_in c (read_by s)) h.built in
           let others : matches_in b (read_by t) ≡ (s.given ++ o ∷ []) ++ begun.0 = ap (λ (c : Built). matches_in c (read_by t)) (sym now-built) ∙ begun.1 ∙ ap (λ (os : List Occurrence). os ++ begun.0) next.3 in
-          ap listed (front-given b s.pieces next.0 t.pieces s.given begun.0 o h.standard gained-some next.1.pieces all ((next.6 gained-some).ends standard) others)
+          let due = next.6 some in
+          record {
+            first = λ more. given-first (concat (but_last t.pieces)) (concat (but_last next.0)) more may.1 (before-last s.pieces next.0 t.pieces some next.1.pieces);
+            all = λ standard.
+                let of_s : s.built.dictionary.kind ≡ Standard = ap (λ (c : Built). c.dictionary.kind) h.built ∙ standard in
+                let all : s.given ≡ matches_in b (read_by s) = h.all.all (inl of_s) ∙ ap (λ (c : Built). matches_in c (read_by s)) h.built in
+                sym (front-given b s.pieces next.0 t.pieces s.given begun.0 o standard some next.1.pieces all (due.ends of_s) others);
+            open_ = λ dead. due.open_
+                (subst (λ (c : Built). IsLive c.dictionary false (drop (end_of s.given) (read_before_last t)) None) (sym h.built)
+                (subst (λ (ps : List (List ℕ)). IsLive b.dictionary false (drop (end_of s.given) (concat ps)) None) (sym (but_last-take t.pieces)) dead));
+          }
+
+      -- in any case at least those were given
+      gave-early : (early : List Occurrence) × Decides b.dictionary (concat (but_last t.pieces)) early × IsBeginning early s.given
+      gave-early = ⊎_elim
+          (λ (none : next.0 ≡ []).
+          let same : t.pieces ≡ s.pieces = next.1.pieces ∙ ap (λ (ps : List (List ℕ)). s.pieces ++ ps) none ∙ append-nil s.pieces in
+          (h.early.0, subst (λ (ps : List (List ℕ)). Decides b.dictionary (concat (but_last ps)) h.early.0) (sym same) (subst (λ (c : Built). Decides c.dictionary (concat (but_last s.pieces)) h.early.0) h.built h.early.1), h.early.2))
+          (λ (some : next.0 ≢ []). (s.given, given-early some, ([], sym (append-nil s.given))))
+          (none-or-some next.0)
 
       -- the lines of what was given since, and of all before
       lines-since : (u : StreamProgress) (more : List Occurrence) → u.given ≡ t.given ++ more → listed u.given ≡ listed s.given ++ listed (o ∷ more)
       lines-since u more given = ap listed (given ∙ ap (λ (os : List Occurrence). os ++ more) next.3 ∙ append_assoc s.given (o ∷ []) more) ∙ listed-append s.given (o ∷ more)
 
+      -- more may be read, or all was
+      input-after : (u : StreamProgress) → ReadsNothing t u → IsOpen u r1 ⊎ IsOver u
+      input-after u same = ⊎_elim
+          (λ (filled : AreFilled next.0 × (t.closed ≡ s.closed)).
+          inl (
+            subst AreFilled (sym (same.pieces ∙ next.1.pieces)) (filled-append s.pieces next.0 may.0 filled.0),
+            same.closed ∙ filled.1 ∙ may.1,
+            turns-filled (has_ended r) (has_ended r1) next.0 next.1.read.turns filled.0 ∙ may.2,
+          ))
+          (λ (over : (t.built.dictionary.kind ≢ Standard) × AreWhole next.0 × (t.closed ≡ true)).
+          inr (whole-append s.pieces next.0 u.pieces may.0 over.1 (same.pieces ∙ next.1.pieces), same.closed ∙ over.2))
+          next.2
+
       -- all that can be listed was written
-      pub listed-more : (u : StreamProgress) (w1 : Watched W) → WritesLines contents o t u w w1 → HasListed remaining contents b u r0 r1 w0 w1
-      listed-more u w1 lines = record {
-        built = lines.same.built ∙ now-built;
-        standard = h.standard;
-        countable = subst (λ (ps : List (List ℕ)). CanBeCounted (concat ps)) (sym lines.same.pieces) next.5.countable;
-        all = lines.all;
-        filled = subst AreFilled (sym (lines.same.pieces ∙ next.1.pieces)) now-filled;
-        unended = turns-filled (has_ended r) (has_ended r1) next.0 next.1.read.turns next-filled ∙ h.unended;
-        read = subst (λ (ps : List (List ℕ)). HasGiven remaining r0 r1 ps 0) (sym lines.same.pieces) now-given;
-        written = subst (λ (x : List ℕ). HasTaken contents w0 w1 x 0 0) (sym (lines-since u lines.more lines.given)) (taken-sent contents w0 w w1 (listed s.given) (listed (o ∷ lines.more)) h.written lines.sent);
-      }
+      pub listed-more : (u : StreamProgress) (w1 : Watched W) → WritesLines contents o t u w w1 → IsOnCourse u → HasListed remaining contents b u r0 r1 w0 w1
+      listed-more u w1 lines on =
+          let early = gave-early in
+          let built : u.built ≡ b = lines.same.built ∙ now-built in
+          record {
+            built = built;
+            course = on;
+            countable = subst (λ (ps : List (List ℕ)). CanBeCounted (concat ps)) (sym lines.same.pieces) next.5.countable;
+            all = lines.all;
+            early = (
+              early.0,
+              subst (λ (c : Built). Decides c.dictionary (concat (but_last u.pieces)) early.0) (sym built) (subst (λ (ps : List (List ℕ)). Decides b.dictionary (concat (but_last ps)) early.0) (sym lines.same.pieces) early.1),
+              begins-then early.0 s.given u.given early.2 (o ∷ lines.more, lines.given ∙ ap (λ (os : List Occurrence). os ++ lines.more) next.3 ∙ append_assoc s.given (o ∷ []) lines.more),
+            );
+            input = input-after u lines.same;
+            read = subst (λ (ps : List (List ℕ)). HasGiven remaining r0 r1 ps 0) (sym lines.same.pieces) now-given;
+            written = subst (λ (x : List ℕ). HasTaken contents w0 w1 x 0 0) (sym (lines-since u lines.more lines.given)) (taken-sent contents w0 w w1 (listed s.given) (listed (o ∷ lines.more)) h.written lines.sent);
+          }
 
       -- what is said of a write that failed
       failed-write : (u : StreamProgress) (w1 : Watched W) (stalls : ℕ) → StopsWriting contents o t u w w1 → IsOnCourse u → stalls_of w1 ≡ stalls_of w + stalls
           → (m : Moved) × HasMoved remaining contents r0 r1 w0 w1 m × AllFit (room_of b) m.pieces × WroteToFailedWrite (listed_in b) (IsListedFront b) m stalls
       failed-write u w1 stalls stops on stalled =
           let before = listed s.given in
+          let early = gave-early in
           let gained = stops.stopped.gained in
           let lost = stops.stopped.lost in
           let order : gained ++ lost ≡ listed (o ∷ stops.more) = stops.stopped.order in
@@ -405,7 +508,11 @@ module _ {R W : Type 0} (remaining : R → Option (List ℕ)) (contents : W → 
             record { pieces = t.pieces; failed_reads = 0; taken = before ++ gained; failed_writes = 1; stalled_writes = stalls },
             record { reader = now-given; writer = taken-stopped contents w0 w w1 before (listed (o ∷ stops.more)) stalls stops.stopped h.written stalled },
             pieces-fit b t now-built course,
-            record { at_least = (before, sym written-front, (gained, refl)); at_most = (lost ++ begun.0, split); failed = (refl, refl, refl) },
+            record {
+              at_least = (listed early.0, (early.0, early.1, refl), begins-then (listed early.0) before (before ++ gained) (listed-beginning early.0 s.given early.2) (gained, refl));
+              at_most = (lost ++ begun.0, split);
+              failed = (refl, refl, refl);
+            },
           )
 
       -- a write failed
@@ -422,13 +529,13 @@ module _ {R W : Type 0} (remaining : R → Option (List ℕ)) (contents : W → 
       found-read u same = (same.built ∙ now-built, now-given.pieces ∙ ap (λ (ps : List (List ℕ)). pieces_of r0 ++ ps) (sym same.pieces))
 
     -- a read failed, or there are more bytes than places
-    pub next-stopped : (error : StreamError) → NextGives remaining s t r r1 (Some (Err error)) → ListsStream remaining contents b r0 r1 w0 w (Err error)
-    next-stopped (reads.Config error) gives = absurd gives
-    next-stopped (reads.Read error) gives = ends-failed_read error gives.0 gives.1 gives.3 gives.5
-    next-stopped (reads.Write error) gives = absurd gives
-    next-stopped reads.WriteZero gives = absurd gives
-    next-stopped reads.Memory gives = absurd gives
-    next-stopped reads.Position gives = ends-too_long gives.0 gives.1 gives.2 gives.3 gives.4
+    pub next-stopped : (error : StreamError) → IsOpen s r → NextGives remaining s t r r1 (Some (Err error)) → ListsStream remaining contents b r0 r1 w0 w (Err error)
+    next-stopped (reads.Config error) may gives = absurd gives
+    next-stopped (reads.Read error) may gives = ends-failed_read error gives.0 may gives.1 gives.3 gives.5
+    next-stopped (reads.Write error) may gives = absurd gives
+    next-stopped reads.WriteZero may gives = absurd gives
+    next-stopped reads.Memory may gives = absurd gives
+    next-stopped reads.Position may gives = ends-too_long gives.0 may gives.1 gives.3 gives.4
 
     -- what was read, all in all
     gained-read : (gained : List (List ℕ)) (failed : ℕ) → HasGained remaining s t r r1 gained failed → (t.built ≡ b) × (pieces_of r1 ≡ pieces_of r0 ++ t.pieces)
@@ -448,11 +555,16 @@ module _ {R W : Type 0} (remaining : R → Option (List ℕ)) (contents : W → 
     pub ended-read : NextGives remaining s t r r1 None → (t.built ≡ b) × (pieces_of r1 ≡ pieces_of r0 ++ t.pieces)
     ended-read gives = gained-read gives.0 0 gives.1
 
--- ---- what settings and rules say
+-- ---- what it costs
 
--- a text's own end is a cut
-end-cut : (b : Built) (x : List ℕ) → IsCut b.dictionary x (length x)
-end-cut b x = matches-cut b x (length x) (length b.dictionary.patterns) (matches_in b x) [] (omega arith) (sym (append-nil _)) (matches-lie b x) (λ k d lt. absurd (omega arith))
+-- what a list cost is what its search has counted
+pub cost-listed : {R : Type 0} (b : Built) (s t : StreamProgress) (r0 r1 : Watched R) (before after : Steps) (result : Result (Unit {0}) StreamError) → s ≡ fresh_progress b → HasSearched s t r0 r1 before after result → CostsStreaming b r0 r1 before after result
+cost-listed b s t r0 r1 before after (Ok done) fresh h = let cost = cost-read-any_kind b s t r0 r1 before after (Ok done) fresh tt h in (cost.0, cost.1, cost.2, cost.3)
+cost-listed b s t r0 r1 before after (Err error) fresh h =
+    let cost = cost-read-any_kind b s t r0 r1 before after (Err reads.WriteZero) fresh tt (record { built = h.built; read = h.read; counts = h.counts; course = h.course; searched = tt }) in
+    (cost.0, cost.1, cost.2, tt)
+
+-- ---- what settings and rules say
 
 module _ (settings : Settings) (rules : List Rule) (b : Built) (built : b.dictionary ≡ dictionary_for settings rules) (mode : settings.mode ≡ modes.List) where
   -- the lines of an input are its text
@@ -461,21 +573,16 @@ module _ (settings : Settings) (rules : List Rule) (b : Built) (built : b.dictio
       ap (λ (m : Dictionary). listed (walk_of m.kind (whole m x false))) built
       ∙ ap (λ (asked : Mode). text_in asked settings.kind (replacements_of rules) (whole_search settings (rule_patterns rules) x)) (sym mode)
 
-  -- they are the front of it that ends where it ends
-  lines-front : (x text : List ℕ) → text ≡ listed_in b x → IsOutputFront settings rules x text
-  lines-front x text is = record {
-    front = record {
-      cut = length x;
-      is_cut = subst (λ (m : Dictionary). IsCut m x (length x)) built (end-cut b x);
-      near = record { kept = omega arith; all = λ done. omega arith };
-      front = is ∙ lines-output x ∙ ap (output_of settings rules) (sym (take_all (length x) x (omega arith)));
-    };
-    listed = λ _. refl;
+  -- a line for each match that is decided is all that can be written
+  lines-front : (x text : List ℕ) → IsListedFront b x text → IsOutputFront settings rules x text
+  lines-front x text front = record {
+    replaced = λ other. let apart : modes.List ≡ modes.Replace = sym mode ∙ other in absurd (cc);
+    listed = λ _. subst (λ (m : Dictionary). IsDecidedList m x text) built front;
   }
 
   -- the result of a list is that of a run that writes while it reads
   pub streams-listed : {R W : Type 0} (remaining : R → Option (List ℕ)) (contents : W → Option (List ℕ)) (r0 r1 : Watched R) (w0 w1 : Watched W) (searched : Result (Unit {0}) StreamError) (result : Result (Unit {0}) RunError) → IsReturnedAs searched result
-      → ListsStream remaining contents b r0 r1 w0 w1 searched → Streams remaining contents r0 r1 w0 w1 (record { settings = settings; rules = rules }) result
+      → ListsStream remaining contents b r0 r1 w0 w1 searched → Streams remaining contents r0 r1 w0 w1 (plan_for settings rules) result
   streams-listed remaining contents r0 r1 w0 w1 searched result returned (m, moved, short, a) =
       (m, moved, pieces-within b settings rules m built short, searched, returned, answers-alike (listed_in b) (output_of settings rules) (IsListedFront b) (IsOutputFront settings rules) lines-output lines-front m searched a)
 
@@ -491,13 +598,12 @@ nothing-listed remaining contents b reader writer = (
 -- ---- where it did not begin
 
 -- a search of a stream that is supported returns no search error
-can-config : (b : Built) (supports : Anchored → Type 0) (refusal : MatchErrorKind) → CanStream b supports → IsConfigRefusal b supports refusal → ⊥
+can-config : (b : Built) (supports : Anchored → Type 0) (refusal : MatchErrorKind) → CanStreamAnyKind b supports → IsAnyKindConfigRefusal b supports refusal → ⊥
 can-config b supports refusal can (inl h) = h.0 can.0
-can-config b supports refusal can (inr (inl h)) = h.1 can.1
-can-config b supports refusal can (inr (inr h)) = let some = can.2 in let zero = h.2 in absurd (omega arith)
+can-config b supports refusal can (inr h) = let some = can.1 in let zero = h.1 in absurd (omega arith)
 
 -- if it fails, it is out of memory
-pub refused-memory : (b : Built) (supports : Anchored → Type 0) (error : StreamError) → CanStream b supports → IsStreamRefusal b supports error → error ≡ reads.Memory
+pub refused-memory : (b : Built) (supports : Anchored → Type 0) (error : StreamError) → CanStreamAnyKind b supports → IsAnyKindRefusal b supports error → error ≡ reads.Memory
 refused-memory b supports (reads.Config refusal) can refused = absurd (can-config b supports refusal can refused)
 refused-memory b supports (reads.Read error) can refused = absurd refused
 refused-memory b supports (reads.Write error) can refused = absurd refused
@@ -529,9 +635,8 @@ never-memory P (Ok done) begun = tt
 never-memory P (Err error) begun = λ e. absurd (subst IsBegun e begun)
 
 -- where the text is written while the input is read, the search can be made
-pub streamed-can : (b : Built) (supports : Anchored → Type 0) (settings : Settings) (rules : List Rule) → b.dictionary ≡ dictionary_for settings rules → supports No → IsStreamed settings rules → CanStream b supports
-streamed-can b supports settings rules is can streamed = (
+pub streamed-can : (b : Built) (supports : Anchored → Type 0) (plan : Plan) → IsBuiltFor plan b → supports No → IsStreamed plan → CanStreamAnyKind b supports
+streamed-can b supports plan is can streamed = (
   can,
-  ap (λ (m : Dictionary). m.kind) is ∙ streamed.0,
-  subst (λ (m : Dictionary). 1 ≤ shortest m.patterns) (sym is) (filled-shortest rules streamed.2),
+  subst (λ (m : Dictionary). 1 ≤ shortest m.patterns) (sym is) (filled-shortest plan.rules streamed.2),
 )

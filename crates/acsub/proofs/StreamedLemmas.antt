@@ -1,5 +1,5 @@
 -- What a run that writes while it reads has written, from what the automaton's replacement over a stream has.
-use Rattle.std.proofs.Common.{◌≡◌, ◌≢◌, ℕ, ◌≤◌, List, [], ◌∷◌, length, take, Option, Result, Ok, Err, inl, inr, suc, refl, sym, ap, ◌∙◌, subst, arith}
+use Rattle.std.proofs.Common.{◌≡◌, ◌≢◌, ℕ, ◌≤◌, false, List, [], ◌∷◌, ◌++◌, length, take, Option, None, Result, Ok, Err, inl, inr, suc, refl, sym, ap, ◌∙◌, subst, arith}
 use Rattle.std.specs.List.{concat}
 use Rattle.std.proofs.lemmas.List.{append-nil, nil_from_length}
 use Rattle.ac_input.specs.declared.search.Anchored.{Anchored}
@@ -7,19 +7,21 @@ use Rattle.ac_input.specs.declared.search.Anchored.TheVariants.{No}
 use Rattle.ac_input.specs.BeginningLaws.{IsBeginning}
 use Rattle.ac_input.specs.Computed.{walk_of}
 use Rattle.ac_input.specs.Cut.{IsCut}
-use Rattle.ac_input.specs.Dictionary.{Dictionary}
+use Rattle.ac_input.specs.Dictionary.{Dictionary, whole}
 use Rattle.ac_input.specs.Input.{search_in, whole_of}
 use Rattle.ac_input.specs.Rules.{Rule}
 use Rattle.ac_input.specs.Text.{replaced_from}
 use Rattle.ac_input.specs.Work.{longest, shortest}
-use Rattle.ac_input.proofs.CutLemmas.{cut-final}
+use Rattle.ac_input.proofs.BeginningLemmas.{listed-beginning}
 use Rattle.ac_automaton.specs.Automaton.{Built}
 use Rattle.ac_automaton.specs.Buffer.{kept_for, room_for}
 use Rattle.ac_automaton.specs.Moved.{AllFit, AreFilled, Moved, but_last}
-use Rattle.ac_automaton.specs.Stream.{IsConfigRefusal, IsNear, room_of}
+use Rattle.ac_automaton.specs.Stream.{IsAnyKindConfigRefusal, IsNear, room_of}
 use Rattle.ac_automaton.specs.StreamAnswer.{AnswersWriting, WroteToFailedWrite}
-use Rattle.ac_automaton.specs.StreamReplace.{AcceptsReplacing, IsReplacedFront, ReplacesStream, replaced_in}
+use Rattle.ac_automaton.specs.StreamReplace.{AcceptsReplacingAnyKind, IsReplacedFront, ReplacesStream, replaced_in}
 use Rattle.ac_automaton.specs.Watched.{pieces_of}
+use Rattle.ac_automaton.proofs.StreamAnswerLemmas.{cost-none-any_kind}
+use Rattle.ac_input.specs.declared.steps.Steps.{Steps}
 use Rattle.ac_automaton.specs.declared.error.MatchErrorKind.{MatchErrorKind}
 use Rattle.ac_automaton.specs.declared.error.StreamError.{StreamError}
 use Rattle.ac_automaton.specs.declared.error.StreamError.TheVariants as stream
@@ -29,13 +31,14 @@ use Rattle.acsub.specs.declared.error.RunError.TheVariants as errors
 use Rattle.acsub.specs.declared.settings.Mode.{Mode}
 use Rattle.acsub.specs.declared.settings.Mode.TheVariants as modes
 use Rattle.acsub.specs.declared.settings.Settings.{Settings}
-use Rattle.acsub.specs.Finder.{whole_search}
+use Rattle.acsub.specs.Finder.{IsBuiltFor, whole_search}
 use Rattle.acsub.specs.Served.{dictionary_for}
 use Rattle.acsub.specs.Run.{AnswersRules, IsRefusal, RanPrepared, RanToFailedWrite, ReadsByBuffer, ReadsWithin}
 use Rattle.acsub.specs.Plan.{Plan, plan_for}
 use Rattle.acsub.specs.Settings.{HasEmptyPattern, IsAccepted}
 use Rattle.acsub.specs.Sides.{rule_patterns, replacements_of}
-use Rattle.acsub.specs.Stream.{IsReturnedAs, Streams}
+use Rattle.acsub.specs.Stream.{CostsStreaming, IsReturnedAs, Streams}
+use Rattle.acsub.proofs.CutLemmas.{cut-begins}
 use Rattle.acsub.proofs.RunLemmas.{HasMoved-nothing, nothing}
 use Rattle.acsub.specs.Transformed.{IsOutputFront, IsStreamed, output_of, stream_room, text_in}
 
@@ -50,21 +53,20 @@ filled-shortest (rule ∷ rules) filled =
     omega (arith, rest, some)
 
 -- none of the reasons stands against the search of a stream
-config-none : (b : Built) (supports : Anchored → Type 0) (settings : Settings) (rules : List Rule) (refusal : MatchErrorKind) → b.dictionary ≡ dictionary_for settings rules → supports No → IsStreamed settings rules → ¬ IsConfigRefusal b supports refusal
-config-none b supports settings rules refusal is can streamed (inl none) = none.0 can
-config-none b supports settings rules refusal is can streamed (inr (inl other)) = other.1 (ap (λ (m : Dictionary). m.kind) is ∙ streamed.0)
-config-none b supports settings rules refusal is can streamed (inr (inr empty)) =
-    let some = filled-shortest rules streamed.2 in
-    let same : shortest b.dictionary.patterns ≡ shortest (rule_patterns rules) = ap (λ (m : Dictionary). shortest m.patterns) is in
-    let none = empty.2 in
+config-none : (b : Built) (supports : Anchored → Type 0) (plan : Plan) (refusal : MatchErrorKind) → IsBuiltFor plan b → supports No → IsStreamed plan → ¬ IsAnyKindConfigRefusal b supports refusal
+config-none b supports plan refusal is can streamed (inl none) = none.0 can
+config-none b supports plan refusal is can streamed (inr empty) =
+    let some = filled-shortest plan.rules streamed.2 in
+    let same : shortest b.dictionary.patterns ≡ shortest (rule_patterns plan.rules) = ap (λ (m : Dictionary). shortest m.patterns) is in
+    let none : shortest b.dictionary.patterns ≡ 0 = empty.1 in
     omega (arith, none, some, same)
 
 -- the search of the stream is supported
-pub not-refused : {R W : Type 0} (b : Built) (supports : Anchored → Type 0) (settings : Settings) (rules : List Rule) (r r' : Watched R) (w w' : Watched W) (error : StreamError) (refusal : MatchErrorKind) → b.dictionary ≡ dictionary_for settings rules → supports No → IsStreamed settings rules
-    → AcceptsReplacing b supports r r' w w' (Err error) → error ≢ stream.Config refusal
-not-refused b supports settings rules r r' w w' error refusal is can streamed refused e =
-    let g = subst (λ (other : StreamError). AcceptsReplacing b supports r r' w w' (Err other)) e refused in
-    config-none b supports settings rules refusal is can streamed g.0
+pub not-refused : {R W : Type 0} (b : Built) (supports : Anchored → Type 0) (plan : Plan) (r r' : Watched R) (w w' : Watched W) (error : StreamError) (refusal : MatchErrorKind) → IsBuiltFor plan b → supports No → IsStreamed plan
+    → AcceptsReplacingAnyKind b supports r r' w w' (Err error) → error ≢ stream.Config refusal
+not-refused b supports plan r r' w w' error refusal is can streamed refused e =
+    let g = subst (λ (other : StreamError). AcceptsReplacingAnyKind b supports r r' w w' (Err other)) e refused in
+    config-none b supports plan refusal is can streamed g.0
 
 -- ---- the text
 
@@ -78,7 +80,7 @@ replaced-output b settings rules x is mode =
 replaced-front : (b : Built) (settings : Settings) (rules : List Rule) (x text : List ℕ) → b.dictionary ≡ dictionary_for settings rules → settings.mode ≡ modes.Replace → IsReplacedFront b (replacements_of rules) x text → IsOutputFront settings rules x text
 replaced-front b settings rules x text is mode f =
     record {
-      front = record {
+      replaced = λ _. record {
         cut = f.cut;
         is_cut = subst (λ (m : Dictionary). IsCut m x f.cut) is f.is_cut;
         near = subst (λ (m : Dictionary). IsNear m x f.cut) is f.near;
@@ -87,17 +89,28 @@ replaced-front b settings rules x text is mode f =
       listed = λ other. let apart : modes.Replace ≡ modes.List = sym mode ∙ other in absurd (cc);
     }
 
+-- an automaton of the rules' patterns
+abbrev built_for : Settings → List Rule → Built
+built_for settings rules = record { dictionary = dictionary_for settings rules; deterministic = false; prefilter = None }
+
 -- the front of a text is a beginning of it, whichever mode makes it
-front-begins : (settings : Settings) (rules : List Rule) (x text : List ℕ) (mode : Mode) → settings.mode ≡ mode → IsStreamed settings rules → IsOutputFront settings rules x text → IsBeginning text (output_of settings rules x)
-front-begins settings rules x text modes.Replace is streamed f =
-    let final = cut-final (dictionary_for settings rules) x f.front.cut (replacements_of rules) streamed.0 f.front.is_cut in
-    subst (λ (t : List ℕ). IsBeginning t (output_of settings rules x)) (sym f.front.front)
-    (subst (λ (k : Mode). IsBeginning (text_in k settings.kind (replacements_of rules) (whole_search settings (rule_patterns rules) (take f.front.cut x))) (text_in k settings.kind (replacements_of rules) (whole_search settings (rule_patterns rules) x))) (sym is) final.0)
-front-begins settings rules x text modes.List is streamed f =
-    let final = cut-final (dictionary_for settings rules) x f.front.cut (replacements_of rules) streamed.0 f.front.is_cut in
-    subst (λ (t : List ℕ). IsBeginning t (output_of settings rules x)) (sym f.front.front)
-    (subst (λ (k : Mode). IsBeginning (text_in k settings.kind (replacements_of rules) (whole_search settings (rule_patterns rules) (take f.front.cut x))) (text_in k settings.kind (replacements_of rules) (whole_search settings (rule_patterns rules) x))) (sym is) final.1)
-front-begins settings rules x text modes.Overlap is streamed f = absurd (streamed.1 is)
+front-begins : (plan : Plan) (x text : List ℕ) (mode : Mode) → plan.settings.mode ≡ mode → IsStreamed plan → IsOutputFront plan.settings plan.rules x text → IsBeginning text (output_of plan.settings plan.rules x)
+front-begins plan x text modes.Replace is streamed f =
+    let front = f.replaced is in
+    let b = built_for plan.settings plan.rules in
+    let begins = cut-begins b x front.cut (replacements_of plan.rules) (filled-shortest plan.rules streamed.2) front.is_cut in (
+      begins.0,
+      sym (replaced-output b plan.settings plan.rules x refl is) ∙ begins.1 ∙ ap (λ (t : List ℕ). t ++ begins.0) (replaced-output b plan.settings plan.rules (take front.cut x) refl is ∙ sym front.front),
+    )
+front-begins plan x text modes.List is streamed f =
+    let front = f.listed is in
+    let m = dictionary_for plan.settings plan.rules in
+    let first = subst (λ (y : List ℕ). IsBeginning front.0 (walk_of m.kind (whole m y false))) (append-nil x) (front.1.first []) in
+    let lines = listed-beginning front.0 (walk_of m.kind (whole m x false)) first in (
+      lines.0,
+      ap (λ (k : Mode). text_in k plan.settings.kind (replacements_of plan.rules) (whole_search plan.settings (rule_patterns plan.rules) x)) is ∙ lines.1 ∙ ap (λ (t : List ℕ). t ++ lines.0) (sym front.2),
+    )
+front-begins plan x text modes.Overlap is streamed f = absurd (streamed.1 is)
 
 -- ---- what the results say
 
@@ -136,38 +149,44 @@ streams-replaced remaining contents b settings rules texts r r' w w' searched re
 pub streams-nothing : {R W : Type 0} (remaining : R → Option (List ℕ)) (contents : W → Option (List ℕ)) (settings : Settings) (rules : List Rule) (r : Watched R) (w : Watched W) → Streams remaining contents r r w w (plan_for settings rules) (Err errors.Memory)
 streams-nothing remaining contents settings rules r w = (nothing, HasMoved-nothing remaining contents r w, λ k d lt. absurd (omega arith), Err stream.Memory, refl, record { pieces = refl; taken = refl; failed = (refl, refl, refl) })
 
+-- ---- what it costs
+
+-- nothing was read, and nothing counted
+pub cost-nothing : {R E : Type 0} (b : Built) (r : Watched R) (steps : Steps) (error : E) → CostsStreaming b r r steps steps (Err error)
+cost-nothing b r steps error = let cost = cost-none-any_kind b r steps stream.Memory in (cost.0, cost.1, cost.2, tt)
+
 -- ---- what a run says of it
 
-module _ (settings : Settings) (rules : List Rule) (m : Moved) (accepted : IsAccepted settings rules) (streamed : IsStreamed settings rules) where
+module _ (plan : Plan) (m : Moved) (accepted : IsAccepted plan.settings plan.rules) (streamed : IsStreamed plan) where
   -- a write that stopped
-  streamed_failed : (stalls : ℕ) → WroteToFailedWrite (output_of settings rules) (IsOutputFront settings rules) m stalls → RanToFailedWrite (plan_for settings rules) m stalls
+  streamed_failed : (stalls : ℕ) → WroteToFailedWrite (output_of plan.settings plan.rules) (IsOutputFront plan.settings plan.rules) m stalls → RanToFailedWrite plan m stalls
   streamed_failed stalls h =
       record { accepted = accepted; streamed = λ _. h.at_least; whole_input = λ held. absurd (held streamed); written = h.at_most; failed = h.failed }
 
   -- a run says this where it returns the result of its search
   abbrev Says : Result (Unit {0}) RunError → Type 0
-  Says result = ¬ IsRefusal result × AnswersRules (plan_for settings rules) m result
+  Says result = ¬ IsRefusal result × AnswersRules plan m result
 
-  pub streamed-says : (searched : Result (Unit {0}) StreamError) (result : Result (Unit {0}) RunError) → IsReturnedAs searched result → AnswersWriting (output_of settings rules) (IsOutputFront settings rules) m searched → Says result
+  pub streamed-says : (searched : Result (Unit {0}) StreamError) (result : Result (Unit {0}) RunError) → IsReturnedAs searched result → AnswersWriting (output_of plan.settings plan.rules) (IsOutputFront plan.settings plan.rules) m searched → Says result
   streamed-says (Ok done) result is a = subst Says (sym is) (λ refusal. refusal, record { accepted = accepted; whole = a.whole; written = a.written; failed = a.failed })
   streamed-says (Err (stream.Config error)) result is a = absurd is
-  streamed-says (Err (stream.Read error)) result is a = subst Says (sym is) (λ refusal. refusal, record { accepted = accepted; streamed = λ _. a.written; whole_input = λ held. absurd (held streamed); written = front-begins settings rules (concat m.pieces) m.taken settings.mode refl streamed a.written; failed = a.failed })
+  streamed-says (Err (stream.Read error)) result is a = subst Says (sym is) (λ refusal. refusal, record { accepted = accepted; streamed = λ _. a.written; whole_input = λ held. absurd (held streamed); written = front-begins plan (concat m.pieces) m.taken plan.settings.mode refl streamed a.written; failed = a.failed })
   streamed-says (Err (stream.Write error)) result is a = subst Says (sym is) (λ refusal. refusal, streamed_failed 0 a)
   streamed-says (Err stream.WriteZero) result is a = subst Says (sym is) (λ refusal. refusal, streamed_failed 1 a)
   streamed-says (Err stream.Memory) result is a = subst Says (sym is) (λ refusal. refusal, record { accepted = λ some. absurd (some a.pieces); streamed = λ _. a.pieces; filled = subst AreFilled (sym a.pieces) tt; written = a.taken; failed = a.failed })
   streamed-says (Err stream.Position) result is a = subst Says (sym is) (λ refusal. refusal, record { accepted = accepted; long = a.long; written = a.written; failed = a.failed })
 
 -- the result of a run that writes while it reads
-pub streamed_answer : {R W : Type 0} (remaining : R → Option (List ℕ)) (contents : W → Option (List ℕ)) (settings : Settings) (rules : List Rule) (r r' : Watched R) (w w' : Watched W) (result : Result (Unit {0}) RunError) → IsAccepted settings rules → IsStreamed settings rules
-    → Streams remaining contents r r' w w' (plan_for settings rules) result → RanPrepared remaining contents r r' w w' (plan_for settings rules) result
-streamed_answer remaining contents settings rules r r' w w' result accepted streamed (m, moved, short, searched, returned, a) =
-    let says = streamed-says settings rules m accepted streamed searched result returned a in
+pub streamed_answer : {R W : Type 0} (remaining : R → Option (List ℕ)) (contents : W → Option (List ℕ)) (plan : Plan) (r r' : Watched R) (w w' : Watched W) (result : Result (Unit {0}) RunError) → IsAccepted plan.settings plan.rules → IsStreamed plan
+    → Streams remaining contents r r' w w' plan result → RanPrepared remaining contents r r' w w' plan result
+streamed_answer remaining contents plan r r' w w' result accepted streamed (m, moved, short, searched, returned, a) =
+    let says = streamed-says plan m accepted streamed searched result returned a in
     (m, moved, says.0, says.1)
 
 -- no read gave more than the buffer has room for
-pub streamed_short : {R W : Type 0} (remaining : R → Option (List ℕ)) (contents : W → Option (List ℕ)) (settings : Settings) (rules : List Rule) (r r' : Watched R) (w w' : Watched W) (result : Result (Unit {0}) RunError)
-    → Streams remaining contents r r' w w' (plan_for settings rules) result → ReadsWithin (stream_room rules) r r'
-streamed_short remaining contents settings rules r r' w w' result (m, moved, short, searched, returned, a) = (m.pieces, moved.reader.pieces, short)
+pub streamed_short : {R W : Type 0} (remaining : R → Option (List ℕ)) (contents : W → Option (List ℕ)) (plan : Plan) (r r' : Watched R) (w w' : Watched W) (result : Result (Unit {0}) RunError)
+    → Streams remaining contents r r' w w' plan result → ReadsWithin (stream_room plan.rules) r r'
+streamed_short remaining contents plan r r' w w' result (m, moved, short, searched, returned, a) = (m.pieces, moved.reader.pieces, short)
 
 -- nothing was read
 pub nothing_short : {R : Type 0} (plan : Plan) (r : Watched R) → ReadsByBuffer plan r r

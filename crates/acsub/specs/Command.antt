@@ -85,9 +85,9 @@ versioned = record (new_app (codes "acsub")) { top = record (new_app (codes "acs
 
 abbrev pub command_with : Lists → App
 command_with lists =
-    with_engine lists.engines (with_matching lists.kinds (with_rule (with_rule (with_rule versioned (mode_rule lists.modes)) (placed (codes "rules"))) (flag (codes "text"))))
+    with_engine lists.engines (with_matching lists.kinds (with_rule (with_rule (with_rule (with_rule versioned (mode_rule lists.modes)) (placed (codes "rules"))) (flag (codes "text"))) (flag (codes "stream"))))
 
--- acsub MODE RULES [--text] [--kind K] [--fold] [--pairs HEX] [--engine E] [--no-prefilter] [--dense-depth N] [--no-byte-classes]
+-- acsub MODE RULES [--text] [--stream] [--kind K] [--fold] [--pairs HEX] [--engine E] [--no-prefilter] [--dense-depth N] [--no-byte-classes]
 abbrev pub command : App
 command = command_with (record { modes = as_names mode_names; kinds = as_names kind_names; engines = as_names engine_names })
 

@@ -18,6 +18,7 @@ use Rattle.acsub.specs.declared.error.RunError.{RunError}
 use Rattle.acsub.specs.declared.error.RunError.TheVariants as errors
 use Rattle.acsub.specs.declared.prepared.Finder.{Finder}
 use Rattle.acsub.specs.declared.prepared.Finder.TheVariants as finders
+use Rattle.acsub.specs.declared.settings.Engine.TheVariants as engines
 use Rattle.acsub.specs.declared.settings.Settings.{Settings}
 use Rattle.acsub.specs.Plan.{Plan}
 use Rattle.acsub.specs.Served.{IsAutomatonFor, IsBuildable, IsNotBuilt, IsServedByDfa, dictionary_for}
@@ -43,18 +44,18 @@ IsPackedFor kind patterns searcher = (search_kind searcher.kind ≡ kind) × (se
 abbrev pub IsBuiltFor : Plan → Built → Type 0
 IsBuiltFor plan b = b.dictionary ≡ dictionary_for plan.settings plan.rules
 
--- An automaton serves a plan: it is built for it, looks at one state for a byte where a DFA serves, and has a start for searches
--- that may match anywhere.
-pub record IsServing (plan : Plan) (b : Built) (supports : Anchored → Type 0) : Type 0 where
-  pub dictionary : IsBuiltFor plan b
-  pub looks : IsServedByDfa plan.settings plan.rules → IsTrue b.deterministic
+-- An automaton serves settings and rules: it is built for them, looks at one state for a byte where a DFA serves, and has a start
+-- for searches that may match anywhere.
+pub record IsServing (settings : Settings) (rules : List Rule) (b : Built) (supports : Anchored → Type 0) : Type 0 where
+  pub dictionary : b.dictionary ≡ dictionary_for settings rules
+  pub looks : IsServedByDfa settings rules → IsTrue b.deterministic
   pub start : supports No
 
 -- What finds the matches of settings and rules: an automaton that serves them; or a packed search for the patterns and the kind,
--- where no bytes are paired.
+-- where the engine's word names it and no bytes are paired.
 abbrev pub IsFinderOf : {A : Type 0} → (A → Built) → (A → Anchored → Type 0) → Settings → List Rule → Finder A → Type 0
-IsFinderOf built supports settings rules (finders.Automaton automaton) = IsServing (record { settings = settings; rules = rules }) (built automaton) (supports automaton)
-IsFinderOf built supports settings rules (finders.Packed searcher) = IsPackedFor settings.kind (rule_patterns rules) searcher × IsUnpaired settings.pairing
+IsFinderOf built supports settings rules (finders.Automaton automaton) = IsServing settings rules (built automaton) (supports automaton)
+IsFinderOf built supports settings rules (finders.Packed searcher) = IsPackedFor settings.kind (rule_patterns rules) searcher × IsUnpaired settings.pairing × (settings.engine ≡ engines.Packed)
 
 -- the error of a run where nothing was built: out of memory is none of its limits
 abbrev pub not_built : BuildErrorKind → RunError
@@ -77,12 +78,12 @@ FailsToBuild settings rules errors.Position = ⊥
 -- an automaton that serves settings and rules, of the kind that they ask for, where their patterns pass no limit; or why there is none
 abbrev pub BuildsAutomaton : Settings → List Rule → Result AhoCorasick RunError → Type 0
 BuildsAutomaton settings rules (Ok automaton) =
-    IsServing (record { settings = settings; rules = rules }) (as_built automaton) (supported_by automaton)
+    IsServing settings rules (as_built automaton) (supported_by automaton)
     × IsAutomatonFor settings rules (kind_served (serving_engine automaton))
     × IsBuildable settings rules
 BuildsAutomaton settings rules (Err error) = FailsToBuild settings rules error
 
--- all is made for settings and rules, whose patterns pass no limit; or why it is not
-abbrev pub Builds : Settings → List Rule → Result Plan RunError → Type 0
-Builds settings rules (Ok made) = (made ≡ record { settings = settings; rules = rules }) × IsBuildable settings rules
-Builds settings rules (Err error) = FailsToBuild settings rules error
+-- all is made for a plan, whose patterns pass no limit; or why it is not
+abbrev pub Builds : Plan → Result Plan RunError → Type 0
+Builds asked (Ok made) = (made ≡ asked) × IsBuildable asked.settings asked.rules
+Builds asked (Err error) = FailsToBuild asked.settings asked.rules error

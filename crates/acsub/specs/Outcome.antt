@@ -17,6 +17,7 @@ use Rattle.acsub.specs.declared.tool.Fault.TheVariants as faults
 use Rattle.acsub.specs.declared.words.Words.{Words}
 use Rattle.acsub.specs.declared.words.WordsFault.{WordsFault}
 use Rattle.acsub.specs.declared.words.WordsFault.TheVariants.{Help, Bad, Memory, Pairing}
+use Rattle.acsub.specs.Plan.{plan_of}
 use Rattle.acsub.specs.Run.{RanIn, RefusesIn}
 use Rattle.acsub.specs.Stream.{IsReturnedAs}
 use Rattle.acsub.specs.Tool.{IsFaultOf, exit_of, status_of}
@@ -77,8 +78,8 @@ module _ {W : Type 0} (contents : W → Option (List ℕ)) where
 pub record RanFile {F R W : Type 0} (held : F → Option (List ℕ)) (remaining : R → Option (List ℕ)) (contents : W → Option (List ℕ)) (asked : Words) (reader_before reader_after : Watched R) (writer_before writer_after : Watched W) (answer : Result (Unit {0}) RunError) : Type 0 where
   pub file : List ℕ
   pub is_file : IsFile held file
-  pub ran : RanIn asked.text remaining contents reader_before reader_after writer_before writer_after asked.settings file answer
-  pub fault : RefusesIn asked.text asked.settings file reader_before reader_after writer_before writer_after answer
+  pub ran : RanIn asked.text remaining contents reader_before reader_after writer_before writer_after (plan_of asked.stream asked.settings) file answer
+  pub fault : RefusesIn asked.text (plan_of asked.stream asked.settings) file reader_before reader_after writer_before writer_after answer
 
 module _ {F R W : Type 0} (held : F → Option (List ℕ)) (remaining : R → Option (List ℕ)) (contents : W → Option (List ℕ)) where
   module _ (asked : Words) (reader_before reader_after : Watched R) (writer_before writer_after : Watched W) where

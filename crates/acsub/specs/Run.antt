@@ -6,7 +6,7 @@ use Rattle.ac_input.specs.Rules.{Rule}
 use Rattle.ac_input.specs.Steps.{looked_of, moved_of, scanned_of}
 use Rattle.ac_input.specs.declared.steps.Steps.{Steps}
 use Rattle.ac_automaton.specs.Moved.{AllFit, AreFilled, AreWhole, Failed, HasMoved, Moved, NoneTouched}
-use Rattle.ac_automaton.specs.Stream.{CanBeCounted}
+use Rattle.ac_automaton.specs.Stream.{CanBeCounted, read_again}
 use Rattle.ac_automaton.specs.Watched.{pieces_of}
 use Rattle.ac_automaton.specs.declared.watched.Watched.{Watched}
 use Rattle.acsub.specs.declared.rules.RuleError.{RuleError}
@@ -16,8 +16,9 @@ use Rattle.acsub.specs.declared.error.RunError.TheVariants as errors
 use Rattle.acsub.specs.declared.settings.Settings.{Settings}
 use Rattle.acsub.specs.Matches.{IsHeldCost}
 use Rattle.acsub.specs.File.{IsBadLineOf, IsFileOf}
+use Rattle.acsub.specs.Finder.{whole_walk}
 use Rattle.acsub.specs.Plan.{Plan, plan_for}
-use Rattle.acsub.specs.Served.{AreLooksFor, IsBuildable, IsNotBuilt}
+use Rattle.acsub.specs.Served.{AreLooksFor, IsBuildable, IsNotBuilt, dictionary_for}
 use Rattle.acsub.specs.Settings.{IsAccepted, IsFirstExclusion}
 use Rattle.acsub.specs.Transformed.{IsOutputFront, IsPrompt, IsStreamed, output_of, stream_room}
 
@@ -34,8 +35,8 @@ pub record RanWhole (plan : Plan) (m : Moved) : Type 0 where
 -- nothing was written.
 pub record RanToFailedRead (plan : Plan) (m : Moved) : Type 0 where
   pub accepted : IsAccepted plan.settings plan.rules
-  pub streamed : IsStreamed plan.settings plan.rules → IsOutputFront plan.settings plan.rules (concat m.pieces) m.taken
-  pub whole_input : ¬ IsStreamed plan.settings plan.rules → m.taken ≡ []
+  pub streamed : IsStreamed plan → IsOutputFront plan.settings plan.rules (concat m.pieces) m.taken
+  pub whole_input : ¬ IsStreamed plan → m.taken ≡ []
   pub written : IsBeginning m.taken (output_of plan.settings plan.rules (concat m.pieces))
   pub failed : Failed m 1 0 0
 
@@ -44,8 +45,8 @@ pub record RanToFailedRead (plan : Plan) (m : Moved) : Type 0 where
 -- end.
 pub record RanToFailedWrite (plan : Plan) (m : Moved) (stalls : ℕ) : Type 0 where
   pub accepted : IsAccepted plan.settings plan.rules
-  pub streamed : IsStreamed plan.settings plan.rules → IsPrompt plan.settings plan.rules m
-  pub whole_input : ¬ IsStreamed plan.settings plan.rules → AreWhole m.pieces
+  pub streamed : IsStreamed plan → IsPrompt plan.settings plan.rules m
+  pub whole_input : ¬ IsStreamed plan → AreWhole m.pieces
   pub written : IsBeginning m.taken (output_of plan.settings plan.rules (concat m.pieces))
   pub failed : Failed m 0 1 stalls
 
@@ -53,7 +54,7 @@ pub record RanToFailedWrite (plan : Plan) (m : Moved) (stalls : ℕ) : Type 0 wh
 -- are accepted and the whole input is read before the text is written.
 pub record RanOutOfMemory (plan : Plan) (m : Moved) : Type 0 where
   pub accepted : m.pieces ≢ [] → IsAccepted plan.settings plan.rules
-  pub streamed : IsStreamed plan.settings plan.rules → m.pieces ≡ []
+  pub streamed : IsStreamed plan → m.pieces ≡ []
   pub filled : AreFilled m.pieces
   pub written : m.taken ≡ []
   pub failed : Failed m 0 0 0
@@ -114,7 +115,7 @@ RanPrepared remaining contents reader_before reader_after writer_before writer_a
 -- Where the text is written while the input is read, a run is out of memory before anything is read.
 abbrev pub RunsOutFirst : {R W : Type 0} → Plan → Watched R → Watched R → Watched W → Watched W → Result (Unit {0}) RunError → Type 0
 RunsOutFirst plan reader_before reader_after writer_before writer_after result =
-    result ≡ Err errors.Memory → IsStreamed plan.settings plan.rules → NoneTouched reader_before reader_after writer_before writer_after
+    result ≡ Err errors.Memory → IsStreamed plan → NoneTouched reader_before reader_after writer_before writer_after
 
 -- What a result says of a run that stopped before it began. A refusal has touched nothing; nor has a run that is out of memory,
 -- where the text is written while the input is read. A run that came to the end or to a fault of a device had passed no limit of a
@@ -130,23 +131,27 @@ ReadsWithin room before after = (gained : List (List ℕ)) × (pieces_of after �
 
 -- Where the text is written while the input is read, no read gives more than the buffer has room for.
 abbrev pub ReadsByBuffer : {R : Type 0} → Plan → Watched R → Watched R → Type 0
-ReadsByBuffer plan before after = IsStreamed plan.settings plan.rules → ReadsWithin (stream_room plan.rules) before after
+ReadsByBuffer plan before after = IsStreamed plan → ReadsWithin (stream_room plan.rules) before after
 
--- What it may cost to read this many bytes, and to write their text while they are read. The looks depend on the automaton that
--- serves the plan; no place is scanned, and at most a seventh of the bytes is moved within the buffer.
-pub record IsRunCost (plan : Plan) (n : ℕ) (before after : Steps) : Type 0 where
-  pub looked : AreLooksFor plan n before after
+-- for how many bytes a search of a stream looks: for all that were read, and for those that it reads again after matches
+abbrev pub read_in_all : Plan → List ℕ → ℕ
+read_in_all plan x = length x + read_again (dictionary_for plan.settings plan.rules) (length (whole_walk plan x))
+
+-- What it may cost to read these bytes, and to write their text while they are read. The looks depend on the automaton that serves
+-- the plan; no place is scanned, and at most a seventh of the bytes is moved within the buffer.
+pub record IsRunCost (plan : Plan) (x : List ℕ) (before after : Steps) : Type 0 where
+  pub looked : AreLooksFor plan (read_in_all plan x) before after
   pub scanned : scanned_of after ≡ scanned_of before
-  pub moved : 7 * moved_of after ≤ 7 * moved_of before + n
+  pub moved : 7 * moved_of after ≤ 7 * moved_of before + length x
 
 -- What a run costs, by the bytes that it read. A run that writes while it reads, and came to the end, has looked at a state for
 -- each of them at least.
 pub record CostsRun {R : Type 0} (plan : Plan) (reader_before reader_after : Watched R) (before after : Steps) (result : Result (Unit {0}) RunError) : Type 0 where
   pub gained : List (List ℕ)
   pub read : pieces_of reader_after ≡ pieces_of reader_before ++ gained
-  pub streamed : IsStreamed plan.settings plan.rules → IsRunCost plan (length (concat gained)) before after
-  pub whole : IsStreamed plan.settings plan.rules → OnOk result (looked_of before + length (concat gained) ≤ looked_of after)
-  pub whole_input : ¬ IsStreamed plan.settings plan.rules → IsHeldCost plan (length (concat gained)) before after
+  pub streamed : IsStreamed plan → IsRunCost plan (concat gained) before after
+  pub whole : IsStreamed plan → OnOk result (looked_of before + length (concat gained) ≤ looked_of after)
+  pub whole_input : ¬ IsStreamed plan → IsHeldCost plan (length (concat gained)) before after
 
 -- the error of a run that has no rules: its first bad line, or out of memory
 abbrev pub not_read : RuleError → RunError
@@ -167,44 +172,44 @@ Prepares asked (Err errors.Position) = ⊥
 
 -- ---- the same of a rule file: of plain text, or of hex
 
--- what a result of a run says of the settings, the rule file, and what was moved
-abbrev pub AnswersIn : Bool → Settings → List ℕ → Moved → Result (Unit {0}) RunError → Type 0
-AnswersIn text settings file m (Err (errors.Rule (rule_errors.Line n))) = IsBadLineOf text file n
-AnswersIn text settings file m result = (rules : List Rule) × IsFileOf text file rules × AnswersRules (plan_for settings rules) m result
+-- what a result of a run says of the plan for the rules, of their file, and of what was moved
+abbrev pub AnswersIn : Bool → (List Rule → Plan) → List ℕ → Moved → Result (Unit {0}) RunError → Type 0
+AnswersIn text plan file m (Err (errors.Rule (rule_errors.Line n))) = IsBadLineOf text file n
+AnswersIn text plan file m result = (rules : List Rule) × IsFileOf text file rules × AnswersRules (plan rules) m result
 
 -- what was read and written, and with which result
-abbrev pub RanIn : {R W : Type 0} → Bool → (R → Option (List ℕ)) → (W → Option (List ℕ)) → Watched R → Watched R → Watched W → Watched W → Settings → List ℕ → Result (Unit {0}) RunError → Type 0
-RanIn text remaining contents reader_before reader_after writer_before writer_after settings file result =
-    (m : Moved) × HasMoved remaining contents reader_before reader_after writer_before writer_after m × AnswersIn text settings file m result
+abbrev pub RanIn : {R W : Type 0} → Bool → (R → Option (List ℕ)) → (W → Option (List ℕ)) → Watched R → Watched R → Watched W → Watched W → (List Rule → Plan) → List ℕ → Result (Unit {0}) RunError → Type 0
+RanIn text remaining contents reader_before reader_after writer_before writer_after plan file result =
+    (m : Moved) × HasMoved remaining contents reader_before reader_after writer_before writer_after m × AnswersIn text plan file m result
 
 -- What a result says of a run that stopped before it began. The first bad line is reported whatever memory does, and no other line.
-pub record RefusesIn {R W : Type 0} (text : Bool) (settings : Settings) (file : List ℕ) (reader_before reader_after : Watched R) (writer_before writer_after : Watched W) (result : Result (Unit {0}) RunError) : Type 0 where
+pub record RefusesIn {R W : Type 0} (text : Bool) (plan : List Rule → Plan) (file : List ℕ) (reader_before reader_after : Watched R) (writer_before writer_after : Watched W) (result : Result (Unit {0}) RunError) : Type 0 where
   pub bad_line : (n : ℕ) → (result ≡ Err (errors.Rule (rule_errors.Line n))) ↔ IsBadLineOf text file n
   pub untouched : IsRefusal result → NoneTouched reader_before reader_after writer_before writer_after
-  pub rules : (rules : List Rule) → IsFileOf text file rules → RefusesRules (plan_for settings rules) reader_before reader_after writer_before writer_after result
+  pub rules : (rules : List Rule) → IsFileOf text file rules → RefusesRules (plan rules) reader_before reader_after writer_before writer_after result
 
 -- Where the text is written while the input is read, no read gives more than the buffer has room for.
-abbrev pub IsReadByBufferIn : {R : Type 0} → Bool → Settings → List ℕ → Watched R → Watched R → Type 0
-IsReadByBufferIn text settings file before after = (rules : List Rule) → IsFileOf text file rules → ReadsByBuffer (plan_for settings rules) before after
+abbrev pub IsReadByBufferIn : {R : Type 0} → Bool → (List Rule → Plan) → List ℕ → Watched R → Watched R → Type 0
+IsReadByBufferIn text plan file before after = (rules : List Rule) → IsFileOf text file rules → ReadsByBuffer (plan rules) before after
 
 -- What a run costs, and that it reads by its buffer.
-pub record CostsIn {R : Type 0} (text : Bool) (settings : Settings) (file : List ℕ) (reader_before reader_after : Watched R) (before after : Steps) (result : Result (Unit {0}) RunError) : Type 0 where
-  pub steps : (rules : List Rule) → IsFileOf text file rules → CostsRun (plan_for settings rules) reader_before reader_after before after result
-  pub short : IsReadByBufferIn text settings file reader_before reader_after
+pub record CostsIn {R : Type 0} (text : Bool) (plan : List Rule → Plan) (file : List ℕ) (reader_before reader_after : Watched R) (before after : Steps) (result : Result (Unit {0}) RunError) : Type 0 where
+  pub steps : (rules : List Rule) → IsFileOf text file rules → CostsRun (plan rules) reader_before reader_after before after result
+  pub short : IsReadByBufferIn text plan file reader_before reader_after
 
--- ---- the same of a rule file of hex
+-- ---- the same of a rule file of hex, where the text isn't asked for while the input is read
 
 abbrev pub AnswersRun : Settings → List ℕ → Moved → Result (Unit {0}) RunError → Type 0
-AnswersRun = AnswersIn false
+AnswersRun settings = AnswersIn false (plan_for settings)
 
 abbrev pub Ran : {R W : Type 0} → (R → Option (List ℕ)) → (W → Option (List ℕ)) → Watched R → Watched R → Watched W → Watched W → Settings → List ℕ → Result (Unit {0}) RunError → Type 0
-Ran = RanIn false
+Ran remaining contents reader_before reader_after writer_before writer_after settings = RanIn false remaining contents reader_before reader_after writer_before writer_after (plan_for settings)
 
 abbrev pub Refuses : {R W : Type 0} → Settings → List ℕ → Watched R → Watched R → Watched W → Watched W → Result (Unit {0}) RunError → Type 0
-Refuses = RefusesIn false
+Refuses settings = RefusesIn false (plan_for settings)
 
 abbrev pub IsReadByBuffer : {R : Type 0} → Settings → List ℕ → Watched R → Watched R → Type 0
-IsReadByBuffer = IsReadByBufferIn false
+IsReadByBuffer settings = IsReadByBufferIn false (plan_for settings)
 
 abbrev pub CostsFile : {R : Type 0} → Settings → List ℕ → Watched R → Watched R → Steps → Steps → Result (Unit {0}) RunError → Type 0
-CostsFile = CostsIn false
+CostsFile settings = CostsIn false (plan_for settings)

@@ -1,7 +1,14 @@
 -- What a run that writes while it reads says of what it read and wrote.
-use Rattle.std.specs.Prelude.{◌≡◌, ◌≢◌, ℕ, List, Option, Result, Ok, Err, IfErr}
+use Rattle.std.specs.Prelude.{◌≡◌, ◌≢◌, ℕ, ◌+◌, ◌≤◌, ◌++◌, List, length, Option, Result, Ok, Err, IfErr, OnOk}
+use Rattle.std.specs.List.{concat}
+use Rattle.ac_input.specs.Steps.{looked_of}
+use Rattle.ac_input.specs.declared.steps.Steps.{Steps}
+use Rattle.ac_automaton.specs.Automaton.{Built}
 use Rattle.ac_automaton.specs.Moved.{AllFit, HasMoved, Moved}
+use Rattle.ac_automaton.specs.Replace.{matches_in}
 use Rattle.ac_automaton.specs.StreamAnswer.{AnswersWriting}
+use Rattle.ac_automaton.specs.StreamReplace.{IsAnyKindCost}
+use Rattle.ac_automaton.specs.Watched.{pieces_of}
 use Rattle.ac_automaton.specs.declared.error.MatchErrorKind.{MatchErrorKind}
 use Rattle.ac_automaton.specs.declared.error.StreamError.{StreamError}
 use Rattle.ac_automaton.specs.declared.error.StreamError.TheVariants as stream
@@ -27,6 +34,13 @@ abbrev pub Streams : {R W : Type 0} → (R → Option (List ℕ)) → (W → Opt
 Streams remaining contents reader_before reader_after writer_before writer_after plan result =
     (m : Moved) × HasMoved remaining contents reader_before reader_after writer_before writer_after m × AllFit (stream_room plan.rules) m.pieces
     × (searched : Result (Unit {0}) StreamError) × IsReturnedAs searched result × AnswersWriting (output_of plan.settings plan.rules) (IsOutputFront plan.settings plan.rules) m searched
+
+-- What that cost, by the bytes that were read and by their matches; if it reached the end, each of the bytes was looked at.
+abbrev pub CostsStreaming : {R E : Type 0} → Built → Watched R → Watched R → Steps → Steps → Result (Unit {0}) E → Type 0
+CostsStreaming b reader_before reader_after before after result =
+    (pieces : List (List ℕ)) × (pieces_of reader_after ≡ pieces_of reader_before ++ pieces)
+    × IsAnyKindCost b (length (concat pieces)) (length (matches_in b (concat pieces))) before after
+    × OnOk result (looked_of before + length (concat pieces) ≤ looked_of after)
 
 -- the error is no refusal of the search
 abbrev pub IsNoRefusal : StreamError → Type 0

@@ -1,21 +1,23 @@
 -- Lists over streams: what a result says of what was read and written, and what holds at each point.
-use Rattle.std.specs.Prelude.{◌≡◌, ℕ, List, ◌∷◌, ◌++◌, [], false, Option, Result}
+use Rattle.std.specs.Prelude.{◌≡◌, ◌⊎◌, ℕ, List, ◌∷◌, ◌++◌, [], false, true, Option, Result}
+use Rattle.std.specs.List.{concat}
 use Rattle.ac_input.specs.Occurrence.{Occurrence}
 use Rattle.ac_input.specs.Text.{listed}
-use Rattle.ac_input.specs.declared.search.MatchKind.TheVariants.{Standard}
+use Rattle.ac_input.specs.BeginningLaws.{IsBeginning}
 use Rattle.ac_input.specs.declared.steps.Steps.{Steps}
 use Rattle.ac_automaton.specs.Automaton.{Built}
-use Rattle.ac_automaton.specs.Moved.{AllFit, AreFilled, HasGiven, HasMoved, HasTaken, Moved}
+use Rattle.ac_automaton.specs.Moved.{AllFit, AreFilled, AreWhole, HasGiven, HasMoved, HasTaken, Moved, but_last}
 use Rattle.ac_automaton.specs.Output.{Sent, Stopped}
 use Rattle.ac_automaton.specs.Replace.{matches_in}
-use Rattle.ac_automaton.specs.Stream.{AreAllGiven, CanBeCounted, ReadsNothing, StreamCounts, StreamProgress, read_by, room_of}
+use Rattle.ac_automaton.specs.Stream.{AreAllGiven, CanBeCounted, Decides, IsOnCourse, ReadsNothing, StreamCounts, StreamProgress, read_by, room_of}
 use Rattle.ac_automaton.specs.StreamAnswer.{AnswersWriting}
 use Rattle.ac_automaton.specs.StreamIter.{progress_of, reader_of}
-use Rattle.ac_automaton.specs.StreamReplace.{CostsStream}
 use Rattle.ac_automaton.specs.Watched.{has_ended}
 use Rattle.ac_automaton.specs.declared.error.StreamError.{StreamError}
 use Rattle.ac_automaton.specs.declared.stream.StreamFindIter.{StreamFindIter}
 use Rattle.ac_automaton.specs.declared.watched.Watched.{Watched}
+use Rattle.acsub.specs.Stream.{CostsStreaming}
+use Rattle.acsub.specs.Transformed.{IsDecidedList}
 
 -- a line for each match of a text
 abbrev pub listed_in : Built → List ℕ → List ℕ
@@ -25,7 +27,7 @@ listed_in b x = listed (matches_in b x)
 
 -- the lines of what was read: all that can be listed of it
 abbrev pub IsListedFront : Built → List ℕ → List ℕ → Type 0
-IsListedFront b x text = text ≡ listed_in b x
+IsListedFront b x text = IsDecidedList b.dictionary x text
 
 -- what a list over a stream read, no piece longer than the buffer, and wrote, and its result
 abbrev pub ListsStream : {R W : Type 0} → (R → Option (List ℕ)) → (W → Option (List ℕ)) → Built → Watched R → Watched R → Watched W → Watched W → Result (Unit {0}) StreamError → Type 0
@@ -41,7 +43,7 @@ module _ {A R : Type 0} where
 
   -- what that cost
   abbrev pub CostsOn : {E : Type 0} → StreamFindIter A R → StreamFindIter A R → Steps → Steps → Result (Unit {0}) E → Type 0
-  CostsOn from to before after result = CostsStream (progress_of from).built (reader_of from) (reader_of to) before after result
+  CostsOn from to before after result = CostsStreaming (progress_of from).built (reader_of from) (reader_of to) before after result
 
   -- what was counted for it
   abbrev pub CountsOn : StreamFindIter A R → StreamFindIter A R → Steps → Steps → Type 0
@@ -78,13 +80,25 @@ pub record StopsWriting {W : Type 0} (contents : W → Option (List ℕ)) (o : O
   pub given : t.given ≡ s.given ++ more
   pub stopped : Stopped contents old new [] (listed (o ∷ more))
 
--- A list between two reads: all matches of what was read were given, and a line for each was written; nothing is held back.
+-- more may be read
+abbrev pub IsOpen : {R : Type 0} → StreamProgress → Watched R → Type 0
+IsOpen s reader = AreFilled s.pieces × (s.closed ≡ false) × (has_ended reader ≡ false)
+
+-- all was read, and the search was told so
+abbrev pub IsOver : StreamProgress → Type 0
+IsOver s = AreWhole s.pieces × (s.closed ≡ true)
+
+-- At least the matches were given that were decided before the last piece was read.
+abbrev pub GaveEarly : StreamProgress → Type 0
+GaveEarly s = (early : List Occurrence) × Decides s.built.dictionary (concat (but_last s.pieces)) early × IsBeginning early s.given
+
+-- A list between two reads: all matches that are decided were given, and a line for each was written; nothing is held back.
 pub record HasListed {R W : Type 0} (remaining : R → Option (List ℕ)) (contents : W → Option (List ℕ)) (b : Built) (s : StreamProgress) (reader_before reader_after : Watched R) (writer_before writer_after : Watched W) : Type 0 where
   pub built : s.built ≡ b
-  pub standard : b.dictionary.kind ≡ Standard
+  pub course : IsOnCourse s
   pub countable : CanBeCounted (read_by s)
   pub all : AreAllGiven s
-  pub filled : AreFilled s.pieces
-  pub unended : has_ended reader_after ≡ false
+  pub early : GaveEarly s
+  pub input : IsOpen s reader_after ⊎ IsOver s
   pub read : HasGiven remaining reader_before reader_after s.pieces 0
   pub written : HasTaken contents writer_before writer_after (listed s.given) 0 0

@@ -1,20 +1,23 @@
 -- The text that a run makes of its input, the front of it that is decided early, and when a run may write it early.
-use Rattle.std.specs.Prelude.{◌≡◌, ◌≢◌, ℕ, List, length}
+use Rattle.std.specs.Prelude.{◌≡◌, ◌≢◌, ◌⊎◌, ℕ, Bool, List, true}
 use Rattle.ac_input.specs.declared.search.MatchKind.{MatchKind}
 use Rattle.ac_input.specs.declared.search.MatchKind.TheVariants.{Standard}
 use Rattle.ac_input.specs.Computed.{walk_of, listing_of}
-use Rattle.ac_input.specs.Occurrence.{Search}
+use Rattle.ac_input.specs.Dictionary.{Dictionary}
+use Rattle.ac_input.specs.Occurrence.{Occurrence, Search}
 use Rattle.ac_input.specs.Rules.{Rule}
 use Rattle.ac_input.specs.Text.{replaced_from, listed}
 use Rattle.ac_input.specs.Work.{longest}
 use Rattle.ac_automaton.specs.Buffer.{kept_for, room_for}
 use Rattle.ac_automaton.specs.Moved.{Moved}
-use Rattle.ac_automaton.specs.Stream.{IsFront}
+use Rattle.ac_automaton.specs.Stream.{Decides, IsFront}
 use Rattle.ac_automaton.specs.StreamAnswer.{WroteEarly}
+use Rattle.acsub.specs.declared.settings.Engine.TheVariants.{Packed}
 use Rattle.acsub.specs.declared.settings.Mode.{Mode}
 use Rattle.acsub.specs.declared.settings.Mode.TheVariants as modes
 use Rattle.acsub.specs.declared.settings.Settings.{Settings}
 use Rattle.acsub.specs.Finder.{whole_search}
+use Rattle.acsub.specs.Plan.{Plan}
 use Rattle.acsub.specs.Served.{dictionary_for}
 use Rattle.acsub.specs.Settings.{HasEmptyPattern}
 use Rattle.acsub.specs.Sides.{rule_patterns, replacements_of}
@@ -29,20 +32,29 @@ text_in modes.Overlap kind replacements s = listed (listing_of s)
 abbrev pub output_of : Settings → List Rule → List ℕ → List ℕ
 output_of settings rules input = text_in settings.mode settings.kind (replacements_of rules) (whole_search settings (rule_patterns rules) input)
 
--- The text is written while the input is still read: the matches are those of the standard kind, which no later byte can change,
--- no pattern is empty, and the overlapping matches are not requested. Every other text is written after the whole input was read.
-abbrev pub IsStreamed : Settings → List Rule → Type 0
-IsStreamed settings rules = (settings.kind ≡ Standard) × (settings.mode ≢ modes.Overlap) × ¬ HasEmptyPattern rules
+-- The matches are found while the input is still read: those of the standard kind, which no later byte can change; and those of a
+-- leftmost kind, where that was asked for, by an automaton.
+abbrev pub FindsEarly : Bool → Settings → Type 0
+FindsEarly stream settings = (settings.kind ≡ Standard) ⊎ ((stream ≡ true) × (settings.engine ≢ Packed))
+
+-- The text is written while the input is still read: the matches are found by then, the overlapping ones are not requested, and no
+-- pattern is empty. Every other text is written after the whole input was read.
+abbrev pub IsStreamed : Plan → Type 0
+IsStreamed plan = FindsEarly plan.stream plan.settings × (plan.settings.mode ≢ modes.Overlap) × ¬ HasEmptyPattern plan.rules
 
 -- how many bytes the buffer of an input has room for whose text is written while it is read
 abbrev pub stream_room : List Rule → ℕ
 stream_room rules = room_for (kept_for (longest (rule_patterns rules)))
 
--- The text of the front of an input, as far as it can be written. Where matches are listed nothing is left: the text is the list of
--- all matches that end within the input.
+-- a line for each match that a text decides: under the standard kind, for all of its matches
+abbrev pub IsDecidedList : Dictionary → List ℕ → List ℕ → Type 0
+IsDecidedList m x text = (os : List Occurrence) × Decides m x os × (text ≡ listed os)
+
+-- The text of the front of an input, as far as it can be written: with matches replaced, up to a cut; or the list of all matches that
+-- are decided.
 pub record IsOutputFront (settings : Settings) (rules : List Rule) (x text : List ℕ) : Type 0 where
-  pub front : IsFront (dictionary_for settings rules) (output_of settings rules) x text
-  pub listed : settings.mode ≡ modes.List → front.cut ≡ length x
+  pub replaced : settings.mode ≡ modes.Replace → IsFront (dictionary_for settings rules) (output_of settings rules) x text
+  pub listed : settings.mode ≡ modes.List → IsDecidedList (dictionary_for settings rules) x text
 
 -- at least that was written of an input which could be written before the last of its pieces was read
 abbrev pub IsPrompt : Settings → List Rule → Moved → Type 0

@@ -135,11 +135,12 @@ Misspells hex (Pairing e) = ⊥
 
 -- ---- the result
 
--- the settings, the path and the form of the rule file are those that the matches give
+-- the settings, the path and the form of the rule file, and the wish for a stream are those that the matches give
 pub record AsksFor (rows : List Row) (w : Words) : Type 0 where
   pub mode : mode_of rows ≡ Some w.settings.mode
   pub rules : rules_path rows ≡ Some w.rules.now
   pub text : w.text ≡ is_given (codes "text") rows
+  pub stream : w.stream ≡ is_given (codes "stream") rows
   pub kind : match_kind_of rows ≡ Some w.settings.kind
   pub pairing : IsPairedBy rows w.settings.pairing
   pub engine : engine_of rows ≡ Some w.settings.engine

@@ -9,7 +9,7 @@ ghost use Rattle.ac_input.specs.declared.search.MatchKind.TheVariants.{Standard}
 ghost use Rattle.ac_literal.specs.Packed.{AreServed, bytes_of, search_kind};
 ghost use Rattle.acsub.specs.Finder.{Builds, BuildsAutomaton, IsFinderOf, IsPackedFor, IsServing, whole_listing, whole_walk};
 ghost use Rattle.acsub.specs.Matches.{IsUncounted, left_in};
-ghost use Rattle.acsub.specs.Plan.{plan_for};
+ghost use Rattle.acsub.specs.Plan.{plan_of};
 ghost use Rattle.acsub.specs.Served.{automaton_named, builder_settings};
 ghost use Rattle.acsub.specs.Settings.{IsAccepted};
 ghost use Rattle.acsub.specs.Sides.{rule_patterns};
@@ -39,34 +39,42 @@ enum Finder<A> {
     Packed(Searcher),
 }
 
-/// What is settled before the input is read. A contract sees the settings and the rules.
+/// What is settled before the input is read. A contract sees the settings, the rules, and whether the text was asked for while the
+/// input is read.
 #[derive(Drop)]
 pub struct Prepared<'r, A: Search> {
     settings: Settings,
     rules: &'r Rules,
+    stream: bool,
     finder: Finder<A>,
 }
 
 impl<'r, A: Search> Model for Prepared<'r, A> {
     ghost use Rattle.acsub.specs.Finder.{IsFinderOf};
-    ghost use Rattle.acsub.specs.Plan.{Plan};
+    ghost use Rattle.acsub.specs.Plan.{Plan, plan_of};
 
     ghost Value = { Plan };
 
-    ghost view = { λ p. record { settings = p.settings; rules = p.rules.now } };
+    ghost view = { λ p. plan_of p.stream p.settings p.rules.now };
 
     ghost invariant = { λ p. IsFinderOf A.built A.supports p.settings p.rules.now p.finder };
 }
 
 impl<'r, A: Search> Prepared<'r, A> {
     /// The settings and rules, and what was made for them.
-    fn new(settings: &Settings, rules: &'r Rules, finder: Finder<A>) -> Prepared<'r, A>
+    fn new(
+        settings: &Settings,
+        stream: bool,
+        rules: &'r Rules,
+        finder: Finder<A>,
+    ) -> Prepared<'r, A>
         requires { IsFinderOf A.built A.supports settings.now rules.now finder }
-        ensures { result ≡ plan_for settings.now rules.entry.now }
+        ensures { result ≡ plan_of stream settings.now rules.entry.now }
     {
         Prepared {
             settings: *settings,
             rules,
+            stream,
             finder,
         }
     }
@@ -87,12 +95,13 @@ impl<'r, A: Search> Prepared<'r, A> {
 
     /// The automaton that finds the matches of what is read, where the text is written while the input is read.
     pub fn streamed(&self) -> Option<&A>
-        ensures some { IsSome result ↔ IsStreamed self.now.settings self.now.rules }
-        ensures serves { IfSome result (λ a. IsServing self.now (A.built a.now) (A.supports a.now)) }
+        ensures some { IsSome result ↔ IsStreamed self.now }
+        ensures serves { IfSome result (λ a. IsServing self.now.settings self.now.rules
+            (A.built a.now) (A.supports a.now)) }
     {
         match &self.finder {
             Finder::Automaton(automaton) => {
-                if is_streamed(&self.settings, self.rules) {
+                if is_streamed(&self.settings, self.stream, self.rules) {
                     Some(automaton)
                 } else {
                     None
@@ -136,17 +145,20 @@ impl<'r, A: Search> Prepared<'r, A> {
 pub fn build<'r>(
     alloc: Global,
     settings: &Settings,
+    stream: bool,
     rules: &'r Rules,
 ) -> Result<Prepared<'r, Chosen>, RunError>
     requires { IsAccepted settings.now rules.now }
-    ensures { Builds settings.now rules.entry.now result }
+    ensures { Builds (plan_of stream settings.now rules.entry.now) result }
 {
     if settings.engine == Engine::Packed {
         let searcher = packed_for(alloc, settings.kind, rules)?;
-        Ok(Prepared::new(settings, rules, Finder::Packed(searcher)))
+        let finder = Finder::Packed(searcher);
+        Ok(Prepared::new(settings, stream, rules, finder))
     } else {
         let automaton = automaton_for(alloc, settings, rules)?;
-        Ok(Prepared::new(settings, rules, Finder::Automaton(automaton)))
+        let finder = Finder::Automaton(automaton);
+        Ok(Prepared::new(settings, stream, rules, finder))
     }
 }
 

@@ -6,6 +6,10 @@
 //! writes while it reads. Everything that is decided is written before each read; at most as many bytes are held back as the
 //! longest pattern has.
 //!
+//! [`run_rules_streaming`] is asked to do so under every kind. Under a leftmost kind a match is held back until it is decided: no byte
+//! that follows can change it. That is a wish about time: packed search, an empty pattern, and a list of all that overlap hold the
+//! input as before.
+//!
 //! Every other run holds its input and writes only after it has read all of it. It takes all the memory that it needs before the
 //! read that finds the end. Then it searches, by packed search if the settings name it and otherwise by an automaton, and writes
 //! the text as it is found.
@@ -15,7 +19,7 @@
 ghost use Rattle.std.specs.Prelude.{◌≡◌, List, [], false, length};
 ghost use Rattle.ac_automaton.specs.Watched.{has_ended};
 ghost use Rattle.acsub.specs.Matches.{IsHeldCost};
-ghost use Rattle.acsub.specs.Plan.{plan_for};
+ghost use Rattle.acsub.specs.Plan.{plan_for, plan_of, streaming_plan_for};
 ghost use Rattle.acsub.specs.Run.{CostsFile, CostsIn, CostsRun, IsReadByBuffer, Prepares, Ran, RanIn, RanPrepared, RanRules, ReadsByBuffer, Refuses, RefusesIn, RefusesRules, RunsOutFirst, not_read};
 ghost use Rattle.acsub.specs.RunLaws.{RunsWriteAlike};
 ghost use Rattle.acsub.specs.Sending.{SendsText};
@@ -80,13 +84,14 @@ pub fn run_counted<R: Read, W: Write>(
     ensures cost { CostsFile settings.now rules.now reader.old reader.new
         steps.old steps.new result }
 {
-    run_in(alloc, settings, false, rules, reader, writer, steps)
+    run_in(alloc, settings, false, false, rules, reader, writer, steps)
 }
 
-/// The same, by a rule file of plain text or of hex.
+/// The same, by a rule file of plain text or of hex, and asked to write while it reads, or not.
 pub fn run_in<R: Read, W: Write>(
     alloc: Global,
     settings: &Settings,
+    stream: bool,
     text: bool,
     file: &[u8],
     reader: &mut Watched<R>,
@@ -94,15 +99,15 @@ pub fn run_in<R: Read, W: Write>(
     steps: &mut Steps,
 ) -> Result<(), RunError>
     requires { has_ended reader.old ≡ false }
-    ensures answered { RanIn text R.remaining W.contents
-        reader.old reader.new writer.old writer.new settings.now file.now result }
-    ensures fault { RefusesIn text settings.now file.now
+    ensures answered { RanIn text R.remaining W.contents reader.old reader.new
+        writer.old writer.new (plan_of stream settings.now) file.now result }
+    ensures fault { RefusesIn text (plan_of stream settings.now) file.now
         reader.old reader.new writer.old writer.new result }
-    ensures cost { CostsIn text settings.now file.now reader.old reader.new
+    ensures cost { CostsIn text (plan_of stream settings.now) file.now reader.old reader.new
         steps.old steps.new result }
 {
     match read_rules_in(alloc, text, file) {
-        Ok(rules) => run_rules_counted(alloc, settings, &rules, reader, writer, steps),
+        Ok(rules) => run_plan(alloc, settings, stream, &rules, reader, writer, steps),
         Err(error) => Err(unread(error)),
     }
 }
@@ -144,14 +149,82 @@ pub fn run_rules_counted<R: Read, W: Write>(
     ensures cost { CostsRun (plan_for settings.now rules.now) reader.old reader.new
         steps.old steps.new result }
 {
-    match prepare(alloc, settings, rules) {
+    run_plan(alloc, settings, false, rules, reader, writer, steps)
+}
+
+/// The same as [`run_rules`], but writes while it reads under a leftmost kind too, unless packed search finds the matches or a
+/// pattern is empty. It writes the same text.
+///
+/// Before each read it has written everything that is decided. Under a leftmost kind it holds back at most as many bytes as the
+/// longest pattern has; after each match it reads at most so many bytes and one again.
+pub fn run_rules_streaming<R: Read, W: Write>(
+    alloc: Global,
+    settings: &Settings,
+    rules: &Rules,
+    reader: &mut Watched<R>,
+    writer: &mut Watched<W>,
+) -> Result<(), RunError>
+    requires { has_ended reader.old ≡ false }
+    ensures answered { RanRules R.remaining W.contents reader.old reader.new writer.old writer.new
+        (streaming_plan_for settings.now rules.now) result }
+    ensures fault { RefusesRules (streaming_plan_for settings.now rules.now)
+        reader.old reader.new writer.old writer.new result }
+    ensures short { ReadsByBuffer (streaming_plan_for settings.now rules.now)
+        reader.old reader.new }
+{
+    let mut steps = Steps::new();
+    run_rules_streaming_counted(alloc, settings, rules, reader, writer, &mut steps)
+}
+
+/// The same, and counts what it does.
+pub fn run_rules_streaming_counted<R: Read, W: Write>(
+    alloc: Global,
+    settings: &Settings,
+    rules: &Rules,
+    reader: &mut Watched<R>,
+    writer: &mut Watched<W>,
+    steps: &mut Steps,
+) -> Result<(), RunError>
+    requires { has_ended reader.old ≡ false }
+    ensures answered { RanRules R.remaining W.contents reader.old reader.new writer.old writer.new
+        (streaming_plan_for settings.now rules.now) result }
+    ensures fault { RefusesRules (streaming_plan_for settings.now rules.now)
+        reader.old reader.new writer.old writer.new result }
+    ensures short { ReadsByBuffer (streaming_plan_for settings.now rules.now)
+        reader.old reader.new }
+    ensures cost { CostsRun (streaming_plan_for settings.now rules.now) reader.old reader.new
+        steps.old steps.new result }
+{
+    run_plan(alloc, settings, true, rules, reader, writer, steps)
+}
+
+/// Runs by settings and rules, asked to write while it reads, or not.
+fn run_plan<R: Read, W: Write>(
+    alloc: Global,
+    settings: &Settings,
+    stream: bool,
+    rules: &Rules,
+    reader: &mut Watched<R>,
+    writer: &mut Watched<W>,
+    steps: &mut Steps,
+) -> Result<(), RunError>
+    requires { has_ended reader.old ≡ false }
+    ensures answered { RanRules R.remaining W.contents reader.old reader.new writer.old writer.new
+        (plan_of stream settings.now rules.now) result }
+    ensures fault { RefusesRules (plan_of stream settings.now rules.now)
+        reader.old reader.new writer.old writer.new result }
+    ensures short { ReadsByBuffer (plan_of stream settings.now rules.now) reader.old reader.new }
+    ensures cost { CostsRun (plan_of stream settings.now rules.now) reader.old reader.new
+        steps.old steps.new result }
+{
+    match prepare(alloc, settings, stream, rules) {
         Ok(prepared) => transform(alloc, &prepared, reader, writer, steps),
         Err(error) => Err(error),
     }
 }
 
 /// Two runs that return Ok by one rule file, mode, kind and pairing, and that read the same bytes, wrote the same bytes. Neither the
-/// engine nor its settings change them, nor how the reads cut the input. The function does nothing: its contract is the law.
+/// engine nor its settings change them, nor how the reads cut the input, nor whether the text was asked for while it was read. The function does nothing: its contract is the law.
 pub fn runs_write_alike()
     ensures { RunsWriteAlike }
 {}
@@ -170,12 +243,13 @@ fn unread(error: RuleError) -> RunError
 fn prepare<'r>(
     alloc: Global,
     settings: &Settings,
+    stream: bool,
     rules: &'r Rules,
 ) -> Result<Prepared<'r, Chosen>, RunError>
-    ensures { Prepares (plan_for settings.now rules.entry.now) result }
+    ensures { Prepares (plan_of stream settings.now rules.entry.now) result }
 {
     match check(settings, rules) {
-        Ok(()) => build(alloc, settings, rules),
+        Ok(()) => build(alloc, settings, stream, rules),
         Err(error) => Err(RunError::Setting(error)),
     }
 }
@@ -212,7 +286,7 @@ fn transform_held<A: Search, R: Read, W: Write>(
 ) -> Result<(), RunError>
     requires open { has_ended reader.old ≡ false }
     requires accepted { IsAccepted prepared.now.settings prepared.now.rules }
-    requires held { ¬ IsStreamed prepared.now.settings prepared.now.rules }
+    requires held { ¬ IsStreamed prepared.now }
     ensures ran { RanPrepared R.remaining W.contents reader.old reader.new writer.old writer.new
         prepared.now result }
     ensures cost { CostsRun prepared.now reader.old reader.new steps.old steps.new result }

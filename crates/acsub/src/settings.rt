@@ -3,8 +3,9 @@
 //! The settings say which text is written, what counts as a match, and by which engine matches are found. The engine and its
 //! own settings never change the text. Some settings exclude one another; [`check`] says which, before anything is read.
 ghost use Rattle.std.specs.Prelude.{◌↔◌, IsTrue};
+ghost use Rattle.acsub.specs.Plan.{plan_of};
 ghost use Rattle.acsub.specs.Settings.{AnswersCheck, HasEmptyPattern};
-ghost use Rattle.acsub.specs.Transformed.{IsStreamed};
+ghost use Rattle.acsub.specs.Transformed.{FindsEarly, IsStreamed};
 
 use crate::rules::Rules;
 use ac_input::pairing::Pairing;
@@ -120,14 +121,20 @@ pub fn check(settings: &Settings, rules: &Rules) -> Result<(), SettingError>
     Ok(())
 }
 
-/// Whether the text is written while the input is still read: under the standard kind, where no later byte can change a match, if
-/// no pattern is empty and not all that overlap is listed.
-pub fn is_streamed(settings: &Settings, rules: &Rules) -> bool
-    ensures { IsTrue result ↔ IsStreamed settings.now rules.now }
+/// Whether the text is written while the input is still read: if matches are found by then, no pattern is empty, and not all that
+/// overlap is listed.
+pub fn is_streamed(settings: &Settings, stream: bool, rules: &Rules) -> bool
+    ensures { IsTrue result ↔ IsStreamed (plan_of stream settings.now rules.now) }
 {
-    settings.kind == MatchKind::Standard
-        && settings.mode != Mode::Overlap
-        && !has_empty_pattern(rules)
+    finds_early(settings, stream) && settings.mode != Mode::Overlap && !has_empty_pattern(rules)
+}
+
+/// Whether matches are found while the input is still read: under the standard kind, where no later byte can change a match; under a
+/// leftmost kind if that was asked for, and an automaton searches.
+fn finds_early(settings: &Settings, stream: bool) -> bool
+    ensures { IsTrue result ↔ FindsEarly stream settings.now }
+{
+    settings.kind == MatchKind::Standard || (stream && settings.engine != Engine::Packed)
 }
 
 /// Whether some pattern is empty.

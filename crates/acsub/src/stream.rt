@@ -1,15 +1,14 @@
 //! The text of an input, written while the input is read.
 //!
-//! Under the standard kind a match that was found is never changed by what is read later. So all that is decided is written before
-//! the next read, and a run over a pipe writes as soon as it can. It holds no more than one buffer of the input and one of the text,
+//! Under the standard kind a match that was found is never changed by what is read later. Under a leftmost kind it is held back until
+//! it is decided. All that is decided is written before the next read, so a run over a pipe writes as soon as it can. It holds no more than one buffer of the input and one of the text,
 //! and takes both before the first read.
 ghost use Rattle.std.specs.Prelude.{◌≡◌, Err, false};
 ghost use Rattle.ac_input.specs.declared.search.Anchored.TheVariants.{No};
 ghost use Rattle.ac_automaton.specs.Moved.{NoneTouched};
-ghost use Rattle.ac_automaton.specs.StreamReplace.{CostsStream};
 ghost use Rattle.ac_automaton.specs.Watched.{has_ended};
 ghost use Rattle.acsub.specs.Finder.{IsBuiltFor};
-ghost use Rattle.acsub.specs.Stream.{IfMemory, IsNoRefusal, IsReturnedAs, Streams};
+ghost use Rattle.acsub.specs.Stream.{CostsStreaming, IfMemory, IsNoRefusal, IsReturnedAs, Streams};
 ghost use Rattle.acsub.specs.Transformed.{IsStreamed};
 ghost use Rattle.acsub.specs.declared.settings.Mode.TheVariants.{Replace};
 
@@ -39,10 +38,10 @@ pub fn stream_text<A: Search, R: Read, W: Write>(
     requires open { has_ended reader.old ≡ false }
     requires built { IsBuiltFor prepared.now (A.built engine.now) }
     requires supports { A.supports engine.now No }
-    requires streamed { IsStreamed prepared.now.settings prepared.now.rules }
+    requires streamed { IsStreamed prepared.now }
     ensures streams { Streams R.remaining W.contents reader.old reader.new writer.old writer.new
         prepared.now result }
-    ensures costs { CostsStream (A.built engine.now) reader.old reader.new
+    ensures costs { CostsStreaming (A.built engine.now) reader.old reader.new
         steps.old steps.new result }
     ensures memory { IfMemory result (NoneTouched reader.old reader.new writer.old writer.new) }
 {
@@ -65,17 +64,17 @@ pub(crate) fn stream_replaced<A: Search, R: Read, W: Write>(
     requires open { has_ended reader.old ≡ false }
     requires built { IsBuiltFor prepared.now (A.built engine.now) }
     requires supports { A.supports engine.now No }
-    requires streamed { IsStreamed prepared.now.settings prepared.now.rules }
+    requires streamed { IsStreamed prepared.now }
     requires mode { prepared.now.settings.mode ≡ Replace }
     ensures streams { Streams R.remaining W.contents reader.old reader.new writer.old writer.new
         prepared.now result }
-    ensures costs { CostsStream (A.built engine.now) reader.old reader.new
+    ensures costs { CostsStreaming (A.built engine.now) reader.old reader.new
         steps.old steps.new result }
     ensures memory { IfMemory result (NoneTouched reader.old reader.new writer.old writer.new) }
 {
     let replacements = prepared.rules().replacements(alloc)?;
     let texts = replacements.as_slice();
-    match engine.try_stream_replace_all_counted(alloc, reader, writer, texts, steps) {
+    match engine.try_stream_replace_all_any_kind_counted(alloc, reader, writer, texts, steps) {
         Ok(()) => Ok(()),
         Err(error) => Err(told(error)),
     }

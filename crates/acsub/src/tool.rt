@@ -198,6 +198,7 @@ fn run_file<F: Files, R: Read, W: Write>(
     let ran = run_in(
         alloc,
         &words.settings,
+        words.stream,
         words.text,
         rules.as_slice(),
         reader,

@@ -1,6 +1,6 @@
 //! The words of the command line.
 //!
-//! `acsub MODE RULES [--text] [--kind K] [--fold] [--pairs HEX] [--engine E] [--no-prefilter] [--dense-depth N] [--no-byte-classes]`
+//! `acsub MODE RULES [--text] [--stream] [--kind K] [--fold] [--pairs HEX] [--engine E] [--no-prefilter] [--dense-depth N] [--no-byte-classes]`
 //!
 //! clap splits the words, names the values that an argument takes and writes the help; what a value means is said here. The
 //! command stands as data in `specs/Command.antt`. So the contract of `read_words` says of all words what comes of them. It goes
@@ -73,6 +73,8 @@ pub struct Words<'a> {
     pub settings: Settings,
     /// Whether the rule file is of plain text, and not of hex.
     pub text: bool,
+    /// Whether the text is asked for while the input is read, under every kind.
+    pub stream: bool,
     /// The path of the rule file.
     pub rules: &'a str,
 }
@@ -207,6 +209,11 @@ fn command<'a>(alloc: Global) -> Result<Command<'a>, AllocError>
             alloc,
             "text",
             "Read RULES as plain text: 'pattern TAB replacement' or 'pattern' a line",
+        ))?
+        .arg(flag(
+            alloc,
+            "stream",
+            "Write while reading under every kind, where that can be",
         ))?;
     with_engine(alloc, with_matching(alloc, command)?)
 }
@@ -282,6 +289,7 @@ fn asked_for<'a>(alloc: Global, matches: &ArgMatches<'a>) -> Result<Words<'a>, W
     Ok(Words {
         settings,
         text: is_given(matches, "text"),
+        stream: is_given(matches, "stream"),
         rules: text_of(matches, "rules").unwrap(),
     })
 }

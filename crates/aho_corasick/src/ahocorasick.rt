@@ -16,7 +16,7 @@ use ac_input::search::{MatchKind, StartKind};
 pub use builder::AhoCorasickBuilder;
 use std::alloc::{AllocError, Global};
 use std::fmt::{self, Debug, Formatter};
-use std::rc::Rc;
+use std::sync::Arc;
 
 /// Which automaton serves.
 #[derive(Clone, Copy, Debug, PartialEq, Eq)]
@@ -57,7 +57,7 @@ pub enum AhoCorasickKind {
 /// A clone shares the automaton, and takes no memory for another. Its `Debug` shows the kinds and how many patterns there are.
 #[derive(Drop)]
 pub struct AhoCorasick {
-    engine: Rc<Engine>,
+    engine: Arc<Engine>,
     /// The start kind that was set. An NFA has a start for all searches, but runs only these, so that the same searches return an
     /// error whichever automaton serves.
     start_kind: StartKind,
@@ -75,6 +75,13 @@ pub type FindOverlappingIter<'a, 'h> = overlapping::FindOverlappingIter<'a, 'h, 
 
 /// The remaining matches of a stream. From [`AhoCorasick::stream_find_iter`].
 pub type StreamFindIter<'a, R> = streams::StreamFindIter<'a, AhoCorasick, R>;
+
+/// The remaining occurrences in a stream. From [`AhoCorasick::try_stream_find_overlapping_iter`].
+pub type StreamFindOverlappingIter<'a, R> = streams::overlapping::StreamFindOverlappingIter<
+    'a,
+    AhoCorasick,
+    R,
+>;
 
 impl Debug for AhoCorasick {
     fn fmt<W: fmt::Write>(&self, f: &mut Formatter<W>) -> fmt::Result {

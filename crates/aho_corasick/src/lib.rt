@@ -21,7 +21,9 @@ pub mod nfa;
 pub mod packed;
 
 pub use ac_automaton::error::{MatchError, MatchErrorKind, ReplaceError, StreamError};
+pub use ac_automaton::iter::WalkPlace;
 pub use ac_automaton::overlapping::OverlappingState;
+pub use ac_automaton::stream::{StreamReplacer, StreamSearch};
 pub use ac_automaton::watched::{Watched, write_whole};
 pub use ac_input::alphabet::{
     ByteClassElementRanges, ByteClassElements, ByteClassIter, ByteClassSet, ByteClasses, ByteSet,
@@ -33,5 +35,6 @@ pub use ac_input::search::{Anchored, Input, Match, MatchKind, Span, StartKind};
 pub use ac_input::steps::Steps;
 pub use ac_noncontiguous::error::{BuildError, BuildErrorKind};
 pub use ahocorasick::{
-    AhoCorasick, AhoCorasickBuilder, AhoCorasickKind, FindIter, FindOverlappingIter, StreamFindIter,
+    AhoCorasick, AhoCorasickBuilder, AhoCorasickKind, FindIter, FindIterAhead, FindOverlappingIter,
+    StreamFindIter, StreamFindOverlappingIter,
 };

@@ -10,9 +10,10 @@ use crate::answers::Text::Whole;
 use crate::answers::{by_plain, input};
 use crate::devices::{AMPLE, Given, Outcome, Room, Sink, Source, Tally};
 use crate::engines::Letters::{Cased, Folded};
-use crate::engines::{Asked, Case, FEW, FIRST, Letters, Pick, all, each, serves};
+use crate::engines::{Asked, Case, FEW, FIRST, Letters, Pick, all, each, pick, serves};
 use crate::streams::next_pick;
 use ac_automaton::error::{MatchErrorKind, StreamError};
+use ac_automaton::stream::{StreamReplacer, StreamSearch};
 use ac_automaton::watched::{Watched, write_whole};
 use ac_input::search::MatchKind::{LeftmostFirst, LeftmostLongest, Standard};
 use ac_input::search::{Anchored, Match, MatchKind, StartKind};
@@ -90,6 +91,48 @@ impl Row<'_> {
         }
         Ok(())
     }
+
+    /// Asserts the matches of a text that is pushed, each once the piece is pushed that decides it, and the others once it is
+    /// finished.
+    fn pushes<T: Abort, A: Search>(
+        &self,
+        rt: &T,
+        alloc: Global,
+        automaton: &A,
+        most: usize,
+    ) -> Result<(), Fail> {
+        let shows = self.shows;
+        let mut search = StreamSearch::any_kind(automaton, alloc)?;
+        let mut pushed = 0;
+        for piece in self.text.chunks(most.max(1)) {
+            let taken = push(&mut search, piece)?;
+            assert_eq!(rt; taken, piece.len(), "{shows}");
+            let all = taken.saturating_add(pushed);
+            for (want, decided) in self.finds {
+                if pushed < *decided && *decided <= all {
+                    assert_eq!(rt; pick(search.next()), Some(*want), "{shows}");
+                }
+            }
+            assert_eq!(rt; search.next(), None, "{shows}");
+            pushed = all;
+        }
+        search.finish();
+        for (want, decided) in self.finds {
+            if *decided == END {
+                assert_eq!(rt; pick(search.next()), Some(*want), "{shows}");
+            }
+        }
+        assert_eq!(rt; search.next(), None, "{shows}");
+        Ok(())
+    }
+}
+
+/// How many bytes of a piece a search takes that isn't finished.
+pub fn push<A: Search>(search: &mut StreamSearch<A>, piece: &[u8]) -> Result<usize, Fail> {
+    if search.is_closed() {
+        return Err(Fail::from("the search is finished"));
+    }
+    Ok(search.push(piece)?)
 }
 
 impl Case for Row<'_> {
@@ -113,6 +156,7 @@ impl Case for Row<'_> {
         }
         for most in [1, 2, 3, 4, 5, 7, 100] {
             self.gives(rt, alloc, automaton, self.text, false, most)?;
+            self.pushes(rt, alloc, automaton, most)?;
         }
         self.stops(rt, alloc, automaton)
     }
@@ -438,6 +482,43 @@ impl Written {
         Ok(())
     }
 
+    /// Asserts the text that is handed out of pieces of so many bytes: what is due after each byte, at most that after longer ones, and
+    /// all of it once it is finished.
+    fn is_handed_out<T: Abort, A: Search>(
+        &self,
+        rt: &T,
+        alloc: Global,
+        automaton: &A,
+        most: usize,
+    ) -> Result<(), Fail> {
+        let mut replacer = StreamReplacer::any_kind(automaton, alloc)?;
+        let mut made = Vec::new(alloc);
+        let mut pushed = 0;
+        for piece in self.text.chunks(most.max(1)) {
+            if replacer.is_finished() {
+                return Err(Fail::from("the replacement is finished"));
+            }
+            let taken = replacer.push(piece)?;
+            assert_eq!(rt; taken, piece.len());
+            take_out(&mut replacer, self.replacements, &mut made)?;
+            pushed = taken.saturating_add(pushed);
+            let due = self.due.get(pushed).ok_or("what is due")?;
+            let made = made.len();
+            assert!(rt;
+                if most == 1 {
+                    made == *due
+                } else {
+                    made <= *due
+                },
+                "{made} {due}"
+            );
+        }
+        replacer.finish();
+        take_out(&mut replacer, self.replacements, &mut made)?;
+        assert_eq!(rt; made.as_slice(), self.written, "{most}");
+        Ok(())
+    }
+
     /// Asserts that a read which fails after a front of the text leaves written what was due by then.
     fn stops<T: Abort, A: Search>(
         &self,
@@ -501,6 +582,38 @@ impl Written {
     }
 }
 
+/// Appends the next slice that a replacement hands out; says whether there was one.
+fn take_one<A: Search>(
+    replacer: &mut StreamReplacer<A>,
+    replacements: &[&[u8]],
+    made: &mut Vec<u8>,
+) -> Result<bool, Fail> {
+    if replacer.patterns_len() != replacements.len() {
+        return Err(Fail::from("a replacement for each pattern"));
+    }
+    match replacer.next(replacements) {
+        Some(bytes) => {
+            made.extend_from_slice(bytes)?;
+            Ok(true)
+        }
+        None => Ok(false),
+    }
+}
+
+/// Appends all that a replacement has to hand out, at most this many slices.
+fn take_out<A: Search>(
+    replacer: &mut StreamReplacer<A>,
+    replacements: &[&[u8]],
+    made: &mut Vec<u8>,
+) -> Result<(), Fail> {
+    for _ in 0..100 {
+        if !take_one(replacer, replacements, made)? {
+            return Ok(());
+        }
+    }
+    Err(Fail::from("slices without an end"))
+}
+
 impl Case for Written {
     fn asked(&self) -> Asked<'_> {
         Asked {
@@ -524,6 +637,9 @@ impl Case for Written {
             self.is_written(rt, alloc, automaton, way)?;
             self.stops(rt, alloc, automaton, way)?;
             self.is_cut(rt, alloc, automaton, way)?;
+        }
+        for most in [1, 2, 3, 7, 100] {
+            self.is_handed_out(rt, alloc, automaton, most)?;
         }
         Ok(())
     }

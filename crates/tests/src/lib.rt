@@ -25,6 +25,8 @@ mod hostile;
 #[cfg(test)]
 mod lanes;
 #[cfg(test)]
+mod listed;
+#[cfg(test)]
 mod memory;
 #[cfg(test)]
 mod openings;

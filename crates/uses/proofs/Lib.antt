@@ -1,8 +1,10 @@
 pub mod BuildLemmas
 pub mod NfaLemmas
 pub mod PackedLemmas
+pub mod PushedLemmas
 pub mod StateLemmas
 pub mod StreamLemmas
+pub mod StreamOverlapLemmas
 pub mod TableLemmas
 pub mod TextLemmas
 pub mod WalkLemmas

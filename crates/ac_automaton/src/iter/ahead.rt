@@ -11,15 +11,15 @@
 //!
 //! Only an automaton of the standard kind with no empty pattern and no prefilter reads ahead, and only where the input isn't anchored
 //! and has 1 KiB to be searched. Elsewhere this iterator goes on as `FindIter` does.
-ghost use Rattle.std.specs.Prelude.{◌≤◌, [], length, IfOk, IfSome};
+ghost use Rattle.std.specs.Prelude.{◌≡◌, ◌≤◌, [], length, IfOk, IfSome};
 ghost use Rattle.std.specs.Iterator.{YieldsFirst, item_count};
 ghost use Rattle.ac_automaton.specs.FindAhead.{AreNotesOf, MayReadAhead};
-ghost use Rattle.ac_automaton.specs.Iter.{AnswersFindIter, GivesPick, CostsPick, left_of, IsPickOf, IsPickCost, IsRestOf, IsOnItsWay, CountsPick, PickCounts};
+ghost use Rattle.ac_automaton.specs.Iter.{AnswersFindIter, AnswersFindIterFrom, GivesPick, CostsPick, left_of, place_of, IsPickOf, IsPickCost, IsPlaceIn, IsRestOf, IsOnItsWay, CountsPick, PickCounts};
 ghost use Rattle.ac_automaton.specs.Items.{AreFewMatches, MatchesAreInOrder};
 
 use crate::ahead::{Ahead, LEAST};
 use crate::error::MatchError;
-use crate::iter::next_pick;
+use crate::iter::{WalkPlace, next_pick};
 use crate::search::Search;
 use ac_input::history::Count;
 use ac_input::primitives::StateID;
@@ -81,6 +81,32 @@ fn reads_from<A: Search>(automaton: &A, input: &Input<'_>, start: StateID) -> Op
     }
 }
 
+/// The matches of the input from a place on at which a walk over it stands: see [`find_iter_from`](crate::iter::find_iter_from).
+pub fn find_iter_ahead_from<'a, 'h, A: Search>(
+    automaton: &'a A,
+    input: Input<'h>,
+    place: WalkPlace,
+) -> Result<FindIterAhead<'a, 'h, A>, MatchError>
+    requires { IsPlaceIn input place }
+    ensures { AnswersFindIterFrom (A.built automaton.now) (A.supports automaton.now) input.entry place
+        result }
+{
+    let start = automaton.start_state(input.get_anchored())?;
+    let mut input = input;
+    input.set_start(place.start);
+    let start = reads_from(automaton, &input, start);
+    let first = Count::zero().more(&place.start);
+    Ok(FindIterAhead {
+        automaton,
+        input,
+        last: place.last,
+        first,
+        sums: Steps::new(),
+        start,
+        ahead: Ahead::none(true),
+    })
+}
+
 /// All matches of the input, one after another.
 pub fn find_iter_ahead<'a, 'h, A: Search>(
     automaton: &'a A,
@@ -91,18 +117,8 @@ pub fn find_iter_ahead<'a, 'h, A: Search>(
     ensures few { IfOk result (AreFewMatches input.entry) }
     ensures lie { IfOk result (MatchesAreInOrder (A.built automaton.now) input.entry) }
 {
-    let start = automaton.start_state(input.get_anchored())?;
-    let start = reads_from(automaton, &input, start);
-    let first = Count::zero().more(&input.start());
-    Ok(FindIterAhead {
-        automaton,
-        input,
-        last: None,
-        first,
-        sums: Steps::new(),
-        start,
-        ahead: Ahead::none(true),
-    })
+    let start = input.start();
+    find_iter_ahead_from(automaton, input, WalkPlace { start, last: None })
 }
 
 /// The next pick of a walk that stands where the input starts. It may set the input's start one byte further.
@@ -134,6 +150,17 @@ fn next_pick_ahead<A: Search>(
 }
 
 impl<'a, 'h, A: Search> FindIterAhead<'a, 'h, A> {
+    /// Where the walk stands. [`find_iter_ahead_from`] goes on from there.
+    pub fn place(&self) -> WalkPlace
+        ensures value { result ≡ place_of self.now }
+        ensures within { IsPlaceIn self.now.asked result }
+    {
+        WalkPlace {
+            start: self.input.start(),
+            last: self.last,
+        }
+    }
+
     /// The next match, as `next` returns it; counts what it does.
     /// A caller: `uses::callers::iterate::pass_matches_ahead`.
     pub fn next_counted(&mut self, steps: &mut Steps) -> Option<Match>

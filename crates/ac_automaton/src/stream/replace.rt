@@ -33,8 +33,9 @@ pub(super) fn part(held: &[u8], from: usize, start: usize, end: usize) -> &[u8]
 
 /// Finds the next match of what was read, and sends the text from a place to its end. Returns where that is, or none if there is
 /// no further match.
+#[inline(always)]
 fn send_match<A: Search, W: Write>(
-    stream: &mut StreamSearch<'_, A>,
+    stream: &mut StreamSearch<A>,
     replacements: &[&[u8]],
     at: usize,
     output: &mut Output,
@@ -47,7 +48,7 @@ fn send_match<A: Search, W: Write>(
         stream.old stream.new at writer.old writer.new output.old output.new result }
     ensures goes { GoesOn stream.old stream.new steps.old steps.new }
 {
-    let Some(found) = stream.next_held(steps) else {
+    let Some(found) = stream.next_counted(steps) else {
         return Ok(None);
     };
     let from = stream.from();
@@ -59,7 +60,7 @@ fn send_match<A: Search, W: Write>(
 
 /// Sends the text from a place up to the cut, and holds nothing back. Returns where the cut is.
 fn send_decided<A: Search, W: Write>(
-    stream: &mut StreamSearch<'_, A>,
+    stream: &mut StreamSearch<A>,
     replacements: &[&[u8]],
     at: usize,
     output: &mut Output,
@@ -93,7 +94,7 @@ pub(super) fn rest(held: &[u8], from: usize, start: usize) -> &[u8]
 
 /// Reads on to the end of the input. Before each read everything that is decided is written, and at the end the rest.
 fn replace_read<A: Search, R: Read, W: Write>(
-    stream: &mut StreamSearch<'_, A>,
+    stream: &mut StreamSearch<A>,
     output: &mut Output,
     reader: &mut Watched<R>,
     writer: &mut Watched<W>,
@@ -115,7 +116,7 @@ fn replace_read<A: Search, R: Read, W: Write>(
     while stream.read_more(reader, steps)? > 0 {
         at = send_decided(stream, replacements, at, output, writer, steps)?;
     }
-    stream.close();
+    stream.finish();
     let end = send_decided(stream, replacements, at, output, writer, steps)?;
     let from = stream.from();
     output.send_all(writer, rest(stream.held(), from, end))

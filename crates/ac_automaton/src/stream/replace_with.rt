@@ -42,7 +42,7 @@ where
 /// Finds the next match of what was read, writes the text from a place to its start, and calls the closure. Returns where the
 /// match ends, or none if there is no further match.
 fn replace_match<A: Search, W: Write, F>(
-    stream: &mut StreamSearch<'_, A>,
+    stream: &mut StreamSearch<A>,
     at: usize,
     writer: &mut Watched<W>,
     f: &mut F,
@@ -59,7 +59,7 @@ where
         f.old writer.old writer.new) }
     ensures kept { IsOnCourse stream.new }
 {
-    let Some(found) = stream.next_held(steps) else {
+    let Some(found) = stream.next_counted(steps) else {
         return Ok(None);
     };
     let from = stream.from();
@@ -73,7 +73,7 @@ where
 
 /// Replaces one match after another, and writes the text up to the cut. Returns where the cut is.
 fn replace_decided<A: Search, W: Write, F>(
-    stream: &mut StreamSearch<'_, A>,
+    stream: &mut StreamSearch<A>,
     at: usize,
     writer: &mut Watched<W>,
     f: &mut F,
@@ -103,7 +103,7 @@ where
 
 /// Reads on to the end of the input. Before each read everything that is decided is written, and at the end the rest.
 fn replace_read<A: Search, R: Read, W: Write, F>(
-    stream: &mut StreamSearch<'_, A>,
+    stream: &mut StreamSearch<A>,
     reader: &mut Watched<R>,
     writer: &mut Watched<W>,
     f: &mut F,
@@ -123,7 +123,7 @@ where
     while stream.read_more(reader, &mut steps)? > 0 {
         at = replace_decided(stream, at, writer, f, &mut steps)?;
     }
-    stream.close();
+    stream.finish();
     let end = replace_decided(stream, at, writer, f, &mut steps)?;
     let from = stream.from();
     write_whole(writer, rest(stream.held(), from, end))

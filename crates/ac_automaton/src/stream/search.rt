@@ -5,11 +5,11 @@
 //! need of what was read. Under the standard kind a match that was found is never taken back, whatever is read after it; so it is
 //! returned at once.
 //!
-//! A [`StreamSearch`] returns the next match of what was read, without a read ([`StreamSearch::next_held`]), makes one read
-//! ([`StreamSearch::read_more`]), and lends the held bytes ([`StreamSearch::held`]). Up to its [`StreamSearch::cut`] everything is
-//! decided: a match still to be found begins there or later. So a caller may write only the bytes before the cut, and only the
-//! bytes after it have to be held: at most as many as the longest pattern has. If all the bytes read leave the automaton in its
-//! start, nothing is live: the search begins anew there, and nothing has to be held.
+//! A [`StreamSearch`] returns the next match of what was read, without a read ([`StreamSearch::next`]), takes a piece that is pushed
+//! ([`StreamSearch::push`]) or makes one read (`read_more`), and lends the held bytes ([`StreamSearch::held`]). Up to its
+//! [`StreamSearch::cut`] everything is decided: a match still to be found begins there or later. So a caller may write only the bytes
+//! before the cut, and only the bytes after it have to be held: at most as many as the longest pattern has. If all the bytes read leave
+//! the automaton in its start, nothing is live: the search begins anew there, and nothing has to be held.
 //!
 //! The hot path is [`Automaton::advance_to_match`] over the bytes of a read. Between two matches nothing else is done for a byte,
 //! even if the automaton has a prefilter, which a stream doesn't use. An automaton that can walk over several parts of these bytes
@@ -17,10 +17,11 @@
 ghost use Rattle.std.specs.Prelude.{◌≡◌, ◌≢◌, ◌↔◌, ◌+◌, ◌-◌, ◌≤◌, ◌<◌, ℕ, List, [], None, false, true, length, IfErr, IfOk, OnOk, IsTrue};
 ghost use Rattle.ac_input.specs.declared.search.Anchored.TheVariants.{No};
 ghost use Rattle.ac_automaton.specs.Ahead.{AreNotes};
+ghost use Rattle.ac_automaton.specs.StreamPush.{Pushes};
 ghost use Rattle.ac_automaton.specs.StreamSearch.{searched_anew, some_of};
 ghost use Rattle.ac_automaton.specs.StreamWalk.{MayWalk, WalksOn};
 ghost use Rattle.ac_input.specs.Work.{shortest};
-ghost use Rattle.ac_automaton.specs.Stream.{AnswersNew, AnswersNewAnyKind, CanBeCounted, CanStreamAnyKind, IsAnyKindConfigRefusal, IsMemory, closed_by, fresh_progress, may_wait, CanStream, CountsNothing, FindsHeld, HasRoom, IsConfigRefusal, IsOnCourse, IsRolled, IsSearched, ReadsMore, StreamCounts, StreamProgress, cut_of, held_by, read_by};
+ghost use Rattle.ac_automaton.specs.Stream.{AnswersNew, AnswersNewAnyKind, CanBeCounted, CanStreamAnyKind, IsAnyKindConfigRefusal, IsMemory, closed_by, fresh_progress, may_wait, CanStream, CountsNothing, FindsHeld, GoesOn, HasRoom, IsConfigRefusal, IsOnCourse, IsRolled, IsSearched, ReadsMore, StreamCounts, StreamProgress, cut_of, held_by, read_by};
 ghost use Rattle.ac_automaton.specs.Watched.{has_ended};
 
 mod decide;
@@ -47,11 +48,11 @@ use std::marker::Model;
 #[derive(Clone, Copy)]
 pub struct Progress {
     sid: StateID,
+    closed: bool,
     from: usize,
     at: usize,
     last: usize,
     best: Option<Match>,
-    closed: bool,
 }
 
 /// The new place of a search over the held bytes, and the match that it found.
@@ -61,10 +62,30 @@ pub struct Searched {
     found: Option<Match>,
 }
 
-/// How far a search of a stream has come.
+/// A search of a stream whose pieces are pushed when they come. It owns its automaton, or borrows it as a reference.
+///
+/// ```text
+/// let mut search = ac.try_stream_search(alloc)?;
+/// while let Some(piece) = receive() {
+///     let mut rest = piece;
+///     while !rest.is_empty() {
+///         let n = search.push(rest)?;
+///         rest = &rest[n..];
+///         while let Some(found) = search.next() {
+///             // places are counted from the first byte of the stream
+///         }
+///     }
+/// }
+/// search.finish();
+/// while let Some(found) = search.next() {
+///     // those that waited for what might follow
+/// }
+/// ```
+///
+/// It is on its course wherever it stands: the matches that it has returned are the first ones of the whole text, whatever still comes.
 #[derive(Drop)]
-pub(crate) struct StreamSearch<'a, A: Search> {
-    automaton: &'a A,
+pub struct StreamSearch<A: Search> {
+    automaton: A,
     start: StateID,
     buffer: Buffer,
     progress: Progress,
@@ -75,7 +96,7 @@ pub(crate) struct StreamSearch<'a, A: Search> {
     sums: Steps,
 }
 
-impl<'a, A: Search> Model for StreamSearch<'a, A> {
+impl<A: Search> Model for StreamSearch<A> {
     ghost use Rattle.ac_input.specs.declared.search.Anchored.TheVariants.{No};
     ghost use Rattle.ac_automaton.specs.Stream.{StreamProgress};
 
@@ -84,14 +105,14 @@ impl<'a, A: Search> Model for StreamSearch<'a, A> {
     ghost use Rattle.ac_automaton.specs.Ahead.{AreNotes};
     ghost use Rattle.ac_automaton.specs.StreamSearch.{IsStreamSearch, progress_at};
 
-    ghost view = { λ i. progress_at (A.built i.automaton.now) i.pieces.items i.given.value
+    ghost view = { λ i. progress_at (A.built i.automaton) i.pieces.items i.given.value
         i.progress i.buffer i.sums };
 
-    ghost invariant = { λ i. IsStreamSearch (A.Reaches i.automaton.now No)
-        (progress_at (A.built i.automaton.now) i.pieces.items i.given.value
+    ghost invariant = { λ i. IsStreamSearch (A.Reaches i.automaton No)
+        (progress_at (A.built i.automaton) i.pieces.items i.given.value
         i.progress i.buffer i.sums)
         i.start i.progress.sid i.progress.best i.given.value i.buffer i.over
-        × AreNotes (A.Reaches i.automaton.now No) (A.matches i.automaton.now) i.buffer.bytes
+        × AreNotes (A.Reaches i.automaton No) (A.matches i.automaton) i.buffer.bytes
         i.ahead.notes };
 }
 
@@ -251,17 +272,17 @@ fn given_then(given: &Count, found: &Option<Match>) -> Count
     }
 }
 
-impl<'a, A: Search> StreamSearch<'a, A> {
+impl<A: Search + Drop> StreamSearch<A> {
     /// A search of a stream that begins in this start state, which has read nothing yet. Returns an error if there is no memory for
     /// the buffer; it takes no memory after that.
     fn beginning(
-        automaton: &'a A,
+        automaton: A,
         start: StateID,
         alloc: Global,
-    ) -> Result<StreamSearch<'a, A>, StreamError>
-        requires starts { A.Reaches automaton.now No [] start }
-        requires filled { 1 ≤ shortest (A.built automaton.now).dictionary.patterns }
-        ensures fresh { IfOk result (λ s. s ≡ fresh_progress (A.built automaton.now)) }
+    ) -> Result<StreamSearch<A>, StreamError>
+        requires starts { A.Reaches automaton No [] start }
+        requires filled { 1 ≤ shortest (A.built automaton).dictionary.patterns }
+        ensures fresh { IfOk result (λ s. s ≡ fresh_progress (A.built automaton)) }
         ensures kept { IfOk result IsOnCourse }
         ensures error { IfErr result IsMemory }
     {
@@ -288,22 +309,24 @@ impl<'a, A: Search> StreamSearch<'a, A> {
 
     /// A search of a stream under the standard kind. Returns an error if the automaton can't make one, and otherwise if there is no
     /// memory for the buffer.
-    pub fn new(automaton: &'a A, alloc: Global) -> Result<StreamSearch<'a, A>, StreamError>
-        ensures { AnswersNew (A.built automaton.now) (A.supports automaton.now) result }
+    pub(crate) fn new(automaton: A, alloc: Global) -> Result<StreamSearch<A>, StreamError>
+        ensures { AnswersNew (A.built automaton) (A.supports automaton) result }
     {
-        let start = configured(automaton)?;
+        let start = configured(&automaton)?;
         StreamSearch::beginning(automaton, start, alloc)
     }
 
-    /// The same under any kind.
-    pub fn any_kind(automaton: &'a A, alloc: Global) -> Result<StreamSearch<'a, A>, StreamError>
-        ensures { AnswersNewAnyKind (A.built automaton.now) (A.supports automaton.now) result }
+    /// The same under any kind. It takes one buffer of `max(65536, 8 * max(1, longest))` bytes.
+    pub fn any_kind(automaton: A, alloc: Global) -> Result<StreamSearch<A>, StreamError>
+        ensures { AnswersNewAnyKind (A.built automaton) (A.supports automaton) result }
     {
-        let start = configured_any_kind(automaton)?;
+        let start = configured_any_kind(&automaton)?;
         StreamSearch::beginning(automaton, start, alloc)
     }
+}
 
-    /// The held bytes: the last ones of those that were read.
+impl<A: Search> StreamSearch<A> {
+    /// The held bytes: the last ones of those that were read or pushed. A match that was returned is among them until the next push.
     pub fn held(&self) -> &[u8]
         ensures held { result.now ≡ held_by self.now }
         ensures kept { IsOnCourse self.now }
@@ -337,10 +360,24 @@ impl<'a, A: Search> StreamSearch<'a, A> {
         self.over
     }
 
-    /// The next match among the bytes that were read, without a read. None means that all of them were returned.
+    /// The next match of the bytes that were pushed, once no byte that follows can change it. None means that all of these were
+    /// returned: push more bytes, or finish. Under the standard kind a match is returned as soon as its last byte was pushed.
     ///
-    /// After a read that leaves more bytes than places it is always none.
-    pub fn next_held(&mut self, steps: &mut Steps) -> Option<Match>
+    /// The places of a match are counted from the first byte that was pushed. Its bytes are held until the next push. Each byte
+    /// costs at most two looks at states, and under a leftmost kind at most as many bytes as the longest pattern has, and one, are
+    /// read again after a match.
+    ///
+    /// After more bytes were pushed than there are places it is always none.
+    pub fn next(&mut self) -> Option<Match>
+        ensures finds { FindsHeld self.old result self.new }
+        ensures kept { IsOnCourse self.new }
+    {
+        let mut steps = Steps::new();
+        self.next_counted(&mut steps)
+    }
+
+    /// The same; counts what it does.
+    pub fn next_counted(&mut self, steps: &mut Steps) -> Option<Match>
         ensures finds { FindsHeld self.old result self.new }
         ensures counts { StreamCounts self.old self.new steps.old steps.new }
         ensures kept { IsOnCourse self.new }
@@ -363,6 +400,20 @@ impl<'a, A: Search> StreamSearch<'a, A> {
         searched.found
     }
 
+    /// How many patterns the automaton has.
+    pub fn patterns_len(&self) -> usize
+        ensures { result ≡ length self.now.built.dictionary.patterns }
+    {
+        self.automaton.patterns_len()
+    }
+
+    /// Whether all bytes that were pushed were searched. If not, a push takes none.
+    pub fn is_searched(&self) -> bool
+        ensures { IsTrue result ↔ IsSearched self.now }
+    {
+        self.progress.at - self.progress.from == self.buffer.held().len()
+    }
+
     /// Whether it was told that nothing more comes.
     pub fn is_closed(&self) -> bool
         ensures closed { result ≡ self.now.closed }
@@ -371,12 +422,13 @@ impl<'a, A: Search> StreamSearch<'a, A> {
         self.progress.closed
     }
 
-    /// Tells the search that nothing more comes, so that the match that it has met is decided.
-    pub fn close(&mut self)
+    /// Tells the search that nothing more comes, so that the match that it has met is decided: [`StreamSearch::next`] returns all
+    /// that are left. Under the standard kind each match is decided at once, so this changes nothing.
+    pub fn finish(&mut self)
         ensures closed { self.new ≡ closed_by self.old }
         ensures kept { IsOnCourse self.new }
     {
-        self.progress.closed = may_wait(self.automaton);
+        self.progress.closed = may_wait(&self.automaton);
     }
 
     /// Moves the bytes after the cut to the front of the buffer, if no room is left.
@@ -395,12 +447,67 @@ impl<'a, A: Search> StreamSearch<'a, A> {
         }
     }
 
+    /// Takes the first bytes of a piece, as many as there is room for, after all that was pushed before. Returns how many: the piece
+    /// isn't needed any more. None are taken while [`StreamSearch::next`] may find a match in what was pushed before; else at least
+    /// one is, if there is one.
+    ///
+    /// There is room for `max(65536, 8 * max(1, longest))` bytes, so a piece of up to seven eighths of that is mostly taken whole. It
+    /// copies each byte once, allocates nothing, and moves a seventh of the bytes at most within its buffer. The bytes before the
+    /// cut are no longer held then.
+    ///
+    /// It requires that the search wasn't finished, which only counts under a leftmost kind: see [`StreamSearch::is_closed`]. Returns
+    /// the error `Position` if there are more bytes than places, and each time after that.
+    pub fn push(&mut self, piece: &[u8]) -> Result<usize, StreamError>
+        requires unclosed { self.old.closed ≡ false }
+        ensures pushes { Pushes (IsSearched self.old) self.old self.new piece.now result }
+        ensures kept { IsOnCourse self.new }
+    {
+        let mut steps = Steps::new();
+        self.push_counted(piece, &mut steps)
+    }
+
+    /// The same; counts the bytes that it moves.
+    pub fn push_counted(&mut self, piece: &[u8], steps: &mut Steps) -> Result<usize, StreamError>
+        requires unclosed { self.old.closed ≡ false }
+        ensures pushes { Pushes (IsSearched self.old) self.old self.new piece.now result }
+        ensures goes { GoesOn self.old self.new steps.old steps.new }
+    {
+        if self.over {
+            return Err(StreamError::Position);
+        }
+        if piece.is_empty() || !self.is_searched() {
+            return Ok(0);
+        }
+        self.make_room(steps);
+        self.append(piece)
+    }
+
+    /// Takes the first bytes of a piece; there is room.
+    fn append(&mut self, piece: &[u8]) -> Result<usize, StreamError>
+        requires some { piece.now ≢ [] }
+        requires unclosed { self.old.closed ≡ false }
+        requires searched { IsSearched self.old }
+        requires room { HasRoom self.old }
+        ensures pushes { Pushes (IsSearched self.old) self.old self.new piece.now result }
+        ensures steps { CountsNothing self.old self.new }
+        ensures kept { IsOnCourse self.new }
+    {
+        self.ahead.forget();
+        let n = self.buffer.take(piece);
+        self.pieces = self.pieces.and(&piece[..n]);
+        self.over = self.buffer.held().len() > usize::MAX - self.progress.from;
+        if self.over {
+            return Err(StreamError::Position);
+        }
+        Ok(n)
+    }
+
     /// One read, into all the free room; if there is none, the bytes after the cut are moved to the front first. Everything that
     /// was read before must have been searched.
     ///
     /// Returns how many bytes it read: none at the end of the input. An error is `Read`, or `Position` if there are now more bytes
     /// than places; nothing may be read after either.
-    pub fn read_more<R: Read>(
+    pub(crate) fn read_more<R: Read>(
         &mut self,
         reader: &mut Watched<R>,
         steps: &mut Steps,

@@ -2,7 +2,7 @@
 //!
 //! What is written stands in `texts`, and in `repeated` for letters that stand many times over. What is refused stands in
 //! `refusals`, and what becomes of a reader or a writer that stops in `devices`.
-use super::{run, run_rules};
+use super::{run, run_rules, run_rules_streaming};
 use crate::error::RunError;
 use crate::rules::{RuleError, read_rules};
 use crate::scripted::{Same, Sink, Source, Told, expecting, whole};
@@ -54,9 +54,11 @@ struct Did {
     flushes: usize,
 }
 
+/// Runs by these rules, asked to write while it reads, or not.
 fn try_run(
     alloc: Global,
     settings: &Settings,
+    stream: bool,
     rules: &str,
     source: Source<'_>,
     sink: Sink<'_>,
@@ -66,6 +68,9 @@ fn try_run(
     let mut reader = Watched::new(source);
     let mut writer = Watched::new(sink);
     let outcome = match read_rules(alloc, rules.as_bytes()) {
+        Ok(rules) if stream => {
+            run_rules_streaming(alloc, settings, &rules, &mut reader, &mut writer)
+        }
         Ok(rules) if apart => run_rules(alloc, settings, &rules, &mut reader, &mut writer),
         _ => run(alloc, settings, rules.as_bytes(), &mut reader, &mut writer),
     };
@@ -164,6 +169,8 @@ fn push_rules(file: &mut String, alloc: Global, rules: &Rules) -> Result<(), All
 /// A rule file, an input, and the text that a run writes.
 #[derive(Clone, Copy)]
 struct Case<'a> {
+    /// Whether the run is asked to write while it reads.
+    stream: bool,
     rules: &'a str,
     input: &'a [u8],
     writes: &'a [u8],
@@ -186,7 +193,8 @@ fn writes_in(rt: &impl Abort, alloc: Global, settings: &Settings, case: &Case<'_
         most: takes,
         ..expecting(case.writes)
     };
-    let did = try_run(alloc, settings, case.rules, whole(case.input, most), sink);
+    let source = whole(case.input, most);
+    let did = try_run(alloc, settings, case.stream, case.rules, source, sink);
     let reads = if most == 1 || case.input.len() <= LEAST_ROOM {
         reads_of(case.input, most)
     } else {
@@ -229,8 +237,15 @@ const PIECES: &[usize] = &[1, 2, 7];
 /// The depths that are tried.
 const DEPTHS: &[Option<usize>] = &[None, Some(0), Some(1), Some(100)];
 
-/// Asserts that a text is written whatever else the settings say.
+/// Asserts that a text is written whatever else the settings say, and whether it was asked for while the input is read or not.
 fn writes_alike(rt: &impl Abort, alloc: Global, settings: &Settings, by: &[By], case: &Case<'_>) {
+    let streaming = Case {
+        stream: true,
+        ..*case
+    };
+    for most in PIECES {
+        writes_by(rt, alloc, settings, by, &streaming, *most);
+    }
     for prefilter in [true, false] {
         for byte_classes in [true, false] {
             for dense_depth in DEPTHS {

@@ -1,21 +1,21 @@
 //! A list over a stream.
 //!
-//! A line for each match is written as soon as the match can be known: under the standard kind no later byte can change it, so all
-//! matches of what was read are listed before the next read. A reader that waits keeps no line back. The lines are gathered into
-//! one buffer, which is written before each read, so that a stream over a file makes about one write a read.
+//! A line for each match is written as soon as the match is decided. Under the standard kind no later byte can change it, so all
+//! matches of what was read are listed before the next read. Under a leftmost kind a match waits until no byte that follows can
+//! change it, or until the input ends. A reader that waits keeps no line of a decided match back. The lines are gathered into one
+//! buffer, which is written before each read, so that a stream over a file makes about one write a read.
 //!
 //! Both buffers are taken before the first read, and no memory after that. Nothing is tried again, and nothing is flushed.
 ghost use Rattle.std.specs.Prelude.{◌≡◌, ◌≤◌, [], false, IfErr, OnErr, OnOk};
 ghost use Rattle.ac_input.specs.declared.search.Anchored.TheVariants.{No};
-ghost use Rattle.ac_input.specs.declared.search.MatchKind.TheVariants.{Standard};
 ghost use Rattle.ac_input.specs.Work.{shortest};
 ghost use Rattle.ac_automaton.specs.Moved.{NoneTouched};
-ghost use Rattle.ac_automaton.specs.Stream.{AreAllGiven, CanBeCounted, CanStream, IsOnCourse, fresh_progress, read_by};
+ghost use Rattle.ac_automaton.specs.Stream.{AreAllGiven, CanBeCounted, CanStreamAnyKind, IsOnCourse, fresh_progress, read_by};
 ghost use Rattle.ac_automaton.specs.StreamIter.{progress_of, reader_name, reader_of};
-ghost use Rattle.ac_automaton.specs.StreamReplace.{CostsStream, IsBegun};
+ghost use Rattle.ac_automaton.specs.StreamReplace.{IsBegun};
 ghost use Rattle.ac_automaton.specs.Watched.{IsOfWrite, has_ended};
 ghost use Rattle.acsub.specs.Finder.{IsBuiltFor};
-ghost use Rattle.acsub.specs.Stream.{IfMemory, IfStreamMemory, IsNoRefusal, Streams};
+ghost use Rattle.acsub.specs.Stream.{CostsStreaming, IfMemory, IfStreamMemory, IsNoRefusal, Streams};
 ghost use Rattle.acsub.specs.StreamList.{CostsOn, CountsOn, ListsOn, ListsStream, SendsLines, StopsLines, StopsWriting, WritesLines};
 ghost use Rattle.acsub.specs.Transformed.{IsStreamed};
 ghost use Rattle.acsub.specs.declared.settings.Mode.TheVariants.{List};
@@ -27,7 +27,7 @@ use crate::stream::told;
 use ac_automaton::error::StreamError;
 use ac_automaton::output::Output;
 use ac_automaton::search::Search;
-use ac_automaton::stream::{StreamFindIter, stream_find_iter};
+use ac_automaton::stream::{StreamFindIter, stream_find_iter_any_kind};
 use ac_automaton::watched::Watched;
 use ac_input::search::Match;
 use ac_input::steps::Steps;
@@ -94,7 +94,6 @@ fn list_read<A: Search, R: Read, W: Write>(
     steps: &mut Steps,
 ) -> Result<(), StreamError>
     requires fresh { progress_of matches.old ≡ fresh_progress (progress_of matches.old).built }
-    requires standard { (progress_of matches.old).built.dictionary.kind ≡ Standard }
     requires filled { 1 ≤ shortest (progress_of matches.old).built.dictionary.patterns }
     requires empty { output.old ≡ [] }
     requires unended { has_ended (reader_of matches.old) ≡ false }
@@ -120,19 +119,19 @@ fn list_stream<A: Search, R: Read, W: Write>(
     steps: &mut Steps,
 ) -> Result<(), StreamError>
     requires open { has_ended reader.old ≡ false }
-    requires can { CanStream (A.built engine.now) (A.supports engine.now) }
-    // All lines of what was read before a read that failed, and no less than those of all pieces but the last before a write that
-    // failed.
+    requires can { CanStreamAnyKind (A.built engine.now) (A.supports engine.now) }
+    // All lines that are decided by what was read, before a read that failed; and no less than those that are decided by all pieces
+    // but the last, before a write that failed.
     ensures lists { ListsStream R.remaining W.contents (A.built engine.now)
         reader.old reader.new writer.old writer.new result }
-    ensures costs { CostsStream (A.built engine.now) reader.old reader.new
+    ensures costs { CostsStreaming (A.built engine.now) reader.old reader.new
         steps.old steps.new result }
     ensures memory { IfStreamMemory result
         (NoneTouched reader.old reader.new writer.old writer.new) }
     ensures accepted { IfErr result IsNoRefusal }
 {
     let mut output = Output::new(alloc)?;
-    let mut matches = stream_find_iter(reader, engine, alloc)?;
+    let mut matches = stream_find_iter_any_kind(reader, engine, alloc)?;
     let outcome = list_read(&mut matches, &mut output, writer, steps);
     let _reader = matches.into_reader();
     outcome
@@ -150,11 +149,11 @@ pub(crate) fn stream_list<A: Search, R: Read, W: Write>(
     requires open { has_ended reader.old ≡ false }
     requires built { IsBuiltFor prepared.now (A.built engine.now) }
     requires supports { A.supports engine.now No }
-    requires streamed { IsStreamed prepared.now.settings prepared.now.rules }
+    requires streamed { IsStreamed prepared.now }
     requires mode { prepared.now.settings.mode ≡ List }
     ensures streams { Streams R.remaining W.contents reader.old reader.new writer.old writer.new
         prepared.now result }
-    ensures costs { CostsStream (A.built engine.now) reader.old reader.new
+    ensures costs { CostsStreaming (A.built engine.now) reader.old reader.new
         steps.old steps.new result }
     ensures memory { IfMemory result (NoneTouched reader.old reader.new writer.old writer.new) }
 {

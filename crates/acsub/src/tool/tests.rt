@@ -39,6 +39,9 @@ Options:
       --text
           Read RULES as plain text: 'pattern TAB replacement' or 'pattern' a line
 
+      --stream
+          Write while reading under every kind, where that can be
+
       --kind <K>
           Which of several matches is taken
          \x20
@@ -328,6 +331,30 @@ const ROWS: &[Row] = &[
         told: "acsub: read failed\n",
         text: "The sloth r",
         most: 11,
+        reads: 3,
+        ..REPLACED
+    },
+    // The same under a leftmost kind, with the text asked for while the input is read; without that nothing is written.
+    Row {
+        words: &["replace", PATH, "--kind", "leftmost-longest", "--stream"],
+        input: b"The fox r",
+        read_fails: true,
+        status: 5,
+        told: "acsub: read failed\n",
+        text: "The sloth r",
+        most: 11,
+        reads: 3,
+        ..REPLACED
+    },
+    Row {
+        words: &["replace", PATH, "--kind", "leftmost-longest"],
+        input: b"The fox r",
+        read_fails: true,
+        status: 5,
+        told: "acsub: read failed\n",
+        text: "",
+        fewest: 0,
+        most: 0,
         reads: 3,
         ..REPLACED
     },

@@ -10,6 +10,8 @@ enum Asks {
     Run(Told),
     /// The same, where it is of plain text.
     Text(Told),
+    /// The same, where the text is asked for while the input is read.
+    Stream(Told),
     /// For nothing: they are bad words.
     Bad,
     /// For a pairing that names this byte twice.
@@ -18,7 +20,7 @@ enum Asks {
     Help,
 }
 
-use Asks::{Bad, Help, Run, Text, Twice};
+use Asks::{Bad, Help, Run, Stream, Text, Twice};
 
 /// The words after the program's name.
 struct Row(&'static [&'static str], Asks);
@@ -44,6 +46,11 @@ const ROWS: &[Row] = &[
     Row(&["--text", "list", "rules"], Text(LISTING)),
     Row(&["list", "rules", "--text=yes"], Bad),
     Row(&["list", "rules", "--text", "--text"], Bad),
+    // The text while the input is read, likewise.
+    Row(&["replace", "rules", "--stream"], Stream(PLAIN)),
+    Row(&["--stream", "list", "rules"], Stream(LISTING)),
+    Row(&["list", "rules", "--stream=yes"], Bad),
+    Row(&["list", "rules", "--stream", "--stream"], Bad),
     // Each kind.
     Row(&["list", "rules", "--kind", "standard"], Run(LISTING)),
     Row(
@@ -189,9 +196,10 @@ fn asks_for(rt: &impl Abort, alloc: Global, row: &Row) -> Result<(), Fail> {
     let Row(words, asks) = row;
     let line = command_line(alloc, words)?;
     let asked = match (asks, read_words(alloc, line.as_slice())) {
-        (Run(told) | Text(told), Ok(read)) => {
-            let text = matches!(asks, Text(_));
-            read.rules == "rules" && read.text == text && read.settings == told.settings()?
+        (Run(told) | Text(told) | Stream(told), Ok(read)) => {
+            let forms = (matches!(asks, Text(_)), matches!(asks, Stream(_)));
+            let same = (read.text, read.stream) == forms;
+            read.rules == "rules" && same && read.settings == told.settings()?
         }
         (Bad, Err(WordsFault::Bad)) => true,
         (Twice(byte), Err(WordsFault::Pairing(PairingError::Twice(twice)))) => *byte == twice,

@@ -10,6 +10,7 @@ use ac_automaton::automaton::{Advance, Automaton};
 use ac_automaton::error::MatchError;
 use ac_automaton::overlapping::{Position, Shown};
 use ac_automaton::search::Search;
+use ac_automaton::stream::overlapping::{ListPlace, Listed};
 use ac_automaton::stream::{Progress, Searched};
 use ac_input::primitives::{PatternID, StateID};
 use ac_input::search::{Anchored, Input, Match, MatchKind, StartKind};
@@ -300,6 +301,20 @@ impl Search for AhoCorasick {
             Engine::Noncontiguous(nfa) => nfa.search_stream(start, progress, held, ahead, steps),
             Engine::Contiguous(nfa) => nfa.search_stream(start, progress, held, ahead, steps),
             Engine::Dfa(dfa) => dfa.search_stream(start, progress, held, ahead, steps),
+        }
+    }
+
+    fn search_stream_overlapping(
+        &self,
+        place: &ListPlace,
+        held: &[u8],
+        ahead: &mut Ahead,
+        steps: &mut Steps,
+    ) -> Listed {
+        match &*self.engine {
+            Engine::Noncontiguous(nfa) => nfa.search_stream_overlapping(place, held, ahead, steps),
+            Engine::Contiguous(nfa) => nfa.search_stream_overlapping(place, held, ahead, steps),
+            Engine::Dfa(dfa) => dfa.search_stream_overlapping(place, held, ahead, steps),
         }
     }
 }

@@ -28,7 +28,7 @@ use ac_tables::{contiguous, dfa};
 use std::alloc::{AllocError, Global};
 use std::convert::AsSlice;
 use std::marker::Model;
-use std::rc::Rc;
+use std::sync::Arc;
 
 /// For how many patterns a DFA is taken at most, where no automaton is named.
 const MOST_FOR_DFA: usize = 100;
@@ -355,7 +355,7 @@ impl AhoCorasickBuilder {
         ensures refused { IfErr result (IsNamedRefused self.now.kind self.now nfa) }
     {
         let engine = self.serve(alloc, nfa)?;
-        match Rc::new(alloc, engine) {
+        match Arc::new(alloc, engine) {
             Ok(shared) => Ok(AhoCorasick {
                 engine: shared,
                 start_kind: self.start_kind,

@@ -7,7 +7,7 @@
 //! takes memory.
 ghost use Rattle.std.specs.Prelude.{◌≡◌, ◌↔◌, IfOk, IfSome, IsTrue, OnOk};
 ghost use Rattle.ac_automaton.specs.Automaton.{AnswersFind, CostsFind, IsFound, searched};
-ghost use Rattle.ac_automaton.specs.Iter.{AnswersFindIter};
+ghost use Rattle.ac_automaton.specs.Iter.{AnswersFindIter, AnswersFindIterFrom, IsPlaceIn};
 ghost use Rattle.ac_automaton.specs.Overlapping.{CountsShown, ShowsNext, AnswersOverlapping, IsOverlappingCost, sums_of};
 ghost use Rattle.ac_automaton.specs.OverlappingIter.{AnswersOverlappingIter, rest_of};
 ghost use Rattle.ac_automaton.specs.Items.{AreFewMatches, AreFewForEach, MatchesAreInOrder, EachLiesWithin, FindsWithin, LiesWithin};
@@ -16,6 +16,7 @@ ghost use Rattle.aho_corasick.specs.AhoCorasick.{as_built, kind_of, supported_by
 use super::{AhoCorasick, FindIter, FindIterAhead, FindOverlappingIter};
 use ac_automaton::automaton::Automaton;
 use ac_automaton::error::MatchError;
+use ac_automaton::iter::WalkPlace;
 use ac_automaton::overlapping::OverlappingState;
 use ac_input::search::{Anchored, Input, Match, MatchKind};
 use ac_input::steps::Steps;
@@ -213,6 +214,39 @@ impl AhoCorasick {
         ensures lie { IfOk result (MatchesAreInOrder (as_built self.now) input.entry) }
     {
         Automaton::try_find_iter(self, input)
+    }
+
+    /// The matches of the input from a place on at which a walk over it stands, as [`FindIter::place`] returned it: for a caller who
+    /// keeps the place and no iterator. The input's own start says nothing.
+    ///
+    /// Returns `InvalidInputAnchored` or `InvalidInputUnanchored` if the start kind doesn't have the input's anchoring.
+    ///
+    /// A caller: `ac_c::walk::next`.
+    pub fn try_find_iter_from<'a, 'h>(
+        &'a self,
+        input: Input<'h>,
+        place: WalkPlace,
+    ) -> Result<FindIter<'a, 'h>, MatchError>
+        requires { IsPlaceIn input place }
+        ensures { AnswersFindIterFrom (as_built self.now) (supported_by self.now) input.entry place
+            result }
+    {
+        Automaton::try_find_iter_from(self, input, place)
+    }
+
+    /// The same matches, read ahead: see [`AhoCorasick::find_iter_ahead`].
+    ///
+    /// A caller: `ac_c::walk::some`.
+    pub fn try_find_iter_ahead_from<'a, 'h>(
+        &'a self,
+        input: Input<'h>,
+        place: WalkPlace,
+    ) -> Result<FindIterAhead<'a, 'h>, MatchError>
+        requires { IsPlaceIn input place }
+        ensures { AnswersFindIterFrom (as_built self.now) (supported_by self.now) input.entry place
+            result }
+    {
+        Automaton::try_find_iter_ahead_from(self, input, place)
     }
 
     /// All matches of the input, one after another: see [`AhoCorasick::find_iter_ahead`].

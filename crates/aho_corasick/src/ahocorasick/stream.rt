@@ -4,23 +4,28 @@
 //! an error if that isn't so; [`AhoCorasick::stream_find_iter`] requires it. One buffer is allocated before the first read, and no
 //! memory after it.
 //!
+//! [`AhoCorasick::try_stream_find_overlapping_iter`] returns every occurrence in a stream. The Rust crate has no such call.
+//!
 //! The calls whose names have `any_kind` search under any kind. Under a leftmost kind they hold a match back until no byte that
 //! follows can change it. The Rust crate has none of them.
 ghost use Rattle.std.specs.Prelude.{◌≡◌, false, length, IfOk, OnOk};
 ghost use Rattle.ac_literal.specs.Packed.{bytes_of};
 ghost use Rattle.ac_automaton.specs.declared.error.StreamError.TheVariants.{Memory};
 ghost use Rattle.ac_automaton.specs.Replace.{IsForMatches};
-ghost use Rattle.ac_automaton.specs.Stream.{CanStream, CanStreamAnyKind};
+ghost use Rattle.ac_automaton.specs.Stream.{AnswersNewAnyKind, CanStream, CanStreamAnyKind};
 ghost use Rattle.ac_automaton.specs.StreamIter.{AnswersAnyKindIter, AnswersStreamIter};
+ghost use Rattle.ac_automaton.specs.StreamOverlappingIter.{AnswersStreamListing};
 ghost use Rattle.ac_automaton.specs.StreamReplace.{AcceptsReplacing, AcceptsReplacingAnyKind, CostsAnyKind, CostsStream, ReplacesStream};
 ghost use Rattle.ac_automaton.specs.StreamReplaceWith.{ReplacesAnyKindWith, ReplacesStreamWith};
+ghost use Rattle.ac_automaton.specs.StreamReplacer.{AnswersReplacer};
 ghost use Rattle.ac_automaton.specs.Watched.{has_ended};
 ghost use Rattle.aho_corasick.specs.AhoCorasick.{as_built, supported_by, pattern_count};
 ghost use Rattle.aho_corasick.specs.Streamed.{IsStreamOver, IsStreamReplaced};
 
-use super::{AhoCorasick, StreamFindIter};
+use super::{AhoCorasick, StreamFindIter, StreamFindOverlappingIter};
 use ac_automaton::automaton::Automaton;
 use ac_automaton::error::StreamError;
+use ac_automaton::stream::{StreamReplacer, StreamSearch};
 use ac_automaton::watched::Watched;
 use ac_input::search::Match;
 use ac_input::steps::Steps;
@@ -76,6 +81,27 @@ impl AhoCorasick {
             result }
     {
         Automaton::try_stream_find_iter(self, alloc, reader)
+    }
+
+    /// Every occurrence in a stream, one after another: see [`StreamFindOverlappingIter`]. Each is returned after the read that
+    /// returned its last byte, and before the next one, by end, start and number, as [`AhoCorasick::try_find_overlapping_iter`] orders
+    /// them. Their places are counted from the first byte that is read. It allocates one buffer of 64 KiB. It requires that the reader
+    /// has not ended.
+    ///
+    /// Returns an error if the automaton has no start for an unanchored search, isn't of the standard kind, or has an empty
+    /// pattern, checked in that order, and then if there is no memory for the buffer. Nothing was read then.
+    ///
+    /// A caller: `uses::callers::stream_overlap::of_front`.
+    pub fn try_stream_find_overlapping_iter<'a, R>(
+        &'a self,
+        alloc: Global,
+        reader: &'a mut Watched<R>,
+    ) -> Result<StreamFindOverlappingIter<'a, R>, StreamError>
+        requires { has_ended reader.old ≡ false }
+        ensures { AnswersStreamListing (as_built self.now) (supported_by self.now) reader.entry
+            result }
+    {
+        Automaton::try_stream_find_overlapping_iter(self, alloc, reader)
     }
 
     /// Writes the input with each match replaced by the replacement of its pattern. The input ends at its first empty read. Before
@@ -202,6 +228,38 @@ impl AhoCorasick {
             result }
     {
         Automaton::try_stream_find_iter_any_kind(self, alloc, reader)
+    }
+
+    /// A search of a stream whose pieces come when they come, as from a socket: see [`StreamSearch`]. It owns no reader. Push each
+    /// piece, and after each push take the matches that are decided; finish it, and take the rest. However a text is cut into pieces,
+    /// the matches are the same: those of [`AhoCorasick::try_stream_find_iter_any_kind`].
+    ///
+    /// It takes the buffer of [`AhoCorasick::try_stream_find_iter`], and no memory after that. It borrows the automaton. A search that
+    /// owns one is made by [`StreamSearch::any_kind`], from a clone, which shares the automaton.
+    ///
+    /// Returns an error if the automaton has no start for an unanchored search, or has an empty pattern, checked in that order, and
+    /// then if there is no memory for the buffer.
+    pub fn try_stream_search<'a>(
+        &'a self,
+        alloc: Global,
+    ) -> Result<StreamSearch<&'a AhoCorasick>, StreamError>
+        ensures { AnswersNewAnyKind (as_built self.now) (supported_by self.now) result }
+    {
+        Automaton::try_stream_search(self, alloc)
+    }
+
+    /// A replacement over a stream whose pieces come when they come: see [`StreamReplacer`]. It owns no reader and no writer. Push each
+    /// piece, and after each push take the replaced text, slice by slice; finish it, and take the rest. However a text is cut into
+    /// pieces, the replaced text is the same: that of [`AhoCorasick::try_stream_replace_all_any_kind`].
+    ///
+    /// It takes one buffer, as [`AhoCorasick::try_stream_search`] does, and returns an error where that does.
+    pub fn try_stream_replacer<'a>(
+        &'a self,
+        alloc: Global,
+    ) -> Result<StreamReplacer<&'a AhoCorasick>, StreamError>
+        ensures { AnswersReplacer (as_built self.now) (supported_by self.now) result }
+    {
+        Automaton::try_stream_replacer(self, alloc)
     }
 
     /// Writes the input with each match replaced by the replacement of its pattern, under any kind. Before each read everything is

@@ -17,4 +17,4 @@ packed_for-requires-clause-served c =
 pub new-requires : goal.new-requires
 new-requires c =
     let packs : c.args.settings.now.engine ≡ Packed = search rules in
-    (c.in_ok-searcher.ensures, packed-unpaired c.args.settings.now c.args.rules.now c.requires packs)
+    (c.in_ok-searcher.ensures, packed-unpaired c.args.settings.now c.args.rules.now c.requires packs, packs)

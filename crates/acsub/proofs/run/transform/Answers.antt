@@ -7,12 +7,12 @@ use Rattle.acsub.proofs.run.transform.Goals as goal
 pub returns-in-Some-clause-ran : goal.returns-in-Some-clause-ran
 returns-in-Some-clause-ran g c =
     let plan = c.args.prepared.now in
-    streamed_answer g.R.Read.remaining g.W.Write.contents plan.settings plan.rules c.args.reader.now c.stream_text.new.reader c.args.writer.now c.stream_text.new.writer c.stream_text.result c.requires.accepted (c.in-Some.ensures.some.0 refl) c.stream_text.ensures.streams
+    streamed_answer g.R.Read.remaining g.W.Write.contents plan c.args.reader.now c.stream_text.new.reader c.args.writer.now c.stream_text.new.writer c.stream_text.result c.requires.accepted (c.in-Some.ensures.some.0 refl) c.stream_text.ensures.streams
 
 pub returns-in-Some-clause-short : goal.returns-in-Some-clause-short
 returns-in-Some-clause-short g c = λ streamed.
     let plan = c.args.prepared.now in
-    streamed_short g.R.Read.remaining g.W.Write.contents plan.settings plan.rules c.args.reader.now c.stream_text.new.reader c.args.writer.now c.stream_text.new.writer c.stream_text.result c.stream_text.ensures.streams
+    streamed_short g.R.Read.remaining g.W.Write.contents plan c.args.reader.now c.stream_text.new.reader c.args.writer.now c.stream_text.new.writer c.stream_text.result c.stream_text.ensures.streams
 
 pub returns-in-Some-clause-cost : goal.returns-in-Some-clause-cost
 returns-in-Some-clause-cost g c =

@@ -19,7 +19,7 @@ pub returns-in_err-input-clause-ran : goal.returns-in_err-input-clause-ran
 returns-in_err-input-clause-ran g c =
     let p = err_from_is_err_and c.from_residual-in_err-input.result c.from_residual-in_err-input.ensures.1 in
     let plan = c.args.prepared.now in
-    rw (p.1, p.2) (read_answer g.R.Read.remaining g.W.Write.contents plan.settings plan.rules c.args.reader.now c.read_whole.new.reader c.args.writer.now c.in_err-input.field-0.0 c.requires.accepted c.requires.held c.in_err-input.ensures)
+    rw (p.1, p.2) (read_answer g.R.Read.remaining g.W.Write.contents plan c.args.reader.now c.read_whole.new.reader c.args.writer.now c.in_err-input.field-0.0 c.requires.accepted c.requires.held c.in_err-input.ensures)
 
 pub returns-in_err-input-clause-cost : goal.returns-in_err-input-clause-cost
 returns-in_err-input-clause-cost g c =
@@ -30,7 +30,7 @@ pub returns-in-Ok-clause-ran : goal.returns-in-Ok-clause-ran
 returns-in-Ok-clause-ran g c =
     let read = c.in_ok-input.ensures in
     let plan = c.args.prepared.now in
-    written_answer g.R.Read.remaining g.W.Write.contents plan.settings plan.rules c.args.reader.now c.read_whole.new.reader c.args.writer.now c.write_text.new.writer read.0 _ c.requires.accepted c.requires.held read.1 read.2 (c.as_slice.ensures.value ∙ read.3) c.in-Ok.ensures.sent
+    written_answer g.R.Read.remaining g.W.Write.contents plan c.args.reader.now c.read_whole.new.reader c.args.writer.now c.write_text.new.writer read.0 _ c.requires.accepted c.requires.held read.1 read.2 (c.as_slice.ensures.value ∙ read.3) c.in-Ok.ensures.sent
 
 pub returns-in-Ok-clause-cost : goal.returns-in-Ok-clause-cost
 returns-in-Ok-clause-cost g c =
@@ -44,7 +44,7 @@ pub returns-clause-ran : goal.returns-clause-ran
 returns-clause-ran g c =
     let read = c.in_ok-input.ensures in
     let plan = c.args.prepared.now in
-    write_answer g.R.Read.remaining g.W.Write.contents plan.settings plan.rules c.args.reader.now c.read_whole.new.reader c.args.writer.now c.write_text.new.writer read.0 _ c.requires.accepted c.requires.held read.1 read.2 (c.as_slice.ensures.value ∙ read.3) c.in-Err.error (Err c.told.result) c.told.ensures c.in-Err.ensures.sent.0 c.in-Err.ensures.sent.1
+    write_answer g.R.Read.remaining g.W.Write.contents plan c.args.reader.now c.read_whole.new.reader c.args.writer.now c.write_text.new.writer read.0 _ c.requires.accepted c.requires.held read.1 read.2 (c.as_slice.ensures.value ∙ read.3) c.in-Err.error (Err c.told.result) c.told.ensures c.in-Err.ensures.sent.0 c.in-Err.ensures.sent.1
 
 pub returns-clause-cost : goal.returns-clause-cost
 returns-clause-cost g c =

@@ -25,6 +25,7 @@ returns c =
       mode = search rules;
       rules = search rules;
       text = search rules;
+      stream = search rules;
       kind = search rules;
       engine = search rules;
       dense_depth = depth_read (λ bs r. ParsesUnsigned 64 10 bs r × ExplainsUnsignedError 10 bs r × HasUnsignedDigitsIfOk bs r) (one_of (codes "dense-depth") (rows_of f)) c.get_one.result (λ e. c.get_one.ensures.none (same ∙ e)) (λ t e. c.get_one.ensures.value t (same ∙ e))

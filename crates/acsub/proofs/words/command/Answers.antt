@@ -14,6 +14,7 @@ returns c =
     let named : app_of c.after_long_help.result ≡ versioned = ap app_of_fields c.after_long_help.ensures ∙ ap app_of_fields c.after_help.ensures ∙ ap app_of_fields c.about.ensures ∙ ap app_of_fields c.version.ensures ∙ ap (λ (a : App). record a { top = record a.top { has_version = true } }) c.new.ensures.app in
     let one : app_of c.in_ok-arg.field-0 ≡ _ = c.in_ok-arg.ensures.shape (given_own c.placed.result _ c.value_parser.ensures.others c.placed.ensures.own) ∙ ap₂ with_rule named mode_is in
     let two : app_of c.in_ok-arg-2.field-0 ≡ _ = c.in_ok-arg-2.ensures.shape c.placed-2.ensures.own ∙ ap₂ with_rule one c.placed-2.ensures.rule in
-    let three : app_of c.in_ok-command.command ≡ _ = c.in_ok-command.ensures.shape c.flag.ensures.own ∙ ap₂ with_rule two c.flag.ensures.rule in
+    let three : app_of c.in_ok-arg-3.field-0 ≡ _ = c.in_ok-arg-3.ensures.shape c.flag.ensures.own ∙ ap₂ with_rule two c.flag.ensures.rule in
+    let four : app_of c.in_ok-command.command ≡ _ = c.in_ok-command.ensures.shape c.flag-2.ensures.own ∙ ap₂ with_rule three c.flag-2.ensures.rule in
     let matching = c.in_ok-with_matching.ensures in
-    IfOk-weaker c.with_engine.result _ _ (λ r added. (record { modes = modes; kinds = matching.0; engines = added.0 }, record { modes = ap texts c.as_slice.ensures; kinds = matching.1; engines = added.1 }, added.2 ∙ ap (with_engine added.0) (matching.2 ∙ ap (with_matching matching.0) three))) c.with_engine.ensures
+    IfOk-weaker c.with_engine.result _ _ (λ r added. (record { modes = modes; kinds = matching.0; engines = added.0 }, record { modes = ap texts c.as_slice.ensures; kinds = matching.1; engines = added.1 }, added.2 ∙ ap (with_engine added.0) (matching.2 ∙ ap (with_matching matching.0) four))) c.with_engine.ensures

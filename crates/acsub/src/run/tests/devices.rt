@@ -19,6 +19,9 @@ const RAN: &[u8] = b"The sloth ran";
 /// `append`, `appendage` and `app`.
 const APPEND: &str = "617070656e64\t\n617070656e64616765\t\n617070\t\n";
 
+/// The same, by 1, 2 and 3.
+const APPENDED_RULES: &str = "617070656e64\t31\n617070656e64616765\t32\n617070\t33\n";
+
 const APPENDED: &[u8] = b"append the app to the appendage";
 
 /// What is listed of it under the standard kind.
@@ -42,6 +45,7 @@ const PIECES: &[usize] = &[1, 2, 3, 7, 64];
 
 /// The run whose writer stops.
 const SLOTH_RAN: Case<'static> = Case {
+    stream: false,
     rules: SLOTH,
     input: FOX,
     writes: RAN,
@@ -60,6 +64,8 @@ enum Stop {
 #[derive(Clone, Copy)]
 struct Row<'a> {
     told: Told,
+    /// Whether the run is asked to write while it reads.
+    stream: bool,
     engines: &'static [Engine],
     rules: &'static str,
     input: &'a [u8],
@@ -72,6 +78,7 @@ struct Row<'a> {
 /// Fox by sloth under the standard kind, and a read that fails.
 const FAILS: Row<'static> = Row {
     told: PLAIN,
+    stream: false,
     engines: AUTOMATA,
     rules: SLOTH,
     input: b"",
@@ -83,6 +90,21 @@ const FAILS: Row<'static> = Row {
 const LISTING: Told = Told {
     mode: List,
     ..PLAIN
+};
+
+/// The same under a leftmost kind, asked to write while it reads.
+const STREAM_FAILS: Row<'static> = Row {
+    told: Told {
+        kind: MatchKind::LeftmostLongest,
+        ..PLAIN
+    },
+    stream: true,
+    ..FAILS
+};
+
+const STREAM_LISTING: Told = Told {
+    kind: MatchKind::LeftmostLongest,
+    ..LISTING
 };
 
 const ROWS: &[Row<'static>] = &[
@@ -174,6 +196,58 @@ const ROWS: &[Row<'static>] = &[
         lengths: &[9],
         ..FAILS
     },
+    // Under a leftmost kind a match is held back until no byte can change it, and at most so many bytes.
+    Row {
+        lengths: &[0],
+        ..STREAM_FAILS
+    },
+    Row {
+        input: b"The",
+        text: b"The",
+        lengths: &[3],
+        ..STREAM_FAILS
+    },
+    Row {
+        input: b"The fo",
+        text: b"The fo",
+        lengths: &[3, 4, 5, 6],
+        ..STREAM_FAILS
+    },
+    Row {
+        input: b"The fox",
+        text: b"The sloth",
+        lengths: &[4],
+        ..STREAM_FAILS
+    },
+    Row {
+        input: b"The fox ",
+        text: b"The sloth ",
+        lengths: &[10],
+        ..STREAM_FAILS
+    },
+    Row {
+        rules: APPENDED_RULES,
+        input: b"append the app to the appen",
+        text: b"1 the 3 to the ",
+        lengths: &[11, 12, 13, 14, 15],
+        ..STREAM_FAILS
+    },
+    // An empty read decides it.
+    Row {
+        input: b"The fox",
+        stop: Stop::Ends(b" ran"),
+        text: b"The sloth",
+        lengths: &[9],
+        ..STREAM_FAILS
+    },
+    Row {
+        rules: APPENDED_RULES,
+        input: b"append the app to the appen",
+        stop: Stop::Ends(b"d"),
+        text: b"1 the 3 to the 3en",
+        lengths: &[18],
+        ..STREAM_FAILS
+    },
     // A line is written as soon as its match was read.
     Row {
         told: LISTING,
@@ -207,6 +281,37 @@ const ROWS: &[Row<'static>] = &[
         lengths: &[6],
         ..FAILS
     },
+    // Under a leftmost kind it is written once no byte can change it, or the input ends.
+    Row {
+        told: STREAM_LISTING,
+        input: b"The fox",
+        lengths: &[0],
+        ..STREAM_FAILS
+    },
+    Row {
+        told: STREAM_LISTING,
+        input: b"The fox ",
+        text: b"0 4 7\n",
+        lengths: &[6],
+        ..STREAM_FAILS
+    },
+    Row {
+        told: STREAM_LISTING,
+        rules: APPEND,
+        input: b"append the app to the appendag",
+        text: b"0 0 6\n2 11 14\n",
+        lengths: &[14],
+        ..STREAM_FAILS
+    },
+    Row {
+        told: STREAM_LISTING,
+        rules: APPEND,
+        input: b"append the app to the appendag",
+        stop: Stop::Ends(b"e"),
+        text: b"0 0 6\n2 11 14\n0 22 28\n",
+        lengths: &[22],
+        ..STREAM_FAILS
+    },
     // A match that an empty read cuts off has no line.
     Row {
         told: LISTING,
@@ -230,7 +335,8 @@ fn stops(rt: &impl Abort, alloc: Global, settings: &Settings, row: &Row<'_>, mos
         after,
         ..whole(row.input, most)
     };
-    let did = try_run(alloc, settings, row.rules, source, expecting(row.text));
+    let sink = expecting(row.text);
+    let did = try_run(alloc, settings, row.stream, row.rules, source, sink);
     let want = Did {
         answer,
         reads: reads_of(row.input, most),
@@ -268,6 +374,8 @@ fn writes_what_is_decided(rt: HostRuntime) -> Result<(), Fail> {
 /// A run that holds its input before it writes: its settings, its rules and what serves it.
 struct Held {
     told: Told,
+    /// Whether it is asked to write while it reads.
+    stream: bool,
     rules: &'static str,
     engines: &'static [Engine],
 }
@@ -279,6 +387,7 @@ const HELD: &[Held] = &[
             kind: MatchKind::LeftmostFirst,
             ..PLAIN
         },
+        stream: false,
         rules: SLOTH,
         engines: ENGINES,
     },
@@ -287,6 +396,7 @@ const HELD: &[Held] = &[
             kind: MatchKind::LeftmostLongest,
             ..PLAIN
         },
+        stream: false,
         rules: SLOTH,
         engines: ENGINES,
     },
@@ -295,17 +405,48 @@ const HELD: &[Held] = &[
             mode: Overlap,
             ..PLAIN
         },
+        stream: false,
         rules: SLOTH,
         engines: AUTOMATA,
     },
     Held {
         told: PLAIN,
+        stream: false,
         rules: "666f78\t736c6f7468\n\t2d\n",
         engines: AUTOMATA,
     },
     Held {
         told: LISTING,
+        stream: false,
         rules: "\t2d\n",
+        engines: AUTOMATA,
+    },
+    // Where a text is asked for while the input is read: packed search, all that overlap, and an empty pattern.
+    Held {
+        told: Told {
+            kind: MatchKind::LeftmostLongest,
+            ..PLAIN
+        },
+        stream: true,
+        rules: SLOTH,
+        engines: &[Engine::Packed],
+    },
+    Held {
+        told: Told {
+            mode: Overlap,
+            ..PLAIN
+        },
+        stream: true,
+        rules: SLOTH,
+        engines: AUTOMATA,
+    },
+    Held {
+        told: Told {
+            kind: MatchKind::LeftmostFirst,
+            ..PLAIN
+        },
+        stream: true,
+        rules: "666f78\t736c6f7468\n\t2d\n",
         engines: AUTOMATA,
     },
 ];
@@ -315,6 +456,7 @@ fn holds_all(rt: &impl Abort, alloc: Global, held: &Held) -> Result<(), Fail> {
     for read in 0..=FOX.len() {
         let row = Row {
             told: held.told,
+            stream: held.stream,
             engines: held.engines,
             rules: held.rules,
             input: &FOX[..read],
@@ -374,7 +516,8 @@ fn stops_at(
         most: full.most,
         ..expecting(case.writes)
     };
-    let did = try_run(alloc, settings, case.rules, whole(case.input, 1), sink);
+    let source = whole(case.input, 1);
+    let did = try_run(alloc, settings, case.stream, case.rules, source, sink);
     let answer = if full.room >= case.writes.len() {
         Answer::Done
     } else if full.fails {
@@ -394,12 +537,23 @@ fn stops_at(
 
 /// Asserts what is written by a writer that stops anywhere in the text, or after it. One that takes nothing stops the run after reads
 /// between these numbers; one that takes a byte a call is called for each byte.
-fn stops_anywhere(rt: &impl Abort, alloc: Global, settings: &Settings, fewest: usize, last: usize) {
+fn stops_anywhere(
+    rt: &impl Abort,
+    alloc: Global,
+    settings: &Settings,
+    stream: bool,
+    fewest: usize,
+    last: usize,
+) {
+    let case = Case {
+        stream,
+        ..SLOTH_RAN
+    };
     for fails in [false, true] {
         for room in 0..=RAN.len() {
             for most in [1usize, 5, 64] {
                 let full = Full { room, fails, most };
-                let did = stops_at(rt, alloc, settings, &SLOTH_RAN, &full);
+                let did = stops_at(rt, alloc, settings, &case, &full);
                 if room == 0 {
                     assert!(rt; did.writes == 1 && fewest <= did.reads && did.reads <= last);
                 }
@@ -412,17 +566,23 @@ fn stops_anywhere(rt: &impl Abort, alloc: Global, settings: &Settings, fewest: u
 }
 
 /// Whether the text is written while the input is read or after its end, a writer is given no byte after one that it didn't take.
-/// Where nothing can be written, the first four bytes are read at most, or the whole input under a leftmost kind.
+/// Where nothing can be written, the first four bytes are read at most; under a leftmost kind the whole input, unless the text is
+/// asked for while it is read.
 #[test]
 fn stops_where_a_write_fails(rt: HostRuntime) -> Result<(), Fail> {
-    for (by, fewest, last) in [(STANDARD, 1, 4), (FIRST, 12, 12)] {
+    for (by, stream, fewest, last) in [
+        (STANDARD, false, 1, 4),
+        (FIRST, false, 12, 12),
+        (FIRST_BY_AUTOMATA, true, 1, 4),
+        (LONGEST_BY_AUTOMATA, true, 1, 4),
+    ] {
         for engine in by.engines {
             let told = Told {
                 kind: by.kind,
                 engine: *engine,
                 ..PLAIN
             };
-            stops_anywhere(&rt, rt.alloc(), &told.settings()?, fewest, last);
+            stops_anywhere(&rt, rt.alloc(), &told.settings()?, stream, fewest, last);
         }
     }
     Ok(())
@@ -433,6 +593,7 @@ fn stops_where_a_write_fails(rt: HostRuntime) -> Result<(), Fail> {
 fn reads_no_further_than_the_line_that_fails(rt: HostRuntime) -> Result<(), Fail> {
     let settings = LISTING.settings()?;
     let case = Case {
+        stream: false,
         rules: APPEND,
         input: APPENDED,
         writes: LINES,
@@ -457,10 +618,18 @@ fn writes_where_there_is_memory(
     rt: &impl Abort,
     alloc: Global,
     settings: &Settings,
+    stream: bool,
     text: &[u8],
     pieces: usize,
 ) {
-    let did = try_run(alloc, settings, SLOTH, whole(FOX, 3), expecting(text));
+    let did = try_run(
+        alloc,
+        settings,
+        stream,
+        SLOTH,
+        whole(FOX, 3),
+        expecting(text),
+    );
     let want = if did.answer == Answer::Memory {
         assert!(rt; did.reads <= pieces);
         Did { writes: 0, ..did }
@@ -480,6 +649,7 @@ fn each_writes_where_there_is_memory(
     rt: &impl Abort,
     alloc: Global,
     told: Told,
+    stream: bool,
     engines: &[Engine],
     text: &[u8],
     pieces: usize,
@@ -489,7 +659,7 @@ fn each_writes_where_there_is_memory(
             engine: *engine,
             ..told
         };
-        writes_where_there_is_memory(rt, alloc, &told.settings()?, text, pieces);
+        writes_where_there_is_memory(rt, alloc, &told.settings()?, stream, text, pieces);
     }
     Ok(())
 }
@@ -500,24 +670,26 @@ fn each_writes_where_there_is_memory(
 fn in_memory_that_may_end(rt: HostRuntime) -> Result<(), Fail> {
     let line = b"0 4 7\n".as_slice();
     let (standard, longest) = (MatchKind::Standard, MatchKind::LeftmostLongest);
-    for (mode, kind, engines, text, pieces) in [
-        (Replace, standard, AUTOMATA, RAN, 0),
-        (List, standard, AUTOMATA, line, 0),
-        (Replace, longest, ENGINES, RAN, 4),
-        (List, longest, ENGINES, line, 4),
-        (Overlap, standard, AUTOMATA, line, 4),
+    for (mode, kind, stream, engines, text, pieces) in [
+        (Replace, standard, false, AUTOMATA, RAN, 0),
+        (List, standard, false, AUTOMATA, line, 0),
+        (Replace, longest, false, ENGINES, RAN, 4),
+        (Replace, longest, true, AUTOMATA, RAN, 0),
+        (List, longest, false, ENGINES, line, 4),
+        (List, longest, true, AUTOMATA, line, 0),
+        (Overlap, standard, false, AUTOMATA, line, 4),
     ] {
         let told = Told {
             mode,
             kind,
             ..PLAIN
         };
-        each_writes_where_there_is_memory(&rt, rt.alloc(), told, engines, text, pieces)?;
+        each_writes_where_there_is_memory(&rt, rt.alloc(), told, stream, engines, text, pieces)?;
     }
     reads_where_there_is_memory(&rt, rt.alloc());
     let settings = PLAIN.settings()?;
     let (source, sink) = (whole(FOX, 3), expecting(b""));
-    let did = try_run(rt.alloc(), &settings, "7a7\t\n", source, sink);
+    let did = try_run(rt.alloc(), &settings, false, "7a7\t\n", source, sink);
     let want = Did {
         answer: Answer::Line(1),
         ..did

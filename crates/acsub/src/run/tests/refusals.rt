@@ -29,7 +29,14 @@ fn refuses(rt: &impl Abort, alloc: Global, settings: &Settings, file: &str, answ
     if answer == Answer::Done {
         return;
     }
-    let did = try_run(alloc, settings, file, whole(b"ab", 2), expecting(b""));
+    let did = try_run(
+        alloc,
+        settings,
+        false,
+        file,
+        whole(b"ab", 2),
+        expecting(b""),
+    );
     let want = Did {
         answer,
         written: Some(0),

@@ -302,6 +302,7 @@ fn build(rt: &impl Abort, alloc: Global, row: &Row, built: &mut Built) -> Result
 fn writes_built(rt: &impl Abort, alloc: Global, row: &Row, built: &Built) -> Result<(), Fail> {
     let settings = row.told.settings()?;
     let case = Case {
+        stream: false,
         rules: built.rules.as_str(),
         input: built.input.as_bytes(),
         writes: built.text.as_bytes(),

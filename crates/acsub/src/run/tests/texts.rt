@@ -313,6 +313,7 @@ fn writes(rt: &impl Abort, alloc: Global, table: &Table) -> Result<(), Fail> {
         let mut file = String::new(alloc);
         push_rules(&mut file, alloc, rules)?;
         let case = Case {
+            stream: false,
             rules: file.as_str(),
             input,
             writes: text,

@@ -1,22 +1,13 @@
 -- The walk that begins is all of the walk of its input.
-use Rattle.std.proofs.Common.{◌≡◌, ◌≤◌, length, None, rules}
-use Rattle.ac_automaton.specs.Automaton.{Built, walk_in}
-use Rattle.ac_automaton.specs.Iter.{Walk, left_of, walk_at}
-use Rattle.ac_automaton.proofs.ItemsLemmas.{walk-few, walk-in-order}
+use Rattle.std.proofs.Common.{rules}
+use Rattle.ac_automaton.proofs.ItemsLemmas.{from-answers, from-few, from-in-order}
 use Rattle.ac_automaton.proofs.iter.ahead.find_iter_ahead.Goals as goal
 
+pub returns-clause-answer : goal.returns-clause-answer
+returns-clause-answer g c = from-answers (g.A.Automaton.built c.args.automaton.now) (g.A.Automaton.supports c.args.automaton.now) c.args.input c.start-start.result c.find_iter_ahead_from.result (search rules) c.find_iter_ahead_from.ensures
+
 pub returns-clause-few : goal.returns-clause-few
-returns-clause-few g c =
-    let b : Built = g.A.Automaton.built c.args.automaton.now in
-    let inside : c.args.input.span.end ≤ length c.args.input.haystack = search rules in
-    let w : Walk = walk_at b c.more-first.result.value c.args.input None c.new.result in
-    let all : left_of w ≡ walk_in b c.args.input = search rules in
-    walk-few b c.args.input w inside all
+returns-clause-few g c = from-few (g.A.Automaton.built c.args.automaton.now) (g.A.Automaton.supports c.args.automaton.now) c.args.input c.start-start.result c.find_iter_ahead_from.result (search rules) (search rules) c.find_iter_ahead_from.ensures
 
 pub returns-clause-lie : goal.returns-clause-lie
-returns-clause-lie g c =
-    let b : Built = g.A.Automaton.built c.args.automaton.now in
-    let inside : c.args.input.span.end ≤ length c.args.input.haystack = search rules in
-    let w : Walk = walk_at b c.more-first.result.value c.args.input None c.new.result in
-    let all : left_of w ≡ walk_in b c.args.input = search rules in
-    walk-in-order b c.args.input w inside all
+returns-clause-lie g c = from-in-order (g.A.Automaton.built c.args.automaton.now) (g.A.Automaton.supports c.args.automaton.now) c.args.input c.start-start.result c.find_iter_ahead_from.result (search rules) (search rules) c.find_iter_ahead_from.ensures

@@ -92,23 +92,23 @@ returns-in_err-end-clause-replaced g c =
     let t = c.read_more.new.self in
     let now = reading _ _ _ _ c.loop-stream.stream t _ _ _ _ _ _ read.0 0 before read.1 c.in_ok-read_more.ensures.kept read.3 in
     let given = given-more _ c.loop-stream.stream t _ _ _ read.0 0 before.read read.1 in
-    let over = closing _ _ _ t c.close.new.self _ _ _ c.close.ensures.closed c.close.ensures.kept now in
-    let same = subst (λ (v : StreamProgress). HasGiven g.R.Read.remaining c.args.reader.now c.read_more.new.reader v.pieces 0) (sym c.close.ensures.closed) given in
+    let over = closing _ _ _ t c.finish.new.self _ _ _ c.finish.ensures.closed c.finish.ensures.kept now in
+    let same = subst (λ (v : StreamProgress). HasGiven g.R.Read.remaining c.args.reader.now c.read_more.new.reader v.pieces 0) (sym c.finish.ensures.closed) given in
     let stopped = rw c.loop-stream.invariant.empty at c.in_err-end.ensures.sent.0 in
-    rw (p.1, p.2) (sending-stopped _ _ _ _ c.close.new.self _ _ _ _ _ _ over same c.send_decided-2.new.stream c.in_err-end.field-0.0 stopped c.in_err-end.ensures.sent.1)
+    rw (p.1, p.2) (sending-stopped _ _ _ _ c.finish.new.self _ _ _ _ _ _ over same c.send_decided-2.new.stream c.in_err-end.field-0.0 stopped c.in_err-end.ensures.sent.1)
 
 pub returns-in_err-end-clause-read : goal.returns-in_err-end-clause-read
 returns-in_err-end-clause-read g c =
     let p = err_from_is_err_and c.from_residual-in_err-end.result c.from_residual-in_err-end.ensures.1 in
     let told = read-kept _ _ _ _ c.loop-stream.stream c.read_more.new.self _ _ _ _ _ _ c.loop-stream.invariant.replaced c.read_more.result c.read_more.ensures.read in
-    let over = subst (λ (v : StreamProgress). (v.built ≡ c.args.stream.now.built) × (pieces_of c.read_more.new.reader ≡ pieces_of c.args.reader.now ++ v.pieces)) (sym c.close.ensures.closed) told in
+    let over = subst (λ (v : StreamProgress). (v.built ≡ c.args.stream.now.built) × (pieces_of c.read_more.new.reader ≡ pieces_of c.args.reader.now ++ v.pieces)) (sym c.finish.ensures.closed) told in
     let same = c.in_err-end.ensures.sent.0.same in
     let first = StreamCounts-then c.args.stream.now c.loop-stream.stream c.read_more.new.self c.args.steps.now c.loop-stream.steps c.read_more.new.steps c.loop-stream.invariant.counted c.read_more.ensures.counts in
-    let closed = subst (λ (v : StreamProgress). StreamCounts c.args.stream.now v c.args.steps.now c.read_more.new.steps) (sym c.close.ensures.closed) first in
+    let closed = subst (λ (v : StreamProgress). StreamCounts c.args.stream.now v c.args.steps.now c.read_more.new.steps) (sym c.finish.ensures.closed) first in
     rw p.1 (record {
       built = same.built ∙ over.0;
       read = rw same.pieces over.1;
-      counts = StreamCounts-then c.args.stream.now c.close.new.self c.send_decided-2.new.stream c.args.steps.now c.read_more.new.steps c.send_decided-2.new.steps closed c.send_decided-2.ensures.goes.0;
+      counts = StreamCounts-then c.args.stream.now c.finish.new.self c.send_decided-2.new.stream c.args.steps.now c.read_more.new.steps c.send_decided-2.new.steps closed c.send_decided-2.ensures.goes.0;
       course = c.send_decided-2.ensures.goes.1;
       searched = tt;
     })
@@ -122,26 +122,26 @@ returns-clause-replaced g c =
     let now = reading _ _ _ _ c.loop-stream.stream t _ _ _ _ _ _ read.0 0 before read.1 c.in_ok-read_more.ensures.kept read.3 in
     let given = given-more _ c.loop-stream.stream t _ _ _ read.0 0 before.read read.1 in
     let whole = all-whole _ _ _ _ c.loop-stream.stream t _ _ _ _ _ _ read.0 0 before read.1 (piece-none read.0 _ read.2 c.if-branch-gt0.false) in
-    let over = closing _ _ _ t c.close.new.self _ _ _ c.close.ensures.closed c.close.ensures.kept now in
+    let over = closing _ _ _ t c.finish.new.self _ _ _ c.finish.ensures.closed c.finish.ensures.kept now in
     let sent = rw c.loop-stream.invariant.empty at c.in_ok-end.ensures.sent in
-    let same : u.pieces ≡ t.pieces = sent.0.same.pieces ∙ ap (λ (v : StreamProgress). v.pieces) c.close.ensures.closed in
-    let written = reading-more _ _ _ _ c.close.new.self _ _ _ _ _ _ over (subst (λ (v : StreamProgress). HasGiven g.R.Read.remaining c.args.reader.now c.read_more.new.reader v.pieces 0) (sym c.close.ensures.closed) given) u c.in_ok-end.end sent.0 in
+    let same : u.pieces ≡ t.pieces = sent.0.same.pieces ∙ ap (λ (v : StreamProgress). v.pieces) c.finish.ensures.closed in
+    let written = reading-more _ _ _ _ c.finish.new.self _ _ _ _ _ _ over (subst (λ (v : StreamProgress). HasGiven g.R.Read.remaining c.args.reader.now c.read_more.new.reader v.pieces 0) (sym c.finish.ensures.closed) given) u c.in_ok-end.end sent.0 in
     let le : c.from-from.result ≤ c.in_ok-end.end = let is = c.from-from.ensures.from in let held = written.placed.held in omega arith in
     let bytes = rest-read u _ _ _ _ c.held.ensures.held c.from-from.ensures.from le c.rest.ensures in
-    rest-answers _ _ _ _ u c.in_ok-end.end _ _ _ _ written (rw same given) (rw same whole) (given-closed t c.close.new.self u c.in_ok-end.end c.close.ensures.closed sent.0.same sent.1) _ _ c.send_all.result bytes (rw sent.2 at c.send_all.ensures.sent)
+    rest-answers _ _ _ _ u c.in_ok-end.end _ _ _ _ written (rw same given) (rw same whole) (given-closed t c.finish.new.self u c.in_ok-end.end c.finish.ensures.closed sent.0.same sent.1) _ _ c.send_all.result bytes (rw sent.2 at c.send_all.ensures.sent)
 
 pub returns-clause-read : goal.returns-clause-read
 returns-clause-read g c =
     let told = read-kept _ _ _ _ c.loop-stream.stream c.read_more.new.self _ _ _ _ _ _ c.loop-stream.invariant.replaced c.read_more.result c.read_more.ensures.read in
-    let over = subst (λ (v : StreamProgress). (v.built ≡ c.args.stream.now.built) × (pieces_of c.read_more.new.reader ≡ pieces_of c.args.reader.now ++ v.pieces)) (sym c.close.ensures.closed) told in
+    let over = subst (λ (v : StreamProgress). (v.built ≡ c.args.stream.now.built) × (pieces_of c.read_more.new.reader ≡ pieces_of c.args.reader.now ++ v.pieces)) (sym c.finish.ensures.closed) told in
     let sent = c.in_ok-end.ensures.sent in
     let same = sent.0.same in
     let first = StreamCounts-then c.args.stream.now c.loop-stream.stream c.read_more.new.self c.args.steps.now c.loop-stream.steps c.read_more.new.steps c.loop-stream.invariant.counted c.read_more.ensures.counts in
-    let closed = subst (λ (v : StreamProgress). StreamCounts c.args.stream.now v c.args.steps.now c.read_more.new.steps) (sym c.close.ensures.closed) first in
+    let closed = subst (λ (v : StreamProgress). StreamCounts c.args.stream.now v c.args.steps.now c.read_more.new.steps) (sym c.finish.ensures.closed) first in
     record {
       built = same.built ∙ over.0;
       read = rw same.pieces over.1;
-      counts = StreamCounts-then c.args.stream.now c.close.new.self c.send_decided-2.new.stream c.args.steps.now c.read_more.new.steps c.send_decided-2.new.steps closed c.send_decided-2.ensures.goes.0;
+      counts = StreamCounts-then c.args.stream.now c.finish.new.self c.send_decided-2.new.stream c.args.steps.now c.read_more.new.steps c.send_decided-2.new.steps closed c.send_decided-2.ensures.goes.0;
       course = c.send_decided-2.ensures.goes.1;
       searched = on-ok c.send_all.result sent.1.all.searched;
     }

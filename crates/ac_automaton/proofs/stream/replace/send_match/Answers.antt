@@ -9,12 +9,12 @@ use Rattle.ac_automaton.proofs.stream.replace.send_match.Goals as goal
 
 pub returns-in_default-clause-sent : goal.returns-in_default-clause-sent
 returns-in_default-clause-sent g c =
-    match-none g.W.Write.contents (map (λ r. r.now) c.args.replacements.now) c.args.stream.now c.next_held.new.self c.args.at c.args.writer.now c.args.output.now c.requires.placed c.in_default.ensures.kept c.in_default.ensures.finds
+    match-none g.W.Write.contents (map (λ r. r.now) c.args.replacements.now) c.args.stream.now c.next_counted.new.self c.args.at c.args.writer.now c.args.output.now c.requires.placed c.in_default.ensures.kept c.in_default.ensures.finds
 
 pub part-before-requires : goal.part-before-requires
 part-before-requires g c =
     let o = c.in-Some.found in
-    let t = c.next_held.new.self in
+    let t = c.next_counted.new.self in
     let behind = match-behind (map (λ r. r.now) c.args.replacements.now) c.args.stream.now t c.args.at o c.requires.placed c.in-Some.ensures.kept c.in-Some.ensures.finds in
     let from : t.from ≡ c.args.stream.now.from = c.in-Some.ensures.finds.0.from in
     let held = c.requires.placed.held in
@@ -30,7 +30,7 @@ returns-in_err-send_exchanged-clause-sent g c =
     let p = err_from_is_err_and c.from_residual.result c.from_residual.ensures.1 in
     let o = c.in-Some.found in
     let s = c.args.stream.now in
-    let t = c.next_held.new.self in
+    let t = c.next_counted.new.self in
     let finds = c.in-Some.ensures.finds in
     let number : o.pattern < length c.args.replacements.now = rw c.requires.one_each finds.4.pattern in
     let from : c.from-from.result ≤ c.args.at = let is = finds.0.from in let le = c.requires.placed.held in omega arith in
@@ -47,7 +47,7 @@ pub returns-clause-sent : goal.returns-clause-sent
 returns-clause-sent g c =
     let o = c.in-Some.found in
     let s = c.args.stream.now in
-    let t = c.next_held.new.self in
+    let t = c.next_counted.new.self in
     let finds = c.in-Some.ensures.finds in
     let number : o.pattern < length c.args.replacements.now = rw c.requires.one_each finds.4.pattern in
     let from : c.from-from.result ≤ c.args.at = let is = finds.0.from in let le = c.requires.placed.held in omega arith in

@@ -8,14 +8,14 @@ use Rattle.ac_automaton.proofs.stream.replace_with.replace_match.Goals as goal
 
 pub part-before-requires-clause-order : goal.part-before-requires-clause-order
 part-before-requires-clause-order g c =
-    let behind = match-behind [] c.args.stream.now c.next_held.new.self c.args.at c.in-Some.found c.requires.placed c.in-Some.ensures.kept c.in-Some.ensures.finds in
+    let behind = match-behind [] c.args.stream.now c.next_counted.new.self c.args.at c.in-Some.found c.requires.placed c.in-Some.ensures.kept c.in-Some.ensures.finds in
     omega (arith, behind, c.start.ensures.value)
 
 pub returns-in_err-write_whole-clause-stops : goal.returns-in_err-write_whole-clause-stops
 returns-in_err-write_whole-clause-stops g c =
     let p = err_from_is_err_and c.from_residual.result c.from_residual.ensures.1 in
     let s = c.args.stream.now in
-    let t = c.next_held.new.self in
+    let t = c.next_counted.new.self in
     let finds = c.in-Some.ensures.finds in
     let from : c.from-from.result ≤ c.args.at = let is = finds.0.from in let le = c.requires.placed.held in let now = c.from-from.ensures.from in omega arith in
     let bytes = part-read s t _ _ _ _ _ _ finds.0 c.held-held.ensures.held c.from-from.ensures.from c.start.ensures.value from c.part-before.ensures in
@@ -25,7 +25,7 @@ pub returns-in_err-call-clause-stops : goal.returns-in_err-call-clause-stops
 returns-in_err-call-clause-stops g c =
     let p = err_from_is_err_and c.from_residual-in_err-call.result c.from_residual-in_err-call.ensures.1 in
     let s = c.args.stream.now in
-    let t = c.next_held.new.self in
+    let t = c.next_counted.new.self in
     let o = c.in-Some.found in
     let finds = c.in-Some.ensures.finds in
     let now = c.from-from.ensures.from in
@@ -42,7 +42,7 @@ returns-in_err-call-clause-stops g c =
 pub returns-clause-passes : goal.returns-clause-passes
 returns-clause-passes g c =
     let s = c.args.stream.now in
-    let t = c.next_held.new.self in
+    let t = c.next_counted.new.self in
     let o = c.in-Some.found in
     let finds = c.in-Some.ensures.finds in
     let now = c.from-from.ensures.from in

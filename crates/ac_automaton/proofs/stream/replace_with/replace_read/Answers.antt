@@ -51,8 +51,8 @@ returns-in_err-end g c =
     let read = c.in_ok-read_more.ensures.read in
     let now = read-with g.W.Write.contents g.F.FnMut g.R.Read.remaining c.args.stream.now.built c.loop-stream.stream t c.loop-stream.at c.args.reader.now c.loop-stream.reader c.read_more.new.reader c.args.f.now c.loop-stream.f c.args.writer.now c.loop-stream.writer read.0 0
     c.loop-stream.invariant.replaced read.1 c.in_ok-read_more.ensures.kept read.3 refl in
-    let over = closing-with _ _ _ _ t c.close.new.self _ _ _ _ _ _ _ c.close.ensures.closed c.close.ensures.kept now in
-    rw (p.1, p.2) (stops-at _ _ _ _ c.close.new.self _ _ _ _ _ _ _ over c.replace_decided-2.new.writer _ c.in_err-end.ensures.stops)
+    let over = closing-with _ _ _ _ t c.finish.new.self _ _ _ _ _ _ _ c.finish.ensures.closed c.finish.ensures.kept now in
+    rw (p.1, p.2) (stops-at _ _ _ _ c.finish.new.self _ _ _ _ _ _ _ over c.replace_decided-2.new.writer _ c.in_err-end.ensures.stops)
 
 pub returns : goal.returns
 returns g c =
@@ -63,10 +63,10 @@ returns g c =
     c.loop-stream.invariant.replaced read.1 c.in_ok-read_more.ensures.kept read.3 refl in
     let whole = read-whole g.W.Write.contents g.F.FnMut g.R.Read.remaining c.args.stream.now.built c.loop-stream.stream t c.loop-stream.at c.args.reader.now c.loop-stream.reader c.read_more.new.reader c.args.f.now c.loop-stream.f c.args.writer.now c.loop-stream.writer read.0 0
     c.loop-stream.invariant.replaced read.1 (piece-none read.0 _ read.2 c.if-branch-gt0.false) in
-    let over = closing-with _ _ _ _ t c.close.new.self _ _ _ _ _ _ _ c.close.ensures.closed c.close.ensures.kept now in
+    let over = closing-with _ _ _ _ t c.finish.new.self _ _ _ _ _ _ _ c.finish.ensures.closed c.finish.ensures.kept now in
     let goes = c.in_ok-end.ensures.goes_on in
-    let written = more-with _ _ _ _ c.close.new.self _ _ _ _ _ _ _ over u c.in_ok-end.end _ _ goes in
-    let same : u.pieces ≡ t.pieces = goes.same.pieces ∙ ap (λ (v : StreamProgress). v.pieces) c.close.ensures.closed in
+    let written = more-with _ _ _ _ c.finish.new.self _ _ _ _ _ _ _ over u c.in_ok-end.end _ _ goes in
+    let same : u.pieces ≡ t.pieces = goes.same.pieces ∙ ap (λ (v : StreamProgress). v.pieces) c.finish.ensures.closed in
     let le : c.from-from.result ≤ c.in_ok-end.end = let is = c.from-from.ensures.from in let held = written.placed.held in omega arith in
     let bytes = rest-read u _ _ _ _ c.held.ensures.held c.from-from.ensures.from le c.rest.ensures in
-    rest-answered _ _ _ _ u c.in_ok-end.end _ _ _ _ _ _ written (rw same whole) (given-closed t c.close.new.self u c.in_ok-end.end c.close.ensures.closed goes.same c.in_ok-end.ensures.at_cut) c.write_whole.new.writer _ c.write_whole.result bytes c.write_whole.ensures.took c.write_whole.ensures.reads
+    rest-answered _ _ _ _ u c.in_ok-end.end _ _ _ _ _ _ written (rw same whole) (given-closed t c.finish.new.self u c.in_ok-end.end c.finish.ensures.closed goes.same c.in_ok-end.ensures.at_cut) c.write_whole.new.writer _ c.write_whole.result bytes c.write_whole.ensures.took c.write_whole.ensures.reads

@@ -1,12 +1,12 @@
 -- Before each read all that can be listed is written.
-use Rattle.std.proofs.Common.{Err, Ok, refl, sym, subst, ◌∙◌}
+use Rattle.std.proofs.Common.{◌≡◌, Err, Ok, refl, sym, subst, ◌∙◌}
 use Rattle.std.proofs.lemmas.Result.{err_from_is_err_and}
 use Rattle.ac_automaton.specs.Stream.{StreamProgress}
+use Rattle.ac_automaton.specs.StreamIter.{IsStopped}
 use Rattle.ac_automaton.proofs.StreamCountLemmas.{StreamCounts-none, StreamCounts-then}
-use Rattle.ac_automaton.proofs.StreamAnswerLemmas.{cost-read}
 use Rattle.ac_automaton.proofs.StreamReplaceLemmas.{write-begun}
 use Rattle.acsub.specs.StreamList.{HasListed}
-use Rattle.acsub.proofs.StreamListLemmas.{ended-read, ends-failed_write, ends-whole, found-read, gives-begun, less-left, listed-fresh, listed-more, next-stopped, stopped-read}
+use Rattle.acsub.proofs.StreamListLemmas.{cost-listed, ended-read, ends-failed_write, ends-whole, found-read, gives-begun, less-left, listed-fresh, listed-more, next-stopped, still-open, stopped-read}
 use Rattle.acsub.proofs.stream.list.list_read.Goals as goal
 
 pub loop-next-init : goal.loop-next-init
@@ -15,7 +15,7 @@ loop-next-init g c =
     let reader = c.args.matches.now.reader.now in
     record {
       listed = subst (λ (t : StreamProgress). HasListed g.R.Read.remaining g.W.Write.contents s.built t reader reader c.args.writer.now c.args.writer.now) (sym c.requires.fresh)
-          (listed-fresh g.R.Read.remaining g.W.Write.contents s.built reader c.args.writer.now c.requires.standard c.requires.filled c.requires.unended);
+          (listed-fresh g.R.Read.remaining g.W.Write.contents s.built reader c.args.writer.now c.requires.filled c.requires.unended);
       empty = c.requires.empty;
       same_reference = refl;
       counted = StreamCounts-none s c.args.steps.now;
@@ -24,13 +24,13 @@ loop-next-init g c =
 pub returns-in_err-found-clause-list : goal.returns-in_err-found-clause-list
 returns-in_err-found-clause-list g c =
     let p = err_from_is_err_and c.from_residual.result c.from_residual.ensures.1 in
-    rw (p.1, p.2) (next-stopped g.R.Read.remaining g.W.Write.contents c.args.matches.now.stream.built c.loop-next.matches.stream c.next_counted.new.self.stream c.args.matches.now.reader.now c.loop-next.matches.reader.now c.next_counted.new.self.reader.now c.args.writer.now c.loop-next.writer c.loop-next.invariant.listed c.next_counted.ensures.goes.1 c.in_err-found.field-0.0 (rw c.in_err-found.was at c.in-Some.ensures.gives.0))
+    rw (p.1, p.2) (next-stopped g.R.Read.remaining g.W.Write.contents c.args.matches.now.stream.built c.loop-next.matches.stream c.next_counted.new.self.stream c.args.matches.now.reader.now c.loop-next.matches.reader.now c.next_counted.new.self.reader.now c.args.writer.now c.loop-next.writer c.loop-next.invariant.listed c.next_counted.ensures.goes.1 c.in_err-found.field-0.0 (still-open g.R.Read.remaining g.W.Write.contents c.args.matches.now.stream.built c.loop-next.matches.stream c.next_counted.new.self.stream c.args.matches.now.reader.now c.loop-next.matches.reader.now c.next_counted.new.self.reader.now c.args.writer.now c.loop-next.writer c.loop-next.invariant.listed c.next_counted.ensures.goes.1 (Err c.in_err-found.field-0.0) (rw c.in_err-found.was at c.in-Some.ensures.gives.1)) (rw c.in_err-found.was at c.in-Some.ensures.gives.0))
 
 pub returns-in_err-found-clause-costs : goal.returns-in_err-found-clause-costs
 returns-in_err-found-clause-costs g c =
     let p = err_from_is_err_and c.from_residual.result c.from_residual.ensures.1 in
     let told = stopped-read g.R.Read.remaining g.W.Write.contents c.args.matches.now.stream.built c.loop-next.matches.stream c.next_counted.new.self.stream c.args.matches.now.reader.now c.loop-next.matches.reader.now c.next_counted.new.self.reader.now c.args.writer.now c.loop-next.writer c.loop-next.invariant.listed c.next_counted.ensures.goes.1 c.in_err-found.field-0.0 (rw c.in_err-found.was at c.in-Some.ensures.gives.0) in
-    rw p.1 (cost-read c.args.matches.now.stream.built c.args.matches.now.stream c.next_counted.new.self.stream c.args.matches.now.reader.now c.next_counted.new.self.reader.now c.args.steps.now c.next_counted.new.steps (Err p.0) c.requires.standard c.requires.fresh (record {
+    rw p.1 (cost-listed c.args.matches.now.stream.built c.args.matches.now.stream c.next_counted.new.self.stream c.args.matches.now.reader.now c.next_counted.new.self.reader.now c.args.steps.now c.next_counted.new.steps (Err p.0) c.requires.fresh (record {
       built = told.0;
       read = told.1;
       counts = StreamCounts-then c.args.matches.now.stream c.loop-next.matches.stream c.next_counted.new.self.stream c.args.steps.now c.loop-next.steps c.next_counted.new.steps c.loop-next.invariant.counted c.next_counted.ensures.goes.0;
@@ -41,13 +41,15 @@ returns-in_err-found-clause-costs g c =
 pub loop-next-smaller : goal.loop-next-smaller
 loop-next-smaller g c =
     let next = rw c.in_ok-found.was at c.in-Some.ensures.gives.0 in
-    less-left g.R.Read.remaining g.W.Write.contents c.args.matches.now.stream.built c.loop-next.matches.stream c.next_counted.new.self.stream c.args.matches.now.reader.now c.loop-next.matches.reader.now c.next_counted.new.self.reader.now c.args.writer.now c.loop-next.writer c.loop-next.invariant.listed c.next_counted.ensures.goes.1 c.in_ok-found.found next c.write_lines.new.matches.stream c.in_ok-write_lines.ensures.written.same.pieces
+    let may = still-open g.R.Read.remaining g.W.Write.contents c.args.matches.now.stream.built c.loop-next.matches.stream c.next_counted.new.self.stream c.args.matches.now.reader.now c.loop-next.matches.reader.now c.next_counted.new.self.reader.now c.args.writer.now c.loop-next.writer c.loop-next.invariant.listed c.next_counted.ensures.goes.1 (Ok c.in_ok-found.found) (rw c.in_ok-found.was at c.in-Some.ensures.gives.1) in
+    less-left g.R.Read.remaining g.W.Write.contents c.args.matches.now.stream.built c.loop-next.matches.stream c.next_counted.new.self.stream c.args.matches.now.reader.now c.loop-next.matches.reader.now c.next_counted.new.self.reader.now c.args.writer.now c.loop-next.writer c.loop-next.invariant.listed c.next_counted.ensures.goes.1 c.in_ok-found.found next may c.write_lines.new.matches.stream c.in_ok-write_lines.ensures.written.same.last
 
 pub loop-next-preserved : goal.loop-next-preserved
 loop-next-preserved g c =
     let next = rw c.in_ok-found.was at c.in-Some.ensures.gives.0 in
+    let may = still-open g.R.Read.remaining g.W.Write.contents c.args.matches.now.stream.built c.loop-next.matches.stream c.next_counted.new.self.stream c.args.matches.now.reader.now c.loop-next.matches.reader.now c.next_counted.new.self.reader.now c.args.writer.now c.loop-next.writer c.loop-next.invariant.listed c.next_counted.ensures.goes.1 (Ok c.in_ok-found.found) (rw c.in_ok-found.was at c.in-Some.ensures.gives.1) in
     let first = StreamCounts-then c.args.matches.now.stream c.loop-next.matches.stream c.next_counted.new.self.stream c.args.steps.now c.loop-next.steps c.next_counted.new.steps c.loop-next.invariant.counted c.next_counted.ensures.goes.0 in
-    let listed = listed-more g.R.Read.remaining g.W.Write.contents c.args.matches.now.stream.built c.loop-next.matches.stream c.next_counted.new.self.stream c.args.matches.now.reader.now c.loop-next.matches.reader.now c.next_counted.new.self.reader.now c.args.writer.now c.loop-next.writer c.loop-next.invariant.listed c.next_counted.ensures.goes.1 c.in_ok-found.found next c.write_lines.new.matches.stream c.write_lines.new.writer c.in_ok-write_lines.ensures.written in
+    let listed = listed-more g.R.Read.remaining g.W.Write.contents c.args.matches.now.stream.built c.loop-next.matches.stream c.next_counted.new.self.stream c.args.matches.now.reader.now c.loop-next.matches.reader.now c.next_counted.new.self.reader.now c.args.writer.now c.loop-next.writer c.loop-next.invariant.listed c.next_counted.ensures.goes.1 c.in_ok-found.found next may c.write_lines.new.matches.stream c.write_lines.new.writer c.in_ok-write_lines.ensures.written c.write_lines.ensures.kept in
     record {
       listed = rw c.write_lines.ensures.reader listed;
       empty = c.in_ok-write_lines.ensures.none;
@@ -59,16 +61,18 @@ pub returns-in_err-write_lines-clause-list : goal.returns-in_err-write_lines-cla
 returns-in_err-write_lines-clause-list g c =
     let p = err_from_is_err_and c.from_residual-in_err-write_lines.result c.from_residual-in_err-write_lines.ensures.1 in
     let next = rw c.in_ok-found.was at c.in-Some.ensures.gives.0 in
-    let lists = ends-failed_write g.R.Read.remaining g.W.Write.contents c.args.matches.now.stream.built c.loop-next.matches.stream c.next_counted.new.self.stream c.args.matches.now.reader.now c.loop-next.matches.reader.now c.next_counted.new.self.reader.now c.args.writer.now c.loop-next.writer c.loop-next.invariant.listed c.next_counted.ensures.goes.1 c.in_ok-found.found next c.write_lines.new.matches.stream c.write_lines.new.writer c.in_err-write_lines.field-0.0 c.in_err-write_lines.ensures.stopped c.write_lines.ensures.kept c.in_err-write_lines.ensures.kind in
+    let may = still-open g.R.Read.remaining g.W.Write.contents c.args.matches.now.stream.built c.loop-next.matches.stream c.next_counted.new.self.stream c.args.matches.now.reader.now c.loop-next.matches.reader.now c.next_counted.new.self.reader.now c.args.writer.now c.loop-next.writer c.loop-next.invariant.listed c.next_counted.ensures.goes.1 (Ok c.in_ok-found.found) (rw c.in_ok-found.was at c.in-Some.ensures.gives.1) in
+    let lists = ends-failed_write g.R.Read.remaining g.W.Write.contents c.args.matches.now.stream.built c.loop-next.matches.stream c.next_counted.new.self.stream c.args.matches.now.reader.now c.loop-next.matches.reader.now c.next_counted.new.self.reader.now c.args.writer.now c.loop-next.writer c.loop-next.invariant.listed c.next_counted.ensures.goes.1 c.in_ok-found.found next may c.write_lines.new.matches.stream c.write_lines.new.writer c.in_err-write_lines.field-0.0 c.in_err-write_lines.ensures.stopped c.write_lines.ensures.kept c.in_err-write_lines.ensures.kind in
     rw (p.1, p.2) (rw c.write_lines.ensures.reader lists)
 
 pub returns-in_err-write_lines-clause-costs : goal.returns-in_err-write_lines-clause-costs
 returns-in_err-write_lines-clause-costs g c =
     let p = err_from_is_err_and c.from_residual-in_err-write_lines.result c.from_residual-in_err-write_lines.ensures.1 in
     let next = rw c.in_ok-found.was at c.in-Some.ensures.gives.0 in
-    let told = found-read g.R.Read.remaining g.W.Write.contents c.args.matches.now.stream.built c.loop-next.matches.stream c.next_counted.new.self.stream c.args.matches.now.reader.now c.loop-next.matches.reader.now c.next_counted.new.self.reader.now c.args.writer.now c.loop-next.writer c.loop-next.invariant.listed c.next_counted.ensures.goes.1 c.in_ok-found.found next c.write_lines.new.matches.stream c.in_err-write_lines.ensures.stopped.same in
+    let may = still-open g.R.Read.remaining g.W.Write.contents c.args.matches.now.stream.built c.loop-next.matches.stream c.next_counted.new.self.stream c.args.matches.now.reader.now c.loop-next.matches.reader.now c.next_counted.new.self.reader.now c.args.writer.now c.loop-next.writer c.loop-next.invariant.listed c.next_counted.ensures.goes.1 (Ok c.in_ok-found.found) (rw c.in_ok-found.was at c.in-Some.ensures.gives.1) in
+    let told = found-read g.R.Read.remaining g.W.Write.contents c.args.matches.now.stream.built c.loop-next.matches.stream c.next_counted.new.self.stream c.args.matches.now.reader.now c.loop-next.matches.reader.now c.next_counted.new.self.reader.now c.args.writer.now c.loop-next.writer c.loop-next.invariant.listed c.next_counted.ensures.goes.1 c.in_ok-found.found next may c.write_lines.new.matches.stream c.in_err-write_lines.ensures.stopped.same in
     let first = StreamCounts-then c.args.matches.now.stream c.loop-next.matches.stream c.next_counted.new.self.stream c.args.steps.now c.loop-next.steps c.next_counted.new.steps c.loop-next.invariant.counted c.next_counted.ensures.goes.0 in
-    rw p.1 (cost-read c.args.matches.now.stream.built c.args.matches.now.stream c.write_lines.new.matches.stream c.args.matches.now.reader.now c.write_lines.new.matches.reader.now c.args.steps.now c.write_lines.new.steps (Err p.0) c.requires.standard c.requires.fresh (record {
+    rw p.1 (cost-listed c.args.matches.now.stream.built c.args.matches.now.stream c.write_lines.new.matches.stream c.args.matches.now.reader.now c.write_lines.new.matches.reader.now c.args.steps.now c.write_lines.new.steps (Err p.0) c.requires.fresh (record {
       built = told.0;
       read = rw c.write_lines.ensures.reader told.1;
       counts = StreamCounts-then c.args.matches.now.stream c.next_counted.new.self.stream c.write_lines.new.matches.stream c.args.steps.now c.next_counted.new.steps c.write_lines.new.steps first c.write_lines.ensures.counts;
@@ -79,18 +83,20 @@ returns-in_err-write_lines-clause-costs g c =
 pub returns-clause-list : goal.returns-clause-list
 returns-clause-list g c =
     let next = c.in_default.ensures.gives.0 in
-    (ends-whole g.R.Read.remaining g.W.Write.contents c.args.matches.now.stream.built c.loop-next.matches.stream c.next_counted.new.self.stream c.args.matches.now.reader.now c.loop-next.matches.reader.now c.next_counted.new.self.reader.now c.args.writer.now c.loop-next.writer c.loop-next.invariant.listed c.next_counted.ensures.goes.1 next).0
+    let unread : IsStopped c.loop-next.matches.stream c.loop-next.matches.reader.now → c.next_counted.new.self.reader.now ≡ c.loop-next.matches.reader.now = λ stopped. (c.in_default.ensures.gives.1 stopped).3 in
+    (ends-whole g.R.Read.remaining g.W.Write.contents c.args.matches.now.stream.built c.loop-next.matches.stream c.next_counted.new.self.stream c.args.matches.now.reader.now c.loop-next.matches.reader.now c.next_counted.new.self.reader.now c.args.writer.now c.loop-next.writer c.loop-next.invariant.listed c.next_counted.ensures.goes.1 next c.in_default.ensures.gives.1 unread).0
 
 pub returns-clause-costs : goal.returns-clause-costs
 returns-clause-costs g c =
     let next = c.in_default.ensures.gives.0 in
+    let unread : IsStopped c.loop-next.matches.stream c.loop-next.matches.reader.now → c.next_counted.new.self.reader.now ≡ c.loop-next.matches.reader.now = λ stopped. (c.in_default.ensures.gives.1 stopped).3 in
     let told = ended-read g.R.Read.remaining g.W.Write.contents c.args.matches.now.stream.built c.loop-next.matches.stream c.next_counted.new.self.stream c.args.matches.now.reader.now c.loop-next.matches.reader.now c.next_counted.new.self.reader.now c.args.writer.now c.loop-next.writer c.loop-next.invariant.listed c.next_counted.ensures.goes.1 next in
-    cost-read c.args.matches.now.stream.built c.args.matches.now.stream c.next_counted.new.self.stream c.args.matches.now.reader.now c.next_counted.new.self.reader.now c.args.steps.now c.next_counted.new.steps (Ok tt) c.requires.standard c.requires.fresh (record {
+    cost-listed c.args.matches.now.stream.built c.args.matches.now.stream c.next_counted.new.self.stream c.args.matches.now.reader.now c.next_counted.new.self.reader.now c.args.steps.now c.next_counted.new.steps (Ok tt) c.requires.fresh (record {
       built = told.0;
       read = told.1;
       counts = StreamCounts-then c.args.matches.now.stream c.loop-next.matches.stream c.next_counted.new.self.stream c.args.steps.now c.loop-next.steps c.next_counted.new.steps c.loop-next.invariant.counted c.next_counted.ensures.goes.0;
       course = c.next_counted.ensures.goes.1;
-      searched = (ends-whole g.R.Read.remaining g.W.Write.contents c.args.matches.now.stream.built c.loop-next.matches.stream c.next_counted.new.self.stream c.args.matches.now.reader.now c.loop-next.matches.reader.now c.next_counted.new.self.reader.now c.args.writer.now c.loop-next.writer c.loop-next.invariant.listed c.next_counted.ensures.goes.1 next).1;
+      searched = (ends-whole g.R.Read.remaining g.W.Write.contents c.args.matches.now.stream.built c.loop-next.matches.stream c.next_counted.new.self.stream c.args.matches.now.reader.now c.loop-next.matches.reader.now c.next_counted.new.self.reader.now c.args.writer.now c.loop-next.writer c.loop-next.invariant.listed c.next_counted.ensures.goes.1 next c.in_default.ensures.gives.1 unread).1;
     })
 
 pub returns-in_err-found-clause-begun : goal.returns-in_err-found-clause-begun

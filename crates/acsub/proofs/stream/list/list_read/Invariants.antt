@@ -1,5 +1,5 @@
-use Rattle.std.proofs.Common.{◌≡◌, ◌-◌, [], length}
-use Rattle.ac_automaton.specs.Stream.{StreamCounts, read_by}
+use Rattle.std.proofs.Common.{◌≡◌, ◌-◌, []}
+use Rattle.ac_automaton.specs.Stream.{StreamCounts}
 use Rattle.ac_automaton.specs.StreamIter.{progress_of, reader_name, reader_of}
 use Rattle.acsub.specs.StreamList.{HasListed}
 use Rattle.acsub.proofs.stream.list.list_read.Given as goal
@@ -13,4 +13,4 @@ invariant-loop-next g l = record {
 }
 
 abbrev pub decreases-loop-next : goal.decreases-loop-next
-decreases-loop-next g l = 18446744073709551616 - length (read_by (progress_of l.matches))
+decreases-loop-next g l = 18446744073709551616 - (progress_of l.matches).last

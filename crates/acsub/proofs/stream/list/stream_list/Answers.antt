@@ -6,7 +6,7 @@ use Rattle.acsub.proofs.stream.list.stream_list.Goals as goal
 pub list_stream-requires-clause-can : goal.list_stream-requires-clause-can
 list_stream-requires-clause-can g c =
     let plan = c.args.prepared.now in
-    streamed-can (g.A.Automaton.built c.args.engine.now) (g.A.Automaton.supports c.args.engine.now) plan.settings plan.rules c.requires.built c.requires.supports c.requires.streamed
+    streamed-can (g.A.Automaton.built c.args.engine.now) (g.A.Automaton.supports c.args.engine.now) plan c.requires.built c.requires.supports c.requires.streamed
 
 pub returns-in-Ok-clause-streams : goal.returns-in-Ok-clause-streams
 returns-in-Ok-clause-streams g c =

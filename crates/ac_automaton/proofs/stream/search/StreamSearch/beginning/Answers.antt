@@ -9,7 +9,7 @@ use Rattle.ac_automaton.proofs.stream.search.StreamSearch.beginning.Goals as goa
 
 pub invariant_of-result : goal.invariant_of-result
 invariant_of-result g c =
-    let a = c.args.automaton.now in
+    let a = c.args.automaton in
     let b = g.A.Automaton.built a in
     let start = c.args.start in
     let begins = c.requires.starts in
@@ -20,11 +20,11 @@ invariant_of-result g c =
     )
 
 pub returns-clause-fresh : goal.returns-clause-fresh
-returns-clause-fresh g c = fresh-view (g.A.Automaton.built c.args.automaton.now) c.empty.result.items c.zero.result.value c.args.start c.max_pattern_len.result c.in_ok-buffer.buffer c.new-2.result c.empty.ensures c.zero.ensures c.in_ok-buffer.ensures.fresh c.new-2.ensures
+returns-clause-fresh g c = fresh-view (g.A.Automaton.built c.args.automaton) c.empty.result.items c.zero.result.value c.args.start c.max_pattern_len.result c.in_ok-buffer.buffer c.new-2.result c.empty.ensures c.zero.ensures c.in_ok-buffer.ensures.fresh c.new-2.ensures
 
 pub returns-clause-kept : goal.returns-clause-kept
 returns-clause-kept g c =
-    let a = c.args.automaton.now in
+    let a = c.args.automaton in
     let b = g.A.Automaton.built a in
     let start = c.args.start in
     let begins = c.requires.starts in

@@ -15,7 +15,7 @@ failed g c =
     fill-failed g.A.Automaton g.R.Read.remaining i c.args.reader.now c.fill.new.reader c.and-self-inside.result.items c.fill.new.self c.self.invariant.0 (ap (λ (t : StreamProgress). t.closed) c.self.view_is ∙ c.requires.unclosed) c.in-Err.ensures.gave.1 c.in-Err.ensures.paid c.and-self-inside.ensures c.in-Err.ensures.gave.0
 
 pub invariant_of-self : goal.invariant_of-self
-invariant_of-self g c = ((failed g c).right, blank-notes (g.A.Automaton.Reaches c.self.inside.automaton.now No) (g.A.Automaton.matches c.self.inside.automaton.now) _ _ c.forget.ensures)
+invariant_of-self g c = ((failed g c).right, blank-notes (g.A.Automaton.Reaches c.self.inside.automaton No) (g.A.Automaton.matches c.self.inside.automaton) _ _ c.forget.ensures)
 
 pub returns-in-Err-clause-read : goal.returns-in-Err-clause-read
 returns-in-Err-clause-read g c = subst (λ (t : StreamProgress). HasRead g.R.Read.remaining t (filled_by g.A.Automaton g.R.Read.remaining c.self.inside c.args.reader.now c.fill.new.reader c.and-self-inside.result.items c.fill.new.self) c.args.reader.now c.fill.new.reader [] 1) c.self.view_is (failed g c).read
@@ -30,7 +30,7 @@ past g c =
     fill-gave g.A.Automaton g.R.Read.remaining i c.args.reader.now c.fill.new.reader c.and-self-inside-2.result.items c.fill.new.self c.in-Ok.n c.held-held.result.now c.self.invariant.0 (ap (λ (t : StreamProgress). t.closed) c.self.view_is ∙ c.requires.unclosed) c.in-Ok.ensures.gave c.in-Ok.ensures.paid c.held-held.ensures (rw take_rest at c.and-self-inside-2.ensures) (omega arith)
 
 pub invariant_of-self-then-self : goal.invariant_of-self-then-self
-invariant_of-self-then-self g c = ((past g c).right, blank-notes (g.A.Automaton.Reaches c.self.inside.automaton.now No) (g.A.Automaton.matches c.self.inside.automaton.now) _ _ c.forget.ensures)
+invariant_of-self-then-self g c = ((past g c).right, blank-notes (g.A.Automaton.Reaches c.self.inside.automaton No) (g.A.Automaton.matches c.self.inside.automaton) _ _ c.forget.ensures)
 
 pub returns-then-self-clause-read : goal.returns-then-self-clause-read
 returns-then-self-clause-read g c =
@@ -48,7 +48,7 @@ within g c =
     fill-gave g.A.Automaton g.R.Read.remaining i c.args.reader.now c.fill.new.reader c.and-self-inside-2.result.items c.fill.new.self c.in-Ok.n c.held-held.result.now c.self.invariant.0 (ap (λ (t : StreamProgress). t.closed) c.self.view_is ∙ c.requires.unclosed) c.in-Ok.ensures.gave c.in-Ok.ensures.paid c.held-held.ensures (rw take_rest at c.and-self-inside-2.ensures) (omega arith)
 
 pub invariant_of-self-2 : goal.invariant_of-self-2
-invariant_of-self-2 g c = ((within g c).right, blank-notes (g.A.Automaton.Reaches c.self.inside.automaton.now No) (g.A.Automaton.matches c.self.inside.automaton.now) _ _ c.forget.ensures)
+invariant_of-self-2 g c = ((within g c).right, blank-notes (g.A.Automaton.Reaches c.self.inside.automaton No) (g.A.Automaton.matches c.self.inside.automaton) _ _ c.forget.ensures)
 
 pub returns-clause-read : goal.returns-clause-read
 returns-clause-read g c =

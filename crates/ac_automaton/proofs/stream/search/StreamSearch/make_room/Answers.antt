@@ -13,7 +13,7 @@ returns-else-is_full-clause-counts g c = counts-none c.args.self.now c.args.step
 pub invariant_of-self : goal.invariant_of-self
 invariant_of-self g c =
     let i = c.self.inside in
-    let a = i.automaton.now in (
+    let a = i.automaton in (
       roll-right (g.A.Automaton.Reaches a No) (progress_at (g.A.Automaton.built a) i.pieces.items i.given.value i.progress i.buffer i.sums) i.start i.progress.sid i.progress.best i.given.value i.buffer c.roll.new.self i.over c.cut-cut.result
           c.self.invariant.0 (c.cut-cut.ensures.cut ∙ sym (ap cut_of c.self.view_is)) c.roll.ensures.rolled c.roll.ensures.paid,
       blank-notes (g.A.Automaton.Reaches a No) (g.A.Automaton.matches a) _ _ c.forget.ensures,

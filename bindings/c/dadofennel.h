@@ -1,0 +1,703 @@
+/*
+ * Dadofennel: searching for many patterns at once, proved.
+ *
+ * An automaton is built once of patterns, and searches as often as needed, in time that depends on the bytes that it reads and not
+ * on how many patterns there are. Patterns and haystacks are bytes of any value. Patterns are numbered from 0 in the order in
+ * which they are given; places are counted in bytes from 0, and the end of a match is the place after its last byte.
+ *
+ *     dado_bytes patterns[] = {{(const uint8_t *)"fox", 3}, {(const uint8_t *)"brown", 5}};
+ *     dado_automaton *ac = NULL;
+ *     if (dado_build(patterns, 2, NULL, &ac, NULL) == DADO_OK) {
+ *         dado_cursor cursor = dado_cursor_over(0, len);
+ *         dado_match found;
+ *         while (dado_next(ac, text, len, &cursor, &found) == DADO_OK)
+ *             printf("%u %zu %zu\n", (unsigned)found.pattern, found.start, found.end);
+ *     }
+ *     dado_free(&ac);
+ *
+ * What holds of every call:
+ *
+ * - Status. A call that can fail returns a `dado_status`. Its text is `dado_error_text`. What a call writes through a pointer is
+ *   written where its description says so, and on no other status.
+ * - NULL. Each pointer may be NULL, where its description says what that means, or else the status is DADO_BAD_ARGUMENT. An
+ *   array or a haystack of length 0 may be NULL. An automaton that is NULL gives DADO_NO_AUTOMATON.
+ * - Threads. A search reads an automaton and writes nothing of it, so any number of threads may search with one at the same time.
+ *   No thread may free it, or build over it, before all searches with it have returned. No call waits for another, and there is
+ *   no state but what the caller holds. With the same stream, one call at a time; threads may pass it on.
+ * - Memory. Where a call says that it takes memory, it is of `malloc`, and DADO_NO_MEMORY says that there was none; nothing is
+ *   lost then, and nothing changed. All other calls take none. A haystack is never copied; a stream copies each piece once.
+ * - Bytes that a call is given must stay the same until it returns, and what it writes to must not overlap what it reads.
+ *
+ * What is proved of this library, and what a caller in C must not do, is in docs/TRUST.md. The functions `dado_raw_` are those that
+ * are proved; each function here tests for NULL what they can't, and calls one of them.
+ */
+#ifndef DADOFENNEL_H
+#define DADOFENNEL_H
+
+#include <stddef.h>
+#include <stdint.h>
+
+#define DADO_VERSION "1.0.0"
+
+/* The functions below are inline, and symbols of the library too. GNU C before C99 says that in other words. */
+#if defined(__GNUC_GNU_INLINE__) && !defined(__cplusplus)
+#define DADO_INLINE extern __inline__
+#else
+#define DADO_INLINE inline
+#endif
+
+#ifdef __cplusplus
+extern "C" {
+#endif
+
+/* What a call returns. */
+typedef uint32_t dado_status;
+
+enum {
+    DADO_OK = 0,                  /* done; of a search: a match was found */
+    DADO_NONE = 1,                /* a search: there is no match, or no further one */
+    DADO_NO_AUTOMATON = 2,        /* the automaton is NULL: never built, or freed */
+    DADO_BAD_ARGUMENT = 3,        /* a pointer is NULL that may not be */
+    DADO_NO_MEMORY = 4,           /* memory ran out */
+    DADO_TOO_MANY_STATES = 5,     /* a build: more states than can be numbered */
+    DADO_TOO_MANY_PATTERNS = 6,   /* a build: more patterns than can be numbered, 2147483647 */
+    DADO_PATTERN_TOO_LONG = 7,    /* a build: a pattern of more than 2147483646 bytes */
+    DADO_BAD_KIND = 8,            /* a build: `kind` is none of the three */
+    DADO_BAD_START_KIND = 9,      /* a build: `start_kind` is none of the three */
+    DADO_BAD_ENGINE = 10,         /* a build: `engine` is none of the four */
+    DADO_BAD_PAIRS = 11,          /* a build: a byte is named twice in `pairs`, or pairs beside `fold` */
+    DADO_NOT_ANCHORED = 12,       /* an anchored search, by an automaton or a call that has none */
+    DADO_NOT_UNANCHORED = 13,     /* an unanchored search, by an automaton that was built for anchored ones alone */
+    DADO_NOT_STANDARD = 14,       /* overlapping matches, by an automaton of a leftmost kind */
+    DADO_BAD_SPAN = 15,           /* the span ends after the haystack, or starts more than one past its end */
+    DADO_BAD_CURSOR = 16,         /* the cursor's content is not one that a walk over this haystack has */
+    DADO_WRONG_COUNT = 17,        /* not as many replacements as patterns */
+    DADO_TOO_SHORT = 18,          /* the buffer is too short for the text */
+    DADO_BAD_PATTERN = 19,        /* the automaton has no pattern of this number */
+    DADO_EMPTY_PATTERN = 20,      /* a stream, by an automaton that has an empty pattern */
+    DADO_NO_STREAM = 21,          /* the stream is NULL: never made, or freed */
+    DADO_FINISHED = 22,           /* a push to a stream that was finished */
+    DADO_TOO_MANY_BYTES = 23      /* more bytes were pushed to a stream than there are places */
+};
+
+/* Which of several overlapping occurrences is the match. */
+enum {
+    DADO_STANDARD = 0,            /* the one that ends first; of those the one that starts first, then the lower number */
+    DADO_LEFTMOST_FIRST = 1,      /* the one that starts first; of those the lower number, as in a regular expression */
+    DADO_LEFTMOST_LONGEST = 2     /* the one that starts first; of those the longest, as in a POSIX one; then the lower number */
+};
+
+/* Which searches an automaton is built for. */
+enum {
+    DADO_UNANCHORED = 0,          /* a match may start anywhere */
+    DADO_ANCHORED = 1,            /* a match starts where the search does, or there is none */
+    DADO_BOTH = 2                 /* both; a DFA takes about twice the memory */
+};
+
+/* What searches. It changes time and memory, and no result. */
+enum {
+    DADO_AUTO = 0,                /* chosen by the library; it never serves, one of the other three does */
+    DADO_NONCONTIGUOUS = 1,       /* built soonest */
+    DADO_CONTIGUOUS = 2,          /* the least memory; take it for patterns of a stranger's choice */
+    DADO_DFA = 3                  /* searches fastest, and takes the most memory */
+};
+
+/* A number of bytes at a place. `at` may be NULL where `len` is 0. */
+typedef struct dado_bytes {
+    const uint8_t *at;
+    size_t len;
+} dado_bytes;
+
+/* Two bytes that match each other. */
+typedef struct dado_pair {
+    uint8_t a, b;
+} dado_pair;
+
+/* The match of the pattern of this number: the bytes from `start` up to and without `end`. */
+typedef struct dado_match {
+    size_t start, end;
+    uint32_t pattern;
+} dado_match;
+
+/* An automaton. A caller holds a pointer to it, which is NULL before it is built and after it is freed. */
+typedef struct dado_automaton dado_automaton;
+
+/*
+ * How an automaton is built. Begin with dado_settings_default() and change what you need.
+ *
+ * kind          which of several overlapping occurrences is the match: DADO_STANDARD at first. Overlapping matches need it.
+ * start_kind    which searches it is for: DADO_UNANCHORED at first
+ * engine        what searches: DADO_AUTO at first. That takes a DFA for up to 100 patterns and one start kind, else a contiguous
+ *               NFA, and goes on to the next where one would be too large.
+ * fold          0, at first, or else ASCII letters match in either case
+ * prefilter     not 0, at first: searches skip by a prefilter, where one serves. It changes no result.
+ * byte_classes  not 0, at first: bytes that lead alike are one class. Without classes a state takes more memory. It changes no
+ *               result.
+ * dense_depth   to which depth the states of an NFA keep a row: SIZE_MAX, at first, for 3 (noncontiguous) and 2 (contiguous). It
+ *               changes no result.
+ * row_memory    how many bytes of memory the rows of a contiguous NFA may take: 16 MiB at first; 0 is for none. It changes no
+ *               result.
+ * pairs         `pair_count` pairs of bytes that match each other; none at first. No byte may be in two pairs, or twice in one.
+ */
+typedef struct dado_settings {
+    uint32_t kind, start_kind, engine;
+    uint32_t fold, prefilter, byte_classes;
+    size_t dense_depth, row_memory;
+    const dado_pair *pairs;
+    size_t pair_count;
+} dado_settings;
+
+/* More about a failed build. `pattern` is the pattern's number at DADO_PATTERN_TOO_LONG, or the byte that was named twice at
+ * DADO_BAD_PAIRS; `count` is the length of that pattern, or at DADO_TOO_MANY_STATES and DADO_TOO_MANY_PATTERNS a number past the
+ * greatest that would be needed. Both are 0 elsewhere. */
+typedef struct dado_fault {
+    uint64_t count;
+    uint32_t pattern;
+} dado_fault;
+
+/*
+ * Where a search looks: the bytes of the haystack from `start` up to and without `end`. With `anchored` not 0 a match starts at
+ * `start`, or there is none. With `earliest` not 0 the match is that of the standard kind, whatever the automaton's, so the search
+ * ends as soon as it knows of one. A span may start one past its end: then nothing is found, not even an empty pattern.
+ */
+typedef struct dado_span {
+    size_t start, end;
+    uint32_t anchored, earliest;
+} dado_span;
+
+/*
+ * Where a walk over a haystack stands: what is left of its span, and where the last match ended, or SIZE_MAX for none. A caller may
+ * copy it, keep it, and go on from it at any time, with this automaton or another one of the same patterns and settings, and over
+ * the same haystack. It points to nothing and is never freed. At its end `start` is one past `end`.
+ */
+typedef struct dado_cursor {
+    size_t start, end, last;
+    uint32_t anchored, earliest;
+} dado_cursor;
+
+/*
+ * Where a listing of all occurrences of a span stands: the span, and the occurrence that was given last, if `begun` is not 0. It is
+ * a value like a cursor.
+ */
+typedef struct dado_place {
+    size_t start, end;
+    dado_match last;
+    uint32_t begun;
+} dado_place;
+
+/* A text that the library has allocated: `len` bytes at `at`, which stay there until dado_text_free. `at` may be NULL where `len`
+ * is 0. Begin with DADO_NO_TEXT; don't write to its fields. */
+typedef struct dado_text {
+    void *owner;
+    const uint8_t *at;
+    size_t len;
+} dado_text;
+
+#define DADO_NO_TEXT {NULL, NULL, 0}
+
+/* A search of a text that comes in pieces. A caller holds a pointer to it, which is NULL before it is made and after it is freed. */
+typedef struct dado_stream dado_stream;
+
+/* What a stream holds of the bytes that were pushed: `len` bytes at `at`, the last ones. The first of them has the place `from`. All
+ * bytes before the place `cut` are decided: no match that is still to come begins before it. */
+typedef struct dado_held {
+    const uint8_t *at;
+    size_t len, from, cut;
+} dado_held;
+
+/* ---- The proved exports, which the functions below call. Their pointers are never NULL, except a haystack or an array of length 0.
+ * `at` is an automaton that is not freed during the call; a handle is a variable that holds an automaton or NULL. ---- */
+
+typedef struct dado_raw_settings {
+    uint32_t kind, start_kind, engine;
+    uint32_t fold, prefilter, byte_classes;
+    size_t dense_depth, row_memory;
+} dado_raw_settings;
+
+typedef struct dado_raw_found {
+    dado_match found;             /* where the status is DADO_OK */
+    dado_status status;
+} dado_raw_found;
+
+typedef struct dado_raw_step {
+    dado_cursor cursor;           /* where the walk stands after the call */
+    dado_match found;             /* where the status is DADO_OK */
+    dado_status status;
+} dado_raw_step;
+
+typedef struct dado_raw_some {
+    dado_cursor cursor;           /* where the walk stands after the call */
+    size_t count;                 /* how many matches were written */
+    dado_status status;
+} dado_raw_some;
+
+typedef struct dado_raw_listed {
+    dado_place place;             /* where the listing stands after the call */
+    size_t count;                 /* how many occurrences were written */
+    dado_status status;
+} dado_raw_listed;
+
+typedef struct dado_raw_length {
+    size_t len;
+    dado_status status;
+} dado_raw_length;
+
+typedef struct dado_raw_about {
+    size_t patterns, shortest, longest, memory;
+    uint32_t kind, start_kind, engine;
+} dado_raw_about;
+
+typedef struct dado_raw_count {
+    size_t count;
+    dado_status status;
+} dado_raw_count;
+
+typedef struct dado_raw_view {
+    size_t len, from, cut;
+    dado_status status;
+} dado_raw_view;
+
+dado_raw_settings dado_raw_settings_default(void);
+dado_status dado_raw_build(const dado_bytes *patterns, size_t count, const dado_raw_settings *settings, const dado_pair *pairs,
+                           size_t pair_count, dado_automaton **handle, dado_fault *fault);
+dado_status dado_raw_share(const dado_automaton *at, dado_automaton **other);
+void dado_raw_free(dado_automaton **handle);
+dado_raw_found dado_raw_find(const dado_automaton *at, const uint8_t *haystack, size_t len, size_t start, size_t end,
+                             uint32_t anchored, uint32_t earliest);
+dado_raw_step dado_raw_next(const dado_automaton *at, const uint8_t *haystack, size_t len, size_t start, size_t end, size_t last,
+                            uint32_t anchored, uint32_t earliest);
+dado_raw_some dado_raw_walk(const dado_automaton *at, const uint8_t *haystack, size_t len, size_t start, size_t end, size_t last,
+                            uint32_t anchored, uint32_t earliest, dado_match *out, size_t room);
+dado_raw_listed dado_raw_list(const dado_automaton *at, const uint8_t *haystack, size_t len, size_t start, size_t end,
+                              size_t last_start, size_t last_end, uint32_t last_pattern, uint32_t begun, dado_match *out, size_t room);
+dado_raw_length dado_raw_replace_into(const dado_automaton *at, const uint8_t *haystack, size_t len, const dado_bytes *replacements,
+                                      size_t count, uint8_t *out, size_t room);
+dado_status dado_raw_replace(const dado_automaton *at, const uint8_t *haystack, size_t len, const dado_bytes *replacements,
+                             size_t count, void **owner);
+void dado_raw_text_view(void **owner, const uint8_t **at, size_t *len);
+void dado_raw_text_free(void **owner);
+dado_status dado_raw_stream_new(const dado_automaton *at, dado_stream **stream);
+dado_raw_count dado_raw_stream_push(dado_stream **stream, const uint8_t *piece, size_t len);
+dado_raw_count dado_raw_stream_some(dado_stream **stream, dado_match *out, size_t room);
+dado_raw_view dado_raw_stream_view(dado_stream **stream, const uint8_t **at);
+dado_status dado_raw_stream_finish(dado_stream **stream);
+void dado_raw_stream_free(dado_stream **stream);
+dado_raw_length dado_raw_pattern_len(const dado_automaton *at, uint32_t pattern);
+dado_raw_about dado_raw_tell(const dado_automaton *at);
+
+/* ---- Building and freeing ---- */
+
+/* The settings at first: standard matches, unanchored searches, the engine chosen by the library, no pairs. */
+DADO_INLINE dado_settings dado_settings_default(void) {
+    dado_raw_settings first = dado_raw_settings_default();
+    dado_settings settings = {first.kind, first.start_kind, first.engine, first.fold, first.prefilter, first.byte_classes,
+                              first.dense_depth, first.row_memory, NULL, 0};
+    return settings;
+}
+
+/*
+ * Builds an automaton of `count` patterns, and puts it at `*handle`. An automaton that was there is freed, once the new one is
+ * built. `*handle` must be NULL or an automaton; a variable that was never set is neither.
+ *
+ * An empty pattern occurs at every place. The same pattern may be given several times. No patterns at all make an automaton that
+ * finds nothing. With `settings` NULL, those of dado_settings_default() are taken. The patterns are not needed after the call.
+ *
+ * On any status but DADO_OK, `*handle` is unchanged, and what is known of the fault is written to `*fault`, if that isn't NULL. The
+ * statuses, in the order in which they are tested: DADO_BAD_KIND, DADO_BAD_START_KIND, DADO_BAD_ENGINE, DADO_BAD_PAIRS; then
+ * DADO_TOO_MANY_PATTERNS, DADO_PATTERN_TOO_LONG and DADO_TOO_MANY_STATES, only where the patterns pass that limit of the library or
+ * of the engine that was named; and DADO_NO_MEMORY.
+ *
+ * Takes memory. Time and memory are in proportion to the bytes of the patterns; for a DFA times the classes of bytes, at most 256.
+ * With the same `*handle`, one call at a time.
+ */
+DADO_INLINE dado_status dado_build(const dado_bytes *patterns, size_t count, const dado_settings *settings, dado_automaton **handle,
+                              dado_fault *fault) {
+    dado_raw_settings chosen = dado_raw_settings_default();
+    dado_fault none = {0, 0};
+    if (fault != NULL) *fault = none;
+    if (handle == NULL || (patterns == NULL && count != 0)) return DADO_BAD_ARGUMENT;
+    if (settings != NULL) {
+        dado_raw_settings given = {settings->kind, settings->start_kind, settings->engine, settings->fold, settings->prefilter,
+                                   settings->byte_classes, settings->dense_depth, settings->row_memory};
+        if (settings->pairs == NULL && settings->pair_count != 0) return DADO_BAD_ARGUMENT;
+        chosen = given;
+    }
+    return dado_raw_build(patterns, count, &chosen, settings == NULL ? NULL : settings->pairs,
+                          settings == NULL ? 0 : settings->pair_count, handle, fault == NULL ? &none : fault);
+}
+
+/*
+ * Puts another handle of the same automaton at `*other`: a second owner, which is freed on its own. What was there is freed. The
+ * automaton itself is not copied; it goes when its last handle is freed. Since threads may search with one handle, this is for
+ * those that don't know which of them ends last.
+ *
+ * DADO_NO_AUTOMATON if `ac` is NULL, DADO_NO_MEMORY if there is none: `*other` is unchanged then. Takes a few bytes of memory.
+ * `*other` must be a variable of its own, not the one that holds `ac`.
+ */
+DADO_INLINE dado_status dado_share(const dado_automaton *ac, dado_automaton **other) {
+    if (other == NULL) return DADO_BAD_ARGUMENT;
+    if (ac == NULL) return DADO_NO_AUTOMATON;
+    return dado_raw_share(ac, other);
+}
+
+/*
+ * Frees the automaton at `*handle`, if there is one, and sets `*handle` to NULL. So a second call does nothing. With the same
+ * `*handle`, one call at a time, and not while a search with it runs.
+ */
+DADO_INLINE void dado_free(dado_automaton **handle) {
+    if (handle != NULL) dado_raw_free(handle);
+}
+
+/* ---- One match ---- */
+
+/*
+ * The match of a span, if it has one, to `*found`: the best of the automaton's kind.
+ *
+ * DADO_OK: there is one. DADO_NONE: there is none. DADO_NO_AUTOMATON; DADO_BAD_ARGUMENT: `found`, or a haystack that isn't empty, is
+ * NULL; DADO_BAD_SPAN; DADO_NOT_ANCHORED, DADO_NOT_UNANCHORED: the automaton was not built for such a search. `*found` is written at
+ * DADO_OK alone.
+ *
+ * It looks at no more than two states for each byte of the span, or at one with a DFA. Under the standard kind it reads no further
+ * than the match ends. It takes no memory. Any number of threads at the same time.
+ */
+DADO_INLINE dado_status dado_find_in(const dado_automaton *ac, const uint8_t *haystack, size_t len, dado_span span, dado_match *found) {
+    dado_raw_found answer;
+    if (ac == NULL) return DADO_NO_AUTOMATON;
+    if (found == NULL || (haystack == NULL && len != 0)) return DADO_BAD_ARGUMENT;
+    answer = dado_raw_find(ac, haystack, len, span.start, span.end, span.anchored, span.earliest);
+    if (answer.status == DADO_OK) *found = answer.found;
+    return answer.status;
+}
+
+/* The match of the whole haystack, by a search that isn't anchored: dado_find_in. */
+DADO_INLINE dado_status dado_find(const dado_automaton *ac, const uint8_t *haystack, size_t len, dado_match *found) {
+    dado_span whole = {0, len, 0, 0};
+    return dado_find_in(ac, haystack, len, whole, found);
+}
+
+/*
+ * Whether some pattern occurs in the haystack: DADO_OK if so, DADO_NONE if not, or a status of dado_find_in. Under a leftmost kind it
+ * may read less than dado_find, since the first end of a match that it meets will do.
+ */
+DADO_INLINE dado_status dado_is_match(const dado_automaton *ac, const uint8_t *haystack, size_t len) {
+    dado_span whole = {0, len, 0, 1};
+    dado_match found;
+    return dado_find_in(ac, haystack, len, whole, &found);
+}
+
+/* ---- One match after another ---- */
+
+/* The walk over the bytes from `start` to `end` of a haystack, at its beginning: neither anchored nor earliest. */
+DADO_INLINE dado_cursor dado_cursor_over(size_t start, size_t end) {
+    dado_cursor cursor = {start, end, SIZE_MAX, 0, 0};
+    return cursor;
+}
+
+/*
+ * The next match of a walk, to `*found`. A walk takes the match of its span, goes on where that ends, and so on, so no two of its
+ * matches overlap. An empty match where the last one ended is left out, and the search is done again from one byte further on.
+ * `*cursor` is set to where the walk stands now.
+ *
+ * DADO_OK: there is one. DADO_NONE: there is none; the cursor is at the end, and each further call returns DADO_NONE.
+ * DADO_NO_AUTOMATON; DADO_BAD_ARGUMENT: `cursor`, `found`, or a haystack that isn't empty, is NULL; DADO_BAD_CURSOR: the cursor's `end`
+ * is past the haystack, its `start` is more than one past its `end`, or its `last` is neither SIZE_MAX nor at most `start`;
+ * DADO_NOT_ANCHORED, DADO_NOT_UNANCHORED. `*cursor` and
+ * `*found` are unchanged at these, and `*found` at DADO_NONE. A cursor of any content gets one of these statuses.
+ *
+ * Under the standard kind all calls of a walk together look at no more than two states for each byte, or at one with a DFA. Under a
+ * leftmost kind a search may read past a match, by as much as the longest pattern, and these bytes are read again. It takes no
+ * memory. Any number of threads at the same time, each with a cursor of its own.
+ */
+DADO_INLINE dado_status dado_next(const dado_automaton *ac, const uint8_t *haystack, size_t len, dado_cursor *cursor, dado_match *found) {
+    dado_raw_step step;
+    if (ac == NULL) return DADO_NO_AUTOMATON;
+    if (cursor == NULL || found == NULL || (haystack == NULL && len != 0)) return DADO_BAD_ARGUMENT;
+    step = dado_raw_next(ac, haystack, len, cursor->start, cursor->end, cursor->last, cursor->anchored, cursor->earliest);
+    if (step.status == DADO_OK) *found = step.found;
+    if (step.status == DADO_OK || step.status == DADO_NONE) *cursor = step.cursor;
+    return step.status;
+}
+
+/*
+ * The next matches of a walk, as many as `out` has room for: the first `*count` of `room` are written, and `*cursor` is set to where
+ * the walk stands then. They are those that dado_next gives in as many calls. A batch reads ahead within the call where the
+ * automaton can, in several lanes, which is up to several times as fast on long haystacks; take a few hundred matches at a time.
+ *
+ * DADO_OK: some were written, or `room` is 0. Fewer than `room` means that the walk is at its end. DADO_NONE: none is left. The other
+ * statuses are those of dado_next; then `*count` is 0, and `*cursor` is unchanged. DADO_BAD_ARGUMENT also if `count`, or `out` with
+ * room, is NULL. Of `out` the entries from `*count` on may have changed. It takes no memory. Threads as with dado_next.
+ */
+DADO_INLINE dado_status dado_some(const dado_automaton *ac, const uint8_t *haystack, size_t len, dado_cursor *cursor, dado_match *out,
+                             size_t room, size_t *count) {
+    dado_raw_some some;
+    if (count == NULL) return DADO_BAD_ARGUMENT;
+    *count = 0;
+    if (ac == NULL) return DADO_NO_AUTOMATON;
+    if (cursor == NULL || (out == NULL && room != 0) || (haystack == NULL && len != 0)) return DADO_BAD_ARGUMENT;
+    some = dado_raw_walk(ac, haystack, len, cursor->start, cursor->end, cursor->last, cursor->anchored, cursor->earliest, out, room);
+    if (some.status == DADO_OK || some.status == DADO_NONE) *cursor = some.cursor;
+    *count = some.count;
+    return some.status;
+}
+
+/* ---- Every occurrence ---- */
+
+/* The listing of all occurrences in the bytes from `start` to `end` of a haystack, at its beginning. */
+DADO_INLINE dado_place dado_place_over(size_t start, size_t end) {
+    dado_place place = {start, end, {0, 0, 0}, 0};
+    return place;
+}
+
+/*
+ * The next occurrences of a listing, overlapping ones too, in the order of end, start and number, as many as `out` has room for: the
+ * first `*count` of `room` are written, and `*place` is set to where the listing stands then.
+ *
+ * DADO_OK: some were written, or `room` is 0. Fewer than `room` means that the listing is at its end. DADO_NONE: none is left.
+ * DADO_NO_AUTOMATON; DADO_BAD_ARGUMENT: `place`, `count`, `out` with room, or a haystack that isn't empty, is NULL; DADO_BAD_CURSOR: the
+ * place's `end` is past the haystack, or its `start` is more than one past its `end`; DADO_NOT_UNANCHORED; DADO_NOT_STANDARD: the
+ * automaton is of a leftmost kind. Then `*count` is 0, and `*place` is unchanged. A place of any content gets one of these statuses. Of
+ * `out` the entries from `*count` on may have changed.
+ *
+ * A call goes on where the last one ended: it reads again at most as many bytes before the end of the last occurrence as the longest
+ * pattern has, and then each byte once, with two looks at states at most. So take a few hundred occurrences at a time. It takes no
+ * memory. Any number of threads at the same time.
+ */
+DADO_INLINE dado_status dado_overlapping_some(const dado_automaton *ac, const uint8_t *haystack, size_t len, dado_place *place,
+                                         dado_match *out, size_t room, size_t *count) {
+    dado_raw_listed listed;
+    if (count == NULL) return DADO_BAD_ARGUMENT;
+    *count = 0;
+    if (ac == NULL) return DADO_NO_AUTOMATON;
+    if (place == NULL || (out == NULL && room != 0) || (haystack == NULL && len != 0)) return DADO_BAD_ARGUMENT;
+    listed = dado_raw_list(ac, haystack, len, place->start, place->end, place->last.start, place->last.end, place->last.pattern,
+                           place->begun, out, room);
+    if (listed.status == DADO_OK || listed.status == DADO_NONE) *place = listed.place;
+    *count = listed.count;
+    return listed.status;
+}
+
+/* ---- Replacement ---- */
+
+/*
+ * The haystack with each match of its walk replaced by the replacement of its pattern, to the caller's buffer. `replacements` has one
+ * for each pattern. The length of the text is written to `*needed`.
+ *
+ * DADO_OK: the text is the first `*needed` bytes of `out`. DADO_TOO_SHORT: `room` is less than `*needed`. DADO_NO_AUTOMATON;
+ * DADO_BAD_ARGUMENT: `needed`, or an array that isn't empty, is NULL; DADO_WRONG_COUNT: `count` isn't the number of patterns;
+ * DADO_NOT_UNANCHORED: the automaton was built for anchored searches alone; DADO_NO_MEMORY. At all but the first two `*needed` is 0.
+ * `out` changes at DADO_OK alone, and there not after the text.
+ *
+ * Takes memory for the text during the call, which is freed when it returns. Any number of threads at the same time.
+ */
+DADO_INLINE dado_status dado_replace_into(const dado_automaton *ac, const uint8_t *haystack, size_t len, const dado_bytes *replacements,
+                                     size_t count, uint8_t *out, size_t room, size_t *needed) {
+    dado_raw_length made;
+    if (needed == NULL) return DADO_BAD_ARGUMENT;
+    *needed = 0;
+    if (ac == NULL) return DADO_NO_AUTOMATON;
+    if ((haystack == NULL && len != 0) || (replacements == NULL && count != 0) || (out == NULL && room != 0)) return DADO_BAD_ARGUMENT;
+    made = dado_raw_replace_into(ac, haystack, len, replacements, count, out, room);
+    *needed = made.len;
+    return made.status;
+}
+
+/* Frees the text, if there is one, and sets `*text` to DADO_NO_TEXT. So a second call does nothing. */
+DADO_INLINE void dado_text_free(dado_text *text) {
+    dado_text none = DADO_NO_TEXT;
+    if (text == NULL) return;
+    dado_raw_text_free(&text->owner);
+    *text = none;
+}
+
+/*
+ * The same text, in memory of the library, to `*text`: DADO_NO_TEXT, or a text of an earlier call, which is freed first. It belongs
+ * to the caller until dado_text_free. The statuses are those of dado_replace_into without DADO_TOO_SHORT; on any but DADO_OK `*text` is
+ * DADO_NO_TEXT. Takes memory. Any number of threads at the same time.
+ */
+DADO_INLINE dado_status dado_replace(const dado_automaton *ac, const uint8_t *haystack, size_t len, const dado_bytes *replacements,
+                                size_t count, dado_text *text) {
+    dado_status status;
+    if (text == NULL) return DADO_BAD_ARGUMENT;
+    dado_text_free(text);
+    if (ac == NULL) return DADO_NO_AUTOMATON;
+    if ((haystack == NULL && len != 0) || (replacements == NULL && count != 0)) return DADO_BAD_ARGUMENT;
+    status = dado_raw_replace(ac, haystack, len, replacements, count, &text->owner);
+    if (status == DADO_OK) dado_raw_text_view(&text->owner, &text->at, &text->len);
+    return status;
+}
+
+/* ---- Text that comes in pieces ---- */
+
+/*
+ * A stream searches a text that is pushed to it piece by piece, under any kind. Its matches are those of the whole text by
+ * dado_next, wherever one piece ends and the next begins; their places are counted from the first byte of the first piece. So:
+ *
+ *     dado_stream *stream = NULL;
+ *     dado_status status = dado_stream_new(ac, &stream);
+ *     while (status == DADO_OK && (len = fread(piece, 1, sizeof piece, file)) > 0)
+ *         for (at = 0; at < len && status == DADO_OK; at += taken) {
+ *             status = dado_stream_push(&stream, piece + at, len - at, &taken);
+ *             while (dado_stream_some(&stream, many, 256, &count) == DADO_OK)
+ *                 use(many, count);
+ *         }
+ *     if (status == DADO_OK) status = dado_stream_finish(&stream);
+ *     while (dado_stream_some(&stream, many, 256, &count) == DADO_OK)
+ *         use(many, count);
+ *     dado_stream_free(&stream);
+ *
+ * To replace the matches, `use` writes what lies between them. With `done`, 0 at first, the place up to which all was written:
+ *
+ *     dado_stream_view(&stream, &held);
+ *     for (i = 0; i < count; i++) {
+ *         fwrite(held.at + (done - held.from), 1, many[i].start - done, out);
+ *         fwrite(instead[many[i].pattern].at, 1, instead[many[i].pattern].len, out);
+ *         done = many[i].end;
+ *     }
+ *
+ * And before each push, once dado_stream_some has returned DADO_NONE, it writes what is decided, since that is held no longer then:
+ *
+ *     dado_stream_view(&stream, &held);
+ *     if (done < held.cut) {
+ *         fwrite(held.at + (done - held.from), 1, held.cut - done, out);
+ *         done = held.cut;
+ *     }
+ *
+ * At the end it writes all that is still held, up to `held.from + held.len`, in place of `held.cut`. bindings/c/pieces.c is all of it.
+ */
+
+/*
+ * Makes a stream of an automaton, and puts it at `*stream`. A stream that was there is freed, once the new one is made. It owns the
+ * automaton too, which may be freed before it.
+ *
+ * DADO_NO_AUTOMATON; DADO_BAD_ARGUMENT: `stream` is NULL; DADO_NOT_UNANCHORED: the automaton was built for anchored searches alone;
+ * DADO_EMPTY_PATTERN: one of its patterns is empty; DADO_NO_MEMORY. `*stream` is unchanged at these.
+ *
+ * Takes 64 KiB of memory, or 8 times as much as the longest pattern has, and no more in the calls after that.
+ */
+DADO_INLINE dado_status dado_stream_new(const dado_automaton *ac, dado_stream **stream) {
+    if (stream == NULL) return DADO_BAD_ARGUMENT;
+    if (ac == NULL) return DADO_NO_AUTOMATON;
+    return dado_raw_stream_new(ac, stream);
+}
+
+/*
+ * Takes the first bytes of a piece, after all that was pushed before; how many, to `*taken`. The piece isn't needed after the call.
+ * None are taken before dado_stream_some has given all matches of what was pushed before. Else at least one is, if there is one, and
+ * all of them, unless the stream's memory is full: then the rest is pushed again after the next dado_stream_some.
+ *
+ * DADO_OK, also if none was taken. DADO_BAD_ARGUMENT: `stream`, `taken`, or a piece that isn't empty, is NULL; DADO_NO_STREAM: `*stream`
+ * is NULL; DADO_FINISHED: the stream was finished; DADO_TOO_MANY_BYTES: there are more bytes than places now, and no call gives a match
+ * after that. At all but the first `*taken` is 0. At all but the first and the last the stream is unchanged.
+ *
+ * It copies each byte once, and moves a seventh of all bytes at most. It takes no memory. What dado_stream_view said is no longer so.
+ */
+DADO_INLINE dado_status dado_stream_push(dado_stream **stream, const uint8_t *piece, size_t len, size_t *taken) {
+    dado_raw_count pushed;
+    if (taken == NULL) return DADO_BAD_ARGUMENT;
+    *taken = 0;
+    if (stream == NULL || (piece == NULL && len != 0)) return DADO_BAD_ARGUMENT;
+    pushed = dado_raw_stream_push(stream, piece, len);
+    *taken = pushed.count;
+    return pushed.status;
+}
+
+/*
+ * The next matches that are decided, as many as `out` has room for: the first `*count` of `room` are written. Under the standard kind a
+ * match is decided as soon as its last byte was pushed; under a leftmost kind, once no byte that may follow can change it.
+ *
+ * DADO_OK: some were written, or `room` is 0. Fewer than `room` means that all were given: push more bytes, or finish. DADO_NONE: none
+ * is left for now, and after dado_stream_finish none at all. DADO_BAD_ARGUMENT: `stream`, `count`, or `out` with room, is NULL;
+ * DADO_NO_STREAM: `*stream` is NULL. At all but the first `*count` is 0. Of `out` the entries from `*count` on may have changed.
+ *
+ * All calls together look at no more than two states for each byte that was pushed, or at one with a DFA. Under a leftmost kind, at
+ * most as many bytes as the longest pattern has, and one, are read again after each match. It takes no memory.
+ */
+DADO_INLINE dado_status dado_stream_some(dado_stream **stream, dado_match *out, size_t room, size_t *count) {
+    dado_raw_count given;
+    if (count == NULL) return DADO_BAD_ARGUMENT;
+    *count = 0;
+    if (stream == NULL || (out == NULL && room != 0)) return DADO_BAD_ARGUMENT;
+    given = dado_raw_stream_some(stream, out, room);
+    *count = given.count;
+    return given.status;
+}
+
+/*
+ * What the stream holds, to `*held`. The bytes lie there until the next push, or until the stream is freed. They reach up to all that
+ * was pushed. At their front are at least those after the cut that dado_stream_view would have told before the last push. So the bytes
+ * of each match that was given since that push are among them, and what lies between these matches.
+ *
+ * DADO_OK. DADO_BAD_ARGUMENT: `stream` or `held` is NULL; DADO_NO_STREAM: `*stream` is NULL. `*held` is written at DADO_OK alone; `at` is
+ * NULL if `len` is 0. It takes no memory and no time to speak of.
+ */
+DADO_INLINE dado_status dado_stream_view(dado_stream **stream, dado_held *held) {
+    const uint8_t *at = NULL;
+    dado_raw_view view;
+    if (stream == NULL || held == NULL) return DADO_BAD_ARGUMENT;
+    view = dado_raw_stream_view(stream, &at);
+    if (view.status == DADO_OK) held->at = at, held->len = view.len, held->from = view.from, held->cut = view.cut;
+    return view.status;
+}
+
+/*
+ * Tells the stream that nothing more comes, so that everything is decided: dado_stream_some gives all matches that are left, and each
+ * push is DADO_FINISHED. A second call changes nothing.
+ *
+ * DADO_OK. DADO_BAD_ARGUMENT: `stream` is NULL; DADO_NO_STREAM: `*stream` is NULL. It takes no memory.
+ */
+DADO_INLINE dado_status dado_stream_finish(dado_stream **stream) {
+    return stream == NULL ? (dado_status)DADO_BAD_ARGUMENT : dado_raw_stream_finish(stream);
+}
+
+/* Frees the stream at `*stream`, if there is one, and sets `*stream` to NULL. So a second call does nothing. */
+DADO_INLINE void dado_stream_free(dado_stream **stream) {
+    if (stream != NULL) dado_raw_stream_free(stream);
+}
+
+/* ---- Queries. They take no memory and no time to speak of; any number of threads at the same time. ---- */
+
+/* How many bytes the pattern of this number has, to `*len`. DADO_NO_AUTOMATON; DADO_BAD_ARGUMENT: `len` is NULL; DADO_BAD_PATTERN: there
+ * is no such pattern. `*len` is written at DADO_OK alone. */
+DADO_INLINE dado_status dado_pattern_len(const dado_automaton *ac, uint32_t pattern, size_t *len) {
+    dado_raw_length told;
+    if (ac == NULL) return DADO_NO_AUTOMATON;
+    if (len == NULL) return DADO_BAD_ARGUMENT;
+    told = dado_raw_pattern_len(ac, pattern);
+    if (told.status == DADO_OK) *len = told.len;
+    return told.status;
+}
+
+/* How many patterns it was built of; 0 for NULL. */
+DADO_INLINE size_t dado_pattern_count(const dado_automaton *ac) { return ac == NULL ? 0 : dado_raw_tell(ac).patterns; }
+
+/* How many bytes the shortest pattern has; SIZE_MAX where there is none, and for NULL. */
+DADO_INLINE size_t dado_shortest(const dado_automaton *ac) { return ac == NULL ? SIZE_MAX : dado_raw_tell(ac).shortest; }
+
+/* How many bytes the longest pattern has; 0 where there is none, and for NULL. */
+DADO_INLINE size_t dado_longest(const dado_automaton *ac) { return ac == NULL ? 0 : dado_raw_tell(ac).longest; }
+
+/* The kind that it was built for: DADO_STANDARD or a leftmost one; DADO_STANDARD for NULL. */
+DADO_INLINE uint32_t dado_kind(const dado_automaton *ac) { return ac == NULL ? (uint32_t)DADO_STANDARD : dado_raw_tell(ac).kind; }
+
+/* Which searches it was built for: DADO_UNANCHORED, DADO_ANCHORED or DADO_BOTH; DADO_UNANCHORED for NULL. */
+DADO_INLINE uint32_t dado_start_kind(const dado_automaton *ac) {
+    return ac == NULL ? (uint32_t)DADO_UNANCHORED : dado_raw_tell(ac).start_kind;
+}
+
+/* What searches: DADO_NONCONTIGUOUS, DADO_CONTIGUOUS or DADO_DFA; DADO_AUTO for NULL. */
+DADO_INLINE uint32_t dado_engine(const dado_automaton *ac) { return ac == NULL ? (uint32_t)DADO_AUTO : dado_raw_tell(ac).engine; }
+
+/* About how many bytes of memory it holds; 0 for NULL. */
+DADO_INLINE size_t dado_memory(const dado_automaton *ac) { return ac == NULL ? 0 : dado_raw_tell(ac).memory; }
+
+/* The text of a status, in English, without a full stop; never NULL, and never freed. */
+const char *dado_error_text(dado_status status);
+
+/* The version of the library that runs, such as "1.0.0"; DADO_VERSION is that of this header. */
+const char *dado_version(void);
+
+#ifdef __cplusplus
+}
+#endif
+
+#endif

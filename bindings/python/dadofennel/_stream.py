@@ -1,0 +1,214 @@
+"""A text that is searched piece by piece, and replacement from a reader to a writer.
+
+A stream of the library holds what is undecided, so it doesn't matter where one piece ends and the next begins. That is proved.
+What is added here is tested: places in characters, what is written, and the search where a pattern is empty, for which the library
+has no streams.
+"""
+import io
+from ctypes import byref, c_size_t, c_void_p
+from operator import sub
+from threading import Lock
+from typing import Any, AnyStr, Callable, Generic, Iterable, Iterator, List, Optional, Sequence, Tuple
+
+from . import _native as native
+from ._match import Match, match, refuse
+from ._source import encoded
+
+LEAST_READ = 1 << 18
+"""How much is asked for at once, at least: bytes, or characters."""
+
+ROOM = 256
+"""How many matches a stream gives at once."""
+
+CONTINUED = bytes(range(0x80, 0xC0))
+"""The bytes of UTF-8 that don't begin a character."""
+
+
+class Stream(Generic[AnyStr]):
+    """A text that is searched piece by piece. `Automaton.stream` begins one.
+
+    `push` returns the matches that are decided by then, and `finish` those that are left. Together they are those of `finditer` in
+    the whole text, wherever it was cut; places are counted from its beginning. Under the standard kind a match is decided once its
+    last character was pushed, under a leftmost kind once nothing that may follow can change it.
+
+    A stream takes 64 KiB, or 8 times the length of the longest pattern, and owns the automaton too. Threads may pass it on.
+    """
+
+    __slots__ = ("_handle", "_lock", "_room", "_text", "_narrow", "_widths", "_held", "_byte", "_char", "_cut")
+
+    def __init__(self, automaton: c_void_p, text: Optional[bool], narrow: bool, widths: Sequence[int]) -> None:
+        self._handle, self._lock, self._room = c_void_p(), Lock(), native.Room(ROOM)
+        self._text, self._narrow, self._widths = text, narrow, widths
+        self._held, self._byte, self._char, self._cut = b"", 0, 0, 0
+        refuse(native.stream_new(automaton, byref(self._handle)))
+
+    def __del__(self, free: Any = native.stream_free, reference: Any = byref) -> None:
+        handle = getattr(self, "_handle", None)
+        if handle is not None:
+            free(reference(handle))
+
+    @property
+    def cut(self) -> int:
+        """The place up to which everything is decided: no match that is still to come begins before it."""
+        return self._cut
+
+    def push(self, piece: Any) -> List[Match]:
+        """Takes the next piece of the text, and returns the matches that are decided now.
+
+        Raises `Error` once the text was finished, and where more was pushed than places can be counted.
+        """
+        with self._lock:
+            if self._text is None:
+                self._text = isinstance(piece, str)
+            elif isinstance(piece, str) is not self._text:
+                raise TypeError("patterns of str search str, and patterns of bytes search bytes")
+            data = self._bytes_of(piece)
+            lent = native.Lent(data)
+            at, taken, found = 0, c_size_t(), []
+            while True:
+                refuse(native.stream_push(byref(self._handle), (lent.at or 0) + at, lent.len - at, byref(taken)))
+                if self._is_wide():
+                    self._held += data[at:at + taken.value]
+                at += taken.value
+                found += self._decided(False)
+                if at == lent.len:
+                    return found
+
+    def finish(self) -> List[Match]:
+        """Ends the text, and returns the matches that are left. `cut` is its length then."""
+        with self._lock:
+            refuse(native.stream_finish(byref(self._handle)))
+            return self._decided(True)
+
+    def _is_wide(self) -> bool:
+        """Whether a character may have several bytes."""
+        return bool(self._text) and not self._narrow
+
+    def _bytes_of(self, piece: Any) -> Any:
+        """The bytes that are searched: one for each character, where nothing but ASCII without a question mark is searched for."""
+        if not self._text:
+            return piece
+        return piece.encode("latin-1", "replace") if self._narrow else encoded(piece)
+
+    def _decided(self, at_end: bool) -> List[Match]:
+        """The matches that are decided now."""
+        room, count, found = self._room, c_size_t(), []
+        some = ROOM
+        while some == ROOM:
+            status = native.stream_some(byref(self._handle), room.at, ROOM, byref(count))
+            if status > native.NONE:
+                refuse(status)
+            some = count.value
+            if some:
+                numbers, ends = room.numbers(some), room.ends(some)
+                starts: Iterable[int] = room.starts(some)
+                if self._is_wide():
+                    ends = [self._char_at(at) for at in self._parts(ends)]
+                    starts = map(sub, ends, map(self._widths.__getitem__, numbers))
+                found += map(match, zip(numbers, starts, ends))
+        view = native.Held()
+        refuse(native.stream_view(byref(self._handle), byref(view)))
+        cut = view.first + view.len if at_end else view.cut
+        if self._is_wide():
+            for part in self._parts([cut]):
+                self._char_at(part)
+            cut = self._char
+        self._cut = max(self._cut, cut)
+        return found
+
+    def _parts(self, ends: List[int]) -> Iterator[bytes]:
+        """The bytes up to each of these places, from the one before it. They are held no longer then."""
+        held, at = self._held, 0
+        for end in ends:
+            stop = max(at, end - self._byte)
+            yield held[at:stop]
+            at = stop
+        self._held, self._byte = held[at:], self._byte + at
+
+    def _char_at(self, part: bytes) -> int:
+        """Which character comes after these bytes."""
+        self._char += len(part.translate(None, CONTINUED))
+        return self._char
+
+
+def pieces(reader: Any, size: int) -> Iterator[Any]:
+    """What a reader has, and an empty piece at its end."""
+    read = getattr(reader, "read1", reader.read)
+    piece: Any = True
+    while piece:
+        piece = read(size)
+        if piece is None:
+            raise BlockingIOError("the reader has nothing yet, and it doesn't wait")
+        yield piece
+
+
+def replace(stream: Any, longest: int, reader: Any, writer: Any, replacement: Callable[[Any], Any]) -> int:
+    """Writes what `reader` has to `writer` with its matches replaced, and returns how many there were.
+
+    All that is decided is written before the next read. `replacement` is given a match with places in the whole of what was read.
+    """
+    window, gone, done, matches = None, 0, 0, 0
+    for piece in pieces(reader, max(LEAST_READ, 8 * longest)):
+        window = piece if window is None else window + piece
+        found = stream.push(piece) if piece else stream.finish()
+        parts: List[Any] = []
+        for it in found:
+            parts += window[done - gone:it.start - gone], replacement(it)
+            done = it.end
+        if done < stream.cut:
+            parts.append(window[done - gone:stream.cut - gone])
+            done = stream.cut
+        matches += len(found)
+        _write(writer, parts, type(window)())
+        window, gone = window[done - gone:], done
+    return matches
+
+
+def replace_again(walked: Callable[[Any, bool], Iterator[Any]], leftmost: bool, longest: int, reader: Any, writer: Any,
+                  replacement: Callable[[Any], Any]) -> int:
+    """The same by a walk over what was read, for patterns of which one is empty.
+
+    `walked(text, again)` gives the matches of a text; `again` says that a match ended where it starts. Under a leftmost kind a match
+    is replaced once as much was read after its start as the longest pattern has. At most so much is kept from one read to the next,
+    and searched again.
+    """
+    held, gone, again, matches = None, 0, False, 0
+    for piece in pieces(reader, max(LEAST_READ, 8 * longest)):
+        over = not piece
+        window = piece if held is None else held + piece
+        parts, at, undecided, found = _settled(window, walked(window, again), leftmost and not over, longest, gone, replacement)
+        matches += found
+        keep = len(window) if over else max(at, min(undecided, len(window) - longest + 1))
+        if keep > at:
+            parts.append(window[at:keep])
+        again = keep == at if found else again and keep == 0
+        _write(writer, parts, type(window)())
+        held, gone = window[keep:], gone + keep
+    return matches
+
+
+def _settled(window: Any, matches: Iterator[Any], leftmost: bool, longest: int, gone: int,
+             replacement: Callable[[Any], Any]) -> Tuple[List[Any], int, int, int]:
+    """What stands for the window up to the end of its last settled match; that place; where a match is that isn't settled, or the
+    window's end; and how many were settled."""
+    parts: List[Any] = []
+    at = count = 0
+    for found in matches:
+        if leftmost and found.start + longest > len(window):
+            return parts, at, found.start, count
+        moved = found._replace(start=found.start + gone, end=found.end + gone)
+        parts += window[at:found.start], replacement(moved)
+        at, count = found.end, count + 1
+    return parts, at, len(window), count
+
+
+def _write(writer: Any, parts: List[Any], empty: Any) -> None:
+    """All of it in one call, or as many as a writer needs that takes a part of what it is given."""
+    text = empty.join(parts)
+    while text:
+        taken = writer.write(text)
+        if taken is None and isinstance(writer, io.RawIOBase):
+            raise BlockingIOError("the writer takes nothing yet, and it doesn't wait")
+        if taken is None or isinstance(text, str) or taken >= len(text):
+            return
+        text = text[taken:]

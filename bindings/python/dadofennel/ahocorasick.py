@@ -1,0 +1,421 @@
+"""The names of pyahocorasick, over the library: `import dadofennel.ahocorasick as ahocorasick` is the whole change.
+
+>>> import dadofennel.ahocorasick as ahocorasick
+>>> automaton = ahocorasick.Automaton()
+>>> for index, word in enumerate("he her hers she".split()):
+...     added = automaton.add_word(word, (index, word))
+>>> automaton.make_automaton()
+>>> list(automaton.iter("_hershe_"))
+[(2, (0, 'he')), (3, (1, 'her')), (4, (2, 'hers')), (6, (3, 'she')), (6, (0, 'he'))]
+
+What differs: the words of an automaton are `str` or `bytes`, as its first word is. `iter_long` gives the leftmost-longest
+matches, also where version 1.4.1 of pyahocorasick loses one. A start or end of `iter` past the text is its end. Sequences of
+integers as words (`KEY_SEQUENCE`), `dump`, `save` and `load` are left out; `pickle` serves.
+"""
+from itertools import chain, takewhile
+from operator import length_hint
+from typing import Any, Callable, Dict, Iterator, List, Optional, Tuple, Union
+
+from ._automaton import Automaton as _Automaton
+from ._trie import Trie, at_least, at_most, exactly
+
+EMPTY, TRIE, AHOCORASICK = 0, 1, 2
+STORE_INTS, STORE_LENGTH, STORE_ANY = 10, 20, 30
+KEY_STRING, KEY_SEQUENCE = 100, 200
+MATCH_EXACT_LENGTH, MATCH_AT_MOST_PREFIX, MATCH_AT_LEAST_PREFIX = 0, 1, 2
+unicode = 1
+
+Word = Union[str, bytes]
+Found = Tuple[int, Any]
+_missing: Any = object()
+
+
+class Automaton:
+    """Words, each with a value: a dictionary, and after `make_automaton` a search for all of them at once.
+
+    `value_type` says what a value is: anything (`STORE_ANY`), an integer (`STORE_INTS`), or the word's length (`STORE_LENGTH`).
+    """
+
+    def __init__(self, value_type: int = STORE_ANY, key_type: int = KEY_STRING) -> None:
+        if value_type not in (STORE_ANY, STORE_INTS, STORE_LENGTH):
+            raise ValueError("store value must be one of ahocorasick.STORE_LENGTH, STORE_INTS or STORE_ANY")
+        if key_type == KEY_SEQUENCE:
+            raise NotImplementedError("words that are sequences of integers are left out")
+        if key_type != KEY_STRING:
+            raise ValueError("key_type must have value KEY_STRING or KEY_SEQUENCE")
+        self.store = value_type
+        self._values: Dict[Word, Any] = {}
+        self._type: Any = None
+        self._trie: Optional[Trie] = None
+        self._version = 0
+        self._changed(EMPTY)
+
+    def _changed(self, kind: int) -> None:
+        """There are other words now: searches end, and what searches is made anew when `make_automaton` is called."""
+        for ends in getattr(self, "_lent", {}).values():
+            ends.clear()
+        self._lent: Dict[int, List[int]] = {}
+        self._version += 1
+        self.kind = kind
+        self._order: List[Any] = []
+        self._numbers: Dict[Word, int] = {}
+        self._every: Optional[_Automaton[Any]] = None
+        self._longest: Optional[_Automaton[Any]] = None
+
+    def _word(self, word: Any) -> Any:
+        if not isinstance(word, self._type or (str, bytes)):
+            raise TypeError("string expected")
+        return word
+
+    def add_word(self, word: Word, value: Any = _missing) -> bool:
+        """Adds the word, or replaces its value, and says whether it is new. The empty word is not added.
+
+        With `STORE_ANY` a value must be given. With `STORE_INTS` it is an integer, by default one more than there are words. With
+        `STORE_LENGTH` it is the word's length.
+        """
+        self._word(word)
+        value = self._value(word, value)
+        if not word:
+            return False
+        old = word in self._values
+        self._values[word] = value
+        if old:
+            self.kind = TRIE
+            if self._every is not None:  # searches go on, with the new value
+                self._order[self._numbers[word]] = value
+            return False
+        self._type = str if isinstance(word, str) else bytes
+        if self._trie is not None:
+            self._trie.add(word)
+        self._changed(TRIE)
+        return True
+
+    def _value(self, word: Word, value: Any) -> Any:
+        if self.store == STORE_LENGTH:
+            return len(word)
+        if self.store == STORE_INTS:
+            if value is _missing:
+                return len(self._values) + 1
+            if not isinstance(value, int):
+                raise TypeError("An integer value is required as second argument.")
+        elif value is _missing:
+            raise ValueError("A value object is required as second argument.")
+        return value
+
+    def remove_word(self, word: Word) -> bool:
+        """Removes the word, and says whether it was there."""
+        if self._word(word) not in self._values:
+            return False
+        self._whole_trie().remove(word)
+        del self._values[word]
+        self._changed(TRIE)
+        return True
+
+    def pop(self, word: Word) -> Any:
+        """Removes the word and returns its value; a `KeyError` where it isn't there."""
+        value = self._values.get(self._word(word), _missing)
+        if value is _missing:
+            raise KeyError(word)
+        self.remove_word(word)
+        return value
+
+    def clear(self) -> None:
+        """Removes all words."""
+        self._values, self._trie, self._type = {}, None, None
+        self._changed(EMPTY)
+
+    def make_automaton(self) -> Optional[bool]:
+        """Makes the words searchable, until one is added or removed. `False` says that nothing was to be done."""
+        if self.kind != TRIE:
+            return False
+        if self._every is None:
+            words = list(self._values)
+            self._order = list(self._values.values())
+            self._numbers = {word: number for number, word in enumerate(words)}
+            self._every = _Automaton(words)
+        self._version += 1
+        self.kind = AHOCORASICK
+        return None
+
+    def get(self, word: Word, default: Any = _missing, /) -> Any:
+        """The word's value. Where it isn't there, the default, or a `KeyError` if there is none."""
+        value = self._values.get(self._word(word), default)
+        if value is _missing:
+            raise KeyError(word)
+        return value
+
+    def exists(self, word: Word) -> bool:
+        """Whether the word was added."""
+        return self._word(word) in self._values
+
+    __contains__ = exists
+
+    def __len__(self) -> int:
+        return len(self._values)
+
+    def match(self, word: Word) -> bool:
+        """Whether some word begins with this one."""
+        return self.kind != EMPTY and self._whole_trie().node(self._word(word)) is not None
+
+    def longest_prefix(self, word: Word) -> int:
+        """The length of the longest beginning of it that some word begins with."""
+        return self._whole_trie().depth(self._word(word))
+
+    def _whole_trie(self) -> Trie:
+        if self._trie is None:
+            self._trie = Trie(self._values)
+        return self._trie
+
+    def keys(self, prefix: Word = _missing, wildcard: Word = _missing, how: int = _missing, /) -> Iterator[Word]:
+        """The words; with a prefix those that begin with it.
+
+        With a wildcard, a single character, the prefix is a pattern in which that character stands for any. `how` says which
+        words such a pattern takes: those of its length (`MATCH_EXACT_LENGTH`), those that are no shorter
+        (`MATCH_AT_LEAST_PREFIX`), or those that are no longer (`MATCH_AT_MOST_PREFIX`).
+        """
+        pattern = self._word("" if self._type is not bytes else b"") if prefix is _missing else self._word(prefix)
+        takes = at_least
+        if wildcard is not _missing:
+            if len(self._word(wildcard)) != 1:
+                raise ValueError("Wildcard must be a single character.")
+            takes = exactly
+        if how is not _missing:
+            ways = {MATCH_EXACT_LENGTH: exactly, MATCH_AT_LEAST_PREFIX: at_least, MATCH_AT_MOST_PREFIX: at_most}
+            if how not in ways:
+                raise ValueError("The optional how third argument must be one of: MATCH_EXACT_LENGTH, MATCH_AT_LEAST_PREFIX or "
+                                 "MATCH_AT_LEAST_PREFIX")
+            takes = ways[how]
+        return _Words(self, self._whole_trie().words(pattern, None if wildcard is _missing else wildcard, takes))
+
+    def values(self, *which: Any) -> Iterator[Any]:
+        """The values of `keys`, with the same arguments."""
+        return map(self._values.__getitem__, self.keys(*which))
+
+    def items(self, *which: Any) -> Iterator[Tuple[Word, Any]]:
+        """The words and values of `keys`, with the same arguments."""
+        return ((word, self._values[word]) for word in self.keys(*which))
+
+    def __iter__(self) -> Iterator[Word]:
+        return self.keys()
+
+    def iter(self, string: Word, start: int = -1, end: int = -1, ignore_white_space: bool = False) -> "_Search":
+        """The occurrences of all words in `string[start:end]`, overlapping ones too: pairs of the place of the last character,
+        and the value. They come in order of that place, and longer words first. White space can be left out of the string."""
+        if self.kind != AHOCORASICK:
+            raise AttributeError("Not an Aho-Corasick automaton yet: call add_word to add some keys and call make_automaton to "
+                                 "convert the trie to an automaton.")
+        if not isinstance(string, self._type):
+            raise TypeError("string required" if self._type is str else "bytes required")
+        return _Search(self, string, max(start, 0), len(string) if end == -1 else end, bool(ignore_white_space))
+
+    def iter_long(self, string: Word, *bounds: int) -> "_LongSearch":
+        """The leftmost-longest matches in `string[start:end]`, which don't overlap: pairs as those of `iter`."""
+        if self.kind != AHOCORASICK:
+            raise AttributeError("not an automaton yet; add some words and call make_automaton")
+        start, end = _range(bounds, len(self._word(string)))
+        return _LongSearch(self, string, start, end)
+
+    def find_all(self, string: Word, callback: Callable[[int, Any], Any], *bounds: int) -> None:
+        """Calls `callback` with each pair of `iter`."""
+        if self.kind != AHOCORASICK:
+            return
+        self._word(string)
+        if not callable(callback):
+            raise TypeError("The callback argument must be a callable such as a function.")
+        start, end = _range(bounds, len(string))
+        for place, value in self.iter(string, start, end):
+            callback(place, value)
+
+    def get_stats(self) -> Dict[str, int]:
+        """How many words, nodes and edges there are, the longest word, and about how many bytes the search takes."""
+        nodes = self._whole_trie().nodes() if self._values else 0
+        total = self._every.memory if self._every is not None else 0
+        return {
+            "nodes_count": nodes, "words_count": len(self), "longest_word": max(map(len, self._values), default=0),
+            "links_count": max(nodes - 1, 0), "sizeof_node": total // nodes if nodes else 0, "total_size": total,
+        }
+
+    def __reduce__(self) -> Any:
+        return _again, (self.store, list(self._values.items()), self.kind)
+
+
+def _again(store: int, items: List[Tuple[Word, Any]], kind: int) -> Automaton:
+    automaton = Automaton(store)
+    for word, value in items:
+        automaton.add_word(word, value)
+    if kind == AHOCORASICK:
+        automaton.make_automaton()
+    return automaton
+
+
+def _range(bounds: Tuple[int, ...], length: int) -> Tuple[int, int]:
+    """A start and an end as pyahocorasick takes them: a negative start counts from the end, a negative end from one before it."""
+    start, end = (tuple(bounds) + (None,) * 2)[:2] if bounds else (None, None)
+    if start is None:
+        return 0, length
+    low = start + length if start < 0 else start
+    if not 0 <= low < length:
+        raise IndexError(f"start index not in range 0..{length}")
+    if end is None:
+        return low, length
+    high = end + length - 1 if end < 0 else end
+    if not 0 <= high <= length:
+        raise IndexError(f"end index not in range 0..{length}")
+    return low, high
+
+
+def _is_space(character: str) -> bool:
+    """White space as C's `iswspace` has it: separators, but none that forbids a line break, and the controls from tab to return."""
+    return character.isspace() and character not in "\x1c\x1d\x1e\x1f\x85\xa0\u2007\u202f"
+
+
+def _without_space(string: Word) -> Tuple[Word, List[int]]:
+    """The string without white space, and where each of its characters was."""
+    if isinstance(string, bytes):
+        kept = [i for i, it in enumerate(string) if not _is_space(chr(it))]
+        return bytes(string[i] for i in kept), kept
+    kept = [i for i, it in enumerate(string) if not _is_space(it)]
+    return "".join(string[i] for i in kept), kept
+
+
+class _Words:
+    """The words of a question, as long as no word is added or removed."""
+
+    def __init__(self, automaton: Automaton, words: Iterator[Word]) -> None:
+        self._automaton, self._version, self._words = automaton, automaton._version, words
+
+    def __iter__(self) -> Iterator[Word]:
+        return self
+
+    def __next__(self) -> Word:
+        if self._version != self._automaton._version:
+            raise ValueError("The underlying automaton has changed: this iterator is no longer valid.")
+        return next(self._words)
+
+
+def _after(tail: int, numbers: List[int], ends: List[int]) -> Tuple[List[int], List[int]]:
+    """The occurrences that end further on."""
+    kept = [i for i, it in enumerate(ends) if it > tail]
+    return [numbers[i] for i in kept], [ends[i] for i in kept]
+
+
+class _Search:
+    """The pairs of a search. `set` goes on with another string.
+
+    Pairs are made in batches. `for` and `list` take them from the batches directly, without a call of Python for each.
+    """
+
+    def __init__(self, automaton: Automaton, string: Word, start: int, end: int, ignore_white_space: bool = False) -> None:
+        self._automaton, self._ignores = automaton, ignore_white_space
+        self._tail, self._shift = string[:0], 0
+        self._begin(string, start, min(end, len(string)))
+
+    def _begin(self, string: Word, start: int, end: int) -> None:
+        """Searches `string[start:end]` as what follows `_tail`, the end of what was searched before. Places are moved by
+        `_shift`."""
+        self._string, self._start, self._end = string, start, end
+        self._ends: List[int] = []
+        self._left = iter(self._ends)
+        self._version = self._automaton._version
+        self._over = False
+        self._pairs = chain.from_iterable(self._batches())
+
+    def __iter__(self) -> Iterator[Found]:
+        self._refuse_changed()
+        return self._pairs
+
+    def __next__(self) -> Found:
+        self._refuse_changed()
+        return next(self._pairs)
+
+    def _refuse_changed(self) -> None:
+        if self._version != self._automaton._version:
+            raise ValueError("underlaying automaton has changed, iterator is not valid anymore")
+
+    def _batches(self) -> Iterator[Iterator[Found]]:
+        value_of, lent = self._automaton._order.__getitem__, self._automaton._lent
+        string, start, end, places = self._string, self._start, self._end, None
+        if self._ignores:
+            string, kept = _without_space(string[start:end])
+            places, start, end = [it + start + self._shift for it in kept], 0, len(string)
+        tail = len(self._tail)
+        if tail:
+            string, start, end = self._tail + string, 0, tail + end  # type: ignore[operator]
+        for numbers, _, ends in self._found(string, start, end):
+            if tail:
+                numbers, ends = _after(tail, numbers, ends)
+            ends = self._placed(ends, tail, places)
+            self._ends, self._left = ends, iter(ends)
+            lent[id(ends)] = ends
+            try:
+                yield zip(self._left, map(value_of, numbers))
+            finally:
+                del lent[id(ends)]
+            self._refuse_changed()
+        self._over = True
+
+    def _placed(self, ends: List[int], tail: int, places: Optional[List[int]]) -> List[int]:
+        """Where the last characters of the occurrences are, in the caller's strings."""
+        if places is not None:
+            return [places[it - 1 - tail] for it in ends]
+        move = self._shift - tail - 1
+        return [it + move for it in ends]
+
+    def _found(self, string: Word, start: int, end: int) -> Iterator[Any]:
+        every = self._automaton._every
+        assert every is not None
+        return every._listed(string, start, end)
+
+    def set(self, string: Word, reset: bool = False) -> None:
+        """Goes on with another string, as if it followed what was searched so far. With `reset` it is searched by itself.
+
+        Places are then counted on from where the search stands: at the end, or else at the last character of the pair that was
+        given last. So they are one less than in the strings put together where some pairs were left, as those of pyahocorasick
+        are.
+        """
+        if not isinstance(string, self._automaton._type):
+            raise TypeError("string expected")
+        self._refuse_changed()
+        ending_there: List[Found] = []
+        if reset:
+            self._tail, self._shift = string[:0], 0
+        else:
+            index = self._index()
+            if not self._over and index >= self._start:
+                there = takewhile(lambda it: it[0] == index + self._shift, self._pairs)
+                ending_there = [(place - 1, value) for place, value in there]
+            longest = max(map(len, self._automaton._values), default=1)
+            unsettled = self._unsettled(index)
+            self._tail = unsettled[max(len(unsettled) - longest + 1, 0):]
+            self._shift += max(index, 0)
+        self._begin(string, 0, len(string))
+        self._pairs = chain(ending_there, self._pairs)
+
+    def _index(self) -> int:
+        """Where the search stands."""
+        if self._over:
+            return max(self._start, self._end)
+        given = len(self._ends) - length_hint(self._left)
+        return self._ends[given - 1] - self._shift if given else self._start - 1
+
+    def _unsettled(self, index: int) -> Any:
+        """What was searched, up to there."""
+        searched: Any = self._string[self._start:index + 1]
+        return self._tail + (_without_space(searched)[0] if self._ignores else searched)
+
+
+class _LongSearch(_Search):
+    """The pairs of a leftmost-longest search."""
+
+    def _found(self, string: Word, start: int, end: int) -> Iterator[Any]:
+        automaton = self._automaton
+        if automaton._longest is None:
+            automaton._longest = _Automaton(list(automaton._values), "leftmost-longest")
+        longest = automaton._longest
+        return longest._walked(longest._source(string, start, end), False, False)
+
+    def _unsettled(self, index: int) -> Any:
+        """What was searched after the last match."""
+        if self._ends:
+            return self._string[self._ends[-1] - self._shift + 1:index + 1]
+        return super()._unsettled(index)

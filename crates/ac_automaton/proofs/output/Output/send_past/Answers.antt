@@ -1,0 +1,15 @@
+-- Where the held bytes could not be written, the others were not either.
+use Rattle.std.proofs.Common.{[]}
+use Rattle.std.proofs.lemmas.Result.{err_from_is_err_and}
+use Rattle.ac_automaton.proofs.OutputLemmas.{Sends-more, Sends-then}
+use Rattle.ac_automaton.proofs.output.Output.send_past.Goals as goal
+
+pub returns-in_err-send_held : goal.returns-in_err-send_held
+returns-in_err-send_held g c =
+    let p = err_from_is_err_and c.from_residual.result c.from_residual.ensures.1 in
+    rw (p.1, p.2) (record { sent = Sends-more g.W.Write.contents c.args.writer.now c.send_held.new.writer c.args.self.now c.send_held.new.self [] c.args.bytes.now _ c.in_err-send_held.ensures.sent })
+
+pub returns : goal.returns
+returns g c =
+    let sent = rw c.in_ok-send_held.ensures.none at c.in_ok-send_held.ensures.sent in
+    rw c.in_ok-send_held.ensures.none (record { sent = Sends-then g.W.Write.contents c.args.writer.now c.send_held.new.writer c.write_all.new.writer c.args.self.now [] [] [] c.args.bytes.now c.write_all.result sent c.write_all.ensures })

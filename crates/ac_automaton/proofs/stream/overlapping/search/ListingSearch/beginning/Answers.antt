@@ -1,0 +1,32 @@
+-- A search that has read nothing stands in the start state.
+use Rattle.std.proofs.Common.{[], false, subst, sym, arith}
+use Rattle.ac_input.specs.declared.search.Anchored.TheVariants.{No}
+use Rattle.ac_automaton.specs.StreamListing.{IsOnListing, ListingProgress, fresh_listing}
+use Rattle.ac_automaton.specs.StreamListingSearch.{IsListingSearch}
+use Rattle.ac_automaton.proofs.AheadLemmas.{blank-notes}
+use Rattle.ac_automaton.proofs.StreamListingSearchLemmas.{first_place, fresh-listing-right, fresh-listing-view}
+use Rattle.ac_automaton.proofs.stream.overlapping.search.ListingSearch.beginning.Given.{Over}
+use Rattle.ac_automaton.proofs.stream.overlapping.search.ListingSearch.beginning.Goals as goal
+
+right : (g : Over) (c : goal.After-new g) → IsListingSearch (g.A.Automaton.Reaches c.args.automaton.now No) (g.A.Automaton.matches c.args.automaton.now) (fresh_listing (g.A.Automaton.built c.args.automaton.now)) (first_place c.args.start c.list_len.result) c.zero.result.value c.in_ok-bytes.bytes.len [] 0 false
+right g c =
+    let a = c.args.automaton.now in
+    let start = c.args.start in
+    let begins = c.requires.starts in
+    fresh-listing-right (g.A.Automaton.built a) (g.A.Automaton.supports a) (g.A.Automaton.Reaches a No) (g.A.Automaton.matches a) start c.list_len.result c.zero.result.value c.in_ok-bytes.bytes.len c.requires.can begins (g.met.A.Automaton.tells a No [] start begins) (g.met.A.Automaton.lives a No [] start begins) c.list_len.ensures (omega (arith, c.list_len.type_inv)) c.zero.ensures c.in_ok-bytes.ensures
+
+pub invariant_of-result : goal.invariant_of-result
+invariant_of-result g c =
+    let a = c.args.automaton.now in
+    let view = fresh-listing-view (g.A.Automaton.built a) c.empty.result.items c.zero.result.value c.args.start c.list_len.result c.new.result c.empty.ensures c.zero.ensures c.new.ensures in (
+      subst (λ (t : ListingProgress). IsListingSearch (g.A.Automaton.Reaches a No) (g.A.Automaton.matches a) t (first_place c.args.start c.list_len.result) c.zero.result.value c.in_ok-bytes.bytes.len [] 0 false) (sym view) (right g c),
+      blank-notes (g.A.Automaton.Reaches a No) (g.A.Automaton.matches a) _ _ c.none.ensures,
+    )
+
+pub returns-clause-fresh : goal.returns-clause-fresh
+returns-clause-fresh g c = fresh-listing-view (g.A.Automaton.built c.args.automaton.now) c.empty.result.items c.zero.result.value c.args.start c.list_len.result c.new.result c.empty.ensures c.zero.ensures c.new.ensures
+
+pub returns-clause-kept : goal.returns-clause-kept
+returns-clause-kept g c =
+    let view = fresh-listing-view (g.A.Automaton.built c.args.automaton.now) c.empty.result.items c.zero.result.value c.args.start c.list_len.result c.new.result c.empty.ensures c.zero.ensures c.new.ensures in
+    subst IsOnListing (sym view) (right g c).stands.course

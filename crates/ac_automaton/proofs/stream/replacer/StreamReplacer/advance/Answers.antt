@@ -1,0 +1,23 @@
+-- The next slice comes after the next match was found; where the text ended, there is none.
+use Rattle.std.proofs.Common.{subst, sym}
+use Rattle.ac_automaton.specs.Stream.{CanBeCounted, StreamCounts, StreamProgress, read_by}
+use Rattle.ac_automaton.specs.StreamReplacer.{IsAllOut, ReplacerProgress}
+use Rattle.ac_automaton.proofs.StreamReplacerLemmas.{advance-none, come_to, look-pass, over-out, passes-search}
+use Rattle.ac_automaton.proofs.StreamSearchLemmas.{counts-none}
+use Rattle.ac_automaton.proofs.stream.replacer.StreamReplacer.advance.Goals.{then-self-via-then-self, then-self-via-else-self+then-is_over}
+use Rattle.ac_automaton.proofs.stream.replacer.StreamReplacer.advance.Goals as goal
+
+pub returns-then-self-clause-counts : goal.returns-then-self-clause-counts
+returns-then-self-clause-counts g c = counts-none c.args.self.now.search c.args.steps.now
+
+pub returns-then-self-clause-advances : goal.returns-then-self-clause-advances
+returns-then-self-clause-advances g c = advance-none c.args.self.now (λ few replacements. elim c.then-self.branch [
+  | then-self-via-then-self w ↦ subst (λ (r : ReplacerProgress). IsAllOut r replacements) c.self.view_is (over-out (come_to c.self.inside) c.self.invariant w.if-self.true replacements)
+  | then-self-via-else-self+then-is_over w ↦ absurd (w.is_over.ensures.over w.if-is_over.true (subst (λ (r : ReplacerProgress). CanBeCounted (read_by r.search)) (sym c.self.view_is) few))
+])
+
+pub returns-clause-advances : goal.returns-clause-advances
+returns-clause-advances g c = look-pass c.args.self.now c.look.new.self c.pass.new.self c.pass.result c.look.ensures.looks c.pass.ensures
+
+pub returns-clause-counts : goal.returns-clause-counts
+returns-clause-counts g c = subst (λ (s : StreamProgress). StreamCounts c.args.self.now.search s c.args.steps.now c.look.new.steps) (sym (passes-search c.look.new.self c.pass.new.self c.pass.result c.pass.ensures)) c.look.ensures.counts

@@ -1,0 +1,7 @@
+-- There is a replacement for each pattern as before: the search has the same automaton.
+use Rattle.std.proofs.Common.{[], length, ap, sym, ◌∙◌}
+use Rattle.ac_automaton.specs.Automaton.{Built}
+use Rattle.ac_automaton.proofs.stream.replacer.StreamReplacer.next_counted.Goals as goal
+
+pub bytes-requires-clause-one_each : goal.bytes-requires-clause-one_each
+bytes-requires-clause-one_each g c = c.requires.one_each ∙ ap (λ (b : Built). length b.dictionary.patterns) (sym (c.in_ok-slice.ensures.advances.0 []).same.built)

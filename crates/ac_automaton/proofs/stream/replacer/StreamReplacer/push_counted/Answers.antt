@@ -1,0 +1,6 @@
+-- A push goes to the search, unless there is text to hand out.
+use Rattle.ac_automaton.proofs.StreamSearchLemmas.{counts-none}
+use Rattle.ac_automaton.proofs.stream.replacer.StreamReplacer.push_counted.Goals as goal
+
+pub returns-then-waits-clause-counts : goal.returns-then-waits-clause-counts
+returns-then-waits-clause-counts g c = counts-none c.args.self.now.search c.args.steps.now

@@ -1,0 +1,53 @@
+-- The first bytes of a piece are kept after what was held.
+use Rattle.std.proofs.Common.{◌-◌, length, nat_lt, take, ap, subst, sym, ◌∙◌, arith}
+use Rattle.ac_input.specs.declared.search.Anchored.TheVariants.{No}
+use Rattle.ac_automaton.specs.Stream.{HasRoom, IsSearched, StreamProgress}
+use Rattle.ac_automaton.specs.StreamPush.{HasTaken, TakesFront}
+use Rattle.ac_automaton.proofs.AheadLemmas.{blank-notes}
+use Rattle.ac_automaton.proofs.StreamPushLemmas.{HasPushed, not-empty, push-gave, pushed_by}
+use Rattle.ac_automaton.proofs.stream.search.StreamSearch.append.Given.{Over}
+use Rattle.ac_automaton.proofs.stream.search.StreamSearch.append.Goals as goal
+
+-- there are more bytes than places
+past : (g : Over) (c : goal.Then-self g) → HasPushed g.A.Automaton c.self.inside c.and-self-inside.result.items c.take-n.new.self c.args.piece.now c.take-n.result (nat_lt (18446744073709551615 - c.self.inside.progress.from) (length c.held.result.now))
+past g c =
+    push-gave g.A.Automaton c.self.inside c.and-self-inside.result.items c.take-n.new.self c.args.piece.now c.take-n.result c.held.result.now
+    c.self.invariant.0 (ap (λ (t : StreamProgress). t.closed) c.self.view_is ∙ c.requires.unclosed) (not-empty c.args.piece.now c.requires.some)
+    (subst IsSearched (sym c.self.view_is) c.requires.searched) (subst HasRoom (sym c.self.view_is) c.requires.room)
+    c.take-n.ensures.many c.take-n.ensures.took c.take-n.ensures.paid c.held.ensures c.and-self-inside.ensures (omega arith)
+
+pub invariant_of-self : goal.invariant_of-self
+invariant_of-self g c = ((past g c).right, blank-notes (g.A.Automaton.Reaches c.self.inside.automaton No) (g.A.Automaton.matches c.self.inside.automaton) _ _ c.forget.ensures)
+
+pub returns-then-self-clause-pushes : goal.returns-then-self-clause-pushes
+returns-then-self-clause-pushes g c = (
+  c.take-n.result,
+  subst (λ (s : StreamProgress). HasTaken s (pushed_by g.A.Automaton c.self.inside c.and-self-inside.result.items c.take-n.new.self c.args.piece.now c.take-n.result) (take c.take-n.result c.args.piece.now)) c.self.view_is (past g c).taken,
+  (past g c).right.uncountable c.if-self.true,
+)
+
+pub returns-then-self-clause-kept : goal.returns-then-self-clause-kept
+returns-then-self-clause-kept g c = (past g c).right.stands.course
+
+-- there is a place for each byte
+within : (g : Over) (c : goal.Else-self g) → HasPushed g.A.Automaton c.self.inside c.and-self-inside.result.items c.take-n.new.self c.args.piece.now c.take-n.result (nat_lt (18446744073709551615 - c.self.inside.progress.from) (length c.held.result.now))
+within g c =
+    push-gave g.A.Automaton c.self.inside c.and-self-inside.result.items c.take-n.new.self c.args.piece.now c.take-n.result c.held.result.now
+    c.self.invariant.0 (ap (λ (t : StreamProgress). t.closed) c.self.view_is ∙ c.requires.unclosed) (not-empty c.args.piece.now c.requires.some)
+    (subst IsSearched (sym c.self.view_is) c.requires.searched) (subst HasRoom (sym c.self.view_is) c.requires.room)
+    c.take-n.ensures.many c.take-n.ensures.took c.take-n.ensures.paid c.held.ensures c.and-self-inside.ensures (omega arith)
+
+pub invariant_of-self-2 : goal.invariant_of-self-2
+invariant_of-self-2 g c = ((within g c).right, blank-notes (g.A.Automaton.Reaches c.self.inside.automaton No) (g.A.Automaton.matches c.self.inside.automaton) _ _ c.forget.ensures)
+
+pub returns-clause-pushes : goal.returns-clause-pushes
+returns-clause-pushes g c =
+    let t = pushed_by g.A.Automaton c.self.inside c.and-self-inside.result.items c.take-n.new.self c.args.piece.now c.take-n.result in
+    let all = within g c in (
+      subst (λ (s : StreamProgress). HasTaken s t (take c.take-n.result c.args.piece.now)) c.self.view_is all.taken,
+      subst (λ (s : StreamProgress). TakesFront (IsSearched s) s t c.args.piece.now c.take-n.result) c.self.view_is all.front,
+      all.right.countable c.if-self.false,
+    )
+
+pub returns-clause-kept : goal.returns-clause-kept
+returns-clause-kept g c = (within g c).right.stands.course

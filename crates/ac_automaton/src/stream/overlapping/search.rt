@@ -1,0 +1,339 @@
+//! The search of a stream for every occurrence: the buffer, and the automaton that reads on over it.
+//!
+//! Under the standard kind the list of a state holds every pattern that the bytes read end in. So one walk over the stream meets each
+//! occurrence once, at the state where it ends. The walk never begins anew: a state stands for everything that was read, so no byte
+//! is held once the automaton has read it. Each read fills the buffer from its front, and nothing in it is moved.
+//!
+//! A [`ListingSearch`] returns the next occurrence of what was read, without a read ([`ListingSearch::next_held`]), and makes one read
+//! ([`ListingSearch::read_more`]). An automaton that can walk over several parts of the buffer side by side reads ahead of the search:
+//! see [`ahead`](crate::ahead).
+ghost use Rattle.std.specs.Prelude.{◌≡◌, ◌+◌, ◌<◌, ◌≤◌, [], false, true, length, take, vec_len, IfErr, IfOk, OnOk};
+ghost use Rattle.ac_input.specs.declared.search.Anchored.TheVariants.{No};
+ghost use Rattle.ac_automaton.specs.Ahead.{AreNotes};
+ghost use Rattle.ac_automaton.specs.Automaton.{IsState};
+ghost use Rattle.ac_automaton.specs.Stream.{CanBeCounted, CanStream, IsMemory};
+ghost use Rattle.ac_automaton.specs.StreamListing.{AnswersNewListing, IsAllListed, IsListingConfigRefusal, IsOnListing, ListingCounts, ListingProgress, ListingReadsMore, ListsHeld, all_read, fresh_listing};
+ghost use Rattle.ac_automaton.specs.StreamListingSearch.{FillsFront};
+ghost use Rattle.ac_automaton.specs.StreamListingWalk.{GivesOfState, ListsNext, MayGive, MayList, ReadsOnHeld};
+ghost use Rattle.ac_automaton.specs.StreamSearch.{some_of};
+ghost use Rattle.ac_automaton.specs.Watched.{has_ended};
+
+use crate::ahead::{Ahead, advance_to_match};
+use crate::automaton::Automaton;
+use crate::error::{MatchError, StreamError};
+use crate::search::Search;
+use crate::stream::LEAST_ROOM;
+use crate::watched::Watched;
+use ac_input::history::{Count, Pieces};
+use ac_input::primitives::StateID;
+use ac_input::search::{Anchored, Match, MatchKind, Span};
+use ac_input::steps::Steps;
+use std::alloc::{AllocError, Global};
+use std::io;
+use std::io::Read;
+use std::marker::Model;
+
+/// Where a search stands: in which state; counted from the first byte of the stream, the place of the first byte of the last read,
+/// and the place up to which the automaton has read; how many of the state's list were given; and how many it has.
+#[derive(Clone, Copy)]
+pub struct ListPlace {
+    sid: StateID,
+    from: usize,
+    at: usize,
+    index: usize,
+    len: usize,
+}
+
+/// The new place of a search over the bytes of the last read, and the occurrence that it gave.
+#[derive(Clone, Copy)]
+pub struct Listed {
+    place: ListPlace,
+    found: Option<Match>,
+}
+
+/// How far a search of a stream for every occurrence has come.
+#[derive(Drop)]
+pub(crate) struct ListingSearch<'a, A: Search> {
+    automaton: &'a A,
+    bytes: Vec<u8>,
+    filled: usize,
+    place: ListPlace,
+    over: bool,
+    ahead: Ahead,
+    given: Count,
+    pieces: Pieces,
+    sums: Steps,
+}
+
+impl<'a, A: Search> Model for ListingSearch<'a, A> {
+    ghost use Rattle.std.specs.Prelude.{take, vec_len};
+    ghost use Rattle.ac_input.specs.declared.search.Anchored.TheVariants.{No};
+    ghost use Rattle.ac_automaton.specs.Ahead.{AreNotes};
+    ghost use Rattle.ac_automaton.specs.StreamListing.{ListingProgress};
+    ghost use Rattle.ac_automaton.specs.StreamListingSearch.{IsListingSearch, listing_at};
+
+    ghost Value = { ListingProgress };
+
+    ghost view = { λ i. listing_at (A.built i.automaton.now) i.pieces.items i.given.value i.place
+        i.sums };
+
+    ghost invariant = { λ i. IsListingSearch (A.Reaches i.automaton.now No)
+        (A.matches i.automaton.now)
+        (listing_at (A.built i.automaton.now) i.pieces.items i.given.value i.place i.sums)
+        i.place i.given.value (vec_len i.bytes) (take i.filled i.bytes.items) i.filled i.over
+        × AreNotes (A.Reaches i.automaton.now No) (A.matches i.automaton.now)
+        (take i.filled i.bytes.items) i.ahead.notes };
+}
+
+/// The start state of such a search, where the automaton can make one.
+fn configured<A: Automaton>(automaton: &A) -> Result<StateID, MatchError>
+    ensures start { IfOk result (λ sid. A.Reaches automaton.now Anchored.No [] sid) }
+    ensures can { OnOk result (CanStream (A.built automaton.now) (A.supports automaton.now)) }
+    ensures error { IfErr result (IsListingConfigRefusal (A.built automaton.now)
+        (A.supports automaton.now)) }
+{
+    let start = automaton.start_state(Anchored::No)?;
+    let kind = automaton.match_kind();
+    if kind != MatchKind::Standard {
+        return Err(MatchError::unsupported_overlapping(kind));
+    }
+    if automaton.min_pattern_len() == 0 {
+        return Err(MatchError::unsupported_empty());
+    }
+    Ok(start)
+}
+
+/// The buffer.
+fn allocated(alloc: Global) -> Result<Vec<u8>, AllocError>
+    ensures { IfOk result (λ bytes. vec_len bytes ≡ 65536) }
+{
+    let mut bytes = Vec::new(alloc);
+    bytes.resize(LEAST_ROOM, 0)?;
+    Ok(bytes)
+}
+
+/// One read into the buffer, from its front.
+fn fill<R: Read>(bytes: &mut Vec<u8>, reader: &mut Watched<R>) -> io::Result<usize>
+    requires room { 0 < vec_len bytes.old }
+    requires open { has_ended reader.old ≡ false }
+    ensures fills { FillsFront R.remaining bytes.new.items (vec_len bytes.new)
+        reader.old reader.new result }
+    ensures len { vec_len bytes.new ≡ vec_len bytes.old }
+{
+    reader.read(bytes.as_mut_slice())
+}
+
+/// How many patterns match at a state.
+#[inline]
+fn list_len<A: Automaton>(automaton: &A, sid: StateID) -> usize
+    requires { IsState (A.Reaches automaton.now) sid }
+    ensures { result ≡ length (A.matches automaton.now sid) }
+{
+    if automaton.is_match(sid) {
+        automaton.match_len(sid)
+    } else {
+        0
+    }
+}
+
+/// Gives the next occurrence of the state where a search stands.
+#[inline]
+fn give<A: Automaton>(automaton: &A, place: ListPlace) -> Listed
+    requires { MayGive A.Automaton automaton.now place }
+    ensures { GivesOfState A.Automaton automaton.now place result }
+{
+    let pattern = automaton.match_pattern(place.sid, place.index);
+    let start = place.at - automaton.pattern_len(pattern);
+    Listed {
+        place: ListPlace {
+            sid: place.sid,
+            from: place.from,
+            at: place.at,
+            index: place.index + 1,
+            len: place.len,
+        },
+        found: Some(Match::new(
+            pattern,
+            Span {
+                start,
+                end: place.at,
+            },
+        )),
+    }
+}
+
+/// Reads on to the next state that matches, or to the last byte. All of the list of the state before was given.
+#[inline]
+fn read_on<A: Automaton>(
+    automaton: &A,
+    place: &ListPlace,
+    held: &[u8],
+    ahead: &mut Ahead,
+    steps: &mut Steps,
+) -> ListPlace
+    requires stands { MayList A.Automaton automaton.now place.now held.now }
+    requires given { place.now.len ≤ place.now.index }
+    requires known { AreNotes (A.Reaches automaton.now No) (A.matches automaton.now) held.now
+        ahead.old.notes }
+    ensures reads { ReadsOnHeld A.Automaton automaton.now place.now held.now result
+        steps.old steps.new }
+    ensures known { AreNotes (A.Reaches automaton.now No) (A.matches automaton.now) held.now
+        ahead.new.notes }
+{
+    let from = place.at - place.from;
+    if from == held.len() {
+        return *place;
+    }
+    let stop = advance_to_match(automaton, place.sid, held, from, ahead, steps);
+    ListPlace {
+        sid: stop.sid,
+        from: place.from,
+        at: place.at + stop.taken,
+        index: 0,
+        len: list_len(automaton, stop.sid),
+    }
+}
+
+/// Gives the next occurrence of what was read: the next of the state where a search stands, or else the first of what ends later.
+pub(crate) fn next_listed<A: Automaton>(
+    automaton: &A,
+    place: &ListPlace,
+    held: &[u8],
+    ahead: &mut Ahead,
+    steps: &mut Steps,
+) -> Listed
+    requires stands { MayList A.Automaton automaton.now place.now held.now }
+    requires known { AreNotes (A.Reaches automaton.now No) (A.matches automaton.now) held.now
+        ahead.old.notes }
+    ensures lists { ListsNext A.Automaton automaton.now place.now held.now result
+        steps.old steps.new }
+    ensures known { AreNotes (A.Reaches automaton.now No) (A.matches automaton.now) held.now
+        ahead.new.notes }
+{
+    if place.index < place.len {
+        return give(automaton, *place);
+    }
+    let there = read_on(automaton, place, held, ahead, steps);
+    if there.index < there.len {
+        return give(automaton, there);
+    }
+    Listed {
+        place: there,
+        found: None,
+    }
+}
+
+/// How many occurrences were given after this one, or none.
+fn given_then(given: &Count, found: &Option<Match>) -> Count
+    ensures { result.value ≡ given.now.value + length (some_of found.now) }
+{
+    match found {
+        Some(_) => given.next(),
+        None => given.more(&0),
+    }
+}
+
+impl<'a, A: Search> ListingSearch<'a, A> {
+    /// A search that begins in this start state, which has read nothing yet.
+    fn beginning(
+        automaton: &'a A,
+        start: StateID,
+        alloc: Global,
+    ) -> Result<ListingSearch<'a, A>, StreamError>
+        requires starts { A.Reaches automaton.now No [] start }
+        requires can { CanStream (A.built automaton.now) (A.supports automaton.now) }
+        ensures fresh { IfOk result (λ s. s ≡ fresh_listing (A.built automaton.now)) }
+        ensures kept { IfOk result IsOnListing }
+        ensures error { IfErr result IsMemory }
+    {
+        let bytes = allocated(alloc)?;
+        Ok(ListingSearch {
+            automaton,
+            bytes,
+            filled: 0,
+            place: ListPlace {
+                sid: start,
+                from: 0,
+                at: 0,
+                index: 0,
+                len: list_len(automaton, start),
+            },
+            over: false,
+            ahead: Ahead::none(false),
+            given: Count::zero(),
+            pieces: Pieces::empty(),
+            sums: Steps::new(),
+        })
+    }
+
+    /// A search that has read nothing yet. Returns an error if the automaton can't make one, and otherwise if there is no memory for
+    /// the buffer; it takes no memory after that.
+    pub fn new(automaton: &'a A, alloc: Global) -> Result<ListingSearch<'a, A>, StreamError>
+        ensures { AnswersNewListing (A.built automaton.now) (A.supports automaton.now) result }
+    {
+        let start = configured(automaton)?;
+        ListingSearch::beginning(automaton, start, alloc)
+    }
+
+    /// Whether there are more bytes than places: then no occurrence is left.
+    pub fn is_over(&self) -> bool
+        ensures over { result ≡ true → ¬ CanBeCounted (all_read self.now) }
+        ensures open { result ≡ false → CanBeCounted (all_read self.now) }
+    {
+        self.over
+    }
+
+    /// The next occurrence in the bytes that were read, without a read. None means that all of them were returned.
+    ///
+    /// After a read that leaves more bytes than places it is always none.
+    pub fn next_held(&mut self, steps: &mut Steps) -> Option<Match>
+        ensures lists { ListsHeld self.old result self.new }
+        ensures counts { ListingCounts self.old self.new steps.old steps.new }
+        ensures kept { IsOnListing self.new }
+    {
+        if self.over {
+            return None;
+        }
+        let mut taken = Steps::new();
+        let listed = self.automaton.search_stream_overlapping(
+            &self.place,
+            &self.bytes.as_slice()[..self.filled],
+            &mut self.ahead,
+            &mut taken,
+        );
+        steps.add(&taken);
+        self.sums.add(&taken);
+        self.given = given_then(&self.given, &listed.found);
+        self.place = listed.place;
+        listed.found
+    }
+
+    /// One read, from the front of the buffer. All occurrences in what was read before must have been returned.
+    ///
+    /// Returns how many bytes it read: none at the end of the input. An error is `Read`, or `Position` if there are now more bytes
+    /// than places; nothing may be read after either.
+    pub fn read_more<R: Read>(&mut self, reader: &mut Watched<R>) -> Result<usize, StreamError>
+        requires open { has_ended reader.old ≡ false }
+        requires all { IsAllListed self.old }
+        ensures read { ListingReadsMore R.remaining self.old self.new reader.old reader.new result }
+        ensures kept { IsOnListing self.new }
+    {
+        self.ahead.forget();
+        self.place.from = self.place.at;
+        self.filled = 0;
+        let n = match fill(&mut self.bytes, reader) {
+            Ok(n) => n,
+            Err(error) => {
+                self.pieces = self.pieces.and(&[]);
+                return Err(StreamError::Read(error));
+            }
+        };
+        self.filled = n;
+        self.pieces = self.pieces.and(&self.bytes.as_slice()[..n]);
+        self.over = n > usize::MAX - self.place.at;
+        if self.over {
+            return Err(StreamError::Position);
+        }
+        Ok(n)
+    }
+}

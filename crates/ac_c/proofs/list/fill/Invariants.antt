@@ -1,0 +1,12 @@
+-- The buffer begins with what the listing has given, and the rest is left.
+use Rattle.std.proofs.Common.{◌≡◌, ◌≤◌, length, map, take, drop}
+use Rattle.ac_c.specs.Found.{shown}
+use Rattle.ac_c.specs.List.{later_of}
+use Rattle.ac_c.proofs.list.fill.Given as goal
+
+abbrev pub invariant-loop-at : goal.invariant-loop-at
+invariant-loop-at l = record {
+  rest : later_of l.place l.matches ≡ drop l.at (later_of l.place l.fn.matches);
+  enough : l.at ≤ length (later_of l.place l.fn.matches);
+  given : take l.at l.out ≡ map shown (take l.at (later_of l.place l.fn.matches));
+}

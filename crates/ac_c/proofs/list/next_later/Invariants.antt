@@ -1,0 +1,11 @@
+-- The occurrences passed over are none of those that are left.
+use Rattle.std.proofs.Common.{◌≡◌, length}
+use Rattle.ac_automaton.specs.OverlappingIter.{rest_of}
+use Rattle.ac_c.specs.List.{later_of}
+use Rattle.ac_c.proofs.list.next_later.Given as goal
+
+abbrev pub invariant-loop-found : goal.invariant-loop-found
+invariant-loop-found l = later_of l.place l.matches ≡ later_of l.place l.fn.matches
+
+abbrev pub decreases-loop-found : goal.decreases-loop-found
+decreases-loop-found l = length (rest_of l.matches)

@@ -1,0 +1,137 @@
+-- How C's settings are read, and what a build answers.
+use Rattle.std.specs.Prelude.{◌≡◌, ◌≢◌, ◌⊎◌, ℕ, ◌==◌, if◌then◌else◌, Bool, true, false, List, [], map, Option, Some, None, Result, Ok, Err}
+use Rattle.ac_input.specs.declared.search.MatchKind.{MatchKind}
+use Rattle.ac_input.specs.declared.search.MatchKind.TheVariants.{Standard, LeftmostFirst, LeftmostLongest}
+use Rattle.ac_input.specs.declared.search.StartKind.{StartKind}
+use Rattle.ac_input.specs.declared.search.StartKind.TheVariants.{Unanchored, Anchored, Both}
+use Rattle.ac_input.specs.Pairing.{named, partner, IsDistinct, IsFirstTwice, IsFolded}
+use Rattle.ac_input.specs.Same.{other}
+use Rattle.ac_noncontiguous.specs.declared.error.BuildErrorKind.{BuildErrorKind}
+use Rattle.ac_noncontiguous.specs.declared.error.BuildErrorKind.TheVariants.{StateIDOverflow, PatternIDOverflow, PatternTooLong, Memory}
+use Rattle.aho_corasick.specs.AhoCorasick.{patterns_of, kind_of, pairing_of, start_kind_of, MeansSame}
+use Rattle.aho_corasick.specs.Builder.{FrontSettings, front_default_row_memory}
+use Rattle.aho_corasick.specs.Served.{IsFrontBuilt, IsFrontBuildRefused}
+use Rattle.aho_corasick.specs.declared.ahocorasick.AhoCorasick.{AhoCorasick}
+use Rattle.aho_corasick.specs.declared.ahocorasick.AhoCorasickKind.{AhoCorasickKind}
+use Rattle.aho_corasick.specs.declared.ahocorasick.AhoCorasickKind.TheVariants.{NoncontiguousNFA, ContiguousNFA, DFA}
+use Rattle.ac_c.specs.declared.build.Fault.{Fault}
+use Rattle.ac_c.specs.declared.build.Pair.{Pair}
+use Rattle.ac_c.specs.declared.build.Refusal.{Refusal}
+use Rattle.ac_c.specs.declared.build.Settings.{Settings}
+use Rattle.ac_c.specs.Find.{is_set}
+use Rattle.ac_c.specs.Handle.{Held}
+use Rattle.ac_c.specs.Status.{ok, no_memory, bad_kind, bad_start_kind, bad_engine, bad_pairs, build_status}
+use Rattle.ac_c.specs.Walk.{no_place}
+
+-- ---- what a fault says
+
+abbrev pub no_fault : Fault
+no_fault = record { count = 0; pattern = 0 }
+
+abbrev pub plain : ℕ → Refusal
+plain status = record { status = status; fault = no_fault }
+
+-- a number past the greatest, or the pattern that is too long and its length
+abbrev pub build_fault : BuildErrorKind → Fault
+build_fault (StateIDOverflow max requested) = record { count = requested; pattern = 0 }
+build_fault (PatternIDOverflow max requested) = record { count = requested; pattern = 0 }
+build_fault (PatternTooLong pattern len) = record { count = len; pattern = pattern }
+build_fault Memory = no_fault
+
+abbrev pub refusal_of : BuildErrorKind → Refusal
+refusal_of error = record { status = build_status error; fault = build_fault error }
+
+-- ---- how the settings are read
+
+abbrev pub kind_by : ℕ → Option MatchKind
+kind_by n = if n == 0 then Some Standard else (if n == 1 then Some LeftmostFirst else (if n == 2 then Some LeftmostLongest else None))
+
+abbrev pub start_by : ℕ → Option StartKind
+start_by n = if n == 0 then Some Unanchored else (if n == 1 then Some Anchored else (if n == 2 then Some Both else None))
+
+-- one that is named, or none
+abbrev pub engine_by : ℕ → Option (Option AhoCorasickKind)
+engine_by n = if n == 0 then Some None else (if n == 1 then Some (Some NoncontiguousNFA) else (if n == 2 then Some (Some ContiguousNFA) else (if n == 3 then Some (Some DFA) else None)))
+
+-- a depth, or none for the greatest number
+abbrev pub depth_by : ℕ → Option ℕ
+depth_by depth = if depth == no_place then None else Some depth
+
+abbrev pub pairs_of : List Pair → List (ℕ × ℕ)
+pairs_of pairs = map (λ p. (p.a, p.b)) pairs
+
+-- which bytes match each other: the letters in their two cases, or those of the pairs
+abbrev pub IsPairing : Bool → List Pair → List ℕ → Type 0
+IsPairing true pairs pairing = (pairs ≡ []) × IsFolded true pairing
+IsPairing false pairs pairing = IsDistinct (named (pairs_of pairs)) × ((b : ℕ) → other pairing b ≡ partner (pairs_of pairs) b)
+
+-- Why there is no pairing: pairs beside folding; or a byte that is named twice; or memory ran out.
+abbrev pub IsPairingRefused : Bool → List Pair → Refusal → Type 0
+IsPairingRefused true pairs refusal = (pairs ≢ []) × (refusal ≡ plain bad_pairs)
+IsPairingRefused false pairs refusal = ((byte : ℕ) × IsFirstTwice (named (pairs_of pairs)) byte × (refusal ≡ record { status = bad_pairs; fault = record { count = 0; pattern = byte } }))
+    ⊎ (refusal ≡ plain no_memory)
+
+abbrev pub IsPairedBy : ℕ → List Pair → Result (List ℕ) Refusal → Type 0
+IsPairedBy fold pairs (Ok pairing) = IsPairing (is_set fold) pairs pairing
+IsPairedBy fold pairs (Err refusal) = IsPairingRefused (is_set fold) pairs refusal
+
+-- the settings of the library that these are
+pub record IsBuilderBy (settings : Settings) (pairs : List Pair) (s : FrontSettings) : Type 0 where
+  pub kind : kind_by settings.kind ≡ Some s.match_kind
+  pub start_kind : start_by settings.start_kind ≡ Some s.start_kind
+  pub engine : engine_by settings.engine ≡ Some s.kind
+  pub pairing : IsPairing (is_set settings.fold) pairs s.pairing
+  pub prefilter : s.prefilter ≡ is_set settings.prefilter
+  pub dense_depth : s.dense_depth ≡ depth_by settings.dense_depth
+  pub byte_classes : s.byte_classes ≡ is_set settings.byte_classes
+  pub row_memory : s.row_memory ≡ settings.row_memory
+
+-- the first number that names nothing
+abbrev pub bad_number : Settings → Option ℕ
+bad_number s =
+    elim (kind_by s.kind) [ None ↦ Some bad_kind | Some kind ↦ elim (start_by s.start_kind) [ None ↦ Some bad_start_kind | Some start ↦ elim (engine_by s.engine) [ None ↦ Some bad_engine | Some engine ↦ None ] ] ]
+
+-- why the settings are none
+abbrev pub AreRefused : Settings → List Pair → Refusal → Type 0
+AreRefused s pairs refusal = ((status : ℕ) × (bad_number s ≡ Some status) × (refusal ≡ plain status)) ⊎ ((bad_number s ≡ None) × IsPairingRefused (is_set s.fold) pairs refusal)
+
+abbrev pub AnswersBuilder : Settings → List Pair → Result FrontSettings Refusal → Type 0
+AnswersBuilder settings pairs (Ok s) = IsBuilderBy settings pairs s
+AnswersBuilder settings pairs (Err refusal) = AreRefused settings pairs refusal
+
+-- those of a builder at first
+pub record AreFirst (s : Settings) : Type 0 where
+  pub kind : s.kind ≡ 0
+  pub start_kind : s.start_kind ≡ 0
+  pub engine : s.engine ≡ 0
+  pub fold : s.fold ≡ 0
+  pub prefilter : is_set s.prefilter ≡ true
+  pub byte_classes : is_set s.byte_classes ≡ true
+  pub dense_depth : depth_by s.dense_depth ≡ None
+  pub row_memory : s.row_memory ≡ front_default_row_memory
+
+-- ---- what is built
+
+-- an automaton is built of the patterns by the library's settings
+pub record IsBuiltAs (s : FrontSettings) (ps : List (List ℕ)) (ac : AhoCorasick) : Type 0 where
+  pub patterns : patterns_of ac ≡ ps
+  pub kind : kind_of ac ≡ s.match_kind
+  pub pairing : pairing_of ac ≡ s.pairing
+  pub starts : start_kind_of ac ≡ s.start_kind
+  pub served : IsFrontBuilt s ps ac
+
+-- the automaton, by C's settings; or why there is none: the settings, or what the library's build says
+abbrev pub IsBuiltBy : List (List ℕ) → Settings → List Pair → Result AhoCorasick Refusal → Type 0
+IsBuiltBy patterns settings pairs (Ok ac) = (s : FrontSettings) × IsBuilderBy settings pairs s × IsBuiltAs s patterns ac
+IsBuiltBy patterns settings pairs (Err refusal) = AreRefused settings pairs refusal
+    ⊎ ((s : FrontSettings) × IsBuilderBy settings pairs s × (error : BuildErrorKind) × IsFrontBuildRefused s patterns error × (refusal ≡ refusal_of error))
+
+-- in a handle, with the status and the fault; or the handle is unchanged
+abbrev pub AnswersBuild : List (List ℕ) → Settings → List Pair → Held → Held → Fault → ℕ → Type 0
+AnswersBuild patterns settings pairs old new fault status =
+    ((ac : AhoCorasick) × IsBuiltBy patterns settings pairs (Ok ac) × (new ≡ Some ac) × (status ≡ ok) × (fault ≡ no_fault))
+    ⊎ (IsBuiltBy patterns settings pairs (Err (record { status = status; fault = fault })) × (new ≡ old))
+
+-- another handle of the same automaton; or memory ran out, and it is unchanged
+abbrev pub IsShared : AhoCorasick → Held → Held → ℕ → Type 0
+IsShared ac old new status = ((copy : AhoCorasick) × MeansSame ac copy × (new ≡ Some copy) × (status ≡ ok)) ⊎ ((status ≡ no_memory) × (new ≡ old))

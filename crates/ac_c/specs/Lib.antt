@@ -1,0 +1,13 @@
+pub mod Build
+pub mod Find
+pub mod Found
+pub mod Handle
+pub mod Lent
+pub mod List
+pub mod Replace
+pub mod Searching
+pub mod Status
+pub mod Stream
+pub mod Tell
+pub mod Text
+pub mod Walk

@@ -1,0 +1,99 @@
+-- What a walk answers, from a cursor that C keeps.
+use Rattle.std.specs.Prelude.{◌≡◌, ◌⊎◌, ℕ, ◌==◌, ◌<◌, ◌≤◌, ◌^◌, ◌-◌, ◌&&◌, nat_lt, if◌then◌else◌, min, List, [], ◌∷◌, length, map, take, drop, Option, Some, None, IfSome, MatchOption, Result, Ok, Err}
+use Rattle.ac_input.specs.Occurrence.{Occurrence}
+use Rattle.ac_automaton.specs.Iter.{left_of, walk_from_place}
+use Rattle.ac_automaton.specs.declared.iter.WalkPlace.{WalkPlace}
+use Rattle.aho_corasick.specs.AhoCorasick.{as_built, supported_by}
+use Rattle.aho_corasick.specs.declared.ahocorasick.AhoCorasick.{AhoCorasick}
+use Rattle.ac_c.specs.declared.find.Bounds.{Bounds}
+use Rattle.ac_c.specs.declared.found.Found.{Found}
+use Rattle.ac_c.specs.declared.walk.Batch.{Batch}
+use Rattle.ac_c.specs.declared.walk.Cursor.{Cursor}
+use Rattle.ac_c.specs.declared.walk.Step.{Step}
+use Rattle.ac_c.specs.Find.{IsRefusedStart, IsSpanIn, anchoring, asked_by}
+use Rattle.ac_c.specs.Found.{shown, nothing}
+use Rattle.ac_c.specs.Status.{ok, none, bad_cursor}
+
+-- the number that stands in the place of the last match's end, where there was none
+abbrev pub no_place : ℕ
+no_place = 2 ^ 64 - 1
+
+abbrev pub cursor : ℕ → ℕ → ℕ → ℕ → ℕ → Cursor
+cursor start end last anchored earliest = record { start = start; end = end; last = last; anchored = anchored; earliest = earliest }
+
+abbrev pub bounds_of : Cursor → Bounds
+bounds_of c = record { start = c.start; end = c.end; anchored = c.anchored; earliest = c.earliest }
+
+-- where the last match ended, if there was one
+abbrev pub last_of : Cursor → Option ℕ
+last_of c = if c.last == no_place then None else Some c.last
+
+-- the place of the walk
+abbrev pub place_at : Cursor → WalkPlace
+place_at c = record { start = c.start; last = last_of c }
+
+-- a cursor that a walk over the haystack has: its span is one of the haystack, and its last match ended before it or at its start
+abbrev pub IsCursorIn : List ℕ → Cursor → Type 0
+IsCursorIn haystack c = IsSpanIn haystack (bounds_of c) × IfSome (last_of c) (λ last. last ≤ c.start)
+
+-- the second cursor is the first one at another place
+abbrev pub Goes : Cursor → WalkPlace → Cursor → Type 0
+Goes c place d = (d ≡ record c { start = place.start; last = d.last }) × (IfSome place.last (λ last. last < no_place) → last_of d ≡ place.last)
+
+-- the matches that are left of the walk
+abbrev pub left_at : AhoCorasick → List ℕ → Cursor → List Occurrence
+left_at ac haystack c = left_of (walk_from_place (as_built ac) (asked_by haystack (bounds_of c)) (place_at c))
+
+-- the second cursor stands further on in the walk of the first, with this left
+pub record IsCursorAfter (ac : AhoCorasick) (haystack : List ℕ) (c d : Cursor) (left : List Occurrence) : Type 0 where
+  pub valid : IsCursorIn haystack d
+  pub same : d ≡ record c { start = d.start; last = d.last }
+  pub rest : left_at ac haystack d ≡ left
+
+-- why a walk doesn't go on: the cursor is none of a walk over the haystack, or the automaton has no such search
+abbrev pub IsRefusedWalk : AhoCorasick → List ℕ → Cursor → ℕ → Type 0
+IsRefusedWalk ac haystack c status = ((status ≡ bad_cursor) × ¬ IsCursorIn haystack c) ⊎ (IsCursorIn haystack c × IsRefusedStart ac (asked_by haystack (bounds_of c)) status)
+
+-- a walk goes on
+abbrev pub IsWalkBy : AhoCorasick → List ℕ → Cursor → Type 0
+IsWalkBy ac haystack c = IsCursorIn haystack c × supported_by ac (anchoring c.anchored)
+
+-- what is left where this is the next match
+abbrev pub IsFirst : List Occurrence → Option Occurrence → List Occurrence → Type 0
+IsFirst left r rest = MatchOption r ((left ≡ []) × (rest ≡ [])) (λ o. left ≡ o ∷ rest)
+
+-- the next match of a walk, and where that leaves it; or why it doesn't go on
+abbrev pub IsStepBy : AhoCorasick → List ℕ → Cursor → Result (Option Occurrence × Cursor) ℕ → Type 0
+IsStepBy ac haystack c (Ok step) = IsWalkBy ac haystack c × (rest : List Occurrence) × IsFirst (left_at ac haystack c) step.0 rest × IsCursorAfter ac haystack c step.1 rest
+IsStepBy ac haystack c (Err status) = IsRefusedWalk ac haystack c status
+
+-- as C sees it
+abbrev pub step_of : Cursor → Result (Option Occurrence × Cursor) ℕ → Step
+step_of c (Ok (Some o, d)) = record { cursor = d; found = shown o; status = ok }
+step_of c (Ok (None, d)) = record { cursor = d; found = nothing; status = none }
+step_of c (Err status) = record { cursor = c; found = nothing; status = status }
+
+abbrev pub AnswersStep : AhoCorasick → List ℕ → Cursor → Step → Type 0
+AnswersStep ac haystack c step = (r : Result (Option Occurrence × Cursor) ℕ) × IsStepBy ac haystack c r × (step ≡ step_of c r)
+
+-- as many of these as the buffer has room for are its first entries
+pub record AreGiven (left : List Occurrence) (old new : List Found) (n : ℕ) : Type 0 where
+  pub count : n ≡ min (length old) (length left)
+  pub given : take n new ≡ map shown (take n left)
+
+-- the next matches of a walk, and where they leave it; or why it doesn't go on, and the buffer is unchanged
+abbrev pub IsSomeBy : AhoCorasick → List ℕ → Cursor → List Found → List Found → Result (ℕ × Cursor) ℕ → Type 0
+IsSomeBy ac haystack c old new (Ok taken) = IsWalkBy ac haystack c × AreGiven (left_at ac haystack c) old new taken.0 × IsCursorAfter ac haystack c taken.1 (drop taken.0 (left_at ac haystack c))
+IsSomeBy ac haystack c old new (Err status) = IsRefusedWalk ac haystack c status × (new ≡ old)
+
+-- the status where so many were given, of so much room
+abbrev pub given_status : ℕ → ℕ → ℕ
+given_status room count = if (count == 0) && nat_lt 0 room then none else ok
+
+-- as C sees it
+abbrev pub batch_of : Cursor → ℕ → Result (ℕ × Cursor) ℕ → Batch
+batch_of c room (Ok taken) = record { cursor = taken.1; count = taken.0; status = given_status room taken.0 }
+batch_of c room (Err status) = record { cursor = c; count = 0; status = status }
+
+abbrev pub AnswersSome : AhoCorasick → List ℕ → Cursor → List Found → List Found → Batch → Type 0
+AnswersSome ac haystack c old new batch = (r : Result (ℕ × Cursor) ℕ) × IsSomeBy ac haystack c old new r × (batch ≡ batch_of c (length old) r)

@@ -1,0 +1,395 @@
+//! The library for C: the functions that `bindings/c/dadofennel.h` declares as `dado_raw_`.
+//!
+//! C holds an automaton by a pointer. Building, sharing and freeing take the variable that holds it, a [`handle::Handle`]. Each search
+//! takes the pointer itself, which lends the automaton for the time of the call, and only reads it. So any number of threads may
+//! search with one automaton at the same time.
+//!
+//! Each function here does one thing: it makes a reference of the pointer, and calls a function of a module that takes a reference.
+//! Its contract is that function's, of the automaton that is lent.
+#![tactic(auto)]
+
+ghost use types.Logic.{sem};
+ghost use Rattle.std.specs.Prelude.{◌≡◌, IfSome, None};
+ghost use Rattle.ac_literal.specs.Packed.{bytes_of};
+ghost use Rattle.ac_automaton.specs.Stream.{IsOnCourse};
+ghost use Rattle.ac_c.specs.Build.{AnswersBuild, AreFirst, IsShared};
+ghost use Rattle.ac_c.specs.Find.{AnswersFind, bounds};
+ghost use Rattle.ac_c.specs.Lent.{Lent, is_lent, lasting};
+ghost use Rattle.ac_c.specs.List.{AnswersListed, place};
+ghost use Rattle.ac_c.specs.Found.{found};
+ghost use Rattle.ac_c.specs.Replace.{AnswersInto, AnswersText};
+ghost use Rattle.ac_c.specs.Stream.{AnswersStream, AnswersNext, AnswersPush, finish_by, finish_status, view_by};
+ghost use Rattle.ac_c.specs.Text.{held_len};
+ghost use Rattle.ac_c.specs.Tell.{AnswersLength, Tells};
+ghost use Rattle.ac_c.specs.Walk.{AnswersSome, AnswersStep, cursor};
+
+pub mod build;
+pub mod bytes;
+pub mod find;
+pub mod found;
+pub mod handle;
+pub mod list;
+mod owned;
+pub mod replace;
+pub mod searching;
+mod status;
+pub mod stream;
+pub mod tell;
+pub mod text;
+mod threads;
+pub mod walk;
+
+use aho_corasick::AhoCorasick;
+use build::{Fault, Pair, Settings};
+use find::Answer;
+use found::Found;
+use handle::{Handle, Opaque};
+use list::Listed;
+use replace::Length;
+use searching::{Count, View};
+use status::{NO_STREAM, OK};
+use std::alloc::Global;
+use std::mem::replace as put;
+use std::ptr::NonNull;
+use stream::Stream;
+use tell::About;
+use text::Text;
+use walk::{Batch, Step};
+
+/// The settings at first.
+#[unsafe(no_mangle)]
+pub extern "C" fn dado_raw_settings_default() -> Settings
+    ensures { AreFirst result }
+{
+    Settings::first()
+}
+
+/// Builds an automaton. What the handle held before is freed once it is made.
+#[unsafe(no_mangle)]
+pub extern "C" fn dado_raw_build(
+    alloc: Global,
+    patterns: &[&[u8]],
+    settings: &Settings,
+    pairs: &[Pair],
+    handle: &mut Handle,
+    fault: &mut Fault,
+) -> u32
+    ensures { AnswersBuild (bytes_of patterns.now) settings.now pairs.now handle.old.value
+        handle.new.value fault.new result }
+{
+    build::build(alloc, patterns, settings, pairs, handle, fault)
+}
+
+/// Frees the automaton, if there is one.
+#[unsafe(no_mangle)]
+pub extern "C" fn dado_raw_free(alloc: Global, handle: &mut Handle)
+    ensures { handle.new.value ≡ None }
+{
+    *handle = Handle::none(alloc);
+}
+
+/// Where the text lies, and how long it is. It lies there until it is freed.
+#[unsafe(no_mangle)]
+pub extern "C" fn dado_raw_text_view(
+    alloc: Global,
+    text: &mut Text,
+    at: &mut *const u8,
+    len: &mut usize,
+)
+    ensures kept { text.new.value ≡ text.old.value }
+    ensures len { len.new ≡ held_len text.old.value }
+{
+    *len = 0;
+    if let Some(made) = put(text, Text::none(alloc)).into_box() {
+        if let Some(first) = made.bytes.as_slice().first() {
+            *at = NonNull::from_ref(first).as_ptr();
+        }
+        *len = made.bytes.len();
+        *text = Text::of(made);
+    }
+}
+
+/// Frees the text, if there is one.
+#[unsafe(no_mangle)]
+pub extern "C" fn dado_raw_text_free(alloc: Global, text: &mut Text)
+    ensures { text.new.value ≡ None }
+{
+    *text = Text::none(alloc);
+}
+
+/// Takes the first bytes of a piece, after all that was passed before.
+#[unsafe(no_mangle)]
+pub extern "C" fn dado_raw_stream_push(alloc: Global, stream: &mut Stream, piece: &[u8]) -> Count
+    ensures { AnswersPush piece.now stream.old.value stream.new.value result }
+{
+    match put(stream, Stream::none(alloc)).into_box() {
+        None => Count {
+            count: 0,
+            status: NO_STREAM,
+        },
+        Some(mut search) => {
+            let taken = search.push(piece);
+            *stream = Stream::of(search);
+            taken
+        }
+    }
+}
+
+/// The next matches that are decided, as many as the buffer has room for.
+#[unsafe(no_mangle)]
+pub extern "C" fn dado_raw_stream_some(
+    alloc: Global,
+    stream: &mut Stream,
+    out: &mut [Found],
+) -> Count
+    ensures { AnswersNext stream.old.value stream.new.value out.old out.new result }
+{
+    match put(stream, Stream::none(alloc)).into_box() {
+        None => Count {
+            count: 0,
+            status: NO_STREAM,
+        },
+        Some(mut search) => {
+            let given = search.some(out);
+            *stream = Stream::of(search);
+            given
+        }
+    }
+}
+
+/// Where the held bytes lie, and where they stand in all that was passed. They lie there until the next push.
+#[unsafe(no_mangle)]
+pub extern "C" fn dado_raw_stream_view(
+    alloc: Global,
+    stream: &mut Stream,
+    at: &mut *const u8,
+) -> View
+    ensures kept { stream.new.value ≡ stream.old.value }
+    ensures view { result ≡ view_by stream.old.value }
+    ensures course { IfSome stream.old.value (λ s. IsOnCourse s.search) }
+{
+    match put(stream, Stream::none(alloc)).into_box() {
+        None => View {
+            len: 0,
+            from: 0,
+            cut: 0,
+            status: NO_STREAM,
+        },
+        Some(search) => {
+            if let Some(first) = search.held().first() {
+                *at = NonNull::from_ref(first).as_ptr();
+            }
+            let view = search.view();
+            *stream = Stream::of(search);
+            view
+        }
+    }
+}
+
+/// Tells the search that no more pieces come.
+#[unsafe(no_mangle)]
+pub extern "C" fn dado_raw_stream_finish(alloc: Global, stream: &mut Stream) -> u32
+    ensures new { stream.new.value ≡ finish_by stream.old.value }
+    ensures status { result ≡ finish_status stream.old.value }
+{
+    match put(stream, Stream::none(alloc)).into_box() {
+        None => NO_STREAM,
+        Some(mut search) => {
+            search.finish();
+            *stream = Stream::of(search);
+            OK
+        }
+    }
+}
+
+/// Frees the search, if there is one.
+#[unsafe(no_mangle)]
+pub extern "C" fn dado_raw_stream_free(alloc: Global, stream: &mut Stream)
+    ensures { stream.new.value ≡ None }
+{
+    *stream = Stream::none(alloc);
+}
+
+/// A second owner of an automaton that is lent.
+#[unsafe(no_mangle)]
+pub unsafe extern "C" fn dado_raw_share(at: *const Opaque, alloc: Global, other: &mut Handle) -> u32
+    ghost g: { Lent }
+    requires* lent { sem 𝓛 (is_lent at g) }
+    ensures* lasts { sem 𝓛 (lasting g) }
+    ensures answer { IsShared g.automaton other.old.value other.new.value result }
+{
+    let ac = at as *const AhoCorasick;
+    build::share(&*ac, alloc, other)
+}
+
+/// A search of pieces by an automaton that is lent, which it owns too. What the handle held before is freed once it is made.
+#[unsafe(no_mangle)]
+pub unsafe extern "C" fn dado_raw_stream_new(
+    at: *const Opaque,
+    alloc: Global,
+    stream: &mut Stream,
+) -> u32
+    ghost g: { Lent }
+    requires* lent { sem 𝓛 (is_lent at g) }
+    ensures* lasts { sem 𝓛 (lasting g) }
+    ensures answer { AnswersStream g.automaton stream.old.value stream.new.value result }
+{
+    let ac = at as *const AhoCorasick;
+    stream::begin(&*ac, alloc, stream)
+}
+
+/// The match of a span, if it has one.
+#[unsafe(no_mangle)]
+pub unsafe extern "C" fn dado_raw_find(
+    at: *const Opaque,
+    haystack: &[u8],
+    start: usize,
+    end: usize,
+    anchored: u32,
+    earliest: u32,
+) -> Answer
+    ghost g: { Lent }
+    requires* lent { sem 𝓛 (is_lent at g) }
+    ensures* lasts { sem 𝓛 (lasting g) }
+    ensures answer { AnswersFind g.automaton haystack.now (bounds start end anchored earliest) result }
+{
+    let ac = at as *const AhoCorasick;
+    find::find(&*ac, haystack, start, end, anchored, earliest)
+}
+
+/// The next match of a walk.
+#[unsafe(no_mangle)]
+pub unsafe extern "C" fn dado_raw_next(
+    at: *const Opaque,
+    haystack: &[u8],
+    start: usize,
+    end: usize,
+    last: usize,
+    anchored: u32,
+    earliest: u32,
+) -> Step
+    ghost g: { Lent }
+    requires* lent { sem 𝓛 (is_lent at g) }
+    ensures* lasts { sem 𝓛 (lasting g) }
+    ensures answer { AnswersStep g.automaton haystack.now
+        (cursor start end last anchored earliest) result }
+{
+    let ac = at as *const AhoCorasick;
+    walk::next(&*ac, haystack, start, end, last, anchored, earliest)
+}
+
+/// The next matches of a walk.
+#[unsafe(no_mangle)]
+pub unsafe extern "C" fn dado_raw_walk(
+    at: *const Opaque,
+    haystack: &[u8],
+    start: usize,
+    end: usize,
+    last: usize,
+    anchored: u32,
+    earliest: u32,
+    out: &mut [Found],
+) -> Batch
+    ghost g: { Lent }
+    requires* lent { sem 𝓛 (is_lent at g) }
+    ensures* lasts { sem 𝓛 (lasting g) }
+    ensures answer { AnswersSome g.automaton haystack.now
+        (cursor start end last anchored earliest) out.old out.new result }
+{
+    let ac = at as *const AhoCorasick;
+    walk::some(&*ac, haystack, start, end, last, anchored, earliest, out)
+}
+
+/// The next occurrences of a listing.
+#[unsafe(no_mangle)]
+pub unsafe extern "C" fn dado_raw_list(
+    at: *const Opaque,
+    haystack: &[u8],
+    start: usize,
+    end: usize,
+    last_start: usize,
+    last_end: usize,
+    last_pattern: u32,
+    begun: u32,
+    out: &mut [Found],
+) -> Listed
+    ghost g: { Lent }
+    requires* lent { sem 𝓛 (is_lent at g) }
+    ensures* lasts { sem 𝓛 (lasting g) }
+    ensures answer { AnswersListed g.automaton haystack.now
+        (place start end (found last_start last_end last_pattern) begun) out.old out.new result }
+{
+    let ac = at as *const AhoCorasick;
+    list::list(
+        &*ac,
+        haystack,
+        start,
+        end,
+        last_start,
+        last_end,
+        last_pattern,
+        begun,
+        out,
+    )
+}
+
+/// The haystack with each match replaced, into a buffer.
+#[unsafe(no_mangle)]
+pub unsafe extern "C" fn dado_raw_replace_into(
+    at: *const Opaque,
+    alloc: Global,
+    haystack: &[u8],
+    replacements: &[&[u8]],
+    out: &mut [u8],
+) -> Length
+    ghost g: { Lent }
+    requires* lent { sem 𝓛 (is_lent at g) }
+    ensures* lasts { sem 𝓛 (lasting g) }
+    ensures answer { AnswersInto g.automaton haystack.now replacements.now out.old out.new result }
+{
+    let ac = at as *const AhoCorasick;
+    replace::into(&*ac, alloc, haystack, replacements, out)
+}
+
+/// The same text, in memory of the library's.
+#[unsafe(no_mangle)]
+pub unsafe extern "C" fn dado_raw_replace(
+    at: *const Opaque,
+    alloc: Global,
+    haystack: &[u8],
+    replacements: &[&[u8]],
+    text: &mut Text,
+) -> u32
+    ghost g: { Lent }
+    requires* lent { sem 𝓛 (is_lent at g) }
+    ensures* lasts { sem 𝓛 (lasting g) }
+    ensures answer { AnswersText g.automaton haystack.now replacements.now text.old.value
+        text.new.value result }
+{
+    let ac = at as *const AhoCorasick;
+    replace::made(&*ac, alloc, haystack, replacements, text)
+}
+
+/// How many bytes a pattern has.
+#[unsafe(no_mangle)]
+pub unsafe extern "C" fn dado_raw_pattern_len(at: *const Opaque, pattern: u32) -> Length
+    ghost g: { Lent }
+    requires* lent { sem 𝓛 (is_lent at g) }
+    ensures* lasts { sem 𝓛 (lasting g) }
+    ensures answer { AnswersLength g.automaton pattern result }
+{
+    let ac = at as *const AhoCorasick;
+    tell::pattern_len(&*ac, pattern)
+}
+
+/// What an automaton was built of and as.
+#[unsafe(no_mangle)]
+pub unsafe extern "C" fn dado_raw_tell(at: *const Opaque) -> About
+    ghost g: { Lent }
+    requires* lent { sem 𝓛 (is_lent at g) }
+    ensures* lasts { sem 𝓛 (lasting g) }
+    ensures answer { Tells g.automaton result }
+{
+    let ac = at as *const AhoCorasick;
+    tell::told(&*ac)
+}

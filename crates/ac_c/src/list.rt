@@ -1,0 +1,191 @@
+//! The listing of all occurrences in a haystack, from a place that C keeps.
+//!
+//! A place holds the occurrence that was given last. A call begins as many bytes before the end of that one as the longest pattern
+//! has: no later occurrence starts before there. It passes over the few that aren't later.
+ghost use Rattle.std.specs.Prelude.{◌≡◌, ◌<◌, ◌≤◌, ◌^◌, IfOk, MatchOption, length, map, min, take};
+ghost use Rattle.std.specs.Iterator.{YieldsFirst};
+ghost use Rattle.ac_input.specs.Computed.{is_after};
+ghost use Rattle.ac_automaton.specs.OverlappingIter.{rest_of};
+ghost use Rattle.ac_c.specs.Found.{found, shown};
+ghost use Rattle.ac_c.specs.List.{AnswersListed, IsListedBy, IsPlaceOf, asked_from, before_of, begins_at, later_of, listed_of, place, place_after};
+
+use crate::find::{Bounds, input_of};
+use crate::found::Found;
+use crate::status::{BAD_CURSOR, NONE, OK, refused};
+use aho_corasick::{AhoCorasick, FindOverlappingIter, Input, Match};
+
+/// Where a listing stands: its span, and the occurrence that was given last, if `begun` isn't 0.
+#[repr(C)]
+#[derive(Clone, Copy)]
+pub struct Place {
+    pub start: usize,
+    pub end: usize,
+    pub last: Found,
+    pub begun: u32,
+}
+
+/// Where a listing stands after some occurrences, how many these were, and the status.
+#[repr(C)]
+#[derive(Clone, Copy)]
+pub struct Listed {
+    pub place: Place,
+    pub count: usize,
+    pub status: u32,
+}
+
+/// Whether an occurrence comes after the one that was given last.
+fn is_later(place: Place, found: &Match) -> bool
+    ensures { result ≡ is_after (before_of place) found.now }
+{
+    if place.begun == 0 {
+        return true;
+    }
+    if place.last.end != found.end() {
+        return place.last.end < found.end();
+    }
+    if place.last.start != found.start() {
+        return place.last.start < found.start();
+    }
+    place.last.pattern < found.pattern().as_u32()
+}
+
+/// From where on the haystack is searched.
+fn begin(place: Place, longest: usize) -> usize
+    requires { place.end < 2 ^ 63 }
+    ensures { result ≡ begins_at place longest }
+{
+    if place.begun == 0 {
+        return place.start;
+    }
+    let from = place.last.end.saturating_sub(longest).max(place.start);
+    from.min(place.end + 1)
+}
+
+/// The input of the rest of a listing, if its place is one of the haystack.
+fn input_at<'h>(haystack: &'h [u8], place: Place, longest: usize) -> Option<Input<'h>>
+    ensures { MatchOption result (¬ IsPlaceOf haystack.now place)
+        (λ input. IsPlaceOf haystack.now place
+        × (input ≡ asked_from haystack.now place (begins_at place longest))) }
+{
+    if place.end > haystack.len() || place.start > place.end + 1 {
+        return None;
+    }
+    let bounds = Bounds {
+        start: begin(place, longest),
+        end: place.end,
+        anchored: 0,
+        earliest: 0,
+    };
+    input_of(haystack, bounds)
+}
+
+/// The next occurrence after the one that was given last.
+fn next_later(matches: &mut FindOverlappingIter<'_, '_>, place: Place) -> Option<Match>
+    ensures { YieldsFirst (later_of place) matches.old result matches.new }
+{
+    while let Some(found) = matches.next() {
+        if is_later(place, &found) {
+            return Some(found);
+        }
+    }
+    None
+}
+
+/// Fills a buffer with the occurrences that come next; returns how many these are.
+fn fill(matches: &mut FindOverlappingIter<'_, '_>, place: Place, out: &mut [Found]) -> usize
+    ensures count { result ≡ min (length out.old) (length (later_of place matches.old)) }
+    ensures given { take result out.new ≡ map shown (take result (later_of place matches.old)) }
+{
+    for at in 0..out.len() {
+        match next_later(matches, place) {
+            Some(found) => out[at] = Found::of(&found),
+            None => return at,
+        }
+    }
+    out.len()
+}
+
+/// The place after so many of the buffer's entries were given.
+fn moved(place: Place, out: &[Found], count: usize) -> Place
+    requires { count ≤ length out.now }
+    ensures { result ≡ place_after place out.now count }
+{
+    if count == 0 {
+        return place;
+    }
+    Place {
+        last: out[count - 1],
+        begun: 1,
+        ..place
+    }
+}
+
+/// The next occurrences, and where the listing stands then.
+fn listed_by(
+    ac: &AhoCorasick,
+    haystack: &[u8],
+    place: Place,
+    out: &mut [Found],
+) -> Result<usize, u32>
+    ensures { IsListedBy ac.now haystack.now place out.old out.new result }
+{
+    let Some(input) = input_at(haystack, place, ac.max_pattern_len()) else {
+        return Err(BAD_CURSOR);
+    };
+    match ac.try_find_overlapping_iter(input) {
+        Err(error) => Err(refused(&error)),
+        Ok(mut matches) => Ok(fill(&mut matches, place, out)),
+    }
+}
+
+/// What a call gave, as C sees it.
+fn as_listed(place: Place, out: &[Found], listed: Result<usize, u32>) -> Listed
+    requires { IfOk listed (λ count. count ≤ length out.now) }
+    ensures { result ≡ listed_of place out.now listed }
+{
+    match listed {
+        Ok(count) => Listed {
+            place: moved(place, out, count),
+            count,
+            status: if count == 0 && out.len() > 0 {
+                NONE
+            } else {
+                OK
+            },
+        },
+        Err(status) => Listed {
+            place,
+            count: 0,
+            status,
+        },
+    }
+}
+
+/// The next occurrences of a listing, as many as the buffer has room for, as C sees it.
+pub fn list(
+    ac: &AhoCorasick,
+    haystack: &[u8],
+    start: usize,
+    end: usize,
+    last_start: usize,
+    last_end: usize,
+    last_pattern: u32,
+    begun: u32,
+    out: &mut [Found],
+) -> Listed
+    ensures { AnswersListed ac.now haystack.now
+        (place start end (found last_start last_end last_pattern) begun) out.old out.new result }
+{
+    let place = Place {
+        start,
+        end,
+        last: Found {
+            start: last_start,
+            end: last_end,
+            pattern: last_pattern,
+        },
+        begun,
+    };
+    let listed = listed_by(ac, haystack, place, out);
+    as_listed(place, out, listed)
+}

@@ -1,0 +1,240 @@
+//! The walk over a haystack, from a cursor that C keeps.
+ghost use Rattle.std.specs.Prelude.{◌≡◌, MatchOption, drop, length, map, min, take};
+ghost use Rattle.ac_automaton.specs.Iter.{IsOnItsWay, left_of};
+ghost use Rattle.ac_c.specs.Found.{shown};
+ghost use Rattle.ac_c.specs.Walk.{AnswersSome, AnswersStep, Goes, IsCursorIn, IsSomeBy, IsStepBy, batch_of, bounds_of, cursor, place_at, step_of};
+ghost use Rattle.ac_c.specs.Find.{asked_by};
+
+use crate::find::{Bounds, input_of};
+use crate::found::Found;
+use crate::status::{BAD_CURSOR, NONE, OK, refused};
+use aho_corasick::{AhoCorasick, FindIterAhead, Input, Match, Steps, WalkPlace};
+
+/// Where a walk stands: what is left of its span, and where its last match ended, or the greatest number for none. A flag is 0 or
+/// else set.
+#[repr(C)]
+#[derive(Clone, Copy)]
+pub struct Cursor {
+    pub start: usize,
+    pub end: usize,
+    pub last: usize,
+    pub anchored: u32,
+    pub earliest: u32,
+}
+
+/// Where a walk stands after a step, its match where the status is OK, and the status.
+#[repr(C)]
+#[derive(Clone, Copy)]
+pub struct Step {
+    pub cursor: Cursor,
+    pub found: Found,
+    pub status: u32,
+}
+
+/// Where a walk stands after some matches, how many these were, and the status.
+#[repr(C)]
+#[derive(Clone, Copy)]
+pub struct Batch {
+    pub cursor: Cursor,
+    pub count: usize,
+    pub status: u32,
+}
+
+/// The span that is left, and how it is searched.
+fn bounds_of(cursor: Cursor) -> Bounds
+    ensures { result ≡ bounds_of cursor }
+{
+    Bounds {
+        start: cursor.start,
+        end: cursor.end,
+        anchored: cursor.anchored,
+        earliest: cursor.earliest,
+    }
+}
+
+/// The place of the walk.
+fn place_at(cursor: Cursor) -> WalkPlace
+    ensures { result ≡ place_at cursor }
+{
+    let last = if cursor.last == usize::MAX {
+        None
+    } else {
+        Some(cursor.last)
+    };
+    WalkPlace {
+        start: cursor.start,
+        last,
+    }
+}
+
+/// The cursor, moved to another place of the walk.
+fn moved(cursor: Cursor, place: WalkPlace) -> Cursor
+    ensures { Goes cursor place result }
+{
+    Cursor {
+        start: place.start,
+        last: place.last.unwrap_or(usize::MAX),
+        ..cursor
+    }
+}
+
+/// The input of the walk, if the cursor is one of a walk over the haystack.
+fn input_at<'h>(haystack: &'h [u8], cursor: Cursor) -> Option<Input<'h>>
+    ensures { MatchOption result (¬ IsCursorIn haystack.now cursor)
+        (λ input. IsCursorIn haystack.now cursor
+        × (input ≡ asked_by haystack.now (bounds_of cursor))) }
+{
+    if cursor.last != usize::MAX && cursor.last > cursor.start {
+        return None;
+    }
+    input_of(haystack, bounds_of(cursor))
+}
+
+/// The next match, and where the walk stands then.
+fn step_by(
+    ac: &AhoCorasick,
+    haystack: &[u8],
+    cursor: Cursor,
+) -> Result<(Option<Match>, Cursor), u32>
+    ensures { IsStepBy ac.now haystack.now cursor result }
+{
+    let Some(input) = input_at(haystack, cursor) else {
+        return Err(BAD_CURSOR);
+    };
+    match ac.try_find_iter_from(input, place_at(cursor)) {
+        Err(error) => Err(refused(&error)),
+        Ok(mut matches) => {
+            let mut steps = Steps::new();
+            let found = matches.next_counted(&mut steps);
+            Ok((found, moved(cursor, matches.place())))
+        }
+    }
+}
+
+/// Fills a buffer with the matches that come next; returns how many these are.
+fn fill(matches: &mut FindIterAhead<'_, '_>, out: &mut [Found]) -> usize
+    requires within { IsOnItsWay matches.old }
+    ensures count { result ≡ min (length out.old) (length (left_of matches.old)) }
+    ensures given { take result out.new ≡ map shown (take result (left_of matches.old)) }
+    ensures rest { left_of matches.new ≡ drop result (left_of matches.old) }
+    ensures built { matches.new.built ≡ matches.old.built }
+    ensures asked { matches.new.asked ≡ matches.old.asked }
+{
+    let mut steps = Steps::new();
+    for at in 0..out.len() {
+        match matches.next_counted(&mut steps) {
+            Some(found) => out[at] = Found::of(&found),
+            None => return at,
+        }
+    }
+    out.len()
+}
+
+/// The next matches, and where the walk stands then.
+fn some_by(
+    ac: &AhoCorasick,
+    haystack: &[u8],
+    cursor: Cursor,
+    out: &mut [Found],
+) -> Result<(usize, Cursor), u32>
+    ensures { IsSomeBy ac.now haystack.now cursor out.old out.new result }
+{
+    let Some(input) = input_at(haystack, cursor) else {
+        return Err(BAD_CURSOR);
+    };
+    match ac.try_find_iter_ahead_from(input, place_at(cursor)) {
+        Err(error) => Err(refused(&error)),
+        Ok(mut matches) => {
+            let count = fill(&mut matches, out);
+            Ok((count, moved(cursor, matches.place())))
+        }
+    }
+}
+
+/// A step as C sees it.
+fn as_step(cursor: Cursor, stepped: Result<(Option<Match>, Cursor), u32>) -> Step
+    ensures { result ≡ step_of cursor stepped }
+{
+    match stepped {
+        Ok((Some(found), cursor)) => Step {
+            cursor,
+            found: Found::of(&found),
+            status: OK,
+        },
+        Ok((None, cursor)) => Step {
+            cursor,
+            found: Found::nothing(),
+            status: NONE,
+        },
+        Err(status) => Step {
+            cursor,
+            found: Found::nothing(),
+            status,
+        },
+    }
+}
+
+/// The next match of a walk that stands at a cursor, as C sees it.
+pub fn next(
+    ac: &AhoCorasick,
+    haystack: &[u8],
+    start: usize,
+    end: usize,
+    last: usize,
+    anchored: u32,
+    earliest: u32,
+) -> Step
+    ensures { AnswersStep ac.now haystack.now (cursor start end last anchored earliest) result }
+{
+    let cursor = Cursor {
+        start,
+        end,
+        last,
+        anchored,
+        earliest,
+    };
+    as_step(cursor, step_by(ac, haystack, cursor))
+}
+
+/// A batch as C sees it.
+fn as_batch(cursor: Cursor, room: usize, taken: Result<(usize, Cursor), u32>) -> Batch
+    ensures { result ≡ batch_of cursor room taken }
+{
+    match taken {
+        Ok((count, cursor)) => Batch {
+            cursor,
+            count,
+            status: if count == 0 && room > 0 { NONE } else { OK },
+        },
+        Err(status) => Batch {
+            cursor,
+            count: 0,
+            status,
+        },
+    }
+}
+
+/// The next matches of a walk that stands at a cursor, as many as the buffer has room for, as C sees it.
+pub fn some(
+    ac: &AhoCorasick,
+    haystack: &[u8],
+    start: usize,
+    end: usize,
+    last: usize,
+    anchored: u32,
+    earliest: u32,
+    out: &mut [Found],
+) -> Batch
+    ensures { AnswersSome ac.now haystack.now (cursor start end last anchored earliest) out.old
+        out.new result }
+{
+    let cursor = Cursor {
+        start,
+        end,
+        last,
+        anchored,
+        earliest,
+    };
+    let room = out.len();
+    as_batch(cursor, room, some_by(ac, haystack, cursor, out))
+}

@@ -28,6 +28,11 @@ extern inline dado_status dado_stream_some(dado_stream **stream, dado_match *out
 extern inline dado_status dado_stream_view(dado_stream **stream, dado_held *held);
 extern inline dado_status dado_stream_finish(dado_stream **stream);
 extern inline void dado_stream_free(dado_stream **stream);
+extern inline dado_status dado_replacer_new(const dado_automaton *ac, dado_replacer **replacer);
+extern inline dado_status dado_replacer_push(dado_replacer **replacer, const uint8_t *piece, size_t len, size_t *taken);
+extern inline dado_status dado_replacer_next(dado_replacer **replacer, const dado_bytes *replacements, size_t count, dado_bytes *slice);
+extern inline dado_status dado_replacer_finish(dado_replacer **replacer);
+extern inline void dado_replacer_free(dado_replacer **replacer);
 extern inline dado_status dado_pattern_len(const dado_automaton *ac, uint32_t pattern, size_t *len);
 extern inline size_t dado_pattern_count(const dado_automaton *ac);
 extern inline size_t dado_shortest(const dado_automaton *ac);
@@ -61,8 +66,9 @@ const char *dado_error_text(dado_status status) {
     case DADO_BAD_PATTERN: return "no pattern of this number";
     case DADO_EMPTY_PATTERN: return "a stream can't be searched for an empty pattern";
     case DADO_NO_STREAM: return "no stream";
-    case DADO_FINISHED: return "the stream was finished";
+    case DADO_FINISHED: return "the stream or the replacer was finished";
     case DADO_TOO_MANY_BYTES: return "more bytes than places";
+    case DADO_NO_REPLACER: return "no replacer";
     default: return "unknown status";
     }
 }

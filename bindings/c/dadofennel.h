@@ -23,7 +23,7 @@
  *   array or a haystack of length 0 may be NULL. An automaton that is NULL gives DADO_NO_AUTOMATON.
  * - Threads. A search reads an automaton and writes nothing of it, so any number of threads may search with one at the same time.
  *   No thread may free it, or build over it, before all searches with it have returned. No call waits for another, and there is
- *   no state but what the caller holds. With the same stream, one call at a time; threads may pass it on.
+ *   no state but what the caller holds. With the same stream or replacer, one call at a time; threads may pass it on.
  * - Memory. Where a call says that it takes memory, it is of `malloc`, and DADO_NO_MEMORY says that there was none; nothing is
  *   lost then, and nothing changed. All other calls take none. A haystack is never copied; a stream copies each piece once.
  * - Bytes that a call is given must stay the same until it returns, and what it writes to must not overlap what it reads.
@@ -74,10 +74,11 @@ enum {
     DADO_WRONG_COUNT = 17,        /* not as many replacements as patterns */
     DADO_TOO_SHORT = 18,          /* the buffer is too short for the text */
     DADO_BAD_PATTERN = 19,        /* the automaton has no pattern of this number */
-    DADO_EMPTY_PATTERN = 20,      /* a stream, by an automaton that has an empty pattern */
+    DADO_EMPTY_PATTERN = 20,      /* a stream or a replacer, by an automaton that has an empty pattern */
     DADO_NO_STREAM = 21,          /* the stream is NULL: never made, or freed */
-    DADO_FINISHED = 22,           /* a push to a stream that was finished */
-    DADO_TOO_MANY_BYTES = 23      /* more bytes were pushed to a stream than there are places */
+    DADO_FINISHED = 22,           /* a push to a stream or a replacer that was finished */
+    DADO_TOO_MANY_BYTES = 23,     /* more bytes were pushed to a stream or a replacer than there are places */
+    DADO_NO_REPLACER = 24         /* the replacer is NULL: never made, or freed */
 };
 
 /* Which of several overlapping occurrences is the match. */
@@ -205,6 +206,9 @@ typedef struct dado_held {
     size_t len, from, cut;
 } dado_held;
 
+/* A replacement of a text that comes in pieces. A caller holds a pointer to it, which is NULL before it is made and after it is freed. */
+typedef struct dado_replacer dado_replacer;
+
 /* ---- The proved exports, which the functions below call. Their pointers are never NULL, except a haystack or an array of length 0.
  * `at` is an automaton that is not freed during the call; a handle is a variable that holds an automaton or NULL. ---- */
 
@@ -282,6 +286,11 @@ dado_raw_count dado_raw_stream_some(dado_stream **stream, dado_match *out, size_
 dado_raw_view dado_raw_stream_view(dado_stream **stream, const uint8_t **at);
 dado_status dado_raw_stream_finish(dado_stream **stream);
 void dado_raw_stream_free(dado_stream **stream);
+dado_status dado_raw_replacer_new(const dado_automaton *at, dado_replacer **replacer);
+dado_raw_count dado_raw_replacer_push(dado_replacer **replacer, const uint8_t *piece, size_t len);
+dado_raw_length dado_raw_replacer_next(dado_replacer **replacer, const dado_bytes *replacements, size_t count, const uint8_t **at);
+dado_status dado_raw_replacer_finish(dado_replacer **replacer);
+void dado_raw_replacer_free(dado_replacer **replacer);
 dado_raw_length dado_raw_pattern_len(const dado_automaton *at, uint32_t pattern);
 dado_raw_about dado_raw_tell(const dado_automaton *at);
 
@@ -545,24 +554,7 @@ DADO_INLINE dado_status dado_replace(const dado_automaton *ac, const uint8_t *ha
  *         use(many, count);
  *     dado_stream_free(&stream);
  *
- * To replace the matches, `use` writes what lies between them. With `done`, 0 at first, the place up to which all was written:
- *
- *     dado_stream_view(&stream, &held);
- *     for (i = 0; i < count; i++) {
- *         fwrite(held.at + (done - held.from), 1, many[i].start - done, out);
- *         fwrite(instead[many[i].pattern].at, 1, instead[many[i].pattern].len, out);
- *         done = many[i].end;
- *     }
- *
- * And before each push, once dado_stream_some has returned DADO_NONE, it writes what is decided, since that is held no longer then:
- *
- *     dado_stream_view(&stream, &held);
- *     if (done < held.cut) {
- *         fwrite(held.at + (done - held.from), 1, held.cut - done, out);
- *         done = held.cut;
- *     }
- *
- * At the end it writes all that is still held, up to `held.from + held.len`, in place of `held.cut`. bindings/c/pieces.c is all of it.
+ * To replace the matches, make a replacer of the automaton, below.
  */
 
 /*
@@ -652,6 +644,104 @@ DADO_INLINE dado_status dado_stream_finish(dado_stream **stream) {
 /* Frees the stream at `*stream`, if there is one, and sets `*stream` to NULL. So a second call does nothing. */
 DADO_INLINE void dado_stream_free(dado_stream **stream) {
     if (stream != NULL) dado_raw_stream_free(stream);
+}
+
+/* ---- Replacement of text that comes in pieces ---- */
+
+/*
+ * A replacer is pushed a text piece by piece, under any kind, and hands out the text with each match replaced, as far as it is
+ * decided. All that it hands out, one slice after another, is what dado_replace makes of the whole text, wherever one piece ends and
+ * the next begins. So:
+ *
+ *     dado_replacer *replacer = NULL;
+ *     dado_status status = dado_replacer_new(ac, &replacer);
+ *     while (status == DADO_OK && (len = fread(piece, 1, sizeof piece, file)) > 0)
+ *         for (at = 0; at < len && status == DADO_OK; at += taken) {
+ *             status = dado_replacer_push(&replacer, piece + at, len - at, &taken);
+ *             while (dado_replacer_next(&replacer, replacements, count, &slice) == DADO_OK)
+ *                 fwrite(slice.at, 1, slice.len, out);
+ *         }
+ *     if (status == DADO_OK) status = dado_replacer_finish(&replacer);
+ *     while (dado_replacer_next(&replacer, replacements, count, &slice) == DADO_OK)
+ *         fwrite(slice.at, 1, slice.len, out);
+ *     dado_replacer_free(&replacer);
+ *
+ * No byte of the text is copied again: a slice is of the bytes that the replacer holds, or a replacement. What is kept back between
+ * two pushes is what a match may still need: at most as many bytes as the longest pattern has, or one.
+ */
+
+/*
+ * Makes a replacer of an automaton, and puts it at `*replacer`. A replacer that was there is freed, once the new one is made. It owns
+ * the automaton too, which may be freed before it.
+ *
+ * DADO_NO_AUTOMATON; DADO_BAD_ARGUMENT: `replacer` is NULL; DADO_NOT_UNANCHORED: the automaton was built for anchored searches alone;
+ * DADO_EMPTY_PATTERN: one of its patterns is empty; DADO_NO_MEMORY. `*replacer` is unchanged at these.
+ *
+ * Takes 64 KiB of memory, or 8 times as much as the longest pattern has, and no more in the calls after that.
+ */
+DADO_INLINE dado_status dado_replacer_new(const dado_automaton *ac, dado_replacer **replacer) {
+    if (replacer == NULL) return DADO_BAD_ARGUMENT;
+    if (ac == NULL) return DADO_NO_AUTOMATON;
+    return dado_raw_replacer_new(ac, replacer);
+}
+
+/*
+ * Takes the first bytes of a piece, after all that was pushed before; how many, to `*taken`. The piece isn't needed after the call.
+ * None are taken before dado_replacer_next has returned DADO_NONE for what was pushed before. Else at least one is, if there is one,
+ * and all of them, unless the replacer's memory is full: then the rest is pushed again after the next DADO_NONE.
+ *
+ * DADO_OK, also if none was taken. DADO_BAD_ARGUMENT: `replacer`, `taken`, or a piece that isn't empty, is NULL; DADO_NO_REPLACER:
+ * `*replacer` is NULL; DADO_FINISHED: the replacer was finished; DADO_TOO_MANY_BYTES: there are more bytes than places now, and no call
+ * gives text after that. At all but the first `*taken` is 0. At all but the first and the last the replacer is unchanged.
+ *
+ * It copies each byte once, and moves a seventh of all bytes at most. It takes no memory. A slice of the text that was given before
+ * isn't there any more.
+ */
+DADO_INLINE dado_status dado_replacer_push(dado_replacer **replacer, const uint8_t *piece, size_t len, size_t *taken) {
+    dado_raw_count pushed;
+    if (taken == NULL) return DADO_BAD_ARGUMENT;
+    *taken = 0;
+    if (replacer == NULL || (piece == NULL && len != 0)) return DADO_BAD_ARGUMENT;
+    pushed = dado_raw_replacer_push(replacer, piece, len);
+    *taken = pushed.count;
+    return pushed.status;
+}
+
+/*
+ * The next slice of the replaced text, as far as it is decided, to `*slice`. `replacements` has one for each pattern; they may be other
+ * ones at each call. The bytes of the slice lie where the replacer holds them until the next push, or until the replacer is freed; or they
+ * are those of a replacement, where the caller has them.
+ *
+ * DADO_OK: there is one. It is empty where a replacement is, and its `at` is never NULL. DADO_NONE: all that is decided was handed out:
+ * push more bytes, or finish; after dado_replacer_finish it is the whole text. DADO_BAD_ARGUMENT: `replacer`, `slice`, or an array that
+ * isn't empty, is NULL; DADO_NO_REPLACER: `*replacer` is NULL; DADO_WRONG_COUNT: `count` isn't the number of patterns, and the replacer is
+ * unchanged. `*slice` is written at DADO_OK alone.
+ *
+ * All calls together look at no more than two states for each byte that was pushed, or at one with a DFA. Under a leftmost kind, at
+ * most as many bytes as the longest pattern has, and one, are read again after each match. It takes no memory.
+ */
+DADO_INLINE dado_status dado_replacer_next(dado_replacer **replacer, const dado_bytes *replacements, size_t count, dado_bytes *slice) {
+    const uint8_t *at = (const uint8_t *)"";
+    dado_raw_length given;
+    if (replacer == NULL || slice == NULL || (replacements == NULL && count != 0)) return DADO_BAD_ARGUMENT;
+    given = dado_raw_replacer_next(replacer, replacements, count, &at);
+    if (given.status == DADO_OK) slice->at = at, slice->len = given.len;
+    return given.status;
+}
+
+/*
+ * Tells the replacer that nothing more comes, so that everything is decided: dado_replacer_next hands out the text to its end, and each
+ * push is DADO_FINISHED. A second call changes nothing.
+ *
+ * DADO_OK. DADO_BAD_ARGUMENT: `replacer` is NULL; DADO_NO_REPLACER: `*replacer` is NULL. It takes no memory.
+ */
+DADO_INLINE dado_status dado_replacer_finish(dado_replacer **replacer) {
+    return replacer == NULL ? (dado_status)DADO_BAD_ARGUMENT : dado_raw_replacer_finish(replacer);
+}
+
+/* Frees the replacer at `*replacer`, if there is one, and sets `*replacer` to NULL. So a second call does nothing. */
+DADO_INLINE void dado_replacer_free(dado_replacer **replacer) {
+    if (replacer != NULL) dado_raw_replacer_free(replacer);
 }
 
 /* ---- Queries. They take no memory and no time to speak of; any number of threads at the same time. ---- */

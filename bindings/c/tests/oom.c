@@ -70,7 +70,9 @@ int main(void) {
     uint32_t engine;
     dado_automaton *ac = NULL, *two = NULL;
     dado_stream *stream = NULL, *kept;
+    dado_replacer *replacer = NULL, *begun_one;
     dado_held there;
+    dado_bytes slice;
     dado_text text = DADO_NO_TEXT;
     dado_pair pairs[] = {{'a', 'b'}, {'c', 'd'}, {'e', 'f'}, {'g', 'h'}, {'i', 'j'}};
     uint8_t out[80];
@@ -124,6 +126,17 @@ int main(void) {
     CHECK(n >= 2);
     kept = stream, before = held, left = 0;
     CHECK(dado_stream_new(ac, &stream) == DADO_NO_MEMORY && stream == kept && held == before);
+    for (n = 0;; n++, failed++) {
+        dado_status status;
+        before = held, left = n;
+        status = dado_replacer_new(ac, &replacer);
+        left = -1;
+        if (status == DADO_OK || n > 1000) break;
+        CHECK(status == DADO_NO_MEMORY && replacer == NULL && held == before);
+    }
+    CHECK(n >= 2);
+    begun_one = replacer, before = held, left = 0;
+    CHECK(dado_replacer_new(ac, &replacer) == DADO_NO_MEMORY && replacer == begun_one && held == before);
     /* the searches take no memory */
     before = held, left = 0;
     {
@@ -140,10 +153,15 @@ int main(void) {
         CHECK(dado_stream_some(&stream, many, 4, &count) == DADO_OK && count == 3);
         CHECK(dado_stream_view(&stream, &there) == DADO_OK && there.len == 20);
         CHECK(dado_stream_finish(&stream) == DADO_OK);
+        CHECK(dado_replacer_push(&replacer, BYTES(TEXT), &count) == DADO_OK && count == 20);
+        CHECK(dado_replacer_finish(&replacer) == DADO_OK);
+        for (n = 0; dado_replacer_next(&replacer, SLOTH, 3, &slice) == DADO_OK;) n++;
+        CHECK(n == 7);
     }
     left = -1;
     CHECK(held == before);
     dado_stream_free(&stream);
+    dado_replacer_free(&replacer);
     dado_free(&ac);
     CHECK(held == begun);
     CHECK(failed > 40);

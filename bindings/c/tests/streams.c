@@ -1,19 +1,10 @@
 /* Text in pieces: the matches, and the text that a caller writes by them, are those of the whole text; and each status of each call. */
-#include "check.h"
+#include "text.h"
 
-enum { LEN = 250000, MOST = 100000 };
+enum { MOST = 100000 };
 
-static const dado_bytes APPEND[] = {WORD("append"), WORD("appendage"), WORD("app"), WORD("bcab"), WORD("ca")};
-static const dado_bytes INSTEAD[] = {WORD("A"), WORD("the longest one of all"), WORD(""), WORD("bc"), WORD("-")};
-static uint8_t text[LEN], made[4 * LEN];
 static dado_match whole[MOST], told[MOST];
-static size_t whole_count, told_count, made_len, done_to;
-
-static void put(const uint8_t *at, size_t len) {
-    if (len == 0 || made_len + len > sizeof made) return;
-    memcpy(made + made_len, at, len);
-    made_len += len;
-}
+static size_t whole_count, told_count, done_to;
 
 /* Takes the matches that are decided, and writes what lies between them. */
 static void take(dado_stream **stream, size_t room) {
@@ -66,19 +57,16 @@ static void in_pieces(const dado_automaton *ac, size_t len, size_t size, size_t 
 }
 
 static void same_as_whole(const dado_automaton *ac, size_t len, size_t size, size_t room) {
-    dado_text replaced = DADO_NO_TEXT;
     dado_cursor cursor = dado_cursor_over(0, len);
     size_t i, wrong = 0;
     whole_count = 0;
     CHECK(dado_some(ac, text, len, &cursor, whole, MOST, &whole_count) != DADO_BAD_ARGUMENT && whole_count < MOST);
-    CHECK(dado_replace(ac, text, len, INSTEAD, 5, &replaced) == DADO_OK);
     in_pieces(ac, len, size, room);
     CHECK(told_count == whole_count);
     for (i = 0; i < whole_count && i < told_count; i++)
         wrong += !is(&told[i], whole[i].pattern, whole[i].start, whole[i].end);
     CHECK(wrong == 0);
-    CHECK(made_len == replaced.len && (made_len == 0 || memcmp(made, replaced.at, made_len) == 0));
-    dado_text_free(&replaced);
+    is_replaced(ac, len);
 }
 
 /* Pieces of each size, by each kind and engine. */
@@ -87,8 +75,7 @@ static void pieces(void) {
         {0, 1, 1}, {1, 1, 1}, {3000, 1, 1}, {20000, 7, 64}, {70000, 65536, 1}, {LEN, 4096, 64}, {LEN, 100000, 64}, {LEN, LEN, 33}};
     uint32_t engine, kind;
     size_t i;
-    for (i = 0; i < LEN; i++) text[i] = (uint8_t)"abcabcabapp ebca"[(i * i / 11 + i) % 16];
-    for (i = 0; i + 16 < LEN; i += 37 + i % 89) memcpy(text + i, i % 3 == 0 ? "append the app" : i % 3 == 1 ? "appendag appenda" : "appendage", i % 3 == 2 ? 9 : 14);
+    fill_text();
     for (engine = DADO_AUTO; engine <= DADO_DFA; engine++)
         for (kind = DADO_STANDARD; kind <= DADO_LEFTMOST_LONGEST; kind++) {
             dado_automaton *ac = NULL;

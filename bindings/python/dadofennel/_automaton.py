@@ -1,4 +1,5 @@
 """The automaton: patterns that are searched for together."""
+from bisect import bisect_right
 from ctypes import byref, c_size_t, c_void_p
 from itertools import chain
 from typing import (
@@ -7,6 +8,7 @@ from typing import (
 
 from . import _native as native
 from . import _stream
+from ._characters import codes_of
 from ._match import BuildError, Error, Match, match, refuse
 from ._source import ENCODING, Batch, Source, encoded
 
@@ -15,6 +17,9 @@ MOST_AT_ONCE = 4096
 
 SHORT = 4096
 """How many bytes a text has at most that is read on at once."""
+
+PART = 1 << 18
+"""How many characters of a text are copied at a time, at least: as many as a processor keeps near."""
 
 
 Replacements = Union[Sequence[AnyStr], AnyStr, Callable[[Match], AnyStr]]
@@ -64,8 +69,8 @@ class Automaton(Generic[AnyStr]):
     Raises `BuildError`, `TypeError` where the patterns aren't all of one type, and `MemoryError`.
     """
 
-    __slots__ = ("_owner", "_patterns", "_settings", "_kind", "_start_kind", "_text", "_widths", "_any_empty", "_ascii",
-                 "_no_question_mark", "__weakref__")
+    __slots__ = ("_owner", "_coded", "_codes", "_patterns", "_settings", "_kind", "_start_kind", "_text", "_longest", "_any_empty",
+                 "__weakref__")
 
     def __init__(
         self,
@@ -86,12 +91,10 @@ class Automaton(Generic[AnyStr]):
             kind=kind, fold=fold, pairs=tuple(map(tuple, pairs)), start_kind=start_kind, engine=engine, prefilter=prefilter,
             byte_classes=byte_classes, dense_depth=dense_depth, row_memory=row_memory,
         )
-        self._widths = [len(pattern) for pattern in self._patterns]
-        self._any_empty = 0 in self._widths
-        self._ascii = bool(self._text) and all(cast(str, it).isascii() for it in self._patterns)
-        marked = any("?" in cast(str, it) for it in self._patterns) if self._text else True
-        self._no_question_mark = not marked and not self._settings["pairs"]
-        self._owner = _built(self._patterns, self._text, **self._settings)
+        self._any_empty, self._longest = not all(self._patterns), max(map(len, self._patterns), default=0)
+        self._codes = codes_of(cast(Tuple[str, ...], self._patterns)) if self._text else None
+        self._owner = _built([encoded(it) if self._text else it for it in self._patterns], self._text, **self._settings)
+        self._coded = self._owner if self._codes is None or self._codes.are_ascii else None
         self._kind, self._start_kind = kind, start_kind
 
     @property
@@ -148,14 +151,16 @@ class Automaton(Generic[AnyStr]):
         With `anchored` the match starts at `start`, or there is none. With `earliest` it is that of the standard kind, whatever the
         automaton's. Raises `Error` where the automaton wasn't built for such a search.
         """
-        source = self._source(text, start, end)
-        span, found = native.Span(source.low, source.high, anchored, earliest), native.Match()
-        status = native.find_in(self._owner.handle, source.at, source.len, span, byref(found))
+        source, room = self._source(text, start, end), native.room_for_few()
+        span = native.Span(source.low, source.high, anchored, earliest)
+        status = native.find_in(self._searcher(source), source.at, source.len, span, room.at)
         if status == native.NONE:
+            native.leave(room)
             return None
         refuse(status)
-        numbers, starts, ends = source.placed([found.pattern], [found.start], [found.end], self._widths, False)
-        return next(_matches((numbers, starts, ends)))
+        found = next(_matches(source.batch(room, 1)))
+        native.leave(room)
+        return found
 
     def finditer(
         self, text: Any, start: Optional[int] = None, end: Optional[int] = None, *, anchored: bool = False,
@@ -166,7 +171,7 @@ class Automaton(Generic[AnyStr]):
         before. Raises `Error`, when it is called, where the automaton wasn't built for such a search.
         """
         self._serves(anchored)
-        batches = self._walked(self._source(text, start, end), False, anchored)
+        batches = self._walked(self._source(text, start, end, parts=not anchored), False, anchored)
         return chain.from_iterable(map(_matches, batches))
 
     def overlapping(self, text: Any, start: Optional[int] = None, end: Optional[int] = None) -> Iterator[Match]:
@@ -213,22 +218,21 @@ class Automaton(Generic[AnyStr]):
             def replacement(found: Match) -> AnyStr:
                 return texts[found.pattern]
 
-        longest = max(self._widths, default=0)
         if not self._any_empty:
-            return _stream.replace(self.stream(), longest, reader, writer, replacement)
+            return _stream.replace(self.stream(), self._longest, reader, writer, replacement)
         leftmost = self.kind != "standard"
-        return _stream.replace_again(self._walked_matches, leftmost, longest, reader, writer, replacement)
+        return _stream.replace_again(self._walked_matches, leftmost, self._longest, reader, writer, replacement)
 
     def stream(self) -> "_stream.Stream[AnyStr]":
         """Begins a text that comes in pieces: `push` takes one, and `finish` ends the text; each returns matches.
 
         Raises `Error` for an automaton that was built for anchored searches alone, and where a pattern is empty.
         """
-        return _stream.Stream(self._owner.handle, self._text, self._ascii and self._no_question_mark, self._widths)
+        return _stream.Stream(self._by_codes().handle, self._text, self._codes, self._patterns)
 
     def finditer_stream(self, reader: Any) -> Iterator[Match]:
         """The matches of what `reader` has, one after another, each as soon as it is decided: as `stream` gives them."""
-        stream, size = self.stream(), max(_stream.LEAST_READ, 8 * max(self._widths, default=0))
+        stream, size = self.stream(), max(_stream.LEAST_READ, 8 * self._longest)
         found = (stream.push(piece) if piece else stream.finish() for piece in _stream.pieces(reader, size))
         return chain.from_iterable(found)
 
@@ -258,13 +262,23 @@ class Automaton(Generic[AnyStr]):
             raise TypeError("the replacements are not all of the patterns' type")
         return texts if self._text else cast(List[AnyStr], [_owned(it) for it in texts])
 
-    def _source(self, text: Any, start: Optional[int] = None, end: Optional[int] = None, *, exact: bool = False) -> Source:
-        """What is searched; with `exact` all bytes of it are those of the text."""
+    def _source(self, text: Any, start: Optional[int] = None, end: Optional[int] = None, *, exact: bool = False,
+                parts: bool = False) -> Source:
+        """What is searched; with `exact` all bytes of it are those of the text, and with `parts` it may be one part after another."""
         if self._text is not None and isinstance(text, str) is not self._text:
             raise TypeError("patterns of str search str, and patterns of bytes search bytes")
-        if exact:
-            return Source(text, start, end)
-        return Source(text, start, end, self._ascii, self._no_question_mark)
+        most = max(PART, 8 * self._longest) if parts and not self._any_empty else 0
+        return Source(text, start, end, None if exact else self._codes, most)
+
+    def _by_codes(self) -> _Owner:
+        """What searches a text that is coded, if one is: it is built when it is needed first, unless all patterns are ASCII."""
+        if self._coded is None:
+            coded = [cast(Any, self._codes).of_pattern(it) for it in self._patterns]
+            self._coded = _built(coded, self._text, **self._settings)
+        return self._coded
+
+    def _searcher(self, source: Source) -> c_void_p:
+        return self._by_codes().handle if source.coded else self._owner.handle
 
     def _serves(self, anchored: bool) -> None:
         if anchored and self._start_kind == "unanchored":
@@ -275,31 +289,66 @@ class Automaton(Generic[AnyStr]):
     def _walked(self, source: Source, again: bool, anchored: bool) -> Iterator[Batch]:
         """The matches of a walk, in batches. `again` says that a match ended where it starts."""
         cursor = native.Cursor(source.low, source.high, source.low if again else native.NOWHERE, anchored, False)
-        return self._batches(native.some, source, cursor)
+        done = 0
+
+        def goes_on(undecided: int) -> None:
+            """Walks on after the last match that was given, over the next part of the text."""
+            nonlocal done
+            by = max(done, min(undecided, source.len - self._longest + 1))
+            source.go_on(by)
+            done = max(done - by, 0)
+            cursor.start, cursor.end, cursor.last = done, source.len, native.NOWHERE
+
+        def decided(room: native.Room, count: int) -> int:
+            """How many of these matches no other part can change."""
+            nonlocal done
+            if self._kind != "standard" and not source.ends:
+                count = bisect_right(room.starts(count), source.len - self._longest)
+            if count:
+                done = room.end_of(count)
+            return count
+
+        return self._batches(native.some, source, cursor, decided, goes_on)
 
     def _listed(self, text: Any, start: Optional[int], end: Optional[int]) -> Iterator[Batch]:
         """All occurrences, in batches."""
         if self._kind != "standard":
             raise Error(native.NOT_STANDARD)
         self._serves(False)
-        source = self._source(text, start, end)
-        return self._batches(native.overlapping_some, source, native.Place(source.low, source.high))
+        source = self._source(text, start, end, parts=True)
+        place = native.Place(source.low, source.high)
 
-    def _batches(self, some: Any, source: Source, cursor: Any) -> Iterator[Batch]:
-        """What a walk or a listing gives: in a long text one match, then four times as many, and so on."""
-        handle, at, length, where = self._owner.handle, source.at, source.len, byref(cursor)
-        size, room, count = 1 if length > SHORT else native.FEW, native.room_for_few(), c_size_t()
+        def goes_on(_: int) -> None:
+            """Lists what ends further on, over the next part of the text."""
+            source.go_on(source.len - self._longest + 1)
+            place.start, place.end, place.begun = 0, source.len, 1
+            place.last.start, place.last.end = native.NOWHERE, self._longest - 1
+
+        return self._batches(native.overlapping_some, source, place, lambda _, count: count, goes_on)
+
+    def _batches(self, some: Any, source: Source, cursor: Any, decided: Callable[[native.Room, int], int],
+                 goes_on: Callable[[int], None]) -> Iterator[Batch]:
+        """What a walk or a listing gives: in a long text one match, then four times as many, and so on.
+
+        Where a part of the text is searched, `decided` says how many of some matches are right whatever comes after it, and `goes_on`
+        takes the next part; it is told where a match begins that isn't decided.
+        """
+        handle, where = self._searcher(source), byref(cursor)
+        size, room, count = 1 if source.len > SHORT else native.FEW, native.room_for_few(), c_size_t()
         counted = byref(count)
         while True:
-            status = some(handle, at, length, where, room.at, size, counted)
+            status = some(handle, source.at, source.len, where, room.at, size, counted)
             if status > native.NONE:
                 refuse(status)
             found = count.value
-            if found:
-                yield source.placed(room.numbers(found), room.starts(found), room.ends(found), self._widths, self._any_empty)
-            if found < size:
-                break
-            if size < MOST_AT_ONCE:
+            kept = decided(room, found)
+            if kept:
+                yield source.batch(room, kept)
+            if kept < found or found < size:
+                if source.ends:
+                    break
+                goes_on(room.starts(found)[kept] if kept < found else source.len)
+            elif size < MOST_AT_ONCE:
                 size *= 4
                 if size > native.FEW:
                     room = native.Room(size)
@@ -334,7 +383,7 @@ def _owned(it: Any) -> bytes:
     return it if type(it) is bytes else bytes(memoryview(it))
 
 
-def _built(patterns: Sequence[Any], text: Optional[bool], **settings: Any) -> _Owner:
+def _built(patterns: Sequence[bytes], text: Optional[bool], **settings: Any) -> _Owner:
     chosen = native.settings_default()
     chosen.kind = _number("kind", settings["kind"], native.KINDS)
     chosen.start_kind = _number("start_kind", settings["start_kind"], native.START_KINDS)
@@ -345,7 +394,7 @@ def _built(patterns: Sequence[Any], text: Optional[bool], **settings: Any) -> _O
         if settings[name] is not None:
             setattr(chosen, name, _size(name, settings[name]))
     pairs = [native.Pair(*(_byte(it, text) for it in pair)) for pair in settings["pairs"] if _is_pair(pair)]
-    raw = native.Slices([encoded(pattern) if text else pattern for pattern in patterns])
+    raw = native.Slices(patterns)
     owner, fault = _Owner(), native.Fault()
     chosen.pairs, chosen.pair_count = (native.Pair * len(pairs))(*pairs), len(pairs)
     status = native.build(raw.at, raw.len, byref(chosen), byref(owner.handle), byref(fault))

@@ -1,6 +1,6 @@
 """The shared library, as ctypes sees it: its structures, its functions, and the memory of a haystack.
 
-The names are those of dadofennel.h, which says what each function does.
+The names are those of dadofennel.h and dadofennel_characters.h, which say what each function does.
 """
 import ctypes
 import os
@@ -60,6 +60,10 @@ class Held(ctypes.Structure):
     _fields_ = [("at", c_void_p), ("len", c_size_t), ("first", c_size_t), ("cut", c_size_t)]
 
 
+class Counted(ctypes.Structure):
+    _fields_ = [("bytes", c_size_t), ("characters", c_size_t)]
+
+
 class Text(ctypes.Structure):
     _fields_ = [("owner", c_void_p), ("at", c_void_p), ("len", c_size_t)]
 
@@ -85,7 +89,7 @@ _haystack = (c_void_p, c_void_p, c_size_t)
 settings_default = _declare("dado_settings_default", Settings)
 build = _declare("dado_build", c_uint32, c_void_p, c_size_t, POINTER(Settings), POINTER(c_void_p), POINTER(Fault))
 free = _declare("dado_free", None, POINTER(c_void_p))
-find_in = _declare("dado_find_in", c_uint32, *_haystack, Span, POINTER(Match))
+find_in = _declare("dado_find_in", c_uint32, *_haystack, Span, c_void_p)
 some = _declare("dado_some", c_uint32, *_haystack, POINTER(Cursor), c_void_p, c_size_t, POINTER(c_size_t))
 overlapping_some = _declare("dado_overlapping_some", c_uint32, *_haystack, POINTER(Place), c_void_p, c_size_t, POINTER(c_size_t))
 replace = _declare("dado_replace", c_uint32, *_haystack, c_void_p, c_size_t, POINTER(Text))
@@ -96,6 +100,9 @@ stream_some = _declare("dado_stream_some", c_uint32, POINTER(c_void_p), c_void_p
 stream_view = _declare("dado_stream_view", c_uint32, POINTER(c_void_p), POINTER(Held))
 stream_finish = _declare("dado_stream_finish", c_uint32, POINTER(c_void_p))
 stream_free = _declare("dado_stream_free", None, POINTER(c_void_p))
+narrow = _declare("dado_narrow", c_uint32, c_void_p, c_uint32, c_size_t, c_void_p, c_size_t, c_uint8, c_void_p)
+in_characters = _declare("dado_in_characters", c_uint32, c_void_p, c_size_t, POINTER(Counted), c_void_p, POINTER(c_size_t))
+move = _declare("dado_move", None, c_void_p, c_size_t, c_size_t)
 engine = _declare("dado_engine", c_uint32, c_void_p)
 memory = _declare("dado_memory", c_size_t, c_void_p)
 error_text = _declare("dado_error_text", c_char_p, c_uint32)
@@ -131,6 +138,9 @@ _get_buffer = ctypes.pythonapi.PyObject_GetBuffer
 _get_buffer.restype, _get_buffer.argtypes = ctypes.c_int, (ctypes.py_object, POINTER(_View), ctypes.c_int)
 _release_buffer = ctypes.pythonapi.PyBuffer_Release
 _release_buffer.restype, _release_buffer.argtypes = None, (POINTER(_View),)
+unwritten_bytes = ctypes.pythonapi.PyBytes_FromStringAndSize
+"""New `bytes` of a length, to be written before anything else sees them."""
+unwritten_bytes.restype, unwritten_bytes.argtypes = ctypes.py_object, (c_void_p, c_ssize_t)
 _as_utf8 = ctypes.pythonapi.PyUnicode_AsUTF8AndSize
 _as_utf8.restype, _as_utf8.argtypes = c_void_p, (ctypes.py_object, POINTER(c_ssize_t))
 
@@ -180,6 +190,10 @@ class Room:
 
     def ends(self, count: int) -> List[int]:
         return self._words[1:3 * count:3].tolist()
+
+    def end_of(self, number: int) -> int:
+        """Where the match of this number ends, counted from 1."""
+        return self._words[3 * number - 2]
 
 
 FEW = 64

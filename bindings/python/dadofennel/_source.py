@@ -1,20 +1,20 @@
 """What is searched: the bytes of a text or a bytes-like object, and the places of its matches as the caller counts them.
 
-A `str` of ASCII alone is searched in its own memory. Of any other a copy is searched. Where the patterns are ASCII, that has a
-byte for each character, so places are characters: Latin-1, if the text is, or else ASCII with a question mark for every other
-character, if no pattern has a question mark. No match has a character beyond ASCII then, so the matches are the same. Otherwise the
-copy is UTF-8, and places are counted in characters from one match to the next.
+A `str` of ASCII alone is searched in its own memory, and so is one of Latin-1 where the patterns are. Of any other a copy is searched,
+which has a byte for each character, so places are characters: `_characters` says which byte. Only where the patterns have more than 127
+characters beyond ASCII, the copy is UTF-8, and places are counted in characters from one match to the next.
 """
-from itertools import accumulate, chain
-from operator import sub
-from typing import Any, Iterable, List, Optional, Sequence, Tuple
+from ctypes import byref, c_size_t
+from typing import Any, List, Optional, Tuple, cast
 
 from . import _native as native
+from ._characters import Codes
+from ._match import refuse
 
 ENCODING = ("utf-8", "surrogatepass")
 """Lone surrogates have bytes of their own, so that every `str` can be a pattern or be searched."""
 
-Batch = Tuple[List[int], Iterable[int], List[int]]
+Batch = Tuple[List[int], List[int], List[int]]
 """Some matches: their patterns, starts and ends."""
 
 
@@ -22,39 +22,27 @@ def encoded(text: str) -> bytes:
     return text.encode(*ENCODING)
 
 
-def bytes_of(text: str, ascii_patterns: bool, no_question_mark: bool) -> Tuple[bytes, bool]:
-    """The bytes of a text that are searched, and whether each character has one."""
-    if ascii_patterns:
-        try:
-            return text.encode("latin-1"), True
-        except UnicodeEncodeError:
-            if no_question_mark:
-                return text.encode("ascii", "replace"), True
-    return encoded(text), False
-
-
 class Source:
-    """A haystack of `len` bytes at `at`, of which those from `low` to `high` are searched. The places of matches are moved by
-    `offset`.
+    """A haystack of `len` bytes at `at`, of which those from `low` to `high` are searched. `coded` says that these are the bytes of
+    `codes`. Without `codes` a text that isn't ASCII is UTF-8.
 
-    The patterns are ASCII, or have no question mark and no byte that is paired with one, as the last two arguments say.
+    With `most` a text of which a copy is searched is copied so many characters at a time. `go_on` takes the next ones.
     """
 
-    __slots__ = ("at", "len", "low", "high", "offset", "_kept", "_wide", "_byte", "_char")
+    __slots__ = ("at", "len", "low", "high", "coded", "_offset", "_kept", "_counted", "_codes", "_stop")
 
-    def __init__(
-        self, text: Any, start: Optional[int], end: Optional[int], ascii_patterns: bool = False, no_question_mark: bool = False,
-    ) -> None:
-        self._wide: Optional[bytes] = None
+    def __init__(self, text: Any, start: Optional[int], end: Optional[int], codes: Optional[Codes] = None, most: int = 0) -> None:
         self._kept = text
-        self.offset = 0
+        self._offset, self._counted, self._codes = 0, None, None
+        self.coded = codes is not None and isinstance(text, str) and not text.isascii()
+        if self.coded:
+            self._of_codes(text, start, end, cast(Codes, codes), most)
+            return
         if isinstance(text, str) and not text.isascii():
-            self.offset, stop = bounds(len(text), start, end)
-            data, narrow = bytes_of(text[self.offset:stop], ascii_patterns, no_question_mark)
-            self.at: Any = data
-            self.low, self.high, self.len = 0, len(data), len(data)
-            if not narrow:
-                self._wide, self._byte, self._char = data, 0, 0
+            self._offset, stop = bounds(len(text), start, end)
+            self.at: Any = encoded(text[self._offset:stop])
+            self.low, self.len, self._counted = 0, len(self.at), native.Counted()
+            self.high = self.len
             return
         if isinstance(text, str):
             self.at, self.len = native.ascii_memory(text), len(text)
@@ -68,36 +56,40 @@ class Source:
         else:
             self.low, self.high = bounds(self.len, start, end)
 
-    def placed(self, numbers: List[int], starts: List[int], ends: List[int], widths: Sequence[int], any_empty: bool) -> Batch:
-        """These matches with places in the caller's units. Their ends must not fall, from one call to the next either.
+    def _of_codes(self, text: str, start: Optional[int], end: Optional[int], codes: Codes, most: int) -> None:
+        self._offset, self._stop = bounds(len(text), start, end)
+        self.low, self.len = 0, self._stop - self._offset
+        at = codes.in_place(text)
+        if at:
+            self.at = at + self._offset
+        else:
+            if most and self.len > most:
+                self._codes, self.len = codes, most
+            self.at = native.unwritten_bytes(None, self.len)
+            codes.copy(text, self._offset, self._offset + self.len, self.at)
+        self.high = self.len
 
-        Under `any_empty` those are left out that lie within a character: empty ones, since every pattern has whole characters.
-        """
-        wide, offset = self._wide, self.offset
-        if wide is None:
-            if offset:
-                return numbers, [it + offset for it in starts], [it + offset for it in ends]
-            return numbers, starts, ends
-        if any_empty:
-            kept = [i for i, end in enumerate(ends) if end == len(wide) or wide[end] & 0xC0 != 0x80]
-            if len(kept) < len(ends):
-                numbers, ends = [numbers[i] for i in kept], [ends[i] for i in kept]
-        ends = self._in_characters(wide, ends)
-        return numbers, map(sub, ends, map(widths.__getitem__, numbers)), ends
+    @property
+    def ends(self) -> bool:
+        """Whether no part of the text comes after this one."""
+        return self._codes is None or self._offset + self.len == self._stop
 
-    def _in_characters(self, wide: bytes, ends: List[int]) -> List[int]:
-        """Which characters they are, by how many lie between each and the one before it."""
-        if not ends:
-            return ends
-        parts = map(wide.__getitem__, map(slice, chain((self._byte,), ends), ends))
-        try:
-            placed = list(accumulate(map(len, map(bytes.decode, parts)), initial=self._char))
-        except UnicodeDecodeError:  # a lone surrogate
-            parts = map(wide.__getitem__, map(slice, chain((self._byte,), ends), ends))
-            placed = list(accumulate((len(part.decode(*ENCODING)) for part in parts), initial=self._char))
-        self._byte, self._char = ends[-1], placed[-1]
-        del placed[0]
-        return [it + self.offset for it in placed] if self.offset else placed
+    def go_on(self, by: int) -> None:
+        """Takes the part of the text that begins so many bytes further."""
+        self._offset += by
+        self.high = self.len = min(self.len, self._stop - self._offset)
+        cast(Codes, self._codes).copy(self._kept, self._offset, self._offset + self.len, self.at)
+
+    def batch(self, room: native.Room, count: int) -> Batch:
+        """The first `count` matches that were written to the room, with places in the caller's units, which are changed there too.
+        Their ends must not fall, from one call to the next either. Those that lie within a character are left out."""
+        if self._counted is not None:
+            left = c_size_t(count)
+            refuse(native.in_characters(self.at, self.len, byref(self._counted), room.at, byref(left)))
+            count = left.value
+        if self._offset:
+            native.move(room.at, count, self._offset)
+        return room.numbers(count), room.starts(count), room.ends(count)
 
 
 def bounds(length: int, start: Optional[int], end: Optional[int]) -> Tuple[int, int]:

@@ -11,6 +11,7 @@ from threading import Lock
 from typing import Any, AnyStr, Callable, Generic, Iterable, Iterator, List, Optional, Sequence, Tuple
 
 from . import _native as native
+from ._characters import Codes
 from ._match import Match, match, refuse
 from ._source import encoded
 
@@ -34,11 +35,11 @@ class Stream(Generic[AnyStr]):
     A stream takes 64 KiB, or 8 times the length of the longest pattern, and owns the automaton too. Threads may pass it on.
     """
 
-    __slots__ = ("_handle", "_lock", "_room", "_text", "_narrow", "_widths", "_held", "_byte", "_char", "_cut")
+    __slots__ = ("_handle", "_lock", "_room", "_text", "_codes", "_widths", "_held", "_byte", "_char", "_cut")
 
-    def __init__(self, automaton: c_void_p, text: Optional[bool], narrow: bool, widths: Sequence[int]) -> None:
+    def __init__(self, automaton: c_void_p, text: Optional[bool], codes: Optional[Codes], patterns: Sequence[Any]) -> None:
         self._handle, self._lock, self._room = c_void_p(), Lock(), native.Room(ROOM)
-        self._text, self._narrow, self._widths = text, narrow, widths
+        self._text, self._codes, self._widths = text, codes, list(map(len, patterns))
         self._held, self._byte, self._char, self._cut = b"", 0, 0, 0
         refuse(native.stream_new(automaton, byref(self._handle)))
 
@@ -82,13 +83,13 @@ class Stream(Generic[AnyStr]):
 
     def _is_wide(self) -> bool:
         """Whether a character may have several bytes."""
-        return bool(self._text) and not self._narrow
+        return bool(self._text) and self._codes is None
 
     def _bytes_of(self, piece: Any) -> Any:
-        """The bytes that are searched: one for each character, where nothing but ASCII without a question mark is searched for."""
+        """The bytes that are searched."""
         if not self._text:
             return piece
-        return piece.encode("latin-1", "replace") if self._narrow else encoded(piece)
+        return encoded(piece) if self._codes is None else self._codes.of_piece(piece)
 
     def _decided(self, at_end: bool) -> List[Match]:
         """The matches that are decided now."""

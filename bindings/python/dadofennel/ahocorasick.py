@@ -412,7 +412,7 @@ class _LongSearch(_Search):
         if automaton._longest is None:
             automaton._longest = _Automaton(list(automaton._values), "leftmost-longest")
         longest = automaton._longest
-        return longest._walked(longest._source(string, start, end), False, False)
+        return longest._walked(longest._source(string, start, end, parts=True), False, False)
 
     def _unsettled(self, index: int) -> Any:
         """What was searched after the last match."""

@@ -20,6 +20,7 @@ from dadofennel import Automaton, BuildError, Error, Match, _native as native
 
 CASES = int(os.environ.get("CASES", "3000"))
 KINDS = ("standard", "leftmost-first", "leftmost-longest")
+MANY = "".join(map(chr, range(0x400, 0x480)))
 
 PREFERENCE = {
     "standard": lambda it: (it.end, it.start, it.pattern),
@@ -84,7 +85,7 @@ class Random(unittest.TestCase):
     def test_like_the_definitions(self):
         for seed in range(CASES):
             rng = random.Random(seed)
-            alphabet = rng.choice(["ab", "aAb", "aé€", "a😀A", "a?é", "a?€", "aé", "\udc00\ud800a"])
+            alphabet = rng.choice(["ab", "aAb", "aé€", "a😀A", "a?é", "a?€", "aé", "é\x80\xff", "é€😀", "\udc00\ud800a"])
             as_bytes = rng.random() < 0.4
 
             def word(most):
@@ -94,6 +95,8 @@ class Random(unittest.TestCase):
             patterns = [word(rng.choice([1, 2, 4])) for _ in range(rng.randint(0, 5))]
             if not patterns and as_bytes:
                 patterns = [b"a"]
+            if not as_bytes and rng.random() < 0.3:  # too many characters for a byte each
+                patterns.append(MANY)
             kind, start_kind, fold = rng.choice(KINDS), rng.choice(["unanchored", "both", "anchored"]), rng.random() < 0.3
             engine = rng.choice(["auto", "noncontiguous", "contiguous", "dfa"])
             automaton = Automaton(patterns, kind, fold, start_kind=start_kind, engine=engine, prefilter=rng.random() < 0.7)
@@ -241,6 +244,60 @@ class Long(unittest.TestCase):
         self.assertEqual(writer.taken, b"a sloth, a sloth")
         self.assertRaises(BlockingIOError, automaton.replace_stream, io.BytesIO(b"a fox, a fox"), Slow(5), b"sloth")
         self.assertRaises(BlockingIOError, automaton.replace_stream, Slow(0), io.BytesIO(), b"sloth")
+
+
+class Characters(unittest.TestCase):
+    """A text beyond ASCII, whose characters are found in CPython's memory or are copied from it."""
+
+    def test_each_width(self):
+        class Other(str):
+            pass
+
+        for letters in ("é", "€", "😀", "é€", "€😀"):
+            for words in (["b"], ["é", "b"], ["€", "b"], ["😀", "b"], ["é", "€", "😀", "b"], [MANY, "b", "€"]):
+                text = "".join(letters[i % len(letters)] + "ab"[i % 7 == 0] * (i % 5) for i in range(3000))
+                found = [(words.index(it), i, i + 1) for i, it in enumerate(text) if it in words]
+                automaton = Automaton(words)
+                for same in (text, Other(text), text.encode("utf-8").decode("utf-8")):
+                    self.assertEqual(list(automaton.finditer(same)), found)
+                    self.assertEqual(list(automaton.overlapping(same, 7, 2000)), [it for it in found if 7 <= it[1] < 2000])
+                with unittest.mock.patch.object(dadofennel._characters, "_found", None):
+                    self.assertEqual(list(automaton.finditer(text)), found)
+                    self.assertEqual(list(automaton.finditer(text, 7, 2000)), [it for it in found if 7 <= it[1] < 2000])
+
+    def test_memory(self):
+        self.assertIsNotNone(dadofennel._characters._found)
+        for text, width in (("é" * 50, 1), ("€" * 50, 2), ("😀" * 50, 4)):
+            text.encode()
+            self.assertEqual(dadofennel._characters.memory_of(text)[1], width)
+        text = "aéb"
+        self.assertGreater(dadofennel._characters.codes_of(["é", "b"]).in_place(text), 0)
+        self.assertEqual(dadofennel._characters.codes_of(["€", "b"]).in_place(text), 0)
+
+    def test_in_parts(self):
+        """A text that is copied a few characters at a time has the same matches."""
+        for seed in range(CASES // 3):
+            rng = random.Random(seed)
+            words = ["".join(rng.choice("ab€") for _ in range(rng.randint(1, 6))) for _ in range(rng.randint(1, 5))]
+            text = "".join(rng.choice("ab€") for _ in range(rng.randint(1, 300)))
+            automaton = Automaton(words, rng.choice(KINDS))
+            start, end = sorted(rng.randint(0, len(text)) for _ in range(2))
+            whole = [list(automaton.finditer(text)), list(automaton.finditer(text, start, end))]
+            if automaton.kind == "standard":
+                whole.append(list(automaton.overlapping(text, start)))
+            with unittest.mock.patch.object(dadofennel._automaton, "PART", 1), \
+                    unittest.mock.patch.object(dadofennel._automaton, "MOST_AT_ONCE", rng.choice([1, 4, 4096])):
+                parts = [list(automaton.finditer(text)), list(automaton.finditer(text, start, end))]
+                if automaton.kind == "standard":
+                    parts.append(list(automaton.overlapping(text, start)))
+            self.assertEqual(parts, whole, (words, automaton.kind, text, start, end))
+
+    def test_as_many_as_have_a_byte(self):
+        for count in (127, 128):
+            words = [chr(0x400 + i) for i in range(count)]
+            text = "".join(words) + chr(0x400 + count)
+            self.assertEqual(dadofennel._characters.codes_of(words) is None, count == 128)
+            self.assertEqual(list(Automaton(words).finditer(text)), [(i, i, i + 1) for i in range(count)])
 
 
 class Lent(unittest.TestCase):
@@ -424,11 +481,11 @@ class Layout(unittest.TestCase):
 
     NAMES = {"dado_bytes": native.Bytes, "dado_pair": native.Pair, "dado_match": native.Match, "dado_settings": native.Settings,
              "dado_fault": native.Fault, "dado_span": native.Span, "dado_cursor": native.Cursor, "dado_place": native.Place,
-             "dado_text": native.Text}
+             "dado_text": native.Text, "dado_counted": native.Counted}
 
     @unittest.skipUnless(os.environ.get("DADOFENNEL_PREFIX"), "DADOFENNEL_PREFIX doesn't say where the header is")
     def test_like_the_header(self):
-        lines = ['#include <stdio.h>', '#include "dadofennel.h"', "int main(void) {"]
+        lines = ['#include <stdio.h>', '#include "dadofennel_characters.h"', "int main(void) {"]
         for name, structure in self.NAMES.items():
             lines.append(f'printf("{name} %zu\\n", sizeof({name}));')
             for field in structure._fields_:

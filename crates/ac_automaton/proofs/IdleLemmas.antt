@@ -6,7 +6,7 @@ use Rattle.std.proofs.lemmas.List.{append_assoc, drop-take, length-take-le, take
 use Rattle.ac_input.specs.Number.{StateID}
 use Rattle.ac_input.specs.declared.search.Anchored.{Anchored}
 use Rattle.ac_input.specs.declared.steps.Steps.{Steps}
-use Rattle.ac_input.specs.Dictionary.{IsLive, live_len}
+use Rattle.ac_input.specs.Dictionary.{IsLive, live_len, Dictionary}
 use Rattle.ac_input.specs.Input.{is_anchored}
 use Rattle.ac_input.specs.Steps.{Done}
 use Rattle.ac_input.specs.Work.{IsLookups}
@@ -14,11 +14,17 @@ use Rattle.ac_automaton.specs.declared.starters.Starters.{Starters}
 use Rattle.ac_automaton.specs.declared.starters.Starters.TheVariants.{Many}
 use Rattle.ac_automaton.specs.declared.automaton.Advance.{Advance}
 use Rattle.ac_automaton.specs.Automaton.{Built, IsReached, Leads, Advances}
-use Rattle.ac_automaton.specs.Named.{Naming, AllNames, IsReadBy, IsIdleBy}
+use Rattle.ac_automaton.specs.Named.{Naming, IsReadBy, OfNames, IsStep}
 use Rattle.ac_automaton.specs.ReadOn.{StaysBut}
 use Rattle.ac_automaton.specs.Starters.{AddsStarter, SkipsBelow, SkipsIdle}
 use Rattle.ac_automaton.proofs.CursorLemmas.{HasAdvanced, lookups-join, reached-on}
-use Rattle.ac_automaton.proofs.NamedLemmas.{named-next, read-from, cost-looks}
+use Rattle.ac_automaton.proofs.NamedLemmas.{named-next, read-from, cost-looks, AllNames}
+
+-- A search that stands in the start stays there over this byte, by whichever naming the automaton is laid out, and the start
+-- matches nothing.
+pub record IsIdleBy (m : Dictionary) (Fits : Naming → Type 0) (matches : ℕ → List ℕ) (start byte : ℕ) : Type 0 where
+  pub plain : matches start ≡ []
+  pub stays : (anchored : Bool) → OfNames Fits anchored start (λ names. IsStep m names anchored start byte start)
 
 -- ---- the bytes that are gathered, one after another
 

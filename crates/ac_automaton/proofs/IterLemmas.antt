@@ -15,8 +15,8 @@ use Rattle.ac_input.specs.Walk.{Repeats, IsPick, Here, Further}
 use Rattle.ac_input.specs.Work.{HasCounted, IsFindWork, lookups_per_byte, over_at, shortest}
 use Rattle.ac_input.proofs.OrderLemmas.{occurs-end}
 use Rattle.ac_input.proofs.WalkLemmas.{walk_after-none, walk_after-some, walk_after-nothing}
-use Rattle.ac_automaton.specs.Automaton.{Built, prefilter_for}
-use Rattle.ac_automaton.specs.Iter.{CostsPick, CountsPick, CountsWalk, PickCounts, Walk, walk_after_pick, walk_at, walk_kind, search_of_walk, left_of, IsNextPick, IsWalkAfter, IsPickWork, IsPickOf, passed}
+use Rattle.ac_automaton.specs.Automaton.{Built, prefilter_for, searched}
+use Rattle.ac_automaton.specs.Iter.{CostsPick, CountsPick, CountsWalk, PickCounts, Walk, walk_after_pick, walk_at, walk_kind, left_of, IsPickWork, IsPickOf, passed}
 use Rattle.ac_automaton.proofs.CountedLemmas.{counted-moved, sums-more}
 
 -- where a search begins says nothing of the pick of a walk that stands at a place
@@ -26,8 +26,8 @@ pick-wherever kind s begun at last r (Further b h rep k) = Further b h rep k
 
 -- the pick of the input that is left is the walk's next pick
 pub pick-of_walk : (b : Built) (first : ℕ) (left : Asked) (last : Option ℕ) (sums : Steps) (w : Walk) (r : Option Occurrence) →
-    walk_at b first left last sums ≡ w → IsPickOf b left last r → IsNextPick w r
-pick-of_walk b first left last sums w r e h = subst (λ v. IsNextPick v r) e (pick-wherever (asked_kind b.dictionary.kind left.earliest) (search_of b.dictionary left.anchored left.haystack left.span) first left.span.start last r h)
+    walk_at b first left last sums ≡ w → IsPickOf b left last r → IsPick (walk_kind w) (searched w.built w.asked) w.at w.last r
+pick-of_walk b first left last sums w r e h = subst (λ v. IsPick (walk_kind v) (searched v.built v.asked) v.at v.last r) e (pick-wherever (asked_kind b.dictionary.kind left.earliest) (search_of b.dictionary left.anchored left.haystack left.span) first left.span.start last r h)
 
 -- nothing is found past the end of a span
 pub best-past : (kind : MatchKind) (s : Search) → s.end < s.start → IsBest kind s None
@@ -99,12 +99,12 @@ work-further kind deterministic s last first r before between after inside le be
 
 -- What comes of the next pick: it is the first of those that were left, and the others are left after it; where there is none,
 -- none was left, and none is.
-pub pick-yields : (w v : Walk) (r : Option Occurrence) → v.asked.span.end ≤ length v.asked.haystack → IsNextPick w r → IsWalkAfter w r v → YieldsFirst left_of w r v
+pub pick-yields : (w v : Walk) (r : Option Occurrence) → v.asked.span.end ≤ length v.asked.haystack → IsPick (walk_kind w) (searched w.built w.asked) w.at w.last r → (v ≡ record (walk_after_pick w r) { looked = v.looked; scanned = v.scanned; moved = v.moved }) → YieldsFirst left_of w r v
 pick-yields w v None inside h e = (
-  walk_after-none (walk_kind w) (search_of_walk w) w.at w.last (rw e at inside) h,
-  ap left_of e ∙ walk_after-nothing (walk_kind w) (search_of_walk w) (w.asked.span.end + 1) w.last (omega arith),
+  walk_after-none (walk_kind w) (searched w.built w.asked) w.at w.last (rw e at inside) h,
+  ap left_of e ∙ walk_after-nothing (walk_kind w) (searched w.built w.asked) (w.asked.span.end + 1) w.last (omega arith),
 )
-pick-yields w v (Some o) inside h e = walk_after-some (walk_kind w) (search_of_walk w) w.at w.last o (rw e at inside) h ∙ ap (λ (x : Walk). o ∷ left_of x) (sym e)
+pick-yields w v (Some o) inside h e = walk_after-some (walk_kind w) (searched w.built w.asked) w.at w.last o (rw e at inside) h ∙ ap (λ (x : Walk). o ∷ left_of x) (sym e)
 
 -- so a call leaves fewer than there were
 pub yields-progress : (w v : Walk) (r : Option Occurrence) → YieldsFirst left_of w r v → MakesProgress (λ _. Unit {0}) (item_count left_of) w r v
@@ -124,7 +124,7 @@ idle-cost w x past = (
 )
 
 -- after its next pick a walk has counted what lies before it
-walk-counts-on : (w v : Walk) (r : Option Occurrence) (start done : Steps) → IsWalkAfter w r v → w.asked.span.start ≤ w.at → w.at ≤ w.asked.span.end
+walk-counts-on : (w v : Walk) (r : Option Occurrence) (start done : Steps) → (v ≡ record (walk_after_pick w r) { looked = v.looked; scanned = v.scanned; moved = v.moved }) → w.asked.span.start ≤ w.at → w.at ≤ w.asked.span.end
     → AreNone start → v.looked ≡ w.looked + looked_of done → v.scanned ≡ w.scanned + scanned_of done
     → PickCounts w.built w.asked w.at r start done → CountsWalk w → CountsWalk v
 walk-counts-on w v r start done after begun within none looked scanned counts had =
@@ -143,7 +143,7 @@ walk-counts-on w v r start done after begun within none looked scanned counts ha
         sums-more w.built.prefilter (passed w) (o.end - w.at) _ w.looked w.scanned v.looked v.scanned start done (omega arith) none looked scanned before (λ _. more) bytes
 
 -- what its next pick counted from nothing on, was added
-pub pick-counted : (w v : Walk) (r : Option Occurrence) (start done before after : Steps) → IsWalkAfter w r v → w.asked.span.start ≤ w.at → w.at ≤ w.asked.span.end
+pub pick-counted : (w v : Walk) (r : Option Occurrence) (start done before after : Steps) → (v ≡ record (walk_after_pick w r) { looked = v.looked; scanned = v.scanned; moved = v.moved }) → w.asked.span.start ≤ w.at → w.at ≤ w.asked.span.end
     → AreNone start → Added done before after → v.looked ≡ w.looked + looked_of done → v.scanned ≡ w.scanned + scanned_of done
     → PickCounts w.built w.asked w.at r start done → CountsWalk w → CountsPick w v before after r
 pick-counted w v r start done before after goes begun within none added looked scanned counts had = record {

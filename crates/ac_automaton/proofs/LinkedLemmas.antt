@@ -15,9 +15,9 @@ use Rattle.ac_input.specs.Steps.{Done}
 use Rattle.ac_input.specs.Work.{longest}
 use Rattle.ac_input.proofs.LeadsLemmas.{leads-child, leads-dead, leads-failure, leads-failure_none, fails-state}
 use Rattle.ac_automaton.specs.Automaton.{Built, Leads}
-use Rattle.ac_automaton.specs.Named.{Naming, AllNames, OfNames, IsStep, text_len, IsPaidStep, IsReadBy, nowhere, IsEdgeBy, IsFailureBy, AreNumbers, AreLinked}
+use Rattle.ac_automaton.specs.Named.{Naming, OfNames, IsStep, text_len, IsPaidStep, IsReadBy, nowhere, IsEdgeBy, IsFailureBy, AreNumbers, AreLinked}
 use Rattle.ac_automaton.proofs.CursorLemmas.{leads-none}
-use Rattle.ac_automaton.proofs.NamedLemmas.{stands-for, begins-or-not, read-next}
+use Rattle.ac_automaton.proofs.NamedLemmas.{stands-for, begins-or-not, read-next, AllNames}
 use Rattle.ac_automaton.proofs.WalkLemmas.{begins-bound}
 
 -- ---- straight on

@@ -25,7 +25,24 @@ use Rattle.ac_input.proofs.ShadowLemmas.{list-one}
 use Rattle.ac_input.proofs.SomeLemmas.{live-some, list-some}
 use Rattle.ac_input.proofs.StateLemmas.{live-one, live-forward}
 use Rattle.ac_automaton.specs.Automaton.{Built, IsReached, IsState, AtEach, Leads, IsReadCost, IsSpecial, TellsDead, TellsStart}
-use Rattle.ac_automaton.specs.Named.{Naming, IsNamed, AllNames, OfNames, IsStep, text_len, IsPaidStep, IsFirst, IsReachedBy, IsReadBy}
+use Rattle.ac_automaton.specs.Named.{Naming, IsNamed, OfNames, IsStep, text_len, IsPaidStep, IsFirst, IsReachedBy, IsReadBy}
+
+-- A state at which a search has more to do than to read on: the dead one, one at which patterns match, or a start if there is a
+-- prefilter to run.
+abbrev pub IsSpecialState : Built → List ℕ → Bool → Option (List ℕ) → Type 0
+IsSpecialState b matches start state = (state ≡ None) ⊎ (matches ≢ []) ⊎ (IsTrue start × (b.prefilter ≢ None))
+
+-- The list of each number, and the tests whether it is a start and whether it is special, are those of its state.
+pub record AreNames (b : Built) (matches : ℕ → List ℕ) (starts special : ℕ → Bool) (names : Naming) : Type 0 where
+  pub inverse : IsOwnInverse b.dictionary.pairing
+  pub lists : (anchored : Bool) (sid : ℕ) (text : List ℕ) → IsTrue (names.met anchored sid) → names.text sid ≡ Some text → IsList b.dictionary text (matches sid)
+  pub none : (anchored : Bool) (sid : ℕ) → IsTrue (names.met anchored sid) → names.text sid ≡ None → (matches sid ≡ []) × (starts sid ≡ false)
+  pub starting : (anchored : Bool) (sid : ℕ) (text : List ℕ) → IsTrue (names.met anchored sid) → names.text sid ≡ Some text → IsTrue (starts sid) ↔ (text ≡ [])
+  pub stopping : (anchored : Bool) (sid : ℕ) → IsTrue (names.met anchored sid) → IsTrue (special sid) ↔ IsSpecialState b (matches sid) (starts sid) (names.text sid)
+
+-- this is so for every naming by which the automaton is laid out
+abbrev pub AllNames : Built → (Naming → Type 0) → (ℕ → List ℕ) → (ℕ → Bool) → (ℕ → Bool) → Type 0
+AllNames b Fits matches starts special = (names : Naming) → Fits names → AreNames b matches starts special names
 
 -- ---- what a number stands for
 

@@ -8,9 +8,9 @@ use Rattle.ac_input.specs.Dictionary.{IsLive}
 use Rattle.ac_input.specs.Opening.{NoneIsShorter}
 use Rattle.ac_input.proofs.OpeningLemmas.{leads-passed}
 use Rattle.ac_automaton.specs.Automaton.{Built, Leads}
-use Rattle.ac_automaton.specs.Named.{Naming, AllNames, IsReadBy}
+use Rattle.ac_automaton.specs.Named.{Naming, IsReadBy}
 use Rattle.ac_automaton.specs.Passing.{MayPass}
-use Rattle.ac_automaton.proofs.NamedLemmas.{read-from, read-starts}
+use Rattle.ac_automaton.proofs.NamedLemmas.{read-from, read-starts, AllNames}
 
 -- where its start is read before the first byte and matches nothing, and every text leads somewhere
 pub may-pass : (b : Built) (Fits : Naming → Type 0) (matches : ℕ → List ℕ) (starts special : ℕ → Bool) (len start : ℕ)

@@ -16,7 +16,7 @@ use Rattle.ac_input.specs.Computed.{listing_of}
 use Rattle.ac_input.specs.Input.{Asked, is_anchored, search_in}
 use Rattle.ac_input.specs.Listing.{IsRising, ListsAll}
 use Rattle.ac_input.specs.LiveLaws.{shifted, IsOwnInverse}
-use Rattle.ac_input.specs.Dictionary.{Dictionary, IsEntered, whole, IsSearchBy, IsLive}
+use Rattle.ac_input.specs.Dictionary.{Dictionary, IsEntered, whole, IsLive}
 use Rattle.ac_input.specs.Tells.{ending, Tells, TellsUnanchored, ending_at}
 use Rattle.ac_input.proofs.ContainsLemmas.{Contains-nil, Contains-head, Contains-tail, Contains-cases, Contains-filter, Contains-from_filter}
 use Rattle.ac_input.proofs.OrderLemmas.{occurrence_from_parts, slice_range-length, occurs-end}
@@ -24,7 +24,7 @@ use Rattle.ac_input.proofs.RisingLemmas.{less_by_end, IsRising-filter, IsRising-
 use Rattle.ac_input.proofs.ListingLemmas.{ListsAll-unique, listing_of-lists}
 use Rattle.ac_input.proofs.LiveLemmas.{entered-begins, dead-best}
 use Rattle.ac_input.proofs.ShiftLemmas.{preference-shifted, back_by}
-use Rattle.ac_input.proofs.SpanLemmas.{whole-occurs_in_span, occurs-in_whole_of_span}
+use Rattle.ac_input.proofs.SpanLemmas.{whole-occurs_in_span, occurs-in_whole_of_span, IsSearchBy}
 use Rattle.ac_input.proofs.StateLemmas.{standard-entered}
 use Rattle.ac_automaton.specs.declared.cursor.Cursor.{Cursor}
 use Rattle.ac_automaton.specs.Overlapping.{ending_from, told_from}

@@ -5,7 +5,7 @@ use Rattle.ac_input.specs.Number.{StateID}
 use Rattle.ac_input.specs.declared.search.Anchored.{Anchored}
 use Rattle.ac_input.specs.declared.search.Anchored.TheVariants.{No}
 use Rattle.ac_input.specs.declared.steps.Steps.{Steps}
-use Rattle.ac_automaton.specs.Automaton.{Built, Leads, IsReadCost, PassesPlain, TakesSome, has_some, is_matching}
+use Rattle.ac_automaton.specs.Automaton.{Built, Leads, IsReadCost, PassesPlain, has_some, is_matching}
 use Rattle.ac_automaton.specs.declared.automaton.Advance.{Advance}
 
 -- ---- whether there are patterns
@@ -35,7 +35,7 @@ pub record StopsAtMatch (b : Built) (Reaches : Anchored → List ℕ → StateID
 
 -- it stopped at a state that matches
 pub stops-there : (b : Built) (Reaches : Anchored → List ℕ → StateID → Type 0) (matches : StateID → List ℕ) (sid : StateID) (bytes : List ℕ) (stop : Advance) (before after : Steps)
-    → TakesSome bytes stop.taken
+    → ((stop.taken ≤ length bytes) × (0 < length bytes → 0 < stop.taken))
     → Leads (Reaches No) sid (take stop.taken bytes) stop.sid
     → PassesPlain (Reaches No) (is_matching matches) sid bytes stop.taken
     → IsReadCost b Reaches No sid (take stop.taken bytes) before after
@@ -52,7 +52,7 @@ stops-there b Reaches matches sid bytes stop before after takes reads plain cost
 
 -- it read all the bytes, and found none that matches
 pub stops-none : (b : Built) (Reaches : Anchored → List ℕ → StateID → Type 0) (matches : StateID → List ℕ) (sid : StateID) (bytes : List ℕ) (stop : Advance) (before after : Steps)
-    → TakesSome bytes stop.taken
+    → ((stop.taken ≤ length bytes) × (0 < length bytes → 0 < stop.taken))
     → Leads (Reaches No) sid (take stop.taken bytes) stop.sid
     → PassesPlain (Reaches No) (is_matching matches) sid bytes stop.taken
     → (stop.taken < length bytes → IsTrue (is_matching matches stop.sid))

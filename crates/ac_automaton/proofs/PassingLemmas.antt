@@ -11,14 +11,14 @@ use Rattle.ac_input.specs.declared.search.Anchored.{Anchored}
 use Rattle.ac_input.specs.declared.search.Anchored.TheVariants.{No}
 use Rattle.ac_input.specs.declared.steps.Steps.{Steps}
 use Rattle.ac_input.specs.Dictionary.{Dictionary, IsLive, live_len}
-use Rattle.ac_input.specs.LiveLaws.{IsOwnInverse, shifted_place}
-use Rattle.ac_input.specs.Opening.{NoneIsShorter, HasNoOpening, OpensNotBefore}
+use Rattle.ac_input.specs.LiveLaws.{IsOwnInverse}
+use Rattle.ac_input.specs.Opening.{NoneIsShorter, HasNoOpening, IsOpening}
 use Rattle.ac_input.specs.Steps.{Done}
 use Rattle.ac_input.specs.Tells.{Tells}
 use Rattle.ac_input.specs.Work.{IsLookups}
 use Rattle.ac_input.proofs.OpeningLemmas.{front-opens-not, opens-not-dead, opens-not-listed, live-passed, live_len-passed}
 use Rattle.ac_input.proofs.SomeLemmas.{live-some}
-use Rattle.ac_input.proofs.StateLemmas.{live-one}
+use Rattle.ac_input.proofs.StateLemmas.{live-one, shifted_place}
 use Rattle.ac_automaton.specs.Automaton.{Built, IsReached, Leads, IsReadCost}
 use Rattle.ac_literal.specs.declared.openings.Openings.{Openings}
 use Rattle.ac_literal.specs.Openings.{AreOpenings}
@@ -80,7 +80,7 @@ module _ (b : Built) (Reaches : Anchored → List ℕ → StateID → Type 0) (m
   -- Reading on over what is passed.
   pub advanced-passed : (sid next : StateID) (bytes : List ℕ) (n skipped tail : ℕ) (s t u z : Steps)
       → ((k : ℕ) → slice_index bytes k < 256)
-      → n + (skipped + tail) ≤ length bytes → OpensNotBefore b.dictionary len (drop n bytes) (skipped + tail) → len ≤ tail + 1
+      → n + (skipped + tail) ≤ length bytes → ((at : ℕ) → at < (skipped + tail) → ¬ IsOpening b.dictionary len (drop n bytes) at) → len ≤ tail + 1
       → Leads (Reaches No) start (take tail (drop skipped (drop n bytes))) next
       → Done skipped 0 0 t u → IsReadCost b Reaches No start (take tail (drop skipped (drop n bytes))) u z
       → HasAdvanced b Reaches No stops sid bytes n start s t
@@ -180,9 +180,9 @@ advanced-on A automaton openings start two sid current bytes rest n stop s t u m
     let all = to.taken in
     let fits : n + (to.skipped + to.end) ≤ length bytes = omega (arith, left, size, inside, all, within) in
     let long = may.open_.short in
-    let none : OpensNotBefore b.dictionary openings.len (drop n bytes) (to.skipped + to.end) =
-    subst (λ (k : ℕ). OpensNotBefore b.dictionary openings.len (drop n bytes) k) (sym all)
-    (subst (λ (l : List ℕ). OpensNotBefore b.dictionary openings.len l stop.taken) is (to.none b.dictionary may.open_)) in
+    let none : ((at : ℕ) → at < (to.skipped + to.end) → ¬ IsOpening b.dictionary openings.len (drop n bytes) at) =
+    subst (λ (k : ℕ). ((at : ℕ) → at < k → ¬ IsOpening b.dictionary openings.len (drop n bytes) at)) (sym all)
+    (subst (λ (l : List ℕ). ((at : ℕ) → at < stop.taken → ¬ IsOpening b.dictionary openings.len l at)) is (to.none b.dictionary may.open_)) in
     let end = subst (λ (l : List ℕ). ReadsAll A automaton start (take to.end (drop to.skipped l)) stop.sid to.between u) is to.reads in
     let here = subst (λ (i : StateID). HasAdvanced b R No (is_between two) sid bytes n i s t) at has in
     let on = advanced-passed b R (A.matches automaton) (is_between two) openings.len start inverse some long may.may tells may.quiet sid stop.sid bytes n to.skipped to.end s t to.between u small fits none to.enough end.leads to.looks end.cost here in (

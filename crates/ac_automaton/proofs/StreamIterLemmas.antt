@@ -16,7 +16,7 @@ use Rattle.ac_automaton.specs.Automaton.{Built}
 use Rattle.ac_automaton.specs.Replace.{matches_in}
 use Rattle.ac_automaton.specs.Stream.{AreAllGiven, CanBeCounted, EachIsDecided, FindsHeld, NothingIsLive, ReadsMore, ReadsNothing, StreamCounts, StreamProgress, after_given, closed_by, end_of, may_wait, read_by, room_of}
 use Rattle.ac_automaton.specs.Moved.{AreFilled, AreWhole}
-use Rattle.ac_automaton.specs.StreamIter.{HasGained, IsInputOver, IsReadForMatch, IsStopped, NextGives, StaysStopped, TurnGives, TurnReads, read_before_last}
+use Rattle.ac_automaton.specs.StreamIter.{HasGained, IsReadForMatch, IsStopped, NextGives, StaysStopped, TurnGives, TurnReads, read_before_last}
 use Rattle.ac_automaton.specs.Watched.{has_ended, inner_of, pieces_of}
 use Rattle.ac_automaton.specs.declared.error.StreamError.{StreamError}
 use Rattle.ac_automaton.specs.declared.error.StreamError.TheVariants.{Config, Read, Write, WriteZero, Memory, Position}
@@ -294,12 +294,12 @@ read-to_end {R} remaining s t u before mid x y has (GoesOnReading filled goes) n
     (λ (none : has.gained ≡ []). inl (none, nothing.closed ∙ closed-still remaining s t before mid x y has goes))
     (λ (some : has.gained ≢ []).
     absurd (⊎_elim
-    (λ (over : IsInputOver u mid × AreAllGiven u). ⊎_elim (λ (ended : has_ended mid ≡ true). (goes some).0 ended) (λ (closed : u.closed ≡ true). false≢true (sym (nothing.closed ∙ (goes some).1) ∙ closed)) over.0)
+    (λ (over : ((has_ended mid ≡ true) ⊎ (u.closed ≡ true)) × AreAllGiven u). ⊎_elim (λ (ended : has_ended mid ≡ true). (goes some).0 ended) (λ (closed : u.closed ≡ true). false≢true (sym (nothing.closed ∙ (goes some).1) ∙ closed)) over.0)
     (λ (many : ¬ CanBeCounted (read_by u)). many (subst (λ (l : List (List ℕ)). CanBeCounted (concat l)) (sym nothing.pieces) (has.fresh some).1))
     stopped))
     (none-or-some has.gained)
 read-to_end {R} remaining s t u before mid x y has (HasEnded whole ended at_end given closed) nothing stopped = ⊎_elim
-    (λ (over : IsInputOver u mid × AreAllGiven u). inr (whole, over.1, each, at_end))
+    (λ (over : ((has_ended mid ≡ true) ⊎ (u.closed ≡ true)) × AreAllGiven u). inr (whole, over.1, each, at_end))
     (λ (many : ¬ CanBeCounted (read_by u)). absurd (many (subst (λ (l : List (List ℕ)). CanBeCounted (concat l)) (sym nothing.pieces) (has.fresh some).1)))
     stopped
   where
@@ -390,13 +390,13 @@ none-gained s before gained stopped open_ = ⊎_elim
     (λ (none : gained ≡ []). none)
     (λ (some : gained ≢ []).
     let first = open_ some in
-    absurd (⊎_elim (λ (over : IsInputOver s before × AreAllGiven s). ⊎_elim (λ (ended : has_ended before ≡ true). false≢true (sym first.0 ∙ ended)) (λ (closed : s.closed ≡ true). false≢true (sym first.2 ∙ closed)) over.0) (λ (many : ¬ CanBeCounted (read_by s)). many first.1) stopped))
+    absurd (⊎_elim (λ (over : ((has_ended before ≡ true) ⊎ (s.closed ≡ true)) × AreAllGiven s). ⊎_elim (λ (ended : has_ended before ≡ true). false≢true (sym first.0 ∙ ended)) (λ (closed : s.closed ≡ true). false≢true (sym first.2 ∙ closed)) over.0) (λ (many : ¬ CanBeCounted (read_by s)). many first.1) stopped))
     (none-or-some gained)
 
 -- nor a match found
 none-found : {R : Type 0} (s u : StreamProgress) (before : Watched R) (o : Occurrence) → IsStopped s before → ¬ FindsHeld s (Some o) u
 none-found s u before o stopped finds = ⊎_elim
-    (λ (over : IsInputOver s before × AreAllGiven s). absurd (finds.6 over.1))
+    (λ (over : ((has_ended before ≡ true) ⊎ (s.closed ≡ true)) × AreAllGiven s). absurd (finds.6 over.1))
     (λ (many : ¬ CanBeCounted (read_by s)). many finds.5)
     stopped
 

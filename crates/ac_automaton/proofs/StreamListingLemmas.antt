@@ -30,7 +30,7 @@ use Rattle.ac_automaton.specs.Automaton.{AdvancesToMatch, Built, IsReadCost, has
 use Rattle.ac_automaton.specs.Buffer.{least_room}
 use Rattle.ac_automaton.specs.Moved.{AllFit}
 use Rattle.ac_automaton.specs.StreamListing.{IsAllListed, ListingProgress, ListsHeld, all_read, occurrences_in, searched_by}
-use Rattle.ac_automaton.specs.StreamListingSearch.{HasReadHeld, IsListedAt, IsListingPaid, ListsOn, StandsInList, after_listed, ends_told, read_on_to}
+use Rattle.ac_automaton.specs.StreamListingSearch.{HasReadHeld, IsListedAt, ListsOn, StandsInList, after_listed, ends_told, listed_on_to}
 use Rattle.ac_automaton.specs.StreamSearch.{some_of}
 use Rattle.ac_automaton.specs.declared.automaton.Advance.{Advance}
 use Rattle.ac_automaton.specs.declared.stream.overlapping.search.ListPlace.{ListPlace}
@@ -164,7 +164,7 @@ pub stands-listing : (Reaches : List ℕ → StateID → Type 0) (matches : Stat
     → s.scanned ≡ 0 → s.moved ≡ 0
     → place.at ≡ s.at → place.from ≤ place.at → Reaches (searched_by s) place.sid → place.len ≡ length (matches place.sid) → place.len ≤ 18446744073709551615
     → occurrences_in s.built (searched_by s) ≡ s.given ++ ends_told s.built.dictionary (searched_by s) (matches place.sid) place.index
-    → IsListingPaid s → ((live : Option ℕ) × IsLive s.built.dictionary false (searched_by s) live)
+    → ((live : Option ℕ) → IsLive s.built.dictionary false (searched_by s) live → (s.looked + live_len (searched_by s) live ≤ 2 * s.at) × (s.at ≤ s.looked) × (IsTrue s.built.deterministic → s.looked ≤ s.at)) → ((live : Option ℕ) × IsLive s.built.dictionary false (searched_by s) live)
     → StandsInList Reaches matches s place
 stands-listing Reaches matches s place standard filled ordered short scanned moved at from reads len few left lookups live =
     let m = s.built.dictionary in
@@ -303,7 +303,7 @@ reads-nothing Reaches matches b s place held y is given none =
     let stands = is.stands in
     let x : List ℕ = all_read s in
     let long : length held ≡ length x - place.from = ap length is.bytes ∙ length-drop place.from x in
-    let t : ListingProgress = read_on_to s place.at 0 in
+    let t : ListingProgress = listed_on_to s place.at 0 in
     let looked : s.looked ≡ s.looked + 0 = omega arith in
     let same : s ≡ t = λ i. record s { at = sym stands.at i; looked = looked i } in
     record {
@@ -361,7 +361,7 @@ reads-on Reaches matches b s place held stop len y z tells lives is given some g
     let alive_then = lives (text ++ more) stop.sid reads in
     let done = paid text alive.0 alive_then.0 stands.reads alive.1 alive_then.1 in
     let looks : ℕ = looked_of z - looked_of y in
-    let t : ListingProgress = read_on_to s there.at looks in
+    let t : ListingProgress = listed_on_to s there.at looks in
     let looked : looked_of z ≡ looked_of y + looks = omega (arith, done.some) in
     record {
       looks = looks;
@@ -394,7 +394,7 @@ reads-on Reaches matches b s place held stop len y z tells lives is given some g
 
 -- where a search stands that has read on
 pub listed-there : (Reaches : List ℕ → StateID → Type 0) (matches : StateID → List ℕ) (b : Built) (s : ListingProgress) (place there : ListPlace) (held : List ℕ) (y z : Steps)
-    → IsListedAt b Reaches matches s place held → (on : HasReadHeld Reaches matches s place there y z) → IsListedAt b Reaches matches (read_on_to s there.at on.looks) there held
+    → IsListedAt b Reaches matches s place held → (on : HasReadHeld Reaches matches s place there y z) → IsListedAt b Reaches matches (listed_on_to s there.at on.looks) there held
 listed-there Reaches matches b s place there held y z is on = record {
   built = is.built;
   stands = on.stands;
@@ -406,7 +406,7 @@ listed-there Reaches matches b s place there held y z is on = record {
 pub lists-none : (Reaches : List ℕ → StateID → Type 0) (matches : StateID → List ℕ) (s : ListingProgress) (place there : ListPlace) (y z : Steps)
     → HasReadHeld Reaches matches s place there y z → there.len ≤ there.index → ListsOn Reaches matches s place (record { place = there; found = None }) y z
 lists-none Reaches matches s place there y z on none =
-    let t : ListingProgress = read_on_to s there.at on.looks in
+    let t : ListingProgress = listed_on_to s there.at on.looks in
     let r : Listed = record { place = there; found = None } in
     let given : s.given ++ [] ≡ s.given = append-nil s.given in
     let same : t ≡ after_listed s r on.looks = λ i. record t { given = sym given i } in
@@ -430,9 +430,9 @@ lists-none Reaches matches s place there y z on none =
 
 -- it reads on, and gives the first of what ends there
 pub lists-there : (Reaches : List ℕ → StateID → Type 0) (matches : StateID → List ℕ) (s : ListingProgress) (place there : ListPlace) (r : Listed) (o : Occurrence) (y z : Steps)
-    → (on : HasReadHeld Reaches matches s place there y z) → there.index < there.len → r.found ≡ Some o → ListsOn Reaches matches (read_on_to s there.at on.looks) there r z z → ListsOn Reaches matches s place r y z
+    → (on : HasReadHeld Reaches matches s place there y z) → there.index < there.len → r.found ≡ Some o → ListsOn Reaches matches (listed_on_to s there.at on.looks) there r z z → ListsOn Reaches matches s place r y z
 lists-there Reaches matches s place there r o y z on more found gives =
-    let u : ListingProgress = read_on_to s there.at on.looks in
+    let u : ListingProgress = listed_on_to s there.at on.looks in
     let none : gives.looks ≡ 0 = let d = gives.done.looked in omega arith in
     let looked : s.looked + on.looks + gives.looks ≡ s.looked + on.looks = omega (arith, none) in
     let same : after_listed u r gives.looks ≡ after_listed s r on.looks = λ i. record (after_listed s r on.looks) { looked = looked i } in

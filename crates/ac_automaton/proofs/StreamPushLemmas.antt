@@ -3,14 +3,15 @@ use Rattle.std.proofs.Common.{◌≡◌, ◌≢◌, ℕ, ◌-◌, ◌<◌, ◌�
 use Rattle.std.proofs.lemmas.List.{length-take-le}
 use Rattle.ac_input.specs.declared.search.Anchored.TheVariants.{No}
 use Rattle.ac_automaton.specs.Buffer.{Held, IsRollPaid, room_for, taken_into}
-use Rattle.ac_automaton.specs.Stream.{CanBeCounted, HasRoom, IsOnCourse, IsSearched, StreamProgress, read_by, room_of}
-use Rattle.ac_automaton.specs.StreamPush.{HasTaken, Pushes, TakesFront, as_piece}
+use Rattle.ac_automaton.specs.Stream.{CanBeCounted, IsOnCourse, IsSearched, StreamProgress, read_by, room_of}
+use Rattle.ac_automaton.specs.StreamPush.{TakesBytes, Pushes, TakesFront, as_piece}
 use Rattle.ac_automaton.specs.StreamSearch.{IsStreamSearch, progress_at}
 use Rattle.ac_automaton.specs.declared.automaton.Automaton.{Ghosts}
 use Rattle.ac_automaton.specs.declared.error.StreamError.{StreamError}
 use Rattle.ac_automaton.specs.declared.error.StreamError.TheVariants.{Config, Read, Write, WriteZero, Memory, Position}
 use Rattle.ac_automaton.specs.declared.stream.search.StreamSearch.TheInside.{Inside}
 use Rattle.ac_automaton.proofs.StreamSearchLemmas.{IsGrown, after_read, come_by, grown-long, grown-right, read-more}
+use Rattle.std.specs.Prelude.{◌+◌}
 
 -- a list that isn't empty has a length
 pub not-empty : (bytes : List ℕ) → bytes ≢ [] → 0 < length bytes
@@ -23,7 +24,7 @@ as_piece-some [] some = absurd (omega arith)
 as_piece-some (byte ∷ bytes) some = refl
 
 -- where the search stands after it took some bytes
-taken-after : (s t : StreamProgress) (bytes : List ℕ) → IsOnCourse s → 0 < length bytes → t ≡ after_read s bytes → HasTaken s t bytes
+taken-after : (s t : StreamProgress) (bytes : List ℕ) → IsOnCourse s → 0 < length bytes → t ≡ after_read s bytes → TakesBytes s t bytes
 taken-after s t bytes course some is = record {
   built = ap (λ (u : StreamProgress). u.built) is;
   pieces = ap (λ (u : StreamProgress). u.pieces) is ∙ ap (λ (l : List (List ℕ)). s.pieces ++ l) (sym (as_piece-some bytes some));
@@ -43,13 +44,13 @@ module _ {S : Type 0} (A : Ghosts S) (i : Inside S) (all : List (List ℕ)) (new
   -- After a push: what is kept is right, and the first bytes of the piece were taken.
   pub record HasPushed (over : Bool) : Type 0 where
     pub right : IsStreamSearch (A.Reaches i.automaton No) pushed_by i.start i.progress.sid i.progress.best i.given.value new over
-    pub taken : HasTaken (come_by A i) pushed_by (take n piece)
+    pub taken : TakesBytes (come_by A i) pushed_by (take n piece)
     pub front : TakesFront (IsSearched (come_by A i)) (come_by A i) pushed_by piece n
 
 -- the bytes of a piece that there was room for
 pub push-gave : {S : Type 0} (A : Ghosts S) (i : Inside S) (all : List (List ℕ)) (new : Held) (piece : List ℕ) (n : ℕ) (held : List ℕ)
     → IsStreamSearch (A.Reaches i.automaton No) (come_by A i) i.start i.progress.sid i.progress.best i.given.value i.buffer i.over → i.progress.closed ≡ false
-    → 0 < length piece → IsSearched (come_by A i) → HasRoom (come_by A i)
+    → 0 < length piece → IsSearched (come_by A i) → (length (read_by (come_by A i)) < (come_by A i).from + room_of (come_by A i).built)
     → n ≡ min (length piece) (i.buffer.room - length i.buffer.bytes)
     → new ≡ taken_into i.buffer (take n piece) → IsRollPaid new → held ≡ new.bytes → all ≡ i.pieces.items ++ take n piece ∷ [] → i.progress.from ≤ 18446744073709551615
     → HasPushed A i all new piece n (nat_lt (18446744073709551615 - i.progress.from) (length held))
@@ -88,7 +89,7 @@ push-gave A i all new piece n held is open_ some searched room many took paid ho
 -- ---- nothing taken
 
 -- no byte was taken, and nothing changed
-pub took-none : (s : StreamProgress) → IsOnCourse s → HasTaken s s []
+pub took-none : (s : StreamProgress) → IsOnCourse s → TakesBytes s s []
 took-none s course = record {
   built = refl;
   pieces = sym (append-nil s.pieces);
@@ -117,7 +118,7 @@ pushes-none Ready s piece course few none = (
 -- ---- the same push, by another word for ready
 
 -- a text of which more can be counted can be counted
-few-before : (s t : StreamProgress) (bytes : List ℕ) → HasTaken s t bytes → CanBeCounted (read_by t) → CanBeCounted (read_by s)
+few-before : (s t : StreamProgress) (bytes : List ℕ) → TakesBytes s t bytes → CanBeCounted (read_by t) → CanBeCounted (read_by s)
 few-before s t bytes took few = let read = ap length took.read in let both = length-append (read_by s) bytes in omega arith
 
 -- the words need agree only where places can be counted

@@ -11,16 +11,16 @@ use Rattle.ac_input.specs.Dictionary.{whole}
 use Rattle.ac_input.specs.Occurrence.{Occurrence, starting_at}
 use Rattle.ac_input.specs.Text.{replaced_from}
 use Rattle.ac_input.specs.Walk.{IsWalk}
-use Rattle.ac_input.specs.Work.{shortest}
+use Rattle.ac_input.specs.Work.{shortest, longest}
 use Rattle.ac_input.proofs.TextLemmas.{pick-occurs}
 use Rattle.ac_input.proofs.WalkLemmas.{pick-within}
 use Rattle.ac_automaton.specs.Automaton.{Built}
 use Rattle.ac_automaton.specs.Moved.{AllFit, AreFilled, AreWhole, HasGiven, HasMoved, HasTaken, Moved, but_last}
 use Rattle.ac_automaton.specs.Output.{Sends, Sent, Stopped}
 use Rattle.ac_automaton.specs.Replace.{LieInOrder, matches_in}
-use Rattle.ac_automaton.specs.Stream.{AreAllGiven, CanBeCounted, Decides, HasRead, ReadsNothing, closed_by, may_wait, IsNear, IsOnCourse, ReadsMore, StreamProgress, cut_of, fresh_progress, held_by, keep_of, matches_read, read_by, room_of}
+use Rattle.ac_automaton.specs.Stream.{AreAllGiven, CanBeCounted, Decides, HasRead, ReadsNothing, closed_by, may_wait, IsNear, IsOnCourse, ReadsMore, StreamProgress, cut_of, fresh_progress, held_by, matches_read, read_by, room_of}
 use Rattle.ac_automaton.specs.StreamAnswer.{WroteToFailedWrite}
-use Rattle.ac_automaton.specs.StreamReplace.{HasReplaced, IsAtCut, IsPlaced, IsReading, IsBegun, IsReplacedFront, ReplacesStream, SendsTo, StopsSending, replaced_in, text_to}
+use Rattle.ac_automaton.specs.StreamReplace.{IsAtCut, IsPlaced, IsBegun, IsReplacedFront, ReplacesStream, SendsTo, StopsSending, replaced_in, text_to}
 use Rattle.ac_automaton.specs.Watched.{IsOfWrite, pieces_of, stalls_of}
 use Rattle.ac_automaton.specs.declared.error.StreamError.{StreamError}
 use Rattle.ac_automaton.specs.declared.error.StreamError.TheVariants.{Config, Read, Write, WriteZero, Memory, Position}
@@ -34,6 +34,23 @@ use Rattle.ac_automaton.proofs.WalkEndLemmas.{none-alive}
 use Rattle.std.proofs.lemmas.Bool.{false≢true}
 use Rattle.ac_automaton.proofs.StreamSendLemmas.{cut-within, text-begins}
 use Rattle.ac_automaton.proofs.StreamTextLemmas.{replaced-grows}
+use Rattle.ac_automaton.specs.Buffer.{kept_for}
+
+-- After a read: at least everything that was decided before it was written.
+pub record IsReading {W : Type 0} (contents : W → Option (List ℕ)) (replacements : List (List ℕ)) (b : Built) (s : StreamProgress) (at : ℕ) (before after : Watched W) : Type 0 where
+  pub built : s.built ≡ b
+  pub placed : IsPlaced s at
+  pub front : (early : List ℕ) × IsReplacedFront b replacements (concat (but_last s.pieces)) early × IsBeginning early (text_to s replacements at)
+  pub written : HasTaken contents before after (text_to s replacements at) 0 0
+
+-- A replacement between two reads: everything that is decided was written.
+pub record HasReplaced {R W : Type 0} (remaining : R → Option (List ℕ)) (contents : W → Option (List ℕ)) (replacements : List (List ℕ)) (b : Built) (s : StreamProgress) (at : ℕ) (reader_before reader_after : Watched R) (writer_before writer_after : Watched W) : Type 0 where
+  pub built : s.built ≡ b
+  pub unclosed : s.closed ≡ false
+  pub place : IsAtCut s at
+  pub filled : AreFilled s.pieces
+  pub read : HasGiven remaining reader_before reader_after s.pieces 0
+  pub written : HasTaken contents writer_before writer_after (text_to s replacements at) 0 0
 
 -- ---- pieces
 
@@ -128,7 +145,7 @@ module _ {R : Type 0} (remaining : R → Option (List ℕ)) (s t : StreamProgres
   pub same-cut : at ≤ cut_of t
   same-cut =
       let is : at ≡ cut_of s = place.cut in
-      let keep : keep_of t.built ≡ keep_of s.built = ap keep_of read.built in
+      let keep : kept_for (longest t.built.dictionary.patterns) ≡ kept_for (longest s.built.dictionary.patterns) = ap (λ (b : Built). kept_for (longest b.dictionary.patterns)) read.built in
       let last : t.last ≡ s.last = read.last in
       let there : t.at ≡ s.at = read.at in
       omega arith

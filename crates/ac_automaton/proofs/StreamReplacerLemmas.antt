@@ -11,7 +11,7 @@ use Rattle.ac_automaton.specs.Automaton.{Built}
 use Rattle.ac_automaton.specs.Replace.{LieInOrder, matches_in}
 use Rattle.ac_automaton.specs.Stream.{AreAllGiven, CanBeCounted, FindsHeld, IsOnCourse, ReadsNothing, StreamProgress, cut_of, may_wait, read_by}
 use Rattle.ac_automaton.specs.StreamReplace.{IsPlaced, IsReplacedFront}
-use Rattle.ac_automaton.specs.StreamReplacer.{Advances, HandsOut, IsAllOut, IsHandedOut, IsMet, IsPlacedAt, IsReplacing, LooksOn, Passes, ReplacerProgress, ends_there, handed_out, part_bytes, place_of, replaced_by}
+use Rattle.ac_automaton.specs.StreamReplacer.{FindsPart, HandsOut, IsAllOut, IsHandedOut, IsMatchMet, IsPlacedAt, IsReplacing, LooksForMatch, TakesPart, ReplacerProgress, ends_there, handed_out, part_bytes, decided_to, replaced_by}
 use Rattle.ac_automaton.specs.declared.stream.replacer.Part.{Part}
 use Rattle.ac_automaton.specs.declared.stream.replacer.Part.TheVariants.{Text, Replacement}
 use Rattle.ac_automaton.specs.declared.stream.replacer.StreamReplacer.TheInside.{Inside}
@@ -89,7 +89,7 @@ module _ (r : ReplacerProgress) (t : StreamProgress) (found : Option Occurrence)
   }
 
   -- and has handed out the same
-  pub look-on : LooksOn r (record r { search = t; met = found })
+  pub look-on : LooksForMatch r (record r { search = t; met = found })
   look-on = record {
     same = same;
     at = refl;
@@ -109,7 +109,7 @@ none-met (Some o) is = absurd (false≢true (sym is))
 -- ---- a slice of what was read
 
 -- it is held, and was read
-pass-lent : (s : StreamProgress) (at to : ℕ) (met : Option Occurrence) (finished : Bool) → IsPlacedAt s at met → at < to → to ≡ place_of s met finished → (s.from ≤ at) × (at ≤ to) × (to ≤ length (read_by s))
+pass-lent : (s : StreamProgress) (at to : ℕ) (met : Option Occurrence) (finished : Bool) → IsPlacedAt s at met → at < to → to ≡ decided_to s met finished → (s.from ≤ at) × (at ≤ to) × (to ≤ length (read_by s))
 pass-lent s at to None true placed lt is = (placed.held, omega arith, omega arith)
 pass-lent s at to None false placed lt is = let cut = cut-within s placed.course in (placed.held, omega arith, omega arith)
 pass-lent s at to (Some o) finished placed lt is = let within = placed.within in let some = placed.some in (placed.held, omega arith, omega arith)
@@ -120,7 +120,7 @@ pass-lies s at None placed = placed.lies
 pass-lies s at (Some o) placed = placed.lies
 
 -- the text may be handed out from its end on, unless that is the end
-pass-placed : (s : StreamProgress) (at to : ℕ) (met : Option Occurrence) (finished : Bool) → IsPlacedAt s at met → at < to → to ≡ place_of s met finished → ends_there met finished ≡ false → IsPlacedAt s to met
+pass-placed : (s : StreamProgress) (at to : ℕ) (met : Option Occurrence) (finished : Bool) → IsPlacedAt s at met → at < to → to ≡ decided_to s met finished → ends_there met finished ≡ false → IsPlacedAt s to met
 pass-placed s at to None true placed lt is open_ = absurd (false≢true (sym open_))
 pass-placed s at to None false placed lt is open_ = cut-placed s at to placed is
 pass-placed s at to (Some o) finished placed lt is open_ = record {
@@ -135,14 +135,14 @@ pass-placed s at to (Some o) finished placed lt is open_ = record {
 }
 
 -- at the end all was handed out
-pass-ended : (r : ReplacerProgress) (to : ℕ) → (r.met ≡ None → AreAllGiven r.search) → (met : Option Occurrence) (finished : Bool) → r.met ≡ met → r.finished ≡ finished → to ≡ place_of r.search met finished → ends_there met finished ≡ true
+pass-ended : (r : ReplacerProgress) (to : ℕ) → (r.met ≡ None → AreAllGiven r.search) → (met : Option Occurrence) (finished : Bool) → r.met ≡ met → r.finished ≡ finished → to ≡ decided_to r.search met finished → ends_there met finished ≡ true
     → (r.finished ≡ true) × IsHandedOut (record r { at = to; over = true })
-pass-ended r to all None finished none done is ends = (done ∙ ends, record { met = none; all = all none; at = is ∙ ap (place_of r.search None) (sym done) })
+pass-ended r to all None finished none done is ends = (done ∙ ends, record { met = none; all = all none; at = is ∙ ap (decided_to r.search None) (sym done) })
 pass-ended r to all (Some o) finished some done is ends = absurd (false≢true ends)
 
-module _ (r : ReplacerProgress) (to : ℕ) (is : IsReplacing r) (open_ : r.over ≡ false) (few : CanBeCounted (read_by r.search)) (lt : r.at < to) (there : to ≡ place_of r.search r.met r.finished) where
+module _ (r : ReplacerProgress) (to : ℕ) (is : IsReplacing r) (open_ : r.over ≡ false) (few : CanBeCounted (read_by r.search)) (lt : r.at < to) (there : to ≡ decided_to r.search r.met r.finished) where
   -- the slice is the next one
-  pub pass-text : (over : Bool) → Passes r (record r { at = to; over = over }) (Some (Text r.at to))
+  pub pass-text : (over : Bool) → TakesPart r (record r { at = to; over = over }) (Some (Text r.at to))
   pass-text over =
       let placed = is.placed open_ few in
       let lent = pass-lent r.search r.at to r.met r.finished placed lt there in (
@@ -170,7 +170,7 @@ module _ (r : ReplacerProgress) (to : ℕ) (is : IsReplacing r) (open_ : r.over 
 -- ---- a replacement
 
 -- the text goes on with what a match is replaced by
-replace-text : (s : StreamProgress) (at : ℕ) (o : Occurrence) (replacements : List (List ℕ)) → IsMet s at o → o.start ≤ at
+replace-text : (s : StreamProgress) (at : ℕ) (o : Occurrence) (replacements : List (List ℕ)) → IsMatchMet s at o → o.start ≤ at
     → replaced_from 0 (take o.end (read_by s)) replacements s.given ≡ replaced_from 0 (take at (read_by s)) replacements (replaced_by s (Some o)) ++ get_or replacements o.pattern []
 replace-text s at o replacements met late =
     let x = read_by s in
@@ -183,11 +183,11 @@ replace-text s at o replacements met late =
     ∙ ap (λ (k : ℕ). replaced_from 0 (take k x) replacements (replaced_by s (Some o)) ++ get_or replacements o.pattern []) (sym there)
 
 -- it is the next slice
-pub pass-replacement : (r : ReplacerProgress) (o : Occurrence) (end pattern : ℕ) → IsReplacing r → r.over ≡ false → CanBeCounted (read_by r.search) → r.met ≡ Some o → place_of r.search r.met r.finished ≤ r.at → end ≡ o.end → pattern ≡ o.pattern
-    → Passes r (record r { at = end; met = None }) (Some (Replacement pattern))
+pub pass-replacement : (r : ReplacerProgress) (o : Occurrence) (end pattern : ℕ) → IsReplacing r → r.over ≡ false → CanBeCounted (read_by r.search) → r.met ≡ Some o → decided_to r.search r.met r.finished ≤ r.at → end ≡ o.end → pattern ≡ o.pattern
+    → TakesPart r (record r { at = end; met = None }) (Some (Replacement pattern))
 pass-replacement r o end pattern is open_ few some late is_end is_pattern =
-    let met : IsMet r.search r.at o = subst (IsPlacedAt r.search r.at) some (is.placed open_ few) in
-    let late_there : o.start ≤ r.at = subst (λ (m : Option Occurrence). place_of r.search m r.finished ≤ r.at) some late in
+    let met : IsMatchMet r.search r.at o = subst (IsPlacedAt r.search r.at) some (is.placed open_ few) in
+    let late_there : o.start ≤ r.at = subst (λ (m : Option Occurrence). decided_to r.search m r.finished ≤ r.at) some late in
     let filled = met.some in
     let before = met.before in
     let number = met.pattern in
@@ -214,12 +214,12 @@ all-out r replacements closed out placed =
     record {
       out = out;
       front = λ more.
-          let at : r.at ≡ cut_of s = out.at ∙ ap (place_of s None) more in
+          let at : r.at ≡ cut_of s = out.at ∙ ap (decided_to s None) more in
           let open_ : s.closed ≡ false = closed ∙ ap (λ (b : Bool). b && may_wait s.built.dictionary.kind) more in
           subst (λ (m : Option Occurrence). IsReplacedFront s.built replacements x (replaced_from 0 (take r.at x) replacements (replaced_by s m))) (sym out.met)
           (front-at_cut s.built replacements s r.at refl (record { placed = placed more; cut = at; all = out.all }) open_);
       whole = λ ended.
-          let at : r.at ≡ length x = out.at ∙ ap (place_of s None) ended in
+          let at : r.at ≡ length x = out.at ∙ ap (decided_to s None) ended in
           let waits : s.closed ≡ may_wait s.built.dictionary.kind = closed ∙ ap (λ (b : Bool). b && may_wait s.built.dictionary.kind) ended in
           let all : s.given ≡ matches_in s.built x = out.all.all (each-closed s.built.dictionary.kind s.closed waits) in
           ap (λ (m : Option Occurrence). replaced_from 0 (take r.at x) replacements (replaced_by s m)) out.met
@@ -228,16 +228,16 @@ all-out r replacements closed out placed =
     }
 
 -- the place up to which nothing is left is that up to which the text is decided
-place-there : (s : StreamProgress) (at : ℕ) (finished : Bool) → IsPlaced s at → at ≤ length (read_by s) → place_of s None finished ≤ at → at ≡ place_of s None finished
+place-there : (s : StreamProgress) (at : ℕ) (finished : Bool) → IsPlaced s at → at ≤ length (read_by s) → decided_to s None finished ≤ at → at ≡ decided_to s None finished
 place-there s at true placed within le = omega arith
 place-there s at false placed within le = let cut = placed.cut in omega arith
 
 -- nothing is left before the place
-pub pass-none : (r : ReplacerProgress) (over : Bool) → IsReplacing r → r.over ≡ false → CanBeCounted (read_by r.search) → (r.met ≡ None → AreAllGiven r.search) → r.met ≡ None → place_of r.search r.met r.finished ≤ r.at
+pub pass-none : (r : ReplacerProgress) (over : Bool) → IsReplacing r → r.over ≡ false → CanBeCounted (read_by r.search) → (r.met ≡ None → AreAllGiven r.search) → r.met ≡ None → decided_to r.search r.met r.finished ≤ r.at
     → (replacements : List (List ℕ)) → IsAllOut (record r { over = over }) replacements
 pass-none r over is open_ few all none le replacements =
     let stood : IsPlaced r.search r.at = subst (IsPlacedAt r.search r.at) none (is.placed open_ few) in
-    let before = subst (λ (m : Option Occurrence). place_of r.search m r.finished ≤ r.at) none le in
+    let before = subst (λ (m : Option Occurrence). decided_to r.search m r.finished ≤ r.at) none le in
     all-out (record r { over = over }) replacements is.closed (record { met = none; all = all none; at = place-there r.search r.at r.finished stood is.within before }) (λ _. stood)
 
 -- all of the text was handed out before
@@ -247,7 +247,7 @@ over-out r is over replacements = let ended = is.ended over in all-out r replace
 -- ---- the two steps together
 
 -- where nothing was handed out
-hands-none : (r t u : ReplacerProgress) (replacements : List (List ℕ)) → LooksOn r t → u.search ≡ t.search → u.finished ≡ t.finished → u.at ≡ t.at → u.met ≡ t.met → HandsOut r u replacements []
+hands-none : (r t u : ReplacerProgress) (replacements : List (List ℕ)) → LooksForMatch r t → u.search ≡ t.search → u.finished ≡ t.finished → u.at ≡ t.at → u.met ≡ t.met → HandsOut r u replacements []
 hands-none r t u replacements looks search finished at met = record {
   same = subst (λ (s : StreamProgress). ReadsNothing r.search s) (sym search) looks.same;
   finished = finished ∙ looks.finished;
@@ -255,7 +255,7 @@ hands-none r t u replacements looks search finished at met = record {
 }
 
 -- the next match was found, if none was met, and then the next slice
-pub look-pass : (r t u : ReplacerProgress) (part : Option Part) → LooksOn r t → Passes t u part → Advances r u part
+pub look-pass : (r t u : ReplacerProgress) (part : Option Part) → LooksForMatch r t → TakesPart t u part → FindsPart r u part
 look-pass r t u None looks p = λ replacements. (hands-none r t u replacements looks p.0 p.1 p.2 p.3, λ _. p.4 replacements)
 look-pass r t u (Some part) looks p = (
   λ replacements. record {
@@ -269,12 +269,12 @@ look-pass r t u (Some part) looks p = (
 )
 
 -- a slice is handed out without the search
-pub passes-search : (t u : ReplacerProgress) (part : Option Part) → Passes t u part → u.search ≡ t.search
+pub passes-search : (t u : ReplacerProgress) (part : Option Part) → TakesPart t u part → u.search ≡ t.search
 passes-search t u None p = p.0
 passes-search t u (Some part) p = p.0
 
 -- nothing was done
-pub advance-none : (r : ReplacerProgress) → (CanBeCounted (read_by r.search) → (replacements : List (List ℕ)) → IsAllOut r replacements) → Advances r r None
+pub advance-none : (r : ReplacerProgress) → (CanBeCounted (read_by r.search) → (replacements : List (List ℕ)) → IsAllOut r replacements) → FindsPart r r None
 advance-none r out = λ replacements. (
   record {
     same = record { on = λ standard. omega arith; last = omega arith; closed = refl; built = refl; pieces = refl; from = refl };

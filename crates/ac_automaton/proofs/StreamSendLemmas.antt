@@ -11,12 +11,18 @@ use Rattle.ac_input.specs.Text.{replaced_from}
 use Rattle.ac_automaton.specs.Automaton.{Built}
 use Rattle.ac_automaton.specs.Output.{Sent, Stopped}
 use Rattle.ac_automaton.specs.Replace.{LieInOrder, matches_in}
-use Rattle.ac_automaton.specs.Stream.{AreAllGiven, CanBeCounted, FindsHeld, IsDecided, IsNear, IsOnCourse, ReadsNothing, StreamProgress, cut_of, held_by, keep_of, read_by}
-use Rattle.ac_automaton.specs.StreamReplace.{IsPlaced, SendsDecided, SendsTo, StopsSending, replaced_in, text_to}
+use Rattle.ac_automaton.specs.Stream.{AreAllGiven, CanBeCounted, FindsHeld, IsDecided, IsNear, IsOnCourse, ReadsNothing, StreamProgress, cut_of, held_by, read_by}
+use Rattle.ac_automaton.specs.StreamReplace.{IsPlaced, SendsTo, StopsSending, replaced_in, text_to, IsAtCut}
 use Rattle.ac_automaton.specs.declared.watched.Watched.{Watched}
 use Rattle.ac_automaton.proofs.OutputLemmas.{Sent-none, Sent-then, Stopped-then}
 use Rattle.ac_automaton.proofs.ReplaceLemmas.{matches-lie}
 use Rattle.ac_automaton.proofs.StreamTextLemmas.{replaced-grows, replaced-push, replaced-split}
+use Rattle.ac_input.specs.Work.{longest}
+use Rattle.ac_automaton.specs.Buffer.{kept_for}
+
+-- The text was sent up to the cut, and nothing is held back.
+abbrev pub SendsDecided : {W : Type 0} → (W → Option (List ℕ)) → List (List ℕ) → StreamProgress → StreamProgress → ℕ → Watched W → Watched W → List ℕ → ℕ → Type 0
+SendsDecided contents replacements s t from old new held_before to = SendsTo contents replacements s t from to old new held_before [] × IsAtCut t to
 
 -- what lies in order within a text does so within a longer one
 pub lies-wider : (patterns len more at : ℕ) (os : List Occurrence) → len ≤ more → LieInOrder patterns len at os → LieInOrder patterns more at os
@@ -178,7 +184,7 @@ none-placed s t at placed course finds =
     let searched : t.at ≡ length (read_by t) = all.searched in
     let before : s.at ≤ length (read_by s) = placed.course.ordered.1 in
     let later : s.at ≤ t.at = omega (arith, ap length read, searched) in
-    let keep : keep_of t.built ≡ keep_of s.built = ap keep_of same.built in
+    let keep : kept_for (longest t.built.dictionary.patterns) ≡ kept_for (longest s.built.dictionary.patterns) = ap (λ (b : Built). kept_for (longest b.dictionary.patterns)) same.built in
     let from : t.from ≡ s.from = same.from in
     let last : s.last ≤ t.last = finds.0.last in
     let h = placed.held in

@@ -11,7 +11,7 @@ use Rattle.ac_automaton.specs.Moved.{AllFit, AreFilled, AreWhole, HasGiven, HasT
 use Rattle.ac_automaton.specs.Replace.{IsForMatches, matches_in}
 use Rattle.ac_automaton.specs.Stream.{CanBeCounted, CanStream, CanStreamAnyKind, HasRead, IsNear, IsOnCourse, ReadsMore, StreamProgress, closed_by, cut_of, fresh_progress, matches_read, read_by, room_of}
 use Rattle.ac_automaton.specs.StreamReplace.{IsAtCut, IsPlaced}
-use Rattle.ac_automaton.specs.StreamReplaceWith.{ContinuesChain, HasCome, HasReplacedWith, IsStreamFault, IsWriterChain, ReadsAndReplaces, RefusedByClosure, ReplacesAnyKindWith, ReplacesStreamWith, StopsChain, StreamReplacer}
+use Rattle.ac_automaton.specs.StreamReplaceWith.{ContinuesChain, HasCome, IsStreamFault, IsWriterChain, ReadsAndReplaces, RefusedByClosure, ReplacesAnyKindWith, ReplacesStreamWith, StopsChain, StreamReplacer}
 use Rattle.ac_automaton.specs.Watched.{IsOfWrite, NoneRead, TookFront, WritesWhole}
 use Rattle.ac_automaton.specs.declared.error.StreamError.{StreamError}
 use Rattle.ac_automaton.specs.declared.error.StreamError.TheVariants.{Config, Read, Write, WriteZero, Memory, Position}
@@ -20,6 +20,17 @@ use Rattle.ac_automaton.proofs.StreamReplaceLemmas.{AreFilled-push, before-last,
 use Rattle.ac_automaton.proofs.StreamSendLemmas.{cut-within, near-later}
 use Rattle.ac_automaton.proofs.StreamWithLemmas.{all-later, come-to, rest-left, write-stopped}
 use Rattle.ac_automaton.proofs.WriterChainLemmas.{HasTaken-from_all, chain-grows, chain-same}
+use Rattle.std.specs.Prelude.{false}
+
+-- What was read so far was replaced: the chain has come to the cut.
+pub record HasReplacedWith {F W : Type 0} (contents : W → Option (List ℕ)) (g : StreamReplacer F W) {R : Type 0} (remaining : R → Option (List ℕ)) (b : Built) (s : StreamProgress) (at : ℕ) (reader_before reader_after : Watched R) (first f : F) (writer_before writer_after : Watched W) : Type 0 where
+  pub built : s.built ≡ b
+  pub unclosed : s.closed ≡ false
+  pub place : IsAtCut s at
+  pub filled : AreFilled s.pieces
+  pub read : HasGiven remaining reader_before reader_after s.pieces 0
+  pub chain : IsWriterChain contents g (read_by s) 0 s.given at first writer_before f writer_after
+  pub ready : IsForMatches g (length b.dictionary.patterns) f
 
 module _ {F W : Type 0} (contents : W → Option (List ℕ)) (g : StreamReplacer F W) {R : Type 0} (remaining : R → Option (List ℕ)) (b : Built) where
   -- After a read the chain has come to a place.

@@ -80,17 +80,13 @@ TellsStart b Reaches matches sid start = AtEach Reaches sid (StartTells b (match
 abbrev pub IsSpecial : Built → List ℕ → Bool → Anchored → List ℕ → Type 0
 IsSpecial b matches start anchored text = IsDead b anchored text ⊎ (matches ≢ []) ⊎ (IsTrue start × (b.prefilter ≢ None))
 
--- at least one byte is read if there is one, and no more than there are
-abbrev pub TakesSome : List ℕ → ℕ → Type 0
-TakesSome bytes taken = (taken ≤ length bytes) × (0 < length bytes → 0 < taken)
-
 -- no state on the way is special, except perhaps the last one
 abbrev pub PassesPlain : (List ℕ → StateID → Type 0) → (StateID → Bool) → StateID → List ℕ → ℕ → Type 0
 PassesPlain Reaches special sid bytes taken = (at : ℕ) → 0 < at → at < taken → (mid : StateID) × Leads Reaches sid (take at bytes) mid × ¬ IsTrue (special mid)
 
 -- The result of reading on over bytes: it stops at the first state that is special, or after the last byte.
 pub record Advances (Reaches : List ℕ → StateID → Type 0) (special : StateID → Bool) (sid : StateID) (bytes : List ℕ) (stop : Advance) : Type 0 where
-  pub taken : TakesSome bytes stop.taken
+  pub taken : (stop.taken ≤ length bytes) × (0 < length bytes → 0 < stop.taken)
   pub reads : Leads Reaches sid (take stop.taken bytes) stop.sid
   pub plain : PassesPlain Reaches special sid bytes stop.taken
   pub stops : stop.taken < length bytes → IsTrue (special stop.sid)

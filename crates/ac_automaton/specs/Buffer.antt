@@ -20,13 +20,9 @@ kept_for longest = max longest 1
 abbrev pub least_room : ℕ
 least_room = 65536
 
--- how often a buffer has room at least for what is kept
-abbrev pub least_share : ℕ
-least_share = 8
-
 -- how much room there is for this many kept bytes: they take an eighth of it at most
 abbrev pub room_for : ℕ → ℕ
-room_for keep = max (keep * least_share) least_room
+room_for keep = max (keep * 8) least_room
 
 -- nothing is held yet
 abbrev pub nothing_held : ℕ → Held

@@ -59,13 +59,9 @@ walk_from_place b asked place = record (fresh_walk b (record asked { span = reco
 abbrev pub walk_kind : Walk → MatchKind
 walk_kind w = kind_asked w.built w.asked
 
--- the search that a walk goes over
-abbrev pub search_of_walk : Walk → Search
-search_of_walk w = searched w.built w.asked
-
 -- the remaining picks
 abbrev pub left_of : Walk → List Occurrence
-left_of w = walk_after (walk_kind w) (search_of_walk w) w.at w.last
+left_of w = walk_after (walk_kind w) (searched w.built w.asked) w.at w.last
 
 -- the result is a walk over all matches that has not begun, if there is a start for it
 abbrev pub AnswersFindIter : Built → (Anchored → Type 0) → Asked → Result Walk MatchErrorKind → Type 0
@@ -77,22 +73,14 @@ abbrev pub AnswersFindIterFrom : Built → (Anchored → Type 0) → Asked → W
 AnswersFindIterFrom b supports asked place (Ok walk) = supports asked.anchored × (walk ≡ walk_from_place b asked place)
 AnswersFindIterFrom b supports asked place (Err error) = IsStartRefusal supports asked.anchored error
 
--- the next pick of a walk
-abbrev pub IsNextPick : Walk → Option Occurrence → Type 0
-IsNextPick w r = IsPick (walk_kind w) (search_of_walk w) w.at w.last r
-
 -- a walk after its next pick: it stands at the pick's end, or past the span where there was none
 abbrev pub walk_after_pick : Walk → Option Occurrence → Walk
 walk_after_pick w None = record w { at = w.asked.span.end + 1 }
 walk_after_pick w (Some o) = record w { at = o.end; last = Some o.end }
 
--- the second walk is the first one after its next pick, whatever that cost
-abbrev pub IsWalkAfter : Walk → Option Occurrence → Walk → Type 0
-IsWalkAfter w r v = v ≡ record (walk_after_pick w r) { looked = v.looked; scanned = v.scanned; moved = v.moved }
-
 -- the result is the next pick of the first walk, and the second one is the first after it
 abbrev pub GivesPick : Walk → Option Occurrence → Walk → Type 0
-GivesPick w r v = IsNextPick w r × IsWalkAfter w r v
+GivesPick w r v = IsPick (walk_kind w) (searched w.built w.asked) w.at w.last r × (v ≡ record (walk_after_pick w r) { looked = v.looked; scanned = v.scanned; moved = v.moved })
 
 -- the second walk counts just as much more than the first as was done in between
 abbrev pub WalkCounts : Walk → Walk → Steps → Steps → Type 0
@@ -110,7 +98,7 @@ pub record IsPickWork (kind : MatchKind) (deterministic : Bool) (s : Search) (at
 
 -- what the next pick of a walk may cost; past the span nothing
 pub record IsNextWork (w : Walk) (r : Option Occurrence) (before after : Steps) : Type 0 where
-  pub pick : IsPickWork (walk_kind w) w.built.deterministic (search_of_walk w) w.at r before after
+  pub pick : IsPickWork (walk_kind w) w.built.deterministic (searched w.built w.asked) w.at r before after
   pub idle : w.asked.span.end < w.at → after ≡ before
 
 -- what the next pick costs: it is within the work of one, and the walk counts it

@@ -8,7 +8,6 @@ use Rattle.std.specs.Prelude.{◌≡◌, ◌≢◌, ◌↔◌, ◌⊎◌, ℕ, �
 use Rattle.ac_input.specs.declared.search.Anchored.{Anchored}
 use Rattle.ac_input.specs.declared.steps.Steps.{Steps}
 use Rattle.ac_input.specs.Dictionary.{Dictionary, BeginsEntered, IsLive}
-use Rattle.ac_input.specs.Failure.{IsList}
 use Rattle.ac_input.specs.Input.{is_anchored}
 use Rattle.ac_input.specs.LiveLaws.{IsOwnInverse, canonical}
 use Rattle.ac_input.specs.States.{LeadsTo, FailsTo}
@@ -25,23 +24,6 @@ pub record Naming : Type 0 where
 pub record IsNamed (m : Dictionary) (names : Naming) (anchored : Bool) (text : List ℕ) (sid : ℕ) : Type 0 where
   pub met : IsTrue (names.met anchored sid)
   pub leads : LeadsTo m anchored text (names.text sid)
-
--- A state at which a search has more to do than to read on: the dead one, one at which patterns match, or a start if there is a
--- prefilter to run.
-abbrev pub IsSpecialState : Built → List ℕ → Bool → Option (List ℕ) → Type 0
-IsSpecialState b matches start state = (state ≡ None) ⊎ (matches ≢ []) ⊎ (IsTrue start × (b.prefilter ≢ None))
-
--- The list of each number, and the tests whether it is a start and whether it is special, are those of its state.
-pub record AreNames (b : Built) (matches : ℕ → List ℕ) (starts special : ℕ → Bool) (names : Naming) : Type 0 where
-  pub inverse : IsOwnInverse b.dictionary.pairing
-  pub lists : (anchored : Bool) (sid : ℕ) (text : List ℕ) → IsTrue (names.met anchored sid) → names.text sid ≡ Some text → IsList b.dictionary text (matches sid)
-  pub none : (anchored : Bool) (sid : ℕ) → IsTrue (names.met anchored sid) → names.text sid ≡ None → (matches sid ≡ []) × (starts sid ≡ false)
-  pub starting : (anchored : Bool) (sid : ℕ) (text : List ℕ) → IsTrue (names.met anchored sid) → names.text sid ≡ Some text → IsTrue (starts sid) ↔ (text ≡ [])
-  pub stopping : (anchored : Bool) (sid : ℕ) → IsTrue (names.met anchored sid) → IsTrue (special sid) ↔ IsSpecialState b (matches sid) (starts sid) (names.text sid)
-
--- this is so for every naming by which the automaton is laid out
-abbrev pub AllNames : Built → (Naming → Type 0) → (ℕ → List ℕ) → (ℕ → Bool) → (ℕ → Bool) → Type 0
-AllNames b Fits matches starts special = (names : Naming) → Fits names → AreNames b matches starts special names
 
 -- by whichever naming the automaton is laid out, if a search of this anchoring may reach the number, this holds
 abbrev pub OfNames : (Naming → Type 0) → Bool → ℕ → (Naming → Type 0) → Type 0
@@ -126,9 +108,3 @@ pub record AreLinked (m : Dictionary) (names : Naming) (start : ℕ) (edge : ℕ
   pub failures : (sid : ℕ) → IsTrue (names.met false sid) → IsFailureBy m names sid (fail sid)
 
 -- ---- bytes that a search in the start may pass over
-
--- A search that stands in the start stays there over this byte, by whichever naming the automaton is laid out, and the start
--- matches nothing.
-pub record IsIdleBy (m : Dictionary) (Fits : Naming → Type 0) (matches : ℕ → List ℕ) (start byte : ℕ) : Type 0 where
-  pub plain : matches start ≡ []
-  pub stays : (anchored : Bool) → OfNames Fits anchored start (λ names. IsStep m names anchored start byte start)

@@ -1,6 +1,5 @@
 -- The overlapping matches of an input in turn: which were shown, which are left, and what that costs.
 use Rattle.std.specs.Prelude.{◌≡◌, ◌⊎◌, ℕ, ◌+◌, ◌-◌, ◌*◌, ◌≤◌, List, drop, Option, Result, Ok, Err}
-use Rattle.std.specs.Iterator.{YieldsFirst}
 use Rattle.ac_input.specs.declared.search.Anchored.{Anchored}
 use Rattle.ac_input.specs.declared.search.Anchored.TheVariants.{No, Yes}
 use Rattle.ac_input.specs.declared.steps.Steps.{Steps}
@@ -39,10 +38,6 @@ rest_of run = drop run.shown (listing_in run.built run.asked)
 abbrev pub IsRunAfter : Run → Option Occurrence → Run → Type 0
 IsRunAfter run r later = later ≡ record run { shown = and_one r run.shown; looked = later.looked; scanned = later.scanned; moved = later.moved }
 
--- the result is the first of the rest of the first run, if there is one, and the second run is the first one after it
-abbrev pub GivesFirst : Run → Option Occurrence → Run → Type 0
-GivesFirst run r later = YieldsFirst rest_of run r later × IsRunAfter run r later
-
 -- the second run counts just as much more than the first as was done in between
 pub record RunCounts (run later : Run) (before after : Steps) : Type 0 where
   pub looked : looked_of after + run.looked ≡ looked_of before + later.looked
@@ -62,15 +57,7 @@ CountsRun run r =
     CountsBytes (prefilter_for run.built run.asked.anchored)
     → come_at_least (searched run.built run.asked) r - run.asked.span.start ≤ bytes_counted (prefilter_for run.built run.asked.anchored) run.looked run.scanned
 
--- a run over the overlapping matches is supported: an overlapping search is, and the input isn't anchored
-abbrev pub CanRun : Built → (Anchored → Type 0) → Asked → Type 0
-CanRun b supports asked = CanOverlap b supports asked × (asked.anchored ≡ No)
-
--- why a run is an error: as an overlapping search is, and then because the input is anchored
-abbrev pub IsRunRefusal : Built → (Anchored → Type 0) → Asked → MatchErrorKind → Type 0
-IsRunRefusal b supports asked error = IsOverlappingRefusal b supports asked error ⊎ (CanOverlap b supports asked × (asked.anchored ≡ Yes) × (error ≡ InvalidInputAnchored))
-
 -- the result is a run over all occurrences that has not begun, if it is supported
 abbrev pub AnswersOverlappingIter : Built → (Anchored → Type 0) → Asked → Result Run MatchErrorKind → Type 0
-AnswersOverlappingIter b supports asked (Ok run) = CanRun b supports asked × (run ≡ fresh_run b asked) × (rest_of run ≡ listing_in b asked)
-AnswersOverlappingIter b supports asked (Err error) = IsRunRefusal b supports asked error
+AnswersOverlappingIter b supports asked (Ok run) = (CanOverlap b supports asked × (asked.anchored ≡ No)) × (run ≡ fresh_run b asked) × (rest_of run ≡ listing_in b asked)
+AnswersOverlappingIter b supports asked (Err error) = IsOverlappingRefusal b supports asked error ⊎ (CanOverlap b supports asked × (asked.anchored ≡ Yes) × (error ≡ InvalidInputAnchored))

@@ -56,17 +56,13 @@ held_by s = drop s.from (read_by s)
 abbrev pub matches_read : StreamProgress → List Occurrence
 matches_read s = matches_in s.built (read_by s)
 
--- how many bytes are kept at most where the buffer is full
-abbrev pub keep_of : Built → ℕ
-keep_of b = kept_for (longest b.dictionary.patterns)
-
 -- how many bytes the buffer has room for
 abbrev pub room_of : Built → ℕ
-room_of b = room_for (keep_of b)
+room_of b = room_for (kept_for (longest b.dictionary.patterns))
 
 -- The place up to which everything is decided: each match not returned yet begins there or later, whatever is still read.
 abbrev pub cut_of : StreamProgress → ℕ
-cut_of s = max s.last (s.at - keep_of s.built)
+cut_of s = max s.last (s.at - kept_for (longest s.built.dictionary.patterns))
 
 -- few enough bytes that each place is a `usize`
 abbrev pub CanBeCounted : List ℕ → Type 0
@@ -139,11 +135,8 @@ IsConfigRefusal b supports error =
 -- the error says what failed: the search, or the memory for the buffer
 abbrev pub IsStreamRefusal : Built → (Anchored → Type 0) → StreamError → Type 0
 IsStreamRefusal b supports (Config error) = IsConfigRefusal b supports error
-IsStreamRefusal b supports (Read error) = ⊥
-IsStreamRefusal b supports (Write error) = ⊥
-IsStreamRefusal b supports WriteZero = ⊥
 IsStreamRefusal b supports Memory = CanStream b supports
-IsStreamRefusal b supports Position = ⊥
+IsStreamRefusal b supports other = ⊥
 
 -- ---- what holds wherever a search stands
 
@@ -201,20 +194,13 @@ IsAnyKindConfigRefusal b supports error = (¬ supports No × (error ≡ refusal_
 -- the error says what failed: the search, or the memory for the buffer
 abbrev pub IsAnyKindRefusal : Built → (Anchored → Type 0) → StreamError → Type 0
 IsAnyKindRefusal b supports (Config error) = IsAnyKindConfigRefusal b supports error
-IsAnyKindRefusal b supports (Read error) = ⊥
-IsAnyKindRefusal b supports (Write error) = ⊥
-IsAnyKindRefusal b supports WriteZero = ⊥
 IsAnyKindRefusal b supports Memory = CanStreamAnyKind b supports
-IsAnyKindRefusal b supports Position = ⊥
+IsAnyKindRefusal b supports other = ⊥
 
 -- there is no memory
 abbrev pub IsMemory : StreamError → Type 0
-IsMemory (Config error) = ⊥
-IsMemory (Read error) = ⊥
-IsMemory (Write error) = ⊥
-IsMemory WriteZero = ⊥
 IsMemory Memory = Unit {0}
-IsMemory Position = ⊥
+IsMemory other = ⊥
 
 -- a search of a stream was made, which has read nothing yet; or the error says why not
 abbrev pub AnswersNewAnyKind : Built → (Anchored → Type 0) → Result StreamProgress StreamError → Type 0
@@ -246,10 +232,6 @@ pub record CountsNothing (s t : StreamProgress) : Type 0 where
   pub looked : t.looked ≡ s.looked
   pub scanned : t.scanned ≡ s.scanned
   pub moved : t.moved ≡ s.moved
-
--- there is room for one more byte, at least
-abbrev pub HasRoom : StreamProgress → Type 0
-HasRoom s = length (read_by s) < s.from + room_of s.built
 
 -- everything is unchanged, except that bytes before the cut may be held no longer
 pub record IsRolled (s t : StreamProgress) : Type 0 where
@@ -311,9 +293,6 @@ pub record HasRead {R : Type 0} (remaining : R → Option (List ℕ)) (s t : Str
 -- more bytes than places.
 abbrev pub ReadsMore : {R : Type 0} → (R → Option (List ℕ)) → StreamProgress → StreamProgress → Watched R → Watched R → Result ℕ StreamError → Type 0
 ReadsMore remaining s t before after (Ok n) = (piece : List ℕ) × HasRead remaining s t before after piece 0 × (length piece ≡ n) × CanBeCounted (read_by t)
-ReadsMore remaining s t before after (Err (Config error)) = ⊥
 ReadsMore remaining s t before after (Err (Read error)) = HasRead remaining s t before after [] 1
-ReadsMore remaining s t before after (Err (Write error)) = ⊥
-ReadsMore remaining s t before after (Err WriteZero) = ⊥
-ReadsMore remaining s t before after (Err Memory) = ⊥
 ReadsMore remaining s t before after (Err Position) = (piece : List ℕ) × HasRead remaining s t before after piece 0 × ¬ CanBeCounted (read_by t)
+ReadsMore remaining s t before after (Err other) = ⊥

@@ -29,13 +29,9 @@ pub record HasGained {R : Type 0} (remaining : R → Option (List ℕ)) (s t : S
   pub short : AllFit (room_of s.built) gained
   pub read : HasGiven remaining before after gained failed
 
--- the input is over: the reader has ended, or the search was told so
-abbrev pub IsInputOver : {R : Type 0} → StreamProgress → Watched R → Type 0
-IsInputOver s reader = (has_ended reader ≡ true) ⊎ (s.closed ≡ true)
-
 -- No item is left: the input is over and all matches were returned, or there are more bytes than places.
 abbrev pub IsStopped : {R : Type 0} → StreamProgress → Watched R → Type 0
-IsStopped s reader = (IsInputOver s reader × AreAllGiven s) ⊎ (¬ CanBeCounted (read_by s))
+IsStopped s reader = (((has_ended reader ≡ true) ⊎ (s.closed ≡ true)) × AreAllGiven s) ⊎ (¬ CanBeCounted (read_by s))
 
 -- the bytes of all pieces but the last
 abbrev pub read_before_last : StreamProgress → List ℕ
@@ -65,13 +61,10 @@ pub record IsNextMatch (s t : StreamProgress) (o : Occurrence) : Type 0 where
 -- left; if anything was read for it, that was to the end, and all matches were returned.
 abbrev pub NextGives : {R : Type 0} → (R → Option (List ℕ)) → StreamProgress → StreamProgress → Watched R → Watched R → Option (Result Occurrence StreamError) → Type 0
 NextGives remaining s t before after (Some (Ok o)) = (gained : List (List ℕ)) × HasGained remaining s t before after gained 0 × IsReadForMatch s t gained × (t.given ≡ s.given ++ o ∷ []) × (t.last ≡ o.end) × IsNextMatch s t o × (gained ≢ [] → IsDueToLastPiece s t o)
-NextGives remaining s t before after (Some (Err (Config error))) = ⊥
 NextGives remaining s t before after (Some (Err (Read error))) = (filled : List (List ℕ)) × HasGained remaining s t before after (filled ++ [] ∷ []) 1 × AreFilled filled × (t.given ≡ s.given) × (has_ended after ≡ true) × AreAllGiven t
-NextGives remaining s t before after (Some (Err (Write error))) = ⊥
-NextGives remaining s t before after (Some (Err WriteZero)) = ⊥
-NextGives remaining s t before after (Some (Err Memory)) = ⊥
 NextGives remaining s t before after (Some (Err Position)) = (gained : List (List ℕ)) × HasGained remaining s t before after gained 0 × AreFilled gained × (t.given ≡ s.given) × ¬ CanBeCounted (read_by t)
 NextGives remaining s t before after None = (gained : List (List ℕ)) × HasGained remaining s t before after gained 0 × (((gained ≡ []) × (t.closed ≡ s.closed)) ⊎ (AreWhole gained × AreAllGiven t × EachIsDecided t × IsAtEnd (remaining (inner_of after)))) × (t.given ≡ s.given) × IsStopped t after
+NextGives remaining s t before after (Some (Err other)) = ⊥
 
 -- if no item was left, none comes, and the reader is unchanged
 abbrev pub StaysStopped : {R : Type 0} → StreamProgress → StreamProgress → Watched R → Watched R → Option (Result Occurrence StreamError) → Type 0
@@ -96,12 +89,9 @@ TurnGives remaining s t before after (Found o) = FindsHeld s (Some o) t × (afte
 TurnGives remaining s t before after More = (piece : List ℕ) × TurnReads remaining s t before after piece 0 × (piece ≢ []) × CanBeCounted (read_by t)
 TurnGives remaining s t before after Ended = (u : StreamProgress) × TurnReads remaining s u before after [] 0 × (t ≡ closed_by u)
 TurnGives remaining s t before after Over = ReadsNothing s t × (t.given ≡ s.given) × (after ≡ before) × IsStopped t after
-TurnGives remaining s t before after (Failed (Config error)) = ⊥
 TurnGives remaining s t before after (Failed (Read error)) = TurnReads remaining s t before after [] 1
-TurnGives remaining s t before after (Failed (Write error)) = ⊥
-TurnGives remaining s t before after (Failed WriteZero) = ⊥
-TurnGives remaining s t before after (Failed Memory) = ⊥
 TurnGives remaining s t before after (Failed Position) = (piece : List ℕ) × TurnReads remaining s t before after piece 0 × (piece ≢ []) × ¬ CanBeCounted (read_by t)
+TurnGives remaining s t before after (Failed other) = ⊥
 
 -- ---- the iterator
 

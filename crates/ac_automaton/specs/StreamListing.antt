@@ -64,11 +64,8 @@ IsListingConfigRefusal b supports error =
 -- the error says what failed: the search, or the memory for the buffer
 abbrev pub IsListingRefusal : Built → (Anchored → Type 0) → StreamError → Type 0
 IsListingRefusal b supports (Config error) = IsListingConfigRefusal b supports error
-IsListingRefusal b supports (Read error) = ⊥
-IsListingRefusal b supports (Write error) = ⊥
-IsListingRefusal b supports WriteZero = ⊥
 IsListingRefusal b supports Memory = CanStream b supports
-IsListingRefusal b supports Position = ⊥
+IsListingRefusal b supports other = ⊥
 
 -- ---- what holds wherever a search stands
 
@@ -142,9 +139,6 @@ pub record ListingReads {R : Type 0} (remaining : R → Option (List ℕ)) (s t 
 -- more bytes than places.
 abbrev pub ListingReadsMore : {R : Type 0} → (R → Option (List ℕ)) → ListingProgress → ListingProgress → Watched R → Watched R → Result ℕ StreamError → Type 0
 ListingReadsMore remaining s t before after (Ok n) = (piece : List ℕ) × ListingReads remaining s t before after piece 0 × (length piece ≡ n) × CanBeCounted (all_read t)
-ListingReadsMore remaining s t before after (Err (Config error)) = ⊥
 ListingReadsMore remaining s t before after (Err (Read error)) = ListingReads remaining s t before after [] 1
-ListingReadsMore remaining s t before after (Err (Write error)) = ⊥
-ListingReadsMore remaining s t before after (Err WriteZero) = ⊥
-ListingReadsMore remaining s t before after (Err Memory) = ⊥
 ListingReadsMore remaining s t before after (Err Position) = (piece : List ℕ) × ListingReads remaining s t before after piece 0 × ¬ CanBeCounted (all_read t)
+ListingReadsMore remaining s t before after (Err other) = ⊥

@@ -22,12 +22,6 @@ use Rattle.ac_automaton.specs.declared.watched.Watched.{Watched}
 abbrev pub ends_told : Dictionary → List ℕ → List ℕ → ℕ → List Occurrence
 ends_told m text ns index = map (ending m text) (drop index ns)
 
--- The looks are paid for by the bytes that the automaton has read, and what is live is paid for too.
-abbrev pub IsListingPaid : ListingProgress → Type 0
-IsListingPaid s =
-    (live : Option ℕ) → IsLive s.built.dictionary false (searched_by s) live
-    → (s.looked + live_len (searched_by s) live ≤ 2 * s.at) × (s.at ≤ s.looked) × (IsTrue s.built.deterministic → s.looked ≤ s.at)
-
 -- A search stands in a state: it was reached by the bytes that the automaton has read. Of the occurrences in these, those that were
 -- not returned yet are the rest of the state's.
 pub record StandsInList (Reaches : List ℕ → StateID → Type 0) (matches : StateID → List ℕ) (s : ListingProgress) (place : ListPlace) : Type 0 where
@@ -38,7 +32,7 @@ pub record StandsInList (Reaches : List ℕ → StateID → Type 0) (matches : S
   pub len : place.len ≡ length (matches place.sid)
   pub few : place.len ≤ 18446744073709551615
   pub left : occurrences_in s.built (searched_by s) ≡ s.given ++ ends_told s.built.dictionary (searched_by s) (matches place.sid) place.index
-  pub lookups : IsListingPaid s
+  pub lookups : (live : Option ℕ) → IsLive s.built.dictionary false (searched_by s) live → (s.looked + live_len (searched_by s) live ≤ 2 * s.at) × (s.at ≤ s.looked) × (IsTrue s.built.deterministic → s.looked ≤ s.at)
 
 -- what a search over the bytes of the last read is passed about how far it has come
 pub record IsListedAt (b : Built) (Reaches : List ℕ → StateID → Type 0) (matches : StateID → List ℕ) (s : ListingProgress) (place : ListPlace) (held : List ℕ) : Type 0 where
@@ -48,8 +42,8 @@ pub record IsListedAt (b : Built) (Reaches : List ℕ → StateID → Type 0) (m
   pub countable : CanBeCounted (all_read s)
 
 -- how far a search has come where the automaton has read to a place and looked so often more
-abbrev pub read_on_to : ListingProgress → ℕ → ℕ → ListingProgress
-read_on_to s at looks = record s { at = at; looked = s.looked + looks }
+abbrev pub listed_on_to : ListingProgress → ℕ → ℕ → ListingProgress
+listed_on_to s at looks = record s { at = at; looked = s.looked + looks }
 
 -- how far it has come after one more occurrence, if there is one
 abbrev pub after_listed : ListingProgress → Listed → ℕ → ListingProgress
@@ -61,7 +55,7 @@ pub record HasReadHeld (Reaches : List ℕ → StateID → Type 0) (matches : St
   pub done : Done looks 0 0 before after
   pub from : there.from ≡ place.from
   pub on : s.at ≤ there.at
-  pub stands : StandsInList Reaches matches (read_on_to s there.at looks) there
+  pub stands : StandsInList Reaches matches (listed_on_to s there.at looks) there
   pub further : there.index < there.len → s.at < there.at
   pub all : there.len ≤ there.index → there.at ≡ length (all_read s)
 

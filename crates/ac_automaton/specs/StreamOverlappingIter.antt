@@ -52,13 +52,10 @@ pub record IsNextOccurrence (s t : ListingProgress) (o : Occurrence) : Type 0 wh
 -- were returned.
 abbrev pub NextLists : {R : Type 0} → (R → Option (List ℕ)) → ListingProgress → ListingProgress → Watched R → Watched R → Option (Result Occurrence StreamError) → Type 0
 NextLists remaining s t before after (Some (Ok o)) = (gained : List (List ℕ)) × ListingGained remaining s t before after gained 0 × AreFilled gained × (t.given ≡ s.given ++ o ∷ []) × (t.at ≡ o.end) × IsNextOccurrence s t o × (gained ≢ [] → HadListed s t × (length (read_before t) < o.end))
-NextLists remaining s t before after (Some (Err (Config error))) = ⊥
 NextLists remaining s t before after (Some (Err (Read error))) = (filled : List (List ℕ)) × ListingGained remaining s t before after (filled ++ [] ∷ []) 1 × AreFilled filled × (t.given ≡ s.given) × (has_ended after ≡ true) × IsAllListed t
-NextLists remaining s t before after (Some (Err (Write error))) = ⊥
-NextLists remaining s t before after (Some (Err WriteZero)) = ⊥
-NextLists remaining s t before after (Some (Err Memory)) = ⊥
 NextLists remaining s t before after (Some (Err Position)) = (gained : List (List ℕ)) × ListingGained remaining s t before after gained 0 × AreFilled gained × (t.given ≡ s.given) × HadListed s t × ¬ CanBeCounted (all_read t)
 NextLists remaining s t before after None = (gained : List (List ℕ)) × ListingGained remaining s t before after gained 0 × ((gained ≡ []) ⊎ (AreWhole gained × IsAllListed t × IsAtEnd (remaining (inner_of after)))) × (t.given ≡ s.given) × IsListingStopped t after
+NextLists remaining s t before after (Some (Err other)) = ⊥
 
 -- if no item was left, none comes, and nothing is read
 abbrev pub StaysListed : {R : Type 0} → ListingProgress → ListingProgress → Watched R → Watched R → Option (Result Occurrence StreamError) → Type 0

@@ -10,7 +10,7 @@ as_piece [] = []
 as_piece (byte ∷ bytes) = (byte ∷ bytes) ∷ []
 
 -- The search took these bytes, which it has after what it had; bytes before the cut may be held no longer.
-pub record HasTaken (s t : StreamProgress) (bytes : List ℕ) : Type 0 where
+pub record TakesBytes (s t : StreamProgress) (bytes : List ℕ) : Type 0 where
   pub built : t.built ≡ s.built
   pub pieces : t.pieces ≡ s.pieces ++ as_piece bytes
   pub read : read_by t ≡ read_by s ++ bytes
@@ -31,13 +31,9 @@ pub record TakesFront (Ready : Type 0) (s t : StreamProgress) (piece : List ℕ)
 
 -- The result of a push: how many of the bytes were taken, the first ones; or there are more bytes than places.
 abbrev pub Pushes : Type 0 → StreamProgress → StreamProgress → List ℕ → Result ℕ StreamError → Type 0
-Pushes Ready s t piece (Ok n) = HasTaken s t (take n piece) × TakesFront Ready s t piece n × CanBeCounted (read_by t)
-Pushes Ready s t piece (Err (Config error)) = ⊥
-Pushes Ready s t piece (Err (Read error)) = ⊥
-Pushes Ready s t piece (Err (Write error)) = ⊥
-Pushes Ready s t piece (Err WriteZero) = ⊥
-Pushes Ready s t piece (Err Memory) = ⊥
-Pushes Ready s t piece (Err Position) = (n : ℕ) × HasTaken s t (take n piece) × ¬ CanBeCounted (read_by t)
+Pushes Ready s t piece (Ok n) = TakesBytes s t (take n piece) × TakesFront Ready s t piece n × CanBeCounted (read_by t)
+Pushes Ready s t piece (Err Position) = (n : ℕ) × TakesBytes s t (take n piece) × ¬ CanBeCounted (read_by t)
+Pushes Ready s t piece (Err other) = ⊥
 
 -- ---- the same text, cut otherwise
 

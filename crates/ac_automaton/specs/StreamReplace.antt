@@ -1,5 +1,5 @@
 -- Replacement over streams: what each result says about what was read and written, and what it costs.
-use Rattle.std.specs.Prelude.{◌≡◌, ◌⊎◌, false, ℕ, ◌+◌, ◌*◌, ◌<◌, ◌≤◌, List, [], ◌++◌, length, take, Option, Some, None, Result, Ok, Err, IfErr, OnOk}
+use Rattle.std.specs.Prelude.{◌≡◌, ◌⊎◌, ℕ, ◌+◌, ◌*◌, ◌<◌, ◌≤◌, List, [], ◌++◌, length, take, Option, Some, None, Result, Ok, Err, IfErr, OnOk}
 use Rattle.std.specs.List.{concat}
 use Rattle.ac_input.specs.declared.search.Anchored.{Anchored}
 use Rattle.ac_input.specs.declared.steps.Steps.{Steps}
@@ -8,7 +8,7 @@ use Rattle.ac_input.specs.Steps.{looked_of, scanned_of, moved_of}
 use Rattle.ac_input.specs.Text.{replaced_from}
 use Rattle.ac_input.specs.Work.{lookups_per_byte}
 use Rattle.ac_automaton.specs.Automaton.{Built}
-use Rattle.ac_automaton.specs.Moved.{AllFit, AreFilled, HasGiven, HasMoved, HasTaken, Moved, NoneTouched, but_last}
+use Rattle.ac_automaton.specs.Moved.{AllFit, HasMoved, Moved, NoneTouched}
 use Rattle.ac_automaton.specs.Output.{Sent, Stopped}
 use Rattle.ac_automaton.specs.Replace.{LieInOrder, matches_in, with_replaced}
 use Rattle.ac_automaton.specs.Stream.{AreAllGiven, CanBeCounted, CanStream, CanStreamAnyKind, IsAnyKindConfigRefusal, IsConfigRefusal, IsFront, IsOnCourse, IsSearched, ReadsNothing, StreamCounts, StreamProgress, cut_of, read_again, read_by, room_of}
@@ -71,12 +71,11 @@ CostsStream b reader_before reader_after before after result =
 
 -- the error is one that comes after the first read
 abbrev pub IsBegun : StreamError → Type 0
-IsBegun (Config error) = ⊥
 IsBegun (Read error) = Unit {0}
 IsBegun (Write error) = Unit {0}
 IsBegun WriteZero = Unit {0}
-IsBegun Memory = ⊥
 IsBegun Position = Unit {0}
+IsBegun other = ⊥
 
 -- What a search of this many bytes of a stream, with so many matches, may cost under any kind.
 pub record IsAnyKindCost (b : Built) (n matches : ℕ) (before after : Steps) : Type 0 where
@@ -127,10 +126,6 @@ abbrev pub SendsMatch : {W : Type 0} → (W → Option (List ℕ)) → List (Lis
 SendsMatch contents replacements s t from old new held_before held_after None = SendsTo contents replacements s t from from old new held_before held_after × AreAllGiven t
 SendsMatch contents replacements s t from old new held_before held_after (Some to) = SendsTo contents replacements s t from to old new held_before held_after × (s.last < t.last)
 
--- The text was sent up to the cut, and nothing is held back.
-abbrev pub SendsDecided : {W : Type 0} → (W → Option (List ℕ)) → List (List ℕ) → StreamProgress → StreamProgress → ℕ → Watched W → Watched W → List ℕ → ℕ → Type 0
-SendsDecided contents replacements s t from old new held_before to = SendsTo contents replacements s t from to old new held_before [] × IsAtCut t to
-
 -- In between nothing was read, and the send of the text from a place on stopped at a write.
 pub record StopsSending {W : Type 0} (contents : W → Option (List ℕ)) (replacements : List (List ℕ)) (s t : StreamProgress) (from : ℕ) (old new : Watched W) (held_before : List ℕ) : Type 0 where
   pub same : ReadsNothing s t
@@ -147,22 +142,6 @@ AnswersMatch contents replacements s t from old new held_before held_after (Err 
 abbrev pub AnswersDecided : {W : Type 0} → (W → Option (List ℕ)) → List (List ℕ) → StreamProgress → StreamProgress → ℕ → Watched W → Watched W → List ℕ → List ℕ → Result ℕ StreamError → Type 0
 AnswersDecided contents replacements s t from old new held_before held_after (Ok to) = SendsTo contents replacements s t from to old new held_before [] × IsAtCut t to × (held_after ≡ [])
 AnswersDecided contents replacements s t from old new held_before held_after (Err error) = StopsSending contents replacements s t from old new held_before × IsOfWrite old new error
-
--- A replacement between two reads: everything that is decided was written.
-pub record HasReplaced {R W : Type 0} (remaining : R → Option (List ℕ)) (contents : W → Option (List ℕ)) (replacements : List (List ℕ)) (b : Built) (s : StreamProgress) (at : ℕ) (reader_before reader_after : Watched R) (writer_before writer_after : Watched W) : Type 0 where
-  pub built : s.built ≡ b
-  pub unclosed : s.closed ≡ false
-  pub place : IsAtCut s at
-  pub filled : AreFilled s.pieces
-  pub read : HasGiven remaining reader_before reader_after s.pieces 0
-  pub written : HasTaken contents writer_before writer_after (text_to s replacements at) 0 0
-
--- After a read: at least everything that was decided before it was written.
-pub record IsReading {W : Type 0} (contents : W → Option (List ℕ)) (replacements : List (List ℕ)) (b : Built) (s : StreamProgress) (at : ℕ) (before after : Watched W) : Type 0 where
-  pub built : s.built ≡ b
-  pub placed : IsPlaced s at
-  pub front : (early : List ℕ) × IsReplacedFront b replacements (concat (but_last s.pieces)) early × IsBeginning early (text_to s replacements at)
-  pub written : HasTaken contents before after (text_to s replacements at) 0 0
 
 -- What a search read and counted in between; if it reached the end, all of it was searched.
 pub record HasSearched {R : Type 0} (s t : StreamProgress) (reader_before reader_after : Watched R) (before after : Steps) (result : Result (Unit {0}) StreamError) : Type 0 where

@@ -1,14 +1,14 @@
 -- Replacement over streams by a closure: the values of the writer, one after another, and what each result says about them.
-use Rattle.std.specs.Prelude.{◌≡◌, ◌⊎◌, false, ℕ, ◌<◌, ◌≤◌, List, [], ◌∷◌, ◌++◌, length, slice_range, Option, Some, None, Result, Ok, Err}
+use Rattle.std.specs.Prelude.{◌≡◌, ◌⊎◌, ℕ, ◌<◌, ◌≤◌, List, [], ◌∷◌, ◌++◌, length, slice_range, Option, Some, None, Result, Ok, Err}
 use Rattle.std.specs.List.{All, concat}
 use Rattle.ac_input.specs.declared.search.Anchored.{Anchored}
 use Rattle.ac_input.specs.Cut.{IsCut}
 use Rattle.ac_input.specs.Occurrence.{Occurrence}
 use Rattle.ac_automaton.specs.Automaton.{Built}
-use Rattle.ac_automaton.specs.Moved.{AllFit, AreFilled, AreWhole, HasGiven, HasTaken, NoneTouched, but_last}
+use Rattle.ac_automaton.specs.Moved.{AllFit, AreWhole, HasGiven, HasTaken, NoneTouched, but_last}
 use Rattle.ac_automaton.specs.Replace.{IsForMatches, Replacer, RepliesAt, matches_in}
 use Rattle.ac_automaton.specs.Stream.{AreAllGiven, CanBeCounted, CanStream, CanStreamAnyKind, IsAnyKindRefusal, IsNear, IsStreamRefusal, ReadsNothing, StreamProgress, read_by, room_of}
-use Rattle.ac_automaton.specs.StreamReplace.{IsAtCut, IsPlaced}
+use Rattle.ac_automaton.specs.StreamReplace.{IsPlaced}
 use Rattle.ac_automaton.specs.declared.error.StreamError.{StreamError}
 use Rattle.ac_automaton.specs.declared.error.StreamError.TheVariants.{Config, Read, Write, WriteZero, Memory, Position}
 use Rattle.ac_automaton.specs.declared.watched.Watched.{Watched}
@@ -77,12 +77,11 @@ module _ {F W : Type 0} (contents : W → Option (List ℕ)) (g : StreamReplacer
 
   -- an error that is not the closure's: how many reads failed, and how far the chain came
   abbrev pub IsStreamFault : Built → List (List ℕ) → ℕ → F → Watched W → Watched W → StreamError → Type 0
-  IsStreamFault b pieces failed f old new (Config error) = ⊥
   IsStreamFault b pieces failed f old new (Read error) = (failed ≡ 1) × AreWhole pieces × HasCome b pieces f old new
   IsStreamFault b pieces failed f old new (Write error) = (failed ≡ 0) × StoppedAtWrite b pieces f old new 0
   IsStreamFault b pieces failed f old new WriteZero = (failed ≡ 0) × StoppedAtWrite b pieces f old new 1
-  IsStreamFault b pieces failed f old new Memory = ⊥
   IsStreamFault b pieces failed f old new Position = (failed ≡ 0) × (¬ CanBeCounted (concat pieces)) × HasCome b pieces f old new
+  IsStreamFault b pieces failed f old new other = ⊥
 
   -- what a result after the first read says about the pieces that were read, and about how many reads failed
   abbrev pub AnswersReplaceWith : Built → List (List ℕ) → ℕ → F → Watched W → Watched W → Result (Unit {0}) StreamError → Type 0
@@ -108,18 +107,8 @@ module _ {F W : Type 0} (contents : W → Option (List ℕ)) (g : StreamReplacer
     ReplacesAnyKindWith b supports f reader_before reader_after writer_before writer_after (Err error) =
         (IsAnyKindRefusal b supports error × NoneTouched reader_before reader_after writer_before writer_after)
         ⊎ (CanStreamAnyKind b supports × ReadsAndReplaces b f reader_before reader_after writer_before writer_after (Err error))
-
     -- ---- what stands at each point of it
-
     -- A replacement between two reads: the chain has come to the cut.
-    pub record HasReplacedWith (b : Built) (s : StreamProgress) (at : ℕ) (reader_before reader_after : Watched R) (first f : F) (writer_before writer_after : Watched W) : Type 0 where
-      pub built : s.built ≡ b
-      pub unclosed : s.closed ≡ false
-      pub place : IsAtCut s at
-      pub filled : AreFilled s.pieces
-      pub read : HasGiven remaining reader_before reader_after s.pieces 0
-      pub chain : IsWriterChain (read_by s) 0 s.given at first writer_before f writer_after
-      pub ready : IsForMatches g (length b.dictionary.patterns) f
 
   -- In between nothing was read, and the chain went on from one place to another.
   pub record ContinuesChain (s t : StreamProgress) (from to : ℕ) (f after : F) (old new : Watched W) : Type 0 where

@@ -35,9 +35,9 @@ abbrev pub handed_out : ReplacerProgress → List (List ℕ) → List ℕ
 handed_out r replacements = replaced_from 0 (take r.at (read_by r.search)) replacements (replaced_by r.search r.met)
 
 -- the place up to which the text is decided: the start of the match that was met; or the cut; or the end, where no more comes
-abbrev pub place_of : StreamProgress → Option Occurrence → Bool → ℕ
-place_of s (Some o) finished = o.start
-place_of s None finished = if finished then length (read_by s) else cut_of s
+abbrev pub decided_to : StreamProgress → Option Occurrence → Bool → ℕ
+decided_to s (Some o) finished = o.start
+decided_to s None finished = if finished then length (read_by s) else cut_of s
 
 -- whether the text ends there: where no match was met and no more comes
 abbrev pub ends_there : Option Occurrence → Bool → Bool
@@ -48,7 +48,7 @@ ends_there (Some o) finished = false
 pub record IsHandedOut (r : ReplacerProgress) : Type 0 where
   pub met : r.met ≡ None
   pub all : AreAllGiven r.search
-  pub at : r.at ≡ place_of r.search None r.finished
+  pub at : r.at ≡ decided_to r.search None r.finished
 
 -- it may take more: what was pushed was searched, and handed out up to the cut
 pub record IsReady (r : ReplacerProgress) : Type 0 where
@@ -59,7 +59,7 @@ pub record IsReady (r : ReplacerProgress) : Type 0 where
 -- ---- what holds wherever a replacement stands
 
 -- The match that was met is the last one that was found; the text was handed out up to a place before it.
-pub record IsMet (s : StreamProgress) (at : ℕ) (o : Occurrence) : Type 0 where
+pub record IsMatchMet (s : StreamProgress) (at : ℕ) (o : Occurrence) : Type 0 where
   pub given : s.given ≡ replaced_by s (Some o) ++ o ∷ []
   pub placed : IsPlaced s o.end
   pub pattern : o.pattern < length s.built.dictionary.patterns
@@ -72,7 +72,7 @@ pub record IsMet (s : StreamProgress) (at : ℕ) (o : Occurrence) : Type 0 where
 -- the text may be handed out from this place on
 abbrev pub IsPlacedAt : StreamProgress → ℕ → Option Occurrence → Type 0
 IsPlacedAt s at None = IsPlaced s at
-IsPlacedAt s at (Some o) = IsMet s at o
+IsPlacedAt s at (Some o) = IsMatchMet s at o
 
 -- What holds of a replacement wherever it stands.
 pub record IsReplacing (r : ReplacerProgress) : Type 0 where
@@ -102,8 +102,8 @@ abbrev pub PushesText : ReplacerProgress → ReplacerProgress → List ℕ → R
 PushesText r t piece result = KeepsText r t × Pushes (IsReady r) r.search t.search piece result
 
 -- how far it has come that was told that no more comes
-abbrev pub finished_by : ReplacerProgress → ReplacerProgress
-finished_by r = record r { search = closed_by r.search; finished = true }
+abbrev pub told_the_end : ReplacerProgress → ReplacerProgress
+told_the_end r = record r { search = closed_by r.search; finished = true }
 
 -- In between nothing was pushed, and the text goes on by these bytes.
 pub record HandsOut (r t : ReplacerProgress) (replacements : List (List ℕ)) (bytes : List ℕ) : Type 0 where
@@ -141,7 +141,7 @@ CanBeLent s (Text start end) = (s.from ≤ start) × (start ≤ end) × (end ≤
 CanBeLent s (Replacement pattern) = pattern < length s.built.dictionary.patterns
 
 -- the search went on to the next match, if none was met
-pub record LooksOn (r t : ReplacerProgress) : Type 0 where
+pub record LooksForMatch (r t : ReplacerProgress) : Type 0 where
   pub same : ReadsNothing r.search t.search
   pub at : t.at ≡ r.at
   pub finished : t.finished ≡ r.finished
@@ -150,12 +150,12 @@ pub record LooksOn (r t : ReplacerProgress) : Type 0 where
   pub all : t.met ≡ None → AreAllGiven t.search
 
 -- the next slice is this one; or there is none, and all that is decided was handed out
-abbrev pub Passes : ReplacerProgress → ReplacerProgress → Option Part → Type 0
-Passes r t None = (t.search ≡ r.search) × (t.finished ≡ r.finished) × (t.at ≡ r.at) × (t.met ≡ r.met) × ((replacements : List (List ℕ)) → IsAllOut t replacements)
-Passes r t (Some part) = (t.search ≡ r.search) × (t.finished ≡ r.finished) × (r.at < t.at) × (t.at ≤ length (read_by t.search)) × CanBeLent t.search part × ((replacements : List (List ℕ)) → handed_out t replacements ≡ handed_out r replacements ++ part_bytes (read_by t.search) replacements part)
+abbrev pub TakesPart : ReplacerProgress → ReplacerProgress → Option Part → Type 0
+TakesPart r t None = (t.search ≡ r.search) × (t.finished ≡ r.finished) × (t.at ≡ r.at) × (t.met ≡ r.met) × ((replacements : List (List ℕ)) → IsAllOut t replacements)
+TakesPart r t (Some part) = (t.search ≡ r.search) × (t.finished ≡ r.finished) × (r.at < t.at) × (t.at ≤ length (read_by t.search)) × CanBeLent t.search part × ((replacements : List (List ℕ)) → handed_out t replacements ≡ handed_out r replacements ++ part_bytes (read_by t.search) replacements part)
 
 -- The next slice is this one, after which the text was handed out further; or there is none: then, if places can be counted, all that is
 -- decided was handed out.
-abbrev pub Advances : ReplacerProgress → ReplacerProgress → Option Part → Type 0
-Advances r t None = (replacements : List (List ℕ)) → HandsOut r t replacements [] × (CanBeCounted (read_by r.search) → IsAllOut t replacements)
-Advances r t (Some part) = ((replacements : List (List ℕ)) → HandsOut r t replacements (part_bytes (read_by t.search) replacements part)) × (r.at < t.at) × (t.at ≤ length (read_by t.search)) × CanBeLent t.search part
+abbrev pub FindsPart : ReplacerProgress → ReplacerProgress → Option Part → Type 0
+FindsPart r t None = (replacements : List (List ℕ)) → HandsOut r t replacements [] × (CanBeCounted (read_by r.search) → IsAllOut t replacements)
+FindsPart r t (Some part) = ((replacements : List (List ℕ)) → HandsOut r t replacements (part_bytes (read_by t.search) replacements part)) × (r.at < t.at) × (t.at ≤ length (read_by t.search)) × CanBeLent t.search part

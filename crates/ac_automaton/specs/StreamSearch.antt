@@ -11,11 +11,12 @@ use Rattle.ac_input.specs.Occurrence.{Occurrence}
 use Rattle.ac_input.specs.Steps.{looked_of, scanned_of, Done}
 use Rattle.ac_input.specs.Walk.{IsWalk}
 use Rattle.ac_automaton.specs.Automaton.{Built}
-use Rattle.ac_automaton.specs.Buffer.{Held, IsRollPaid}
+use Rattle.ac_automaton.specs.Buffer.{Held, IsRollPaid, kept_for}
 use Rattle.ac_automaton.specs.Replace.{matches_in}
-use Rattle.ac_automaton.specs.Stream.{StreamProgress, CanBeCounted, FindsHeld, IsOnCourse, MayFollow, held_by, keep_of, read_by, read_in_all}
+use Rattle.ac_automaton.specs.Stream.{StreamProgress, CanBeCounted, FindsHeld, IsOnCourse, MayFollow, held_by, read_by, read_in_all}
 use Rattle.ac_automaton.specs.declared.stream.search.Progress.{Progress}
 use Rattle.ac_automaton.specs.declared.stream.search.Searched.{Searched}
+use Rattle.ac_input.specs.Work.{longest}
 
 -- ---- what is kept
 
@@ -93,7 +94,7 @@ pub record SearchesOn (Reaches : List ℕ → StateID → Type 0) (s : StreamPro
 -- the buffer holds what the search says
 pub record HoldsRead (s : StreamProgress) (buffer : Held) : Type 0 where
   pub bytes : buffer.bytes ≡ held_by s
-  pub keep : buffer.keep ≡ keep_of s.built
+  pub keep : buffer.keep ≡ kept_for (longest s.built.dictionary.patterns)
   pub read : buffer.read ≡ length (read_by s)
   pub moved : buffer.moved ≡ s.moved
   pub paid : IsRollPaid buffer

@@ -116,12 +116,9 @@ pub record TookFront {T : Type 0} (contents : T → Option (List ℕ)) (old new 
 
 -- the error is of the write that failed: that it took no byte exactly where it stalled
 abbrev pub IsOfWrite : {T : Type 0} → Watched T → Watched T → StreamError → Type 0
-IsOfWrite old new (Config error) = ⊥
-IsOfWrite old new (Read error) = ⊥
 IsOfWrite old new (Write error) = stalls_of new ≡ stalls_of old
 IsOfWrite old new WriteZero = stalls_of new ≡ stalls_of old + 1
-IsOfWrite old new Memory = ⊥
-IsOfWrite old new Position = ⊥
+IsOfWrite old new other = ⊥
 
 -- ---- by the result
 

@@ -1,20 +1,19 @@
 -- A walk that goes on from a cursor: what it leaves, and where.
-use Rattle.std.proofs.Common.{◌≡◌, ℕ, zero, suc, ◌+◌, ◌-◌, ◌*◌, ◌^◌, ◌<◌, ◌≤◌, List, ◌∷◌, length, map, take, drop, min, Option, Some, None, IfSome, refl, sym, ap, subst, ◌∙◌, arith}
+use Rattle.std.proofs.Common.{◌≡◌, ℕ, zero, suc, ◌+◌, ◌-◌, ◌*◌, ◌^◌, ◌<◌, ◌≤◌, List, ◌∷◌, length, drop, Option, Some, None, IfSome, refl, sym, ap, subst, ◌∙◌, arith}
 use Rattle.ac_input.specs.declared.search.MatchKind.{MatchKind}
 use Rattle.ac_input.specs.Computed.{pick_of, walk_from, walk_after}
 use Rattle.ac_input.specs.Input.{Asked}
 use Rattle.ac_input.specs.Occurrence.{Search, Occurrence, starting_at}
 use Rattle.ac_input.proofs.WalkLemmas.{walk_from-none, walk_from-some}
 use Rattle.ac_automaton.specs.Automaton.{Built, kind_asked, searched}
-use Rattle.ac_automaton.specs.Iter.{Walk, GivesPick, IsOnItsWay, IsPlaceIn, IsWalkAfter, left_of, place_of, walk_from_place}
+use Rattle.ac_automaton.specs.Iter.{Walk, GivesPick, IsOnItsWay, IsPlaceIn, left_of, place_of, walk_from_place, walk_after_pick}
 use Rattle.ac_automaton.proofs.IterLemmas.{pick-yields}
 use Rattle.aho_corasick.specs.AhoCorasick.{as_built}
 use Rattle.aho_corasick.specs.declared.ahocorasick.AhoCorasick.{AhoCorasick}
 use Rattle.ac_c.specs.declared.found.Found.{Found}
 use Rattle.ac_c.specs.declared.walk.Cursor.{Cursor}
 use Rattle.ac_c.specs.Find.{asked_by}
-use Rattle.ac_c.specs.Found.{shown}
-use Rattle.ac_c.specs.Walk.{AreGiven, Goes, IsCursorAfter, IsCursorIn, IsFirst, bounds_of, last_of, left_at, no_place, place_at}
+use Rattle.ac_c.specs.Walk.{AreGiven, Goes, IsCursorAfter, IsCursorIn, IsFirstLeft, TakesSome, bounds_of, last_of, left_of_walk, no_place, place_of_cursor}
 
 -- the picks from a place on are the same wherever the search began
 one-more : (turns : ℕ) (kind : MatchKind) (s : Search) (begun at : ℕ) (last : Option ℕ) (r : Option Occurrence) → pick_of kind s at last ≡ r
@@ -51,35 +50,33 @@ cursor-after ac haystack c d v fits inside built asked within goes =
     record {
       valid = ((omega arith, omega arith), subst (λ (o : Option ℕ). IfSome o (λ e. e ≤ d.start)) (sym last) (subst (λ (at : ℕ). IfSome v.last (λ e. e ≤ at)) (sym start) here.1));
       same = goes.0 ∙ ap (λ (at : ℕ). record c { start = at; last = d.last }) (sym start);
-      rest = ap (left_at ac haystack) goes.0 ∙ (ap (λ (o : Option ℕ). walk_after kind (starting_at s v.at) v.at o) same_last
+      rest = ap (left_of_walk ac haystack) goes.0 ∙ (ap (λ (o : Option ℕ). walk_after kind (starting_at s v.at) v.at o) same_last
           ∙ (wherever (2 * (s.end + 1 - v.at) + 1) kind s v.at v.at v.last ∙ sym (λ i. walk_after (kind_asked (built i) (asked i)) (searched (built i) (asked i)) v.at v.last)));
     }
 
 -- a pick leaves the automaton and the input
-pub after-same : (w : Walk) (r : Option Occurrence) (v : Walk) → IsWalkAfter w r v → (v.built ≡ w.built) × (v.asked ≡ w.asked)
+pub after-same : (w : Walk) (r : Option Occurrence) (v : Walk) → (v ≡ record (walk_after_pick w r) { looked = v.looked; scanned = v.scanned; moved = v.moved }) → (v.built ≡ w.built) × (v.asked ≡ w.asked)
 after-same w None v h = (ap (λ (z : Walk). z.built) h, ap (λ (z : Walk). z.asked) h)
 after-same w (Some o) v h = (ap (λ (z : Walk). z.built) h, ap (λ (z : Walk). z.asked) h)
 
 -- one step from a cursor
 pub cursor-step : (ac : AhoCorasick) (haystack : List ℕ) (c d : Cursor) (w v : Walk) (r : Option Occurrence) → length haystack < 2 ^ 63 → IsCursorIn haystack c
-    → w ≡ walk_from_place (as_built ac) (asked_by haystack (bounds_of c)) (place_at c) → GivesPick w r v → IsOnItsWay v → IsPlaceIn v.asked (place_of v) → Goes c (place_of v) d
-    → (rest : List Occurrence) × IsFirst (left_at ac haystack c) r rest × IsCursorAfter ac haystack c d rest
+    → w ≡ walk_from_place (as_built ac) (asked_by haystack (bounds_of c)) (place_of_cursor c) → GivesPick w r v → IsOnItsWay v → IsPlaceIn v.asked (place_of v) → Goes c (place_of v) d
+    → (rest : List Occurrence) × IsFirstLeft (left_of_walk ac haystack c) r rest × IsCursorAfter ac haystack c d rest
 cursor-step ac haystack c d w v r fits valid e gives way within goes =
     let same = after-same w r v gives.1 in (
       left_of v,
-      subst (λ (z : Walk). IsFirst (left_of z) r (left_of v)) e (pick-yields w v r way.within.1 gives.0 gives.1),
+      subst (λ (z : Walk). IsFirstLeft (left_of z) r (left_of v)) e (pick-yields w v r way.within.1 gives.0 gives.1),
       cursor-after ac haystack c d v fits valid.0.1 (same.0 ∙ ap (λ (z : Walk). z.built) e) (same.1 ∙ ap (λ (z : Walk). z.asked) e) within goes,
     )
 
 -- several steps from a cursor, into a buffer
-pub cursor-some : (ac : AhoCorasick) (haystack : List ℕ) (c d : Cursor) (w v : Walk) (old new : List Found) (n : ℕ) → length haystack < 2 ^ 63 → IsCursorIn haystack c
-    → w ≡ walk_from_place (as_built ac) (asked_by haystack (bounds_of c)) (place_at c)
-    → n ≡ min (length old) (length (left_of w)) → take n new ≡ map shown (take n (left_of w)) → left_of v ≡ drop n (left_of w) → v.built ≡ w.built → v.asked ≡ w.asked
-    → IsPlaceIn v.asked (place_of v) → Goes c (place_of v) d
-    → AreGiven (left_at ac haystack c) old new n × IsCursorAfter ac haystack c d (drop n (left_at ac haystack c))
-cursor-some ac haystack c d w v old new n fits valid e count given rest built asked within goes =
-    let all : left_of w ≡ left_at ac haystack c = ap left_of e in (
-      record { count = count ∙ ap (λ (os : List Occurrence). min (length old) (length os)) all; given = given ∙ ap (λ (os : List Occurrence). map shown (take n os)) all },
-      subst (IsCursorAfter ac haystack c d) (rest ∙ ap (drop n) all)
-          (cursor-after ac haystack c d v fits valid.0.1 (built ∙ ap (λ (z : Walk). z.built) e) (asked ∙ ap (λ (z : Walk). z.asked) e) within goes),
+pub cursor-some : (ac : AhoCorasick) (haystack : List ℕ) (c : Cursor) (w : Walk) (old new : List Found) (taken : ℕ × Cursor) → length haystack < 2 ^ 63 → IsCursorIn haystack c
+    → w ≡ walk_from_place (as_built ac) (asked_by haystack (bounds_of c)) (place_of_cursor c) → TakesSome w c old new taken
+    → AreGiven (left_of_walk ac haystack c) old new taken.0 × IsCursorAfter ac haystack c taken.1 (drop taken.0 (left_of_walk ac haystack c))
+cursor-some ac haystack c w old new taken fits valid e h =
+    let all : left_of w ≡ left_of_walk ac haystack c = ap left_of e in (
+      subst (λ (os : List Occurrence). AreGiven os old new taken.0) all h.given,
+      subst (IsCursorAfter ac haystack c taken.1) (h.rest ∙ ap (drop taken.0) all)
+          (cursor-after ac haystack c taken.1 h.after fits valid.0.1 (h.built ∙ ap (λ (z : Walk). z.built) e) (h.asked ∙ ap (λ (z : Walk). z.asked) e) h.within h.goes),
     )

@@ -1,8 +1,8 @@
 mod CursorLemmas
-mod HandleAsBox
 mod Lending
-mod StreamAsBox
+mod SlotMoves
+mod SlotSends
+mod SlotSteps
 mod StreamLemmas
-mod TextAsBox
 mod FillLemmas
 mod ListLemmas

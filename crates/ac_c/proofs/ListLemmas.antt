@@ -17,7 +17,7 @@ use Rattle.aho_corasick.specs.declared.ahocorasick.AhoCorasick.{AhoCorasick}
 use Rattle.ac_c.specs.declared.found.Found.{Found}
 use Rattle.ac_c.specs.declared.list.Place.{Place}
 use Rattle.ac_c.specs.Found.{shown}
-use Rattle.ac_c.specs.List.{IsPlaceOf, asked_from, before_of, begins_at, later_of, left_of_listing, place_after, seen}
+use Rattle.ac_c.specs.List.{IsPlaceOver, asked_from, before_of, begins_at, later_of, left_of_listing, place_after, seen}
 use Rattle.ac_c.specs.Walk.{AreGiven}
 use Rattle.ac_input.specs.Listing.{ListsAll}
 use Rattle.ac_input.proofs.ContainsLemmas.{Contains-head, Contains-tail, Contains-cases}
@@ -137,7 +137,7 @@ listing-begins ac haystack p n fits le long =
     listing_after-from s (begins_at p n) (before_of p) fits refl h.0 h.1
 
 -- the answer, in full
-pub listed : (ac : AhoCorasick) (haystack : List ℕ) (p : Place) (input : Asked) (run : Run) (old new : List Found) (longest_is n : ℕ) → IsPlaceOf haystack p → longest_is ≡ longest (patterns_of ac)
+pub listed : (ac : AhoCorasick) (haystack : List ℕ) (p : Place) (input : Asked) (run : Run) (old new : List Found) (longest_is n : ℕ) → IsPlaceOver haystack p → longest_is ≡ longest (patterns_of ac)
     → input ≡ asked_from haystack p (begins_at p longest_is) → rest_of run ≡ listing_in (as_built ac) input
     → n ≡ min (length old) (length (later_of p run)) → take n new ≡ map shown (take n (later_of p run))
     → AreGiven (left_of_listing ac haystack p) old new n × (left_of_listing ac haystack (place_after p new n) ≡ drop n (left_of_listing ac haystack p))

@@ -19,7 +19,7 @@ use Rattle.ac_c.specs.declared.build.Pair.{Pair}
 use Rattle.ac_c.specs.declared.build.Refusal.{Refusal}
 use Rattle.ac_c.specs.declared.build.Settings.{Settings}
 use Rattle.ac_c.specs.Find.{is_set}
-use Rattle.ac_c.specs.Handle.{Held}
+use Rattle.ac_c.specs.Handle.{HeldAutomaton}
 use Rattle.ac_c.specs.Status.{ok, no_memory, bad_kind, bad_start_kind, bad_engine, bad_pairs, build_status}
 use Rattle.ac_c.specs.Walk.{no_place}
 
@@ -38,16 +38,16 @@ build_fault (PatternIDOverflow max requested) = record { count = requested; patt
 build_fault (PatternTooLong pattern len) = record { count = len; pattern = pattern }
 build_fault Memory = no_fault
 
-abbrev pub refusal_of : BuildErrorKind → Refusal
-refusal_of error = record { status = build_status error; fault = build_fault error }
+abbrev pub build_refusal : BuildErrorKind → Refusal
+build_refusal error = record { status = build_status error; fault = build_fault error }
 
 -- ---- how the settings are read
 
 abbrev pub kind_by : ℕ → Option MatchKind
 kind_by n = if n == 0 then Some Standard else (if n == 1 then Some LeftmostFirst else (if n == 2 then Some LeftmostLongest else None))
 
-abbrev pub start_by : ℕ → Option StartKind
-start_by n = if n == 0 then Some Unanchored else (if n == 1 then Some Anchored else (if n == 2 then Some Both else None))
+abbrev pub start_kind_by : ℕ → Option StartKind
+start_kind_by n = if n == 0 then Some Unanchored else (if n == 1 then Some Anchored else (if n == 2 then Some Both else None))
 
 -- one that is named, or none
 abbrev pub engine_by : ℕ → Option (Option AhoCorasickKind)
@@ -61,9 +61,9 @@ abbrev pub pairs_of : List Pair → List (ℕ × ℕ)
 pairs_of pairs = map (λ p. (p.a, p.b)) pairs
 
 -- which bytes match each other: the letters in their two cases, or those of the pairs
-abbrev pub IsPairing : Bool → List Pair → List ℕ → Type 0
-IsPairing true pairs pairing = (pairs ≡ []) × IsFolded true pairing
-IsPairing false pairs pairing = IsDistinct (named (pairs_of pairs)) × ((b : ℕ) → other pairing b ≡ partner (pairs_of pairs) b)
+abbrev pub IsPairingOf : Bool → List Pair → List ℕ → Type 0
+IsPairingOf true pairs pairing = (pairs ≡ []) × IsFolded true pairing
+IsPairingOf false pairs pairing = IsDistinct (named (pairs_of pairs)) × ((b : ℕ) → other pairing b ≡ partner (pairs_of pairs) b)
 
 -- Why there is no pairing: pairs beside folding; or a byte that is named twice; or memory ran out.
 abbrev pub IsPairingRefused : Bool → List Pair → Refusal → Type 0
@@ -71,16 +71,16 @@ IsPairingRefused true pairs refusal = (pairs ≢ []) × (refusal ≡ plain bad_p
 IsPairingRefused false pairs refusal = ((byte : ℕ) × IsFirstTwice (named (pairs_of pairs)) byte × (refusal ≡ record { status = bad_pairs; fault = record { count = 0; pattern = byte } }))
     ⊎ (refusal ≡ plain no_memory)
 
-abbrev pub IsPairedBy : ℕ → List Pair → Result (List ℕ) Refusal → Type 0
-IsPairedBy fold pairs (Ok pairing) = IsPairing (is_set fold) pairs pairing
-IsPairedBy fold pairs (Err refusal) = IsPairingRefused (is_set fold) pairs refusal
+abbrev pub PairsBy : ℕ → List Pair → Result (List ℕ) Refusal → Type 0
+PairsBy fold pairs (Ok pairing) = IsPairingOf (is_set fold) pairs pairing
+PairsBy fold pairs (Err refusal) = IsPairingRefused (is_set fold) pairs refusal
 
 -- the settings of the library that these are
 pub record IsBuilderBy (settings : Settings) (pairs : List Pair) (s : FrontSettings) : Type 0 where
   pub kind : kind_by settings.kind ≡ Some s.match_kind
-  pub start_kind : start_by settings.start_kind ≡ Some s.start_kind
+  pub start_kind : start_kind_by settings.start_kind ≡ Some s.start_kind
   pub engine : engine_by settings.engine ≡ Some s.kind
-  pub pairing : IsPairing (is_set settings.fold) pairs s.pairing
+  pub pairing : IsPairingOf (is_set settings.fold) pairs s.pairing
   pub prefilter : s.prefilter ≡ is_set settings.prefilter
   pub dense_depth : s.dense_depth ≡ depth_by settings.dense_depth
   pub byte_classes : s.byte_classes ≡ is_set settings.byte_classes
@@ -89,7 +89,7 @@ pub record IsBuilderBy (settings : Settings) (pairs : List Pair) (s : FrontSetti
 -- the first number that names nothing
 abbrev pub bad_number : Settings → Option ℕ
 bad_number s =
-    elim (kind_by s.kind) [ None ↦ Some bad_kind | Some kind ↦ elim (start_by s.start_kind) [ None ↦ Some bad_start_kind | Some start ↦ elim (engine_by s.engine) [ None ↦ Some bad_engine | Some engine ↦ None ] ] ]
+    elim (kind_by s.kind) [ None ↦ Some bad_kind | Some kind ↦ elim (start_kind_by s.start_kind) [ None ↦ Some bad_start_kind | Some start ↦ elim (engine_by s.engine) [ None ↦ Some bad_engine | Some engine ↦ None ] ] ]
 
 -- why the settings are none
 abbrev pub AreRefused : Settings → List Pair → Refusal → Type 0
@@ -100,7 +100,7 @@ AnswersBuilder settings pairs (Ok s) = IsBuilderBy settings pairs s
 AnswersBuilder settings pairs (Err refusal) = AreRefused settings pairs refusal
 
 -- those of a builder at first
-pub record AreFirst (s : Settings) : Type 0 where
+pub record AreDefaults (s : Settings) : Type 0 where
   pub kind : s.kind ≡ 0
   pub start_kind : s.start_kind ≡ 0
   pub engine : s.engine ≡ 0
@@ -121,17 +121,17 @@ pub record IsBuiltAs (s : FrontSettings) (ps : List (List ℕ)) (ac : AhoCorasic
   pub served : IsFrontBuilt s ps ac
 
 -- the automaton, by C's settings; or why there is none: the settings, or what the library's build says
-abbrev pub IsBuiltBy : List (List ℕ) → Settings → List Pair → Result AhoCorasick Refusal → Type 0
-IsBuiltBy patterns settings pairs (Ok ac) = (s : FrontSettings) × IsBuilderBy settings pairs s × IsBuiltAs s patterns ac
-IsBuiltBy patterns settings pairs (Err refusal) = AreRefused settings pairs refusal
-    ⊎ ((s : FrontSettings) × IsBuilderBy settings pairs s × (error : BuildErrorKind) × IsFrontBuildRefused s patterns error × (refusal ≡ refusal_of error))
+abbrev pub IsBuiltFrom : List (List ℕ) → Settings → List Pair → Result AhoCorasick Refusal → Type 0
+IsBuiltFrom patterns settings pairs (Ok ac) = (s : FrontSettings) × IsBuilderBy settings pairs s × IsBuiltAs s patterns ac
+IsBuiltFrom patterns settings pairs (Err refusal) = AreRefused settings pairs refusal
+    ⊎ ((s : FrontSettings) × IsBuilderBy settings pairs s × (error : BuildErrorKind) × IsFrontBuildRefused s patterns error × (refusal ≡ build_refusal error))
 
 -- in a handle, with the status and the fault; or the handle is unchanged
-abbrev pub AnswersBuild : List (List ℕ) → Settings → List Pair → Held → Held → Fault → ℕ → Type 0
+abbrev pub AnswersBuild : List (List ℕ) → Settings → List Pair → HeldAutomaton → HeldAutomaton → Fault → ℕ → Type 0
 AnswersBuild patterns settings pairs old new fault status =
-    ((ac : AhoCorasick) × IsBuiltBy patterns settings pairs (Ok ac) × (new ≡ Some ac) × (status ≡ ok) × (fault ≡ no_fault))
-    ⊎ (IsBuiltBy patterns settings pairs (Err (record { status = status; fault = fault })) × (new ≡ old))
+    ((ac : AhoCorasick) × IsBuiltFrom patterns settings pairs (Ok ac) × (new ≡ Some ac) × (status ≡ ok) × (fault ≡ no_fault))
+    ⊎ (IsBuiltFrom patterns settings pairs (Err (record { status = status; fault = fault })) × (new ≡ old))
 
 -- another handle of the same automaton; or memory ran out, and it is unchanged
-abbrev pub IsShared : AhoCorasick → Held → Held → ℕ → Type 0
+abbrev pub IsShared : AhoCorasick → HeldAutomaton → HeldAutomaton → ℕ → Type 0
 IsShared ac old new status = ((copy : AhoCorasick) × MeansSame ac copy × (new ≡ Some copy) × (status ≡ ok)) ⊎ ((status ≡ no_memory) × (new ≡ old))

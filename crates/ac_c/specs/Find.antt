@@ -49,5 +49,5 @@ answer_of (Ok (Some o)) = record { found = shown o; status = ok }
 answer_of (Ok None) = record { found = nothing; status = none }
 answer_of (Err status) = record { found = nothing; status = status }
 
-abbrev pub AnswersFind : AhoCorasick → List ℕ → Bounds → Answer → Type 0
-AnswersFind ac haystack b answer = (r : Result (Option Occurrence) ℕ) × IsFoundBy ac haystack b r × (answer ≡ answer_of r)
+abbrev pub AnswersFindIn : AhoCorasick → List ℕ → Bounds → Answer → Type 0
+AnswersFindIn ac haystack b answer = (r : Result (Option Occurrence) ℕ) × IsFoundBy ac haystack b r × (answer ≡ answer_of r)

@@ -5,7 +5,10 @@ pub mod Handle
 pub mod Lent
 pub mod List
 pub mod Replace
+pub mod Replacer
+pub mod Replacing
 pub mod Searching
+pub mod Slot
 pub mod Status
 pub mod Stream
 pub mod Tell

@@ -37,8 +37,8 @@ abbrev pub asked_from : List ℕ → Place → ℕ → Asked
 asked_from haystack p from = asked_by haystack (bounds_from p from)
 
 -- a place of a listing over the haystack: its span is one of the haystack
-abbrev pub IsPlaceOf : List ℕ → Place → Type 0
-IsPlaceOf haystack p = IsSpanIn haystack (bounds_from p p.start)
+abbrev pub IsPlaceOver : List ℕ → Place → Type 0
+IsPlaceOver haystack p = IsSpanIn haystack (bounds_from p p.start)
 
 -- From where on the haystack is searched: the longest pattern before the end of the last occurrence.
 abbrev pub begins_at : Place → ℕ → ℕ
@@ -59,13 +59,13 @@ place_after p out (suc n) = elim (slice_get out n) [ None ↦ p | Some f ↦ rec
 
 -- why a listing doesn't go on: the place is none of the haystack, or the automaton lists no occurrences
 abbrev pub IsRefusedListing : AhoCorasick → List ℕ → Place → ℕ → Type 0
-IsRefusedListing ac haystack p status = ((status ≡ bad_cursor) × ¬ IsPlaceOf haystack p)
-    ⊎ (IsPlaceOf haystack p × (error : MatchErrorKind) × IsOverlappingRefusal (as_built ac) (supported_by ac) (asked_from haystack p p.start) error × (status ≡ refusal_status error))
+IsRefusedListing ac haystack p status = ((status ≡ bad_cursor) × ¬ IsPlaceOver haystack p)
+    ⊎ (IsPlaceOver haystack p × (error : MatchErrorKind) × IsOverlappingRefusal (as_built ac) (supported_by ac) (asked_from haystack p p.start) error × (status ≡ refusal_status error))
 
 -- the next occurrences of a listing, and where they leave it; or why it doesn't go on, and the buffer is unchanged
 abbrev pub IsListedBy : AhoCorasick → List ℕ → Place → List Found → List Found → Result ℕ ℕ → Type 0
 IsListedBy ac haystack p old new (Ok count) =
-    IsPlaceOf haystack p × CanOverlap (as_built ac) (supported_by ac) (asked_from haystack p p.start) × AreGiven (left_of_listing ac haystack p) old new count
+    IsPlaceOver haystack p × CanOverlap (as_built ac) (supported_by ac) (asked_from haystack p p.start) × AreGiven (left_of_listing ac haystack p) old new count
     × (left_of_listing ac haystack (place_after p new count) ≡ drop count (left_of_listing ac haystack p))
 IsListedBy ac haystack p old new (Err status) = IsRefusedListing ac haystack p status × (new ≡ old)
 

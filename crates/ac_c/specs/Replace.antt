@@ -9,7 +9,7 @@ use Rattle.aho_corasick.specs.AhoCorasick.{as_built, supported_by, pattern_count
 use Rattle.aho_corasick.specs.declared.ahocorasick.AhoCorasick.{AhoCorasick}
 use Rattle.ac_c.specs.declared.replace.Length.{Length}
 use Rattle.ac_c.specs.Status.{ok, no_memory, too_short, wrong_count, refusal_status}
-use Rattle.ac_c.specs.Text.{Held}
+use Rattle.ac_c.specs.Text.{HeldText}
 
 -- the haystack with each match replaced by the replacement of its pattern
 abbrev pub text_by : AhoCorasick → List ℕ → List (Bor (List ℕ)) → List ℕ
@@ -40,7 +40,7 @@ AnswersInto ac haystack replacements old new made =
     ⊎ (IsReplaceRefused ac replacements made.status × (made.len ≡ 0) × (new ≡ old))
 
 -- Into memory of the library's: a text that holds it; or there is none, and the one that was there stays.
-abbrev pub AnswersText : AhoCorasick → List ℕ → List (Bor (List ℕ)) → Held → Held → ℕ → Type 0
+abbrev pub AnswersText : AhoCorasick → List ℕ → List (Bor (List ℕ)) → HeldText → HeldText → ℕ → Type 0
 AnswersText ac haystack replacements old new status =
     (IsReplaced ac replacements × (status ≡ ok) × ((text : Vec ℕ) × (text.items ≡ text_by ac haystack replacements) × (new ≡ Some (record { bytes = text }))))
     ⊎ (IsReplaceRefused ac replacements status × (new ≡ old))

@@ -50,6 +50,9 @@ finished = 22
 abbrev pub too_many_bytes : ℕ
 too_many_bytes = 23
 
+abbrev pub no_replacer : ℕ
+no_replacer = 24
+
 -- the status of a search that the automaton doesn't have
 abbrev pub refusal_status : MatchErrorKind → ℕ
 refusal_status InvalidInputAnchored = 12

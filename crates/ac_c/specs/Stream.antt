@@ -1,14 +1,9 @@
--- What a handle owns: the box of its search of pieces, if it has one; and what the calls for it answer.
-use base.Fml.{Fml, feq}
+-- What a handle of a search of pieces holds, and what the calls for it answer.
 use base.Stored.{Coded}
-use denote.RawPtr.{Ptr, null_ptr}
 use Rattle.std.specs.Prelude.{◌≡◌, ◌⊎◌, ℕ, List}
-use Rattle.std.specs.Box.Ownership.{box_owns}
-use Rattle.std.specs.Global.{Global}
 use Rattle.std.specs.declared.option.Option.{Option}
 use Rattle.std.specs.declared.option.Option.TheVariants.{None, Some}
 use Rattle.std.specs.Coded.{coded_option}
-use Rattle.std_heap.specs.contracts.GlobalAllocator.TheImpl.{ghosts}
 use Rattle.ac_automaton.specs.Stream.{CanStreamAnyKind}
 use Rattle.aho_corasick.specs.AhoCorasick.{as_built, supported_by}
 use Rattle.aho_corasick.specs.declared.ahocorasick.AhoCorasick.{AhoCorasick}
@@ -21,19 +16,14 @@ use Rattle.ac_c.specs.Searching.{IsGiven, IsPushed, IsRefusedSearch, begun_by, f
 use Rattle.ac_c.specs.Status.{ok, no_stream}
 
 -- a search of pieces, or none
-abbrev pub Held : Type 0
-Held = Option the_row.Denot
+abbrev pub HeldStream : Type 0
+HeldStream = Option the_row.Denot
 
--- at null there is none; elsewhere what a box of it owns
-abbrev pub held_owns : Global → Ptr → Held → Fml
-held_owns alloc at None = feq Ptr at null_ptr
-held_owns alloc at (Some x) = box_owns (ghosts.dealloc_token alloc) the_row at x
-
-abbrev pub held_coded : Coded Held
-held_coded = coded_option the_row.coded
+abbrev pub stream_coded : Coded HeldStream
+stream_coded = coded_option the_row.coded
 
 -- a search that was passed nothing yet; or why there is none, and the handle is unchanged
-abbrev pub AnswersStream : AhoCorasick → Held → Held → ℕ → Type 0
+abbrev pub AnswersStream : AhoCorasick → HeldStream → HeldStream → ℕ → Type 0
 AnswersStream ac old new status = (CanStreamAnyKind (as_built ac) (supported_by ac) × (new ≡ Some (begun_by ac)) × (status ≡ ok)) ⊎ (IsRefusedSearch ac status × (new ≡ old))
 
 -- where there is no search
@@ -41,25 +31,25 @@ abbrev pub counts_none : Count
 counts_none = record { count = 0; status = no_stream }
 
 -- the first bytes of a piece were taken, or why not; or there is no search
-abbrev pub AnswersPush : List ℕ → Held → Held → Count → Type 0
+abbrev pub AnswersPush : List ℕ → HeldStream → HeldStream → Count → Type 0
 AnswersPush piece None new taken = (new ≡ None) × (taken ≡ counts_none)
 AnswersPush piece (Some s) new taken = (t : Searching) × (new ≡ Some t) × IsPushed s piece t taken
 
 -- the next matches; or there is no search, and the buffer is unchanged
-abbrev pub AnswersNext : Held → Held → List Found → List Found → Count → Type 0
+abbrev pub AnswersNext : HeldStream → HeldStream → List Found → List Found → Count → Type 0
 AnswersNext None new before after given = (new ≡ None) × (after ≡ before) × (given ≡ counts_none)
 AnswersNext (Some s) new before after given = (t : Searching) × (new ≡ Some t) × IsGiven s t before after given
 
 -- where the held bytes stand; or there is no search
-abbrev pub view_by : Held → View
+abbrev pub view_by : HeldStream → View
 view_by None = record { len = 0; from = 0; cut = 0; status = no_stream }
 view_by (Some s) = view_of s
 
 -- what the search is once it was told that no more pieces come, and the status
-abbrev pub finish_by : Held → Held
+abbrev pub finish_by : HeldStream → HeldStream
 finish_by None = None
 finish_by (Some s) = Some (finished_by s)
 
-abbrev pub finish_status : Held → ℕ
+abbrev pub finish_status : HeldStream → ℕ
 finish_status None = no_stream
 finish_status (Some s) = ok

@@ -31,7 +31,7 @@ engine_number ContiguousNFA = 2
 engine_number DFA = 3
 
 -- what an automaton was built of and as; of the memory nothing is claimed
-pub record Tells (ac : AhoCorasick) (about : About) : Type 0 where
+pub record TellsAbout (ac : AhoCorasick) (about : About) : Type 0 where
   pub patterns : about.patterns ≡ pattern_count ac
   pub shortest : about.shortest ≡ shortest (patterns_of ac)
   pub longest : about.longest ≡ longest (patterns_of ac)

@@ -1,7 +1,7 @@
 -- What a walk answers, from a cursor that C keeps.
 use Rattle.std.specs.Prelude.{◌≡◌, ◌⊎◌, ℕ, ◌==◌, ◌<◌, ◌≤◌, ◌^◌, ◌-◌, ◌&&◌, nat_lt, if◌then◌else◌, min, List, [], ◌∷◌, length, map, take, drop, Option, Some, None, IfSome, MatchOption, Result, Ok, Err}
 use Rattle.ac_input.specs.Occurrence.{Occurrence}
-use Rattle.ac_automaton.specs.Iter.{left_of, walk_from_place}
+use Rattle.ac_automaton.specs.Iter.{IsPlaceIn, Walk, left_of, place_of, walk_from_place}
 use Rattle.ac_automaton.specs.declared.iter.WalkPlace.{WalkPlace}
 use Rattle.aho_corasick.specs.AhoCorasick.{as_built, supported_by}
 use Rattle.aho_corasick.specs.declared.ahocorasick.AhoCorasick.{AhoCorasick}
@@ -29,8 +29,8 @@ abbrev pub last_of : Cursor → Option ℕ
 last_of c = if c.last == no_place then None else Some c.last
 
 -- the place of the walk
-abbrev pub place_at : Cursor → WalkPlace
-place_at c = record { start = c.start; last = last_of c }
+abbrev pub place_of_cursor : Cursor → WalkPlace
+place_of_cursor c = record { start = c.start; last = last_of c }
 
 -- a cursor that a walk over the haystack has: its span is one of the haystack, and its last match ended before it or at its start
 abbrev pub IsCursorIn : List ℕ → Cursor → Type 0
@@ -41,14 +41,14 @@ abbrev pub Goes : Cursor → WalkPlace → Cursor → Type 0
 Goes c place d = (d ≡ record c { start = place.start; last = d.last }) × (IfSome place.last (λ last. last < no_place) → last_of d ≡ place.last)
 
 -- the matches that are left of the walk
-abbrev pub left_at : AhoCorasick → List ℕ → Cursor → List Occurrence
-left_at ac haystack c = left_of (walk_from_place (as_built ac) (asked_by haystack (bounds_of c)) (place_at c))
+abbrev pub left_of_walk : AhoCorasick → List ℕ → Cursor → List Occurrence
+left_of_walk ac haystack c = left_of (walk_from_place (as_built ac) (asked_by haystack (bounds_of c)) (place_of_cursor c))
 
 -- the second cursor stands further on in the walk of the first, with this left
 pub record IsCursorAfter (ac : AhoCorasick) (haystack : List ℕ) (c d : Cursor) (left : List Occurrence) : Type 0 where
   pub valid : IsCursorIn haystack d
   pub same : d ≡ record c { start = d.start; last = d.last }
-  pub rest : left_at ac haystack d ≡ left
+  pub rest : left_of_walk ac haystack d ≡ left
 
 -- why a walk doesn't go on: the cursor is none of a walk over the haystack, or the automaton has no such search
 abbrev pub IsRefusedWalk : AhoCorasick → List ℕ → Cursor → ℕ → Type 0
@@ -59,12 +59,12 @@ abbrev pub IsWalkBy : AhoCorasick → List ℕ → Cursor → Type 0
 IsWalkBy ac haystack c = IsCursorIn haystack c × supported_by ac (anchoring c.anchored)
 
 -- what is left where this is the next match
-abbrev pub IsFirst : List Occurrence → Option Occurrence → List Occurrence → Type 0
-IsFirst left r rest = MatchOption r ((left ≡ []) × (rest ≡ [])) (λ o. left ≡ o ∷ rest)
+abbrev pub IsFirstLeft : List Occurrence → Option Occurrence → List Occurrence → Type 0
+IsFirstLeft left r rest = MatchOption r ((left ≡ []) × (rest ≡ [])) (λ o. left ≡ o ∷ rest)
 
 -- the next match of a walk, and where that leaves it; or why it doesn't go on
 abbrev pub IsStepBy : AhoCorasick → List ℕ → Cursor → Result (Option Occurrence × Cursor) ℕ → Type 0
-IsStepBy ac haystack c (Ok step) = IsWalkBy ac haystack c × (rest : List Occurrence) × IsFirst (left_at ac haystack c) step.0 rest × IsCursorAfter ac haystack c step.1 rest
+IsStepBy ac haystack c (Ok step) = IsWalkBy ac haystack c × (rest : List Occurrence) × IsFirstLeft (left_of_walk ac haystack c) step.0 rest × IsCursorAfter ac haystack c step.1 rest
 IsStepBy ac haystack c (Err status) = IsRefusedWalk ac haystack c status
 
 -- as C sees it
@@ -81,9 +81,19 @@ pub record AreGiven (left : List Occurrence) (old new : List Found) (n : ℕ) : 
   pub count : n ≡ min (length old) (length left)
   pub given : take n new ≡ map shown (take n left)
 
+-- These are the next matches of a walk that stands at the cursor. Then it stands at the other cursor.
+pub record TakesSome (w : Walk) (c : Cursor) (old new : List Found) (taken : ℕ × Cursor) : Type 0 where
+  pub given : AreGiven (left_of w) old new taken.0
+  pub after : Walk
+  pub rest : left_of after ≡ drop taken.0 (left_of w)
+  pub built : after.built ≡ w.built
+  pub asked : after.asked ≡ w.asked
+  pub within : IsPlaceIn after.asked (place_of after)
+  pub goes : Goes c (place_of after) taken.1
+
 -- the next matches of a walk, and where they leave it; or why it doesn't go on, and the buffer is unchanged
 abbrev pub IsSomeBy : AhoCorasick → List ℕ → Cursor → List Found → List Found → Result (ℕ × Cursor) ℕ → Type 0
-IsSomeBy ac haystack c old new (Ok taken) = IsWalkBy ac haystack c × AreGiven (left_at ac haystack c) old new taken.0 × IsCursorAfter ac haystack c taken.1 (drop taken.0 (left_at ac haystack c))
+IsSomeBy ac haystack c old new (Ok taken) = IsWalkBy ac haystack c × AreGiven (left_of_walk ac haystack c) old new taken.0 × IsCursorAfter ac haystack c taken.1 (drop taken.0 (left_of_walk ac haystack c))
 IsSomeBy ac haystack c old new (Err status) = IsRefusedWalk ac haystack c status × (new ≡ old)
 
 -- the status where so many were given, of so much room

@@ -1,7 +1,7 @@
 //! How C builds an automaton, and shares it.
 ghost use Rattle.std.specs.Prelude.{◌≡◌, Ok, Err, IfOk, IfErr};
 ghost use Rattle.ac_literal.specs.Packed.{bytes_of};
-ghost use Rattle.ac_c.specs.Build.{AnswersBuild, AnswersBuilder, AreFirst, IsBuiltBy, IsPairedBy, IsShared, engine_by, kind_by, no_fault, pairs_of, plain, refusal_of, start_by};
+ghost use Rattle.ac_c.specs.Build.{AnswersBuild, AnswersBuilder, AreDefaults, IsBuiltFrom, PairsBy, IsShared, engine_by, kind_by, no_fault, pairs_of, plain, build_refusal, start_kind_by};
 
 use crate::handle::Handle;
 use crate::status::{
@@ -77,7 +77,7 @@ impl Refusal {
 
     /// What a build says of its error.
     fn of(error: &BuildError) -> Refusal
-        ensures { result ≡ refusal_of error.now }
+        ensures { result ≡ build_refusal error.now }
     {
         match *error.kind() {
             BuildErrorKind::StateIDOverflow { requested_max, .. } => Refusal {
@@ -109,7 +109,7 @@ impl Refusal {
 impl Settings {
     /// Those that a builder has at first.
     pub fn first() -> Settings
-        ensures { AreFirst result }
+        ensures { AreDefaults result }
     {
         Settings {
             kind: 0,
@@ -138,7 +138,7 @@ fn kind_by(kind: u32) -> Option<MatchKind>
 
 /// The start kind of this number.
 fn start_by(kind: u32) -> Option<StartKind>
-    ensures { result ≡ start_by kind }
+    ensures { result ≡ start_kind_by kind }
 {
     match kind {
         0 => Some(StartKind::Unanchored),
@@ -174,7 +174,7 @@ fn pairs_of(alloc: Global, pairs: &[Pair]) -> Result<Vec<(u8, u8)>, AllocError>
 
 /// Which bytes match each other.
 fn pairing_by(alloc: Global, fold: u32, pairs: &[Pair]) -> Result<Pairing, Refusal>
-    ensures { IsPairedBy fold pairs.now result }
+    ensures { PairsBy fold pairs.now result }
 {
     if fold != 0 {
         return if pairs.is_empty() {
@@ -237,7 +237,7 @@ fn built_by(
     settings: &Settings,
     pairs: &[Pair],
 ) -> Result<AhoCorasick, Refusal>
-    ensures { IsBuiltBy (bytes_of patterns.now) settings.now pairs.now result }
+    ensures { IsBuiltFrom (bytes_of patterns.now) settings.now pairs.now result }
 {
     match builder_by(alloc, settings, pairs)?.build(alloc, patterns) {
         Ok(ac) => Ok(ac),
@@ -253,9 +253,9 @@ fn boxed_by(
     pairs: &[Pair],
 ) -> Result<Box<AhoCorasick, Global>, Refusal>
     ensures built { IfOk result
-        (λ ac. IsBuiltBy (bytes_of patterns.now) settings.now pairs.now (Ok ac.value)) }
+        (λ ac. IsBuiltFrom (bytes_of patterns.now) settings.now pairs.now (Ok ac.value)) }
     ensures refused { IfErr result
-        (λ refusal. IsBuiltBy (bytes_of patterns.now) settings.now pairs.now (Err refusal)) }
+        (λ refusal. IsBuiltFrom (bytes_of patterns.now) settings.now pairs.now (Err refusal)) }
 {
     match Box::new(alloc, built_by(alloc, patterns, settings, pairs)?) {
         Ok(ac) => Ok(ac),

@@ -1,6 +1,6 @@
 //! A search for one match.
 ghost use Rattle.std.specs.Prelude.{◌≡◌, MatchOption};
-ghost use Rattle.ac_c.specs.Find.{AnswersFind, IsFoundBy, IsSpanIn, answer_of, asked_by, bounds};
+ghost use Rattle.ac_c.specs.Find.{AnswersFindIn, IsFoundBy, IsSpanIn, answer_of, asked_by, bounds};
 
 use crate::found::Found;
 use crate::status::{BAD_SPAN, NONE, OK, refused};
@@ -90,7 +90,7 @@ pub fn find(
     anchored: u32,
     earliest: u32,
 ) -> Answer
-    ensures { AnswersFind ac.now haystack.now (bounds start end anchored earliest) result }
+    ensures { AnswersFindIn ac.now haystack.now (bounds start end anchored earliest) result }
 {
     let bounds = Bounds {
         start,

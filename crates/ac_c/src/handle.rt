@@ -1,12 +1,11 @@
 //! What C holds of an automaton: a pointer to it, or null.
 ghost use Rattle.std.specs.Prelude.{◌≡◌, Some, None, option_map};
-ghost use Rattle.ac_c.specs.Handle.{Held, held_coded, held_owns};
+ghost use Rattle.ac_c.specs.Handle.{HeldAutomaton, automaton_coded};
 
-use crate::owned::Owned;
+use crate::slot::Slot;
 use aho_corasick::AhoCorasick;
 use std::alloc::Global;
 use std::marker::Model;
-use std::ptr::null_mut;
 
 /// Stands behind the pointer. C never looks at it.
 #[repr(C)]
@@ -20,67 +19,60 @@ pub struct Opaque {
 pub struct Handle {
     at: *mut Opaque,
     alloc: Global,
-    pub ghost value: { Held } by { held_coded },
+    pub ghost value: { HeldAutomaton } by { automaton_coded },
 }
 
 impl Model for Handle {
-    ghost also_owns = { λ h. held_owns h.alloc h.at h.value };
+    ghost use Rattle.aho_corasick.specs.contracts.ahocorasick.AhoCorasick.{the_row};
+    ghost use Rattle.ac_c.specs.Slot.{slot_owns};
+
+    ghost also_owns = { λ h. slot_owns the_row h.alloc h.at h.value };
 }
 
 unsafe impl Send for Handle {}
 
 impl Handle {
-    /// No automaton.
-    pub fn none(alloc: Global) -> Handle
-        ensures { result.value ≡ None }
+    /// Hides what is at the pointer.
+    fn of_slot(slot: Slot<AhoCorasick>) -> Handle
+        ensures { result.value ≡ slot.value }
     {
-        Handle {
-            at: null_mut(),
-            alloc,
-        }
-    }
-
-    /// Hides what was taken apart behind the pointer.
-    pub(crate) fn of_owned(owned: Owned<AhoCorasick, Global>) -> Handle
-        ensures { result.value ≡ Some owned.value }
-    {
-        let Owned { at, alloc } = owned;
+        let Slot { at, alloc } = slot;
         Handle {
             at: at as *mut Opaque,
             alloc,
         }
     }
 
-    /// What is behind the pointer, if it isn't null.
-    pub(crate) fn into_owned(self) -> Option<Owned<AhoCorasick, Global>>
-        ensures { self.value ≡ option_map (λ p. p.value) result }
+    /// What is at the pointer.
+    fn into_slot(self) -> Slot<AhoCorasick>
+        ensures { result.value ≡ self.value }
     {
         let Handle { at, alloc } = self;
-        if at.is_null() {
-            None
-        } else {
-            Some(Owned {
-                at: at as *mut AhoCorasick,
-                alloc,
-            })
+        Slot {
+            at: at as *mut AhoCorasick,
+            alloc,
         }
+    }
+
+    /// No automaton.
+    pub fn none(alloc: Global) -> Handle
+        ensures { result.value ≡ None }
+    {
+        Handle::of_slot(Slot::none(alloc))
     }
 
     /// Puts an automaton behind a pointer.
     pub fn of(automaton: Box<AhoCorasick, Global>) -> Handle
         ensures { result.value ≡ Some automaton.value }
     {
-        Handle::of_owned(Owned::of(automaton))
+        Handle::of_slot(Slot::of(automaton))
     }
 
     /// The automaton, if there is one.
     pub fn into_box(self) -> Option<Box<AhoCorasick, Global>>
         ensures { self.value ≡ option_map (λ b. b.value) result }
     {
-        match self.into_owned() {
-            Some(owned) => Some(owned.into_box()),
-            None => None,
-        }
+        self.into_slot().into_box()
     }
 }
 

@@ -12,15 +12,16 @@ ghost use types.Logic.{sem};
 ghost use Rattle.std.specs.Prelude.{◌≡◌, IfSome, None};
 ghost use Rattle.ac_literal.specs.Packed.{bytes_of};
 ghost use Rattle.ac_automaton.specs.Stream.{IsOnCourse};
-ghost use Rattle.ac_c.specs.Build.{AnswersBuild, AreFirst, IsShared};
-ghost use Rattle.ac_c.specs.Find.{AnswersFind, bounds};
+ghost use Rattle.ac_c.specs.Build.{AnswersBuild, AreDefaults, IsShared};
+ghost use Rattle.ac_c.specs.Find.{AnswersFindIn, bounds};
 ghost use Rattle.ac_c.specs.Lent.{Lent, is_lent, lasting};
 ghost use Rattle.ac_c.specs.List.{AnswersListed, place};
 ghost use Rattle.ac_c.specs.Found.{found};
 ghost use Rattle.ac_c.specs.Replace.{AnswersInto, AnswersText};
+ghost use Rattle.ac_c.specs.Replacer.{AnswersPushOn, AnswersReplacing, AnswersSlice, end_by, end_status};
 ghost use Rattle.ac_c.specs.Stream.{AnswersStream, AnswersNext, AnswersPush, finish_by, finish_status, view_by};
 ghost use Rattle.ac_c.specs.Text.{held_len};
-ghost use Rattle.ac_c.specs.Tell.{AnswersLength, Tells};
+ghost use Rattle.ac_c.specs.Tell.{AnswersLength, TellsAbout};
 ghost use Rattle.ac_c.specs.Walk.{AnswersSome, AnswersStep, cursor};
 
 pub mod build;
@@ -29,9 +30,11 @@ pub mod find;
 pub mod found;
 pub mod handle;
 pub mod list;
-mod owned;
 pub mod replace;
+pub mod replacer;
+pub mod replacing;
 pub mod searching;
+mod slot;
 mod status;
 pub mod stream;
 pub mod tell;
@@ -46,8 +49,9 @@ use found::Found;
 use handle::{Handle, Opaque};
 use list::Listed;
 use replace::Length;
+use replacer::Replacer;
 use searching::{Count, View};
-use status::{NO_STREAM, OK};
+use status::{NO_REPLACER, NO_STREAM, OK};
 use std::alloc::Global;
 use std::mem::replace as put;
 use std::ptr::NonNull;
@@ -59,7 +63,7 @@ use walk::{Batch, Step};
 /// The settings at first.
 #[unsafe(no_mangle)]
 pub extern "C" fn dado_raw_settings_default() -> Settings
-    ensures { AreFirst result }
+    ensures { AreDefaults result }
 {
     Settings::first()
 }
@@ -210,6 +214,75 @@ pub extern "C" fn dado_raw_stream_free(alloc: Global, stream: &mut Stream)
     *stream = Stream::none(alloc);
 }
 
+/// Takes the first bytes of a piece, after all that was passed before.
+#[unsafe(no_mangle)]
+pub extern "C" fn dado_raw_replacer_push(
+    alloc: Global,
+    replacer: &mut Replacer,
+    piece: &[u8],
+) -> Count
+    ensures { AnswersPushOn piece.now replacer.old.value replacer.new.value result }
+{
+    match put(replacer, Replacer::none(alloc)).into_box() {
+        None => Count {
+            count: 0,
+            status: NO_REPLACER,
+        },
+        Some(mut begun) => {
+            let taken = begun.push(piece);
+            *replacer = Replacer::of(begun);
+            taken
+        }
+    }
+}
+
+/// The next slice of the replaced text: its length, and its place, unless it is empty. It lies there until the next push.
+#[unsafe(no_mangle)]
+pub extern "C" fn dado_raw_replacer_next(
+    alloc: Global,
+    replacer: &mut Replacer,
+    replacements: &[&[u8]],
+    at: &mut *const u8,
+) -> Length
+    ensures { AnswersSlice replacements.now replacer.old.value replacer.new.value result }
+{
+    match put(replacer, Replacer::none(alloc)).into_box() {
+        None => Length {
+            len: 0,
+            status: NO_REPLACER,
+        },
+        Some(mut begun) => {
+            let slice = begun.next(replacements, at);
+            *replacer = Replacer::of(begun);
+            slice
+        }
+    }
+}
+
+/// Tells the replacement that no more pieces come.
+#[unsafe(no_mangle)]
+pub extern "C" fn dado_raw_replacer_finish(alloc: Global, replacer: &mut Replacer) -> u32
+    ensures new { replacer.new.value ≡ end_by replacer.old.value }
+    ensures status { result ≡ end_status replacer.old.value }
+{
+    match put(replacer, Replacer::none(alloc)).into_box() {
+        None => NO_REPLACER,
+        Some(mut begun) => {
+            begun.finish();
+            *replacer = Replacer::of(begun);
+            OK
+        }
+    }
+}
+
+/// Frees the replacement, if there is one.
+#[unsafe(no_mangle)]
+pub extern "C" fn dado_raw_replacer_free(alloc: Global, replacer: &mut Replacer)
+    ensures { replacer.new.value ≡ None }
+{
+    *replacer = Replacer::none(alloc);
+}
+
 /// A second owner of an automaton that is lent.
 #[unsafe(no_mangle)]
 pub unsafe extern "C" fn dado_raw_share(at: *const Opaque, alloc: Global, other: &mut Handle) -> u32
@@ -238,6 +311,22 @@ pub unsafe extern "C" fn dado_raw_stream_new(
     stream::begin(&*ac, alloc, stream)
 }
 
+/// A replacement of pieces by an automaton that is lent, which it owns too. What the handle held before is freed once it is made.
+#[unsafe(no_mangle)]
+pub unsafe extern "C" fn dado_raw_replacer_new(
+    at: *const Opaque,
+    alloc: Global,
+    replacer: &mut Replacer,
+) -> u32
+    ghost g: { Lent }
+    requires* lent { sem 𝓛 (is_lent at g) }
+    ensures* lasts { sem 𝓛 (lasting g) }
+    ensures answer { AnswersReplacing g.automaton replacer.old.value replacer.new.value result }
+{
+    let ac = at as *const AhoCorasick;
+    replacer::begin(&*ac, alloc, replacer)
+}
+
 /// The match of a span, if it has one.
 #[unsafe(no_mangle)]
 pub unsafe extern "C" fn dado_raw_find(
@@ -251,7 +340,7 @@ pub unsafe extern "C" fn dado_raw_find(
     ghost g: { Lent }
     requires* lent { sem 𝓛 (is_lent at g) }
     ensures* lasts { sem 𝓛 (lasting g) }
-    ensures answer { AnswersFind g.automaton haystack.now (bounds start end anchored earliest) result }
+    ensures answer { AnswersFindIn g.automaton haystack.now (bounds start end anchored earliest) result }
 {
     let ac = at as *const AhoCorasick;
     find::find(&*ac, haystack, start, end, anchored, earliest)
@@ -388,7 +477,7 @@ pub unsafe extern "C" fn dado_raw_tell(at: *const Opaque) -> About
     ghost g: { Lent }
     requires* lent { sem 𝓛 (is_lent at g) }
     ensures* lasts { sem 𝓛 (lasting g) }
-    ensures answer { Tells g.automaton result }
+    ensures answer { TellsAbout g.automaton result }
 {
     let ac = at as *const AhoCorasick;
     tell::told(&*ac)

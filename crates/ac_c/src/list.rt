@@ -7,7 +7,7 @@ ghost use Rattle.std.specs.Iterator.{YieldsFirst};
 ghost use Rattle.ac_input.specs.Computed.{is_after};
 ghost use Rattle.ac_automaton.specs.OverlappingIter.{rest_of};
 ghost use Rattle.ac_c.specs.Found.{found, shown};
-ghost use Rattle.ac_c.specs.List.{AnswersListed, IsListedBy, IsPlaceOf, asked_from, before_of, begins_at, later_of, listed_of, place, place_after};
+ghost use Rattle.ac_c.specs.List.{AnswersListed, IsListedBy, IsPlaceOver, asked_from, before_of, begins_at, later_of, listed_of, place, place_after};
 
 use crate::find::{Bounds, input_of};
 use crate::found::Found;
@@ -63,8 +63,8 @@ fn begin(place: Place, longest: usize) -> usize
 
 /// The input of the rest of a listing, if its place is one of the haystack.
 fn input_at<'h>(haystack: &'h [u8], place: Place, longest: usize) -> Option<Input<'h>>
-    ensures { MatchOption result (¬ IsPlaceOf haystack.now place)
-        (λ input. IsPlaceOf haystack.now place
+    ensures { MatchOption result (¬ IsPlaceOver haystack.now place)
+        (λ input. IsPlaceOver haystack.now place
         × (input ≡ asked_from haystack.now place (begins_at place longest))) }
 {
     if place.end > haystack.len() || place.start > place.end + 1 {

@@ -4,7 +4,7 @@
 //! that follows can change it, and the bytes that are still undecided. A caller passes on what lies before the cut.
 ghost use Rattle.std.specs.Prelude.{◌≡◌, IfErr, IfOk, Ok, OnOk};
 ghost use Rattle.ac_automaton.specs.Stream.{CanStreamAnyKind, IsAnyKindConfigRefusal, IsOnCourse, held_by};
-ghost use Rattle.aho_corasick.specs.AhoCorasick.{as_built, supported_by};
+ghost use Rattle.aho_corasick.specs.AhoCorasick.{MeansSame, as_built, supported_by};
 ghost use Rattle.ac_c.specs.Searching.{AreNext, IsGiven, IsPushed, IsRefusedSearch, IsSearchOfPieces, begun_by, finished_by, is_finished, view_of};
 
 use crate::found::Found;
@@ -52,16 +52,26 @@ fn configured(ac: &AhoCorasick) -> Result<(), MatchError>
     Ok(())
 }
 
-/// A search of pieces by an automaton, which it shares.
-fn search_by(ac: &AhoCorasick, alloc: Global) -> Result<StreamSearch<AhoCorasick>, u32>
-    ensures { IsSearchOfPieces ac.now result }
+/// Another owner of an automaton that can search pieces.
+pub(crate) fn shared(ac: &AhoCorasick, alloc: Global) -> Result<AhoCorasick, u32>
+    ensures same { IfOk result (MeansSame ac.now) }
+    ensures can { OnOk result (CanStreamAnyKind (as_built ac.now) (supported_by ac.now)) }
+    ensures refused { IfErr result (IsRefusedSearch ac.now) }
 {
     if let Err(error) = configured(ac) {
         return Err(refused(&error));
     }
-    let Ok(shared) = ac.clone(alloc) else {
-        return Err(NO_MEMORY);
-    };
+    match ac.clone(alloc) {
+        Ok(shared) => Ok(shared),
+        Err(_) => Err(NO_MEMORY),
+    }
+}
+
+/// A search of pieces by an automaton, which it shares.
+fn search_by(ac: &AhoCorasick, alloc: Global) -> Result<StreamSearch<AhoCorasick>, u32>
+    ensures { IsSearchOfPieces ac.now result }
+{
+    let shared = shared(ac, alloc)?;
     match StreamSearch::any_kind(shared, alloc) {
         Ok(search) => Ok(search),
         Err(StreamError::Config(error)) => Err(refused(&error)),

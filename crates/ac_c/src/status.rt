@@ -48,6 +48,8 @@ pub const FINISHED: u32 = 22;
 
 pub const TOO_MANY_BYTES: u32 = 23;
 
+pub const NO_REPLACER: u32 = 24;
+
 /// The status of a search that the automaton doesn't have.
 pub fn refused(error: &MatchError) -> u32
     ensures { result ≡ refusal_status error.now }

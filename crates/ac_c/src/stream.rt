@@ -1,14 +1,13 @@
 //! What C holds of a search of pieces: a pointer to it, or null.
 ghost use Rattle.std.specs.Prelude.{◌≡◌, Some, None, option_map};
-ghost use Rattle.ac_c.specs.Stream.{AnswersStream, Held, held_coded, held_owns};
+ghost use Rattle.ac_c.specs.Stream.{AnswersStream, HeldStream, stream_coded};
 
-use crate::owned::Owned;
 use crate::searching::Searching;
+use crate::slot::Slot;
 use crate::status::OK;
 use aho_corasick::AhoCorasick;
 use std::alloc::Global;
 use std::marker::Model;
-use std::ptr::null_mut;
 
 /// Stands behind the pointer. C never looks at it.
 #[repr(C)]
@@ -22,67 +21,60 @@ pub struct OpaqueStream {
 pub struct Stream {
     at: *mut OpaqueStream,
     alloc: Global,
-    pub ghost value: { Held } by { held_coded },
+    pub ghost value: { HeldStream } by { stream_coded },
 }
 
 impl Model for Stream {
-    ghost also_owns = { λ h. held_owns h.alloc h.at h.value };
+    ghost use Rattle.ac_c.specs.contracts.searching.Searching.{the_row};
+    ghost use Rattle.ac_c.specs.Slot.{slot_owns};
+
+    ghost also_owns = { λ h. slot_owns the_row h.alloc h.at h.value };
 }
 
 unsafe impl Send for Stream {}
 
 impl Stream {
-    /// No search.
-    pub fn none(alloc: Global) -> Stream
-        ensures { result.value ≡ None }
+    /// Hides what is at the pointer.
+    fn of_slot(slot: Slot<Searching>) -> Stream
+        ensures { result.value ≡ slot.value }
     {
-        Stream {
-            at: null_mut(),
-            alloc,
-        }
-    }
-
-    /// Hides what was taken apart behind the pointer.
-    pub(crate) fn of_owned(owned: Owned<Searching, Global>) -> Stream
-        ensures { result.value ≡ Some owned.value }
-    {
-        let Owned { at, alloc } = owned;
+        let Slot { at, alloc } = slot;
         Stream {
             at: at as *mut OpaqueStream,
             alloc,
         }
     }
 
-    /// What is behind the pointer, if it isn't null.
-    pub(crate) fn into_owned(self) -> Option<Owned<Searching, Global>>
-        ensures { self.value ≡ option_map (λ p. p.value) result }
+    /// What is at the pointer.
+    fn into_slot(self) -> Slot<Searching>
+        ensures { result.value ≡ self.value }
     {
         let Stream { at, alloc } = self;
-        if at.is_null() {
-            None
-        } else {
-            Some(Owned {
-                at: at as *mut Searching,
-                alloc,
-            })
+        Slot {
+            at: at as *mut Searching,
+            alloc,
         }
     }
 
-    /// Puts a search behind a pointer.
+    /// No search.
+    pub fn none(alloc: Global) -> Stream
+        ensures { result.value ≡ None }
+    {
+        Stream::of_slot(Slot::none(alloc))
+    }
+
+    /// Puts a search of pieces behind a pointer.
     pub fn of(search: Box<Searching, Global>) -> Stream
         ensures { result.value ≡ Some search.value }
     {
-        Stream::of_owned(Owned::of(search))
+        Stream::of_slot(Slot::of(search))
     }
 
     /// The search, if there is one.
     pub fn into_box(self) -> Option<Box<Searching, Global>>
         ensures { self.value ≡ option_map (λ b. b.value) result }
     {
-        match self.into_owned() {
-            Some(owned) => Some(owned.into_box()),
-            None => None,
-        }
+        self.into_slot().into_box()
     }
 }
 

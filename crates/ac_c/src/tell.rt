@@ -1,6 +1,6 @@
 //! What is asked of an automaton without a search.
 ghost use Rattle.std.specs.Prelude.{◌≡◌};
-ghost use Rattle.ac_c.specs.Tell.{AnswersLength, Tells, engine_number, kind_number, start_number};
+ghost use Rattle.ac_c.specs.Tell.{AnswersLength, TellsAbout, engine_number, kind_number, start_number};
 
 use crate::replace::Length;
 use crate::status::{BAD_PATTERN, OK};
@@ -55,7 +55,7 @@ fn engine_number(kind: AhoCorasickKind) -> u32
 
 /// What an automaton was built of and as.
 pub fn told(ac: &AhoCorasick) -> About
-    ensures { Tells ac.now result }
+    ensures { TellsAbout ac.now result }
 {
     About {
         patterns: ac.patterns_len(),

@@ -1,12 +1,11 @@
 //! What C holds of a text: a pointer to it, or null.
 ghost use Rattle.std.specs.Prelude.{◌≡◌, Some, None, option_map};
-ghost use Rattle.ac_c.specs.Text.{Held, held_coded, held_owns};
+ghost use Rattle.ac_c.specs.Text.{HeldText, text_coded};
 
 use crate::bytes::Bytes;
-use crate::owned::Owned;
+use crate::slot::Slot;
 use std::alloc::Global;
 use std::marker::Model;
-use std::ptr::null_mut;
 
 /// Stands behind the pointer. C never looks at it.
 #[repr(C)]
@@ -20,67 +19,60 @@ pub struct OpaqueText {
 pub struct Text {
     at: *mut OpaqueText,
     alloc: Global,
-    pub ghost value: { Held } by { held_coded },
+    pub ghost value: { HeldText } by { text_coded },
 }
 
 impl Model for Text {
-    ghost also_owns = { λ h. held_owns h.alloc h.at h.value };
+    ghost use Rattle.ac_c.specs.contracts.bytes.Bytes.{the_row};
+    ghost use Rattle.ac_c.specs.Slot.{slot_owns};
+
+    ghost also_owns = { λ h. slot_owns the_row h.alloc h.at h.value };
 }
 
 unsafe impl Send for Text {}
 
 impl Text {
-    /// No text.
-    pub fn none(alloc: Global) -> Text
-        ensures { result.value ≡ None }
+    /// Hides what is at the pointer.
+    fn of_slot(slot: Slot<Bytes>) -> Text
+        ensures { result.value ≡ slot.value }
     {
-        Text {
-            at: null_mut(),
-            alloc,
-        }
-    }
-
-    /// Hides what was taken apart behind the pointer.
-    pub(crate) fn of_owned(owned: Owned<Bytes, Global>) -> Text
-        ensures { result.value ≡ Some owned.value }
-    {
-        let Owned { at, alloc } = owned;
+        let Slot { at, alloc } = slot;
         Text {
             at: at as *mut OpaqueText,
             alloc,
         }
     }
 
-    /// What is behind the pointer, if it isn't null.
-    pub(crate) fn into_owned(self) -> Option<Owned<Bytes, Global>>
-        ensures { self.value ≡ option_map (λ p. p.value) result }
+    /// What is at the pointer.
+    fn into_slot(self) -> Slot<Bytes>
+        ensures { result.value ≡ self.value }
     {
         let Text { at, alloc } = self;
-        if at.is_null() {
-            None
-        } else {
-            Some(Owned {
-                at: at as *mut Bytes,
-                alloc,
-            })
+        Slot {
+            at: at as *mut Bytes,
+            alloc,
         }
+    }
+
+    /// No text.
+    pub fn none(alloc: Global) -> Text
+        ensures { result.value ≡ None }
+    {
+        Text::of_slot(Slot::none(alloc))
     }
 
     /// Puts a text behind a pointer.
     pub fn of(text: Box<Bytes, Global>) -> Text
         ensures { result.value ≡ Some text.value }
     {
-        Text::of_owned(Owned::of(text))
+        Text::of_slot(Slot::of(text))
     }
 
     /// The text, if there is one.
     pub fn into_box(self) -> Option<Box<Bytes, Global>>
         ensures { self.value ≡ option_map (λ b. b.value) result }
     {
-        match self.into_owned() {
-            Some(owned) => Some(owned.into_box()),
-            None => None,
-        }
+        self.into_slot().into_box()
     }
 }
 

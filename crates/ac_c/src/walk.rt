@@ -2,13 +2,13 @@
 ghost use Rattle.std.specs.Prelude.{◌≡◌, MatchOption, drop, length, map, min, take};
 ghost use Rattle.ac_automaton.specs.Iter.{IsOnItsWay, left_of};
 ghost use Rattle.ac_c.specs.Found.{shown};
-ghost use Rattle.ac_c.specs.Walk.{AnswersSome, AnswersStep, Goes, IsCursorIn, IsSomeBy, IsStepBy, batch_of, bounds_of, cursor, place_at, step_of};
+ghost use Rattle.ac_c.specs.Walk.{AnswersSome, AnswersStep, Goes, IsCursorIn, IsSomeBy, IsStepBy, TakesSome, batch_of, bounds_of, cursor, place_of_cursor, step_of};
 ghost use Rattle.ac_c.specs.Find.{asked_by};
 
 use crate::find::{Bounds, input_of};
 use crate::found::Found;
 use crate::status::{BAD_CURSOR, NONE, OK, refused};
-use aho_corasick::{AhoCorasick, FindIterAhead, Input, Match, Steps, WalkPlace};
+use aho_corasick::{AhoCorasick, FindIter, FindIterAhead, Input, Match, Steps, WalkPlace};
 
 /// Where a walk stands: what is left of its span, and where its last match ended, or the greatest number for none. A flag is 0 or
 /// else set.
@@ -54,7 +54,7 @@ fn bounds_of(cursor: Cursor) -> Bounds
 
 /// The place of the walk.
 fn place_at(cursor: Cursor) -> WalkPlace
-    ensures { result ≡ place_at cursor }
+    ensures { result ≡ place_of_cursor cursor }
 {
     let last = if cursor.last == usize::MAX {
         None
@@ -111,24 +111,79 @@ fn step_by(
     }
 }
 
+/// What gives the matches of a walk: an iterator that reads ahead, or one that doesn't.
+trait Walking {
+    ghost use Rattle.ac_automaton.specs.Iter.{GivesPick, IsOnItsWay, IsPlaceIn, Walk, place_of};
+
+    /// The walk, where it stands.
+    ghost walk: { Self → Walk };
+
+    /// The next match.
+    fn next_match(&mut self, steps: &mut Steps) -> Option<Match>
+        ensures gives { GivesPick (walk self.old) result (walk self.new) }
+        ensures kept { IsOnItsWay (walk self.new) };
+
+    /// Where the walk stands.
+    fn stands(&self) -> WalkPlace
+        ensures value { result ≡ place_of (walk self.now) }
+        ensures within { IsPlaceIn (walk self.now).asked result };
+}
+
+impl<'a, 'h> Walking for FindIter<'a, 'h> {
+    ghost walk = { λ w. w };
+
+    fn next_match(&mut self, steps: &mut Steps) -> Option<Match> {
+        self.next_counted(steps)
+    }
+
+    fn stands(&self) -> WalkPlace {
+        self.place()
+    }
+}
+
+impl<'a, 'h> Walking for FindIterAhead<'a, 'h> {
+    ghost walk = { λ w. w };
+
+    fn next_match(&mut self, steps: &mut Steps) -> Option<Match> {
+        self.next_counted(steps)
+    }
+
+    fn stands(&self) -> WalkPlace {
+        self.place()
+    }
+}
+
 /// Fills a buffer with the matches that come next; returns how many these are.
-fn fill(matches: &mut FindIterAhead<'_, '_>, out: &mut [Found]) -> usize
-    requires within { IsOnItsWay matches.old }
-    ensures count { result ≡ min (length out.old) (length (left_of matches.old)) }
-    ensures given { take result out.new ≡ map shown (take result (left_of matches.old)) }
-    ensures rest { left_of matches.new ≡ drop result (left_of matches.old) }
-    ensures built { matches.new.built ≡ matches.old.built }
-    ensures asked { matches.new.asked ≡ matches.old.asked }
+fn fill<W: Walking>(matches: &mut W, out: &mut [Found]) -> usize
+    requires within { IsOnItsWay (W.walk matches.old) }
+    ensures count { result ≡ min (length out.old) (length (left_of (W.walk matches.old))) }
+    ensures given { take result out.new ≡ map shown (take result (left_of (W.walk matches.old))) }
+    ensures rest { left_of (W.walk matches.new) ≡ drop result (left_of (W.walk matches.old)) }
+    ensures built { (W.walk matches.new).built ≡ (W.walk matches.old).built }
+    ensures asked { (W.walk matches.new).asked ≡ (W.walk matches.old).asked }
 {
     let mut steps = Steps::new();
     for at in 0..out.len() {
-        match matches.next_counted(&mut steps) {
+        match matches.next_match(&mut steps) {
             Some(found) => out[at] = Found::of(&found),
             None => return at,
         }
     }
     out.len()
 }
+
+/// The next matches of a walk that stands at the cursor, how many these are, and where it stands then.
+fn taken<W: Walking + Drop>(matches: W, cursor: Cursor, out: &mut [Found]) -> (usize, Cursor)
+    requires { IsOnItsWay (W.walk matches) }
+    ensures { TakesSome (W.walk matches) cursor out.old out.new result }
+{
+    let mut matches = matches;
+    let count = fill(&mut matches, out);
+    (count, moved(cursor, matches.stands()))
+}
+
+/// With room for fewer matches nothing is read ahead, since the notes for it would take longer to make than they save.
+const FEW: usize = 16;
 
 /// The next matches, and where the walk stands then.
 fn some_by(
@@ -142,12 +197,15 @@ fn some_by(
     let Some(input) = input_at(haystack, cursor) else {
         return Err(BAD_CURSOR);
     };
+    if out.len() < FEW {
+        return match ac.try_find_iter_from(input, place_at(cursor)) {
+            Err(error) => Err(refused(&error)),
+            Ok(matches) => Ok(taken(matches, cursor, out)),
+        };
+    }
     match ac.try_find_iter_ahead_from(input, place_at(cursor)) {
         Err(error) => Err(refused(&error)),
-        Ok(mut matches) => {
-            let count = fill(&mut matches, out);
-            Ok((count, moved(cursor, matches.place())))
-        }
+        Ok(matches) => Ok(taken(matches, cursor, out)),
     }
 }
 

@@ -10,13 +10,13 @@ use Rattle.ac_input.specs.Best.{IsBest}
 use Rattle.ac_input.specs.Dictionary.{Dictionary, IsEntered, BeginsEntered, whole, IsAlive, IsLive}
 use Rattle.ac_input.specs.Computed.{best_of}
 use Rattle.ac_input.specs.Failure.{IsLeastPlace, IsFailure, IsOwn}
-use Rattle.ac_input.specs.LiveLaws.{IsOwnInverse, shifted_place}
+use Rattle.ac_input.specs.LiveLaws.{IsOwnInverse}
 use Rattle.ac_input.proofs.BestLemmas.{best_of-best, best-unique}
 use Rattle.ac_input.proofs.OrderLemmas.{same_text-length}
 use Rattle.ac_input.proofs.SameLemmas.{same_text-back}
 use Rattle.ac_input.proofs.LiveLemmas.{BeginsEntered-from, occurs-append, occurs-front, entered-begins, best-entered, best-no_later, leftmost-no_later, whole-best_some, alive-front, alive-end, kind_cases}
 use Rattle.ac_input.proofs.ShiftLemmas.{alive-first}
-use Rattle.ac_input.proofs.StateLemmas.{alive-shifted, from_behind}
+use Rattle.ac_input.proofs.StateLemmas.{alive-shifted, from_behind, shifted_place}
 
 -- ---- least places
 

@@ -6,13 +6,13 @@ use Rattle.ac_input.specs.declared.search.MatchKind.TheVariants.{Standard}
 use Rattle.ac_input.specs.declared.search.Anchored.TheVariants.{No, Yes}
 use Rattle.ac_input.specs.Same.{same_text}
 use Rattle.ac_input.specs.Dictionary.{Dictionary, BeginsEntered, IsLive, live_len}
-use Rattle.ac_input.specs.LiveLaws.{IsOwnInverse, canonical, shifted_place}
+use Rattle.ac_input.specs.LiveLaws.{IsOwnInverse, canonical}
 use Rattle.ac_input.specs.Tells.{Tells}
 use Rattle.ac_input.specs.Failure.{IsFailure, IsOwn, AreOwn, IsList, OwnAlone, OwnThen}
-use Rattle.ac_input.specs.States.{LeadsTo, FailsTo, IsLookupPaid}
+use Rattle.ac_input.specs.States.{LeadsTo, FailsTo}
 use Rattle.ac_input.proofs.SameLemmas.{canonical-same_text, same_text-canonical, same_text-back}
 use Rattle.ac_input.proofs.LiveLemmas.{dead-append}
-use Rattle.ac_input.proofs.StateLemmas.{live-one, live-of_live}
+use Rattle.ac_input.proofs.StateLemmas.{live-one, live-of_live, shifted_place}
 use Rattle.ac_input.proofs.AlikeLemmas.{failure-same, canonical-text, canonical-like, begins-same, live-same, list-same}
 use Rattle.ac_input.proofs.FailureLemmas.{begins-live, begins-none, failure-next, failure-one, failure-shorter, live-next, live-next_none, live-first, failure-first, live-first_none}
 use Rattle.ac_input.proofs.TellsLemmas.{tells-live, tells-dead, tells-anchored, tells-anchored_dead}
@@ -243,11 +243,11 @@ leads-empty m anchored text h =
     subst (λ (n : ℕ). IsLive m anchored text (Some n)) e h.1
 
 -- a failure pays for the look at its state
-pub fails-pays : (m : Dictionary) (text failure : List ℕ) (bytes looks : ℕ) → IsOwnInverse m.pairing → FailsTo m text (Some failure) → IsLookupPaid bytes text looks → IsLookupPaid bytes failure (looks + 1)
+pub fails-pays : (m : Dictionary) (text failure : List ℕ) (bytes looks : ℕ) → IsOwnInverse m.pairing → FailsTo m text (Some failure) → (looks + length text ≤ bytes + 1) → ((looks + 1) + length failure ≤ bytes + 1)
 fails-pays m text failure bytes looks inverse h paid = let shorter = (fails-state m text failure inverse h).2 in omega arith
 
 -- at its end a lookup has looked at no more states than it may
-pub leads-paid : (m : Dictionary) (anchored : Bool) (state next : List ℕ) (byte bytes looks : ℕ) → IsLookupPaid bytes state looks → (LeadsTo m anchored (state ++ byte ∷ []) (Some next) → looks + length next ≤ bytes + 2) × (looks + 1 ≤ bytes + 2)
+pub leads-paid : (m : Dictionary) (anchored : Bool) (state next : List ℕ) (byte bytes looks : ℕ) → (looks + length state ≤ bytes + 1) → (LeadsTo m anchored (state ++ byte ∷ []) (Some next) → looks + length next ≤ bytes + 2) × (looks + 1 ≤ bytes + 2)
 leads-paid m anchored state next byte bytes looks paid = (
   λ h.
       let long : length next ≡ length (drop h.0 (state ++ byte ∷ [])) = ap length h.2 ∙ length-map (drop h.0 (state ++ byte ∷ [])) (canonical m.pairing) in

@@ -11,8 +11,8 @@ use Rattle.ac_input.specs.declared.search.Anchored.TheVariants.{No}
 use Rattle.ac_input.specs.Same.{same_text}
 use Rattle.ac_input.specs.Occurrence.{Occurrence, Occurs}
 use Rattle.ac_input.specs.Dictionary.{Dictionary, BeginsEntered, whole, IsAlive, IsLive, live_len}
-use Rattle.ac_input.specs.LiveLaws.{IsOwnInverse, shifted_place}
-use Rattle.ac_input.specs.Opening.{NoneIsShorter, IsOpening, HasNoOpening, OpensNotBefore}
+use Rattle.ac_input.specs.LiveLaws.{IsOwnInverse}
+use Rattle.ac_input.specs.Opening.{NoneIsShorter, IsOpening, HasNoOpening}
 use Rattle.ac_input.specs.States.{LeadsTo}
 use Rattle.ac_input.specs.Tells.{TellsUnanchored, Tells, ending}
 use Rattle.ac_input.proofs.ContainsLemmas.{Contains-head}
@@ -20,7 +20,7 @@ use Rattle.ac_input.proofs.LeadsLemmas.{leads-rest}
 use Rattle.ac_input.proofs.LiveLemmas.{dead-best}
 use Rattle.ac_input.proofs.OrderLemmas.{same_text-length, occurs-end}
 use Rattle.ac_input.proofs.SameLemmas.{same_text-take, same_text-back}
-use Rattle.ac_input.proofs.StateLemmas.{alive-shifted, live-of_live, from_behind}
+use Rattle.ac_input.proofs.StateLemmas.{alive-shifted, live-of_live, from_behind, shifted_place}
 
 -- ---- openings of a text and of its front
 
@@ -51,7 +51,7 @@ opening-front m len text n at some long fits h =
     (omega (arith, before, some), (h.0, h.1, h.2, subst (λ (xs : List ℕ). IsTrue (same_text m.pairing (take len h.1) xs)) part h.3))
 
 -- where nothing opens before a place, the text up to there has no opening
-pub front-opens-not : (m : Dictionary) (len : ℕ) (text : List ℕ) (count n : ℕ) → 0 < len → NoneIsShorter m len → count ≤ length text → n ≤ count → OpensNotBefore m len text count → HasNoOpening m len (take n text)
+pub front-opens-not : (m : Dictionary) (len : ℕ) (text : List ℕ) (count n : ℕ) → 0 < len → NoneIsShorter m len → count ≤ length text → n ≤ count → ((at : ℕ) → at < count → ¬ IsOpening m len text at) → HasNoOpening m len (take n text)
 front-opens-not m len text count n some long fits le none at h =
     let there = opening-front m len text n at some long (omega (arith, fits, le)) h in
     none at (omega (arith, there.0, le)) there.1

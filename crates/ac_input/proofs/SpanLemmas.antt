@@ -6,10 +6,14 @@ use Rattle.ac_input.specs.declared.search.MatchKind.{MatchKind}
 use Rattle.ac_input.specs.Same.{same_text}
 use Rattle.ac_input.specs.Occurrence.{Search, Occurrence, Occurs, starting_at}
 use Rattle.ac_input.specs.Best.{preference, IsLeast, IsBest}
-use Rattle.ac_input.specs.Dictionary.{Dictionary, whole, IsSearchBy}
+use Rattle.ac_input.specs.Dictionary.{Dictionary, whole}
 use Rattle.ac_input.specs.LiveLaws.{shifted, shifted_best}
 use Rattle.ac_input.proofs.OrderLemmas.{occurrence_from_parts, slice_range-length}
 use Rattle.ac_input.proofs.ShiftLemmas.{back_by, shifted-back_by, preference-shifted}
+
+-- the search is for the dictionary's patterns, under its pairing
+abbrev pub IsSearchBy : Dictionary → Search → Type 0
+IsSearchBy m s = (s.patterns ≡ m.patterns) × (s.pairing ≡ m.pairing)
 
 -- a part of a part of a text is a part of the text
 pub slice_range-within : (text : List ℕ) (from to a b : ℕ) → a ≤ b → b ≤ to - from → slice_range (slice_range text from to) a b ≡ slice_range text (from + a) (from + b)

@@ -7,9 +7,14 @@ use Rattle.ac_input.specs.declared.search.MatchKind.TheVariants.{Standard, Leftm
 use Rattle.ac_input.specs.Occurrence.{Occurrence, Occurs}
 use Rattle.ac_input.specs.Best.{IsBest}
 use Rattle.ac_input.specs.Dictionary.{Dictionary, IsEntered, BeginsEntered, whole, IsAlive, IsLive}
-use Rattle.ac_input.specs.LiveLaws.{IsOwnInverse, shifted, shifted_best, shifted_place}
+use Rattle.ac_input.specs.LiveLaws.{IsOwnInverse, shifted, shifted_best}
 use Rattle.ac_input.proofs.LiveLemmas.{occurs-append, occurs-front, entered-begins, best-entered, best-no_later, leftmost-no_later, whole-best_some, alive-front, kind_cases}
 use Rattle.ac_input.proofs.ShiftLemmas.{alive-first, best-shifted, back_by, shifted-back_by}
+
+-- a place, shifted by this many bytes, where there is one
+abbrev pub shifted_place : ℕ → Option ℕ → Option ℕ
+shifted_place bytes None = None
+shifted_place bytes (Some place) = Some (bytes + place)
 
 -- a text has one live prefix, or none
 pub live-one : (m : Dictionary) (anchored : Bool) (text : List ℕ) (r s : Option ℕ) → IsLive m anchored text r → IsLive m anchored text s → r ≡ s

@@ -1,7 +1,7 @@
 -- Laws of the grammar of a rule file in plain text.
 use Rattle.std.proofs.Common.{◌≡◌, ◌≢◌, inl, inr, ℕ, ◌+◌, ◌<◌, List, [], ◌∷◌, ◌++◌, length, Contains, refl, sym, ap, ◌∙◌, subst, length-append, arith}
 use Rattle.std.proofs.lemmas.List.{nil_from_length}
-use Rattle.ac_input.specs.Rules.{AreSidesOf, BeginsWithAll, BeginsWithNoTextRule, BeginsWithTextRule, BeginsWithWritten, FirstBadTextLine, IsTextRule, IsTextRuleFile, IsWrittenAs, Rule}
+use Rattle.ac_input.specs.Rules.{AreSidesOf, BeginsWithAll, BeginsWithNoTextRule, BeginsWithTextRule, BeginsWithWritten, FirstBadTextLine, IsTextRuleFile, IsWrittenAs, Rule}
 use Rattle.ac_input.proofs.RuleOrderLemmas.{Contains-between, Without-from_missing, all-one_until, split_one}
 
 -- ---- one rule
@@ -61,7 +61,7 @@ BeginsWithNoTextRule-from_sides text written line more sides p q r none rule res
     none (subst (λ (s : Rule). (s.0 ≢ []) × ¬ Contains s.1 9) same.0 (begins.4.1, begins.4.2))
 
 -- the line of a rule is not empty
-line_filled : (line : List ℕ) (rule : Rule) → IsTextRule line rule → length line ≢ 0
+line_filled : (line : List ℕ) (rule : Rule) → (AreSidesOf line rule × (rule.0 ≢ []) × ¬ Contains rule.1 9) → length line ≢ 0
 line_filled line rule ((tab, inl e), some, c) none = omega (arith, simp length-append at (ap length e))
 line_filled line rule ((tab, inr e), some, c) none = some (sym e.0 ∙ nil_from_length line none)
 

@@ -14,7 +14,7 @@ use Rattle.ac_input.specs.Best.{preference, IsBest}
 use Rattle.ac_input.specs.Walk.{Repeats, IsPick, Here, Further, IsWalk}
 use Rattle.ac_input.specs.Computed.{walk_after, listing_of}
 use Rattle.ac_input.specs.Work.{shortest}
-use Rattle.ac_input.specs.Unused.{IsUnused, IsAfterUnused, ending_by}
+use Rattle.ac_input.specs.Unused.{IsAfterUnused, ending_by}
 use Rattle.ac_input.proofs.OrderLemmas.{occurs-end, less-not_greater, same_text-length, slice_range-length}
 use Rattle.ac_input.proofs.RisingLemmas.{less_by_end, IsRising-append}
 use Rattle.ac_input.proofs.WalkLemmas.{occurs-earlier, walk_after-walk, walk-computed}
@@ -48,7 +48,7 @@ occurs-some s o inside some occurs =
     omega arith
 
 -- no occurrence covers a place whose byte is unused
-pub unused-uncovered : (s : Search) (o : Occurrence) (at : ℕ) → s.end ≤ length s.haystack → IsUnused s.patterns s.pairing (slice_index s.haystack at) → Occurs s o → o.start ≤ at → at < o.end → ⊥
+pub unused-uncovered : (s : Search) (o : Occurrence) (at : ℕ) → s.end ≤ length s.haystack → ((n : ℕ) (p : List ℕ) (c : ℕ) → slice_get s.patterns n ≡ Some p → Contains p c → ¬ IsTrue (same s.pairing c (slice_index s.haystack at))) → Occurs s o → o.start ≤ at → at < o.end → ⊥
 unused-uncovered s o at inside unused occurs from to =
     let w = occurs.within in
     let p : List ℕ = occurs.same.0 in

@@ -41,10 +41,6 @@ BeginsEntered m (b ∷ bs) = (n : ℕ) × (p : List ℕ) × IsEntered m n p × B
 abbrev pub whole : Dictionary → List ℕ → Bool → Search
 whole m text anchored = record { patterns = m.patterns; pairing = m.pairing; haystack = text; start = 0; end = length text; anchored = anchored }
 
--- the search is for the dictionary's patterns, under its pairing
-abbrev pub IsSearchBy : Dictionary → Search → Type 0
-IsSearchBy m s = (s.patterns ≡ m.patterns) × (s.pairing ≡ m.pairing)
-
 -- What is left of the text from a place on may still grow into the match.
 pub record IsAlive (m : Dictionary) (anchored : Bool) (text : List ℕ) (from : ℕ) : Type 0 where
   pub within : from ≤ length text

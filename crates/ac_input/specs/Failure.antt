@@ -47,7 +47,3 @@ pub record AreOnce (m : Dictionary) (ns : List ℕ) : Type 0 where
   pub known : (n : ℕ) → Contains ns n → n < length m.patterns
   pub once : IsDistinct ns
   pub few : length ns ≤ length m.patterns
-
--- the list of any text has each pattern once
-abbrev pub ListsAreOnce : Type 0
-ListsAreOnce = (m : Dictionary) (text ns : List ℕ) → IsList m text ns → AreOnce m ns

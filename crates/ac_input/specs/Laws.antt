@@ -1,6 +1,5 @@
 -- The laws: what holds of the definitions, whatever the patterns and the text. Most ask that the span lies within the haystack.
 use Rattle.std.specs.Prelude.{◌≡◌, ◌≢◌, ◌↔◌, ℕ, ◌<◌, ◌≤◌, false, List, [], ◌∷◌, ◌++◌, length, Contains, Option, None}
-use Rattle.std.specs.Cmp.{IsTotalOrder}
 use Rattle.std.specs.declared.cmp.Ordering.TheVariants.{Greater}
 use Rattle.ac_input.specs.declared.search.MatchKind.{MatchKind}
 use Rattle.ac_input.specs.Same.{IsUnpaired}
@@ -10,7 +9,7 @@ use Rattle.ac_input.specs.Walk.{IsPick, IsWalk}
 use Rattle.ac_input.specs.Listing.{IsListing}
 use Rattle.ac_input.specs.Text.{replaced_from, listed}
 use Rattle.ac_input.specs.Rules.{FirstBadLine, FirstBadTextLine, IsRuleFile, IsTextRuleFile, Rule}
-use Rattle.ac_input.specs.Computed.{occurrences, best_of, pick_of, walk_after, walk_of, listing_of}
+use Rattle.ac_input.specs.Computed.{best_of, pick_of, walk_after, walk_of}
 
 -- Each begins where the one before it ended or later, and later than that one began; none is empty exactly where the one before it
 -- ended.
@@ -23,17 +22,9 @@ IsApart (p ∷ q ∷ os) = (p.end ≤ q.start) × (p.start < q.start) × (¬ ((q
 abbrev pub IsInside : Search → Type 0
 IsInside s = s.end ≤ length s.haystack
 
--- each kind orders what it chooses from
-abbrev pub PreferenceIsOrder : Type 0
-PreferenceIsOrder = (kind : MatchKind) → IsTotalOrder (preference kind)
-
 -- of two occurrences of one search each kind prefers one
 abbrev pub PreferenceTellsApart : Type 0
 PreferenceTellsApart = (kind : MatchKind) (s : Search) (a b : Occurrence) → IsInside s → Occurs s a → Occurs s b → preference kind a b ≢ Greater → preference kind b a ≢ Greater → a ≡ b
-
--- exactly what occurs is listed
-abbrev pub OccurrencesAreListed : Type 0
-OccurrencesAreListed = (s : Search) (o : Occurrence) → IsInside s → Contains (occurrences s) o ↔ Occurs s o
 
 -- the best is one, and the computed one
 abbrev pub BestIsOne : Type 0
@@ -62,14 +53,6 @@ WalkOccurs = (kind : MatchKind) (s : Search) (at : ℕ) (last : Option ℕ) (os 
 -- an occurrence stands exactly once in a list
 abbrev pub StandsOnce : List Occurrence → Occurrence → Type 0
 StandsOnce os o = (front rest : List Occurrence) × (os ≡ front ++ o ∷ rest) × (¬ Contains front o) × (¬ Contains rest o)
-
--- a search has at most one overlapping listing
-abbrev pub ListingIsOne : Type 0
-ListingIsOne = (s : Search) (xs ys : List Occurrence) → IsListing s xs → IsListing s ys → xs ≡ ys
-
--- the overlapping listing of a search within its haystack is the computed one
-abbrev pub ListingIsComputed : Type 0
-ListingIsComputed = (s : Search) (os : List Occurrence) → IsInside s → IsListing s os ↔ (os ≡ listing_of s)
 
 -- each occurrence stands once in the overlapping listing
 abbrev pub ListingHasEachOnce : Type 0

@@ -1,17 +1,12 @@
 -- The limits of a build: how many patterns and states an automaton may have, and how long a pattern may be.
 use Rattle.std.specs.Prelude.{◌≡◌, ◌≢◌, ◌↔◌, ℕ, ◌+◌, ◌<◌, ◌≤◌, List, [], ◌∷◌, ◌++◌, length, take, map, AllPairs, Contains}
 use Rattle.ac_input.specs.Number.{greatest_number}
-use Rattle.ac_input.specs.declared.search.MatchKind.{MatchKind}
 use Rattle.ac_input.specs.Dictionary.{Dictionary, IsPattern, IsEntered}
 use Rattle.ac_input.specs.LiveLaws.{canonical}
 
 -- the dictionary of the first n patterns
 abbrev pub first_patterns : Dictionary → ℕ → Dictionary
 first_patterns m n = record m { patterns = take n m.patterns }
-
--- a dictionary of no patterns
-abbrev pub without_patterns : MatchKind → List ℕ → Dictionary
-without_patterns kind pairing = record { patterns = []; pairing = pairing; kind = kind }
 
 -- the dictionary with one more pattern
 abbrev pub with_pattern : Dictionary → List ℕ → Dictionary
@@ -62,14 +57,6 @@ pub record IsLimitAt (m : Dictionary) (n : ℕ) (limit : Limit) : Type 0 where
 abbrev pub IsLimitOf : Dictionary → Limit → Type 0
 IsLimitOf m limit = (n : ℕ) × IsLimitAt m n limit
 
--- an automaton has exactly one number of states
-abbrev pub StatesAreOneNumber : Type 0
-StatesAreOneNumber = (m : Dictionary) (a b : ℕ) → HasStates m a → HasStates m b → a ≡ b
-
 -- a pattern with which no limit is passed passes none
 abbrev pub WithinPassesNone : Type 0
 WithinPassesNone = (m : Dictionary) (p : List ℕ) (limit : Limit) → IsWithinLimits (with_pattern m p) → ¬ Passes m p limit
-
--- a dictionary that is within the limits passes none
-abbrev pub WithinHasNoLimit : Type 0
-WithinHasNoLimit = (m : Dictionary) (limit : Limit) → IsWithinLimits m → ¬ IsLimitOf m limit

@@ -22,11 +22,6 @@ abbrev pub shifted_best : ℕ → Option Occurrence → Option Occurrence
 shifted_best bytes None = None
 shifted_best bytes (Some o) = Some (shifted bytes o)
 
--- a place, shifted by this many bytes, where there is one
-abbrev pub shifted_place : ℕ → Option ℕ → Option ℕ
-shifted_place bytes None = None
-shifted_place bytes (Some place) = Some (bytes + place)
-
 -- a dead text stays dead, whatever follows
 abbrev pub DeadStaysDead : Type 0
 DeadStaysDead = (m : Dictionary) (anchored : Bool) (text more : List ℕ) → IsLive m anchored text None → IsLive m anchored (text ++ more) None

@@ -14,7 +14,3 @@ IsOpening m len text at = (n : ℕ) × (p : List ℕ) × IsPattern m n p × IsTr
 -- the text has them at no place
 abbrev pub HasNoOpening : Dictionary → ℕ → List ℕ → Type 0
 HasNoOpening m len text = (at : ℕ) → ¬ IsOpening m len text at
-
--- the text has them at none of the first `count` places
-abbrev pub OpensNotBefore : Dictionary → ℕ → List ℕ → ℕ → Type 0
-OpensNotBefore m len text count = (at : ℕ) → at < count → ¬ IsOpening m len text at

@@ -46,13 +46,9 @@ IsWrittenAs line written = (written ≡ line ++ 13 ∷ []) ⊎ ((written ≡ lin
 abbrev pub AreSidesOf : List ℕ → Rule → Type 0
 AreSidesOf line rule = ¬ Contains rule.0 9 × ((line ≡ rule.0 ++ 9 ∷ rule.1) ⊎ ((line ≡ rule.0) × (rule.1 ≡ [])))
 
--- The line is a rule in plain text: its sides, of which the pattern is not empty and the replacement has no TAB.
-abbrev pub IsTextRule : List ℕ → Rule → Type 0
-IsTextRule line rule = AreSidesOf line rule × (rule.0 ≢ []) × ¬ Contains rule.1 9
-
 -- the text begins with a line that is this rule; the rest follows
 abbrev pub BeginsWithTextRule : List ℕ → Rule → List ℕ → Type 0
-BeginsWithTextRule text rule more = (written line : List ℕ) × BeginsWithWritten text written more × IsWrittenAs line written × IsTextRule line rule
+BeginsWithTextRule text rule more = (written line : List ℕ) × BeginsWithWritten text written more × IsWrittenAs line written × (AreSidesOf line rule × (rule.0 ≢ []) × ¬ Contains rule.1 9)
 
 -- the text begins with no line that is a rule
 abbrev pub BeginsWithNoTextRule : List ℕ → Type 0

@@ -5,7 +5,7 @@
 -- and so on. So an automaton stores for each state its longer ones, its failure, and its list of patterns. Failures are computed
 -- from the shorter states to the longer ones, by the same steps. The lemmas are in LeadsLemmas; an implementation needs no others
 -- for its steps.
-use Rattle.std.specs.Prelude.{◌≡◌, ℕ, ◌+◌, ◌<◌, ◌≤◌, map, Bool, List, length, drop, Option, Some, None}
+use Rattle.std.specs.Prelude.{◌≡◌, ℕ, ◌+◌, ◌<◌, ◌≤◌, map, Bool, List, drop, Option, Some, None}
 use Rattle.ac_input.specs.Dictionary.{Dictionary, IsEntered, Begins, IsLive}
 use Rattle.ac_input.specs.LiveLaws.{canonical}
 use Rattle.ac_input.specs.Failure.{IsLeastPlace, IsFailure}
@@ -20,11 +20,6 @@ LeadsTo m anchored text (Some state) = (from : ℕ) × IsLive m anchored text (S
 abbrev pub FailsTo : Dictionary → List ℕ → Option (List ℕ) → Type 0
 FailsTo m text None = IsFailure m text None
 FailsTo m text (Some state) = (from : ℕ) × IsFailure m text (Some from) × (state ≡ map (canonical m.pairing) (drop from text))
-
--- A lookup began at a state of this many bytes, stands at this one now, and has looked at this many states, this one included: at
--- most one more than the bytes that it gave up on the way.
-abbrev pub IsLookupPaid : ℕ → List ℕ → ℕ → Type 0
-IsLookupPaid bytes state looks = looks + length state ≤ bytes + 1
 
 -- the first of the entered patterns that begin with the text
 abbrev pub IsFirstBegun : Dictionary → List ℕ → ℕ → Type 0

@@ -33,14 +33,7 @@ TellsUnanchored kind m [] [] = IsBest kind (whole m [] false) None
 TellsUnanchored kind m (b ∷ bs) [] = (r : Option Occurrence) → IsBest kind (whole m (before_last (b ∷ bs)) false) r ↔ IsBest kind (whole m (b ∷ bs) false) r
 TellsUnanchored kind m text (n ∷ ns) = IsBest kind (whole m text false) (Some (ending m text n))
 
--- From the anchored start: those entries that are as long as the text are the entered patterns that are the whole of it, by
--- number, each once. Entries of another length come from failure states and do not count.
-abbrev pub TellsAnchored : Dictionary → List ℕ → List ℕ → Type 0
-TellsAnchored m text ns =
-    ListsAll (λ o. Occurs (whole m text true) o × (o.end ≡ length text) × ((p : List ℕ) × IsEntered m o.pattern p))
-    (map (ending m text) (filter (λ n. length (get_or m.patterns n []) == length text) ns))
-
 -- from the start of either anchoring
 abbrev pub Tells : Dictionary → Anchored → List ℕ → List ℕ → Type 0
 Tells m No text ns = TellsUnanchored m.kind m text ns
-Tells m Yes text ns = TellsAnchored m text ns
+Tells m Yes text ns = ListsAll (λ o. Occurs (whole m text true) o × (o.end ≡ length text) × ((p : List ℕ) × IsEntered m o.pattern p)) (map (ending m text) (filter (λ n. length (get_or m.patterns n []) == length text) ns))

@@ -7,13 +7,9 @@ use Rattle.ac_input.specs.Computed.{walk_after, listing_of}
 use Rattle.ac_input.specs.Laws.{IsInside}
 use Rattle.ac_input.specs.Work.{shortest}
 
--- neither the byte nor its partner stands in a pattern
-abbrev pub IsUnused : List (List ℕ) → List ℕ → ℕ → Type 0
-IsUnused patterns pairing byte = (n : ℕ) (p : List ℕ) (c : ℕ) → slice_get patterns n ≡ Some p → Contains p c → ¬ IsTrue (same pairing c byte)
-
 -- the place comes just after an unused byte of the haystack
 abbrev pub IsAfterUnused : Search → ℕ → Type 0
-IsAfterUnused s place = (before : ℕ) × (before + 1 ≡ place) × IsUnused s.patterns s.pairing (slice_index s.haystack before)
+IsAfterUnused s place = (before : ℕ) × (before + 1 ≡ place) × ((n : ℕ) (p : List ℕ) (c : ℕ) → slice_get s.patterns n ≡ Some p → Contains p c → ¬ IsTrue (same s.pairing c (slice_index s.haystack before)))
 
 -- the same search up to another place
 abbrev pub ending_by : Search → ℕ → Search

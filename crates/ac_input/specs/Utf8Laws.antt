@@ -1,8 +1,7 @@
 -- The laws of UTF-8: in a text, what is found of patterns that are texts begins and ends between characters.
-use Rattle.std.specs.Prelude.{◌≡◌, ℕ, ◌+◌, ◌<◌, nat_le, nat_lt, ◌&&◌, if◌then◌else◌, Bool, List, length, IsCharBoundary, Contains}
+use Rattle.std.specs.Prelude.{◌≡◌, ℕ, ◌+◌, ◌<◌, nat_le, nat_lt, ◌&&◌, if◌then◌else◌, List, length, IsCharBoundary, Contains}
 use Rattle.std.specs.Str.{IsUtf8, continuation_len}
 use Rattle.ac_input.specs.Same.{other}
-use Rattle.ac_input.specs.Pairing.{IsFolded}
 use Rattle.ac_input.specs.Occurrence.{Search, Occurrence, Occurs}
 use Rattle.ac_input.specs.Laws.{IsInside}
 
@@ -28,7 +27,3 @@ pub record IsTextSearch (s : Search) : Type 0 where
 -- what is found of texts in a text begins and ends between characters
 abbrev pub TextOccursBetweenChars : Type 0
 TextOccursBetweenChars = (s : Search) (o : Occurrence) → IsTextSearch s → Occurs s o → IsCharBoundary s.haystack o.start × IsCharBoundary s.haystack o.end
-
--- characters are kept where nothing is paired, and where ASCII letters are paired in their two cases
-abbrev pub FoldingKeepsChars : Type 0
-FoldingKeepsChars = (folded : Bool) (pairing : List ℕ) → IsFolded folded pairing → KeepsChars pairing

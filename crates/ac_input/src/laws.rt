@@ -4,11 +4,18 @@
 //! The definitions alone fix the best, the next pick, the walk and the listing of a search, and each can be computed. These
 //! functions do nothing: each states one law as its contract, and checking it proves the law. A caller who needs the law calls the
 //! function, at no cost.
-ghost use Rattle.ac_input.specs.Laws.{PreferenceIsOrder, PreferenceTellsApart, OccurrencesAreListed, BestIsOne, PickIsOne, WalkIsOne, WalkIsApart, WalkLiesWithin, WalkOccurs, ListingIsOne, ListingIsComputed, ListingHasEachOnce, PicksAreListed, ReplacingByItselfChangesNothing, NoRulesChangeNothing, RulesAreOne, BadLineIsOne, TextRulesAreOne, UnpairedSearchAlike};
+ghost use Rattle.ac_input.specs.Laws.{PreferenceTellsApart, BestIsOne, PickIsOne, WalkIsOne, WalkIsApart, WalkLiesWithin, WalkOccurs, ListingHasEachOnce, PicksAreListed, ReplacingByItselfChangesNothing, NoRulesChangeNothing, RulesAreOne, BadLineIsOne, TextRulesAreOne, UnpairedSearchAlike, IsInside};
+ghost use Rattle.std.specs.Prelude.{◌≡◌, ◌↔◌, List, Contains};
+ghost use Rattle.ac_input.specs.Occurrence.{Search, Occurrence, Occurs};
+ghost use Rattle.ac_input.specs.Listing.{IsListing};
+ghost use Rattle.ac_input.specs.Computed.{listing_of, occurrences};
+ghost use Rattle.std.specs.Cmp.{IsTotalOrder};
+ghost use Rattle.ac_input.specs.declared.search.MatchKind.{MatchKind};
+ghost use Rattle.ac_input.specs.Best.{preference};
 
 /// The preference of each kind is a total order.
 pub fn preference_is_order()
-    ensures { PreferenceIsOrder }
+    ensures { (kind : MatchKind) → IsTotalOrder (preference kind) }
 {}
 
 /// Two occurrences of one search of which neither is preferred are the same.
@@ -18,7 +25,7 @@ pub fn preference_tells_apart()
 
 /// The computed list of the occurrences has exactly those that occur.
 pub fn occurrences_are_listed()
-    ensures { OccurrencesAreListed }
+    ensures { (s : Search) (o : Occurrence) → IsInside s → Contains (occurrences s) o ↔ Occurs s o }
 {}
 
 /// A search has one best, which the definition computes.
@@ -53,12 +60,12 @@ pub fn walk_occurs()
 
 /// A search has at most one overlapping listing.
 pub fn listing_is_one()
-    ensures { ListingIsOne }
+    ensures { (s : Search) (xs ys : List Occurrence) → IsListing s xs → IsListing s ys → xs ≡ ys }
 {}
 
 /// A list is the overlapping listing of a search within its haystack exactly where it is the one that is computed.
 pub fn listing_is_computed()
-    ensures { ListingIsComputed }
+    ensures { (s : Search) (os : List Occurrence) → IsInside s → IsListing s os ↔ (os ≡ listing_of s) }
 {}
 
 /// Each occurrence stands once in the overlapping listing.

@@ -6,11 +6,13 @@
 //! These functions do nothing. Each states one law as its contract; a caller who needs the law calls the function, at no cost.
 ghost use Rattle.ac_input.specs.Classes.{AlphabetsAreOneNumber};
 ghost use Rattle.ac_input.specs.Dfa.{DfaSizesAreOneNumber};
-ghost use Rattle.ac_input.specs.Limits.{StatesAreOneNumber, WithinPassesNone, WithinHasNoLimit};
+ghost use Rattle.ac_input.specs.Limits.{WithinPassesNone, HasStates, IsWithinLimits, Limit, IsLimitOf};
+ghost use Rattle.std.specs.Prelude.{◌≡◌, ℕ};
+ghost use Rattle.ac_input.specs.Dictionary.{Dictionary};
 
 /// The patterns, the pairing and the kind determine how many states an automaton has.
 pub fn states_are_one_number()
-    ensures { StatesAreOneNumber }
+    ensures { (m : Dictionary) (a b : ℕ) → HasStates m a → HasStates m b → a ≡ b }
 {}
 
 /// A pattern doesn't pass a limit if the dictionary with it is within them.
@@ -20,7 +22,7 @@ pub fn within_passes_none()
 
 /// A dictionary that is within the limits passes none of them.
 pub fn within_has_no_limit()
-    ensures { WithinHasNoLimit }
+    ensures { (m : Dictionary) (limit : Limit) → IsWithinLimits m → ¬ IsLimitOf m limit }
 {}
 
 /// The patterns, the pairing and the kind determine how many classes of bytes there are.

@@ -5,7 +5,9 @@
 //!
 //! These functions do nothing. Each states one law as its contract; a caller who needs the law calls the function, at no cost.
 ghost use Rattle.ac_input.specs.Classes.{EachLeadsAlike};
-ghost use Rattle.ac_input.specs.Failure.{ListsAreOnce};
+ghost use Rattle.ac_input.specs.Failure.{IsList, AreOnce};
+ghost use Rattle.std.specs.Prelude.{ℕ, List};
+ghost use Rattle.ac_input.specs.Dictionary.{Dictionary};
 
 /// Bytes of one class lead alike, from every state.
 pub fn each_leads_alike()
@@ -14,5 +16,5 @@ pub fn each_leads_alike()
 
 /// The list of a text has each pattern once.
 pub fn lists_are_once()
-    ensures { ListsAreOnce }
+    ensures { (m : Dictionary) (text ns : List ℕ) → IsList m text ns → AreOnce m ns }
 {}

@@ -4,7 +4,9 @@
 //! [`Span::of_text`](crate::search::Span::of_text).
 //!
 //! These functions do nothing. Each states one law as its contract; a caller who needs the law calls the function, at no cost.
-ghost use Rattle.ac_input.specs.Utf8Laws.{TextOccursBetweenChars, FoldingKeepsChars};
+ghost use Rattle.ac_input.specs.Utf8Laws.{TextOccursBetweenChars, KeepsChars};
+ghost use Rattle.std.specs.Prelude.{ℕ, Bool, List};
+ghost use Rattle.ac_input.specs.Pairing.{IsFolded};
 
 /// An occurrence in a text begins and ends between characters, if every pattern is UTF-8 and none is empty.
 ///
@@ -16,5 +18,5 @@ pub fn text_occurs_between_chars()
 
 /// No pairing at all keeps characters, and so does ASCII case folding.
 pub fn folding_keeps_chars()
-    ensures { FoldingKeepsChars }
+    ensures { (folded : Bool) (pairing : List ℕ) → IsFolded folded pairing → KeepsChars pairing }
 {}

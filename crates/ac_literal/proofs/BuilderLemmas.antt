@@ -15,7 +15,7 @@ use Rattle.ac_literal.specs.Packed.{Packed, Building, fresh, is_too_much, added,
 use Rattle.ac_literal.specs.Needles.{is_needle, needle_list, all_ascii, with_byte, AreNeedles, HasFour, AreFew, few_has, few_surely_has}
 use Rattle.ac_literal.specs.Strategy.{AreFull, begins_same, is_start, StandsInSome, AreStarts, AreRareOf, IsPacked}
 use Rattle.ac_literal.specs.RareBytes.{IsRareSoFar}
-use Rattle.ac_literal.specs.Prefilter.{IsStrategyOf, needles_of, MemmemServes, PackedDemand, AreStartBytes, AreRareBytes, StartBytesDemand, IsAdmissible, IsWayOf}
+use Rattle.ac_literal.specs.Prefilter.{IsStrategyOf, needles_of, MemmemServes, AreStartBytes, AreRareBytes, IsAdmissible, IsWayOf, PackedServes, StartBytesServe}
 use Rattle.ac_literal.specs.Builder.{IsMemmemSoFar, IsPackedSoFar, IsCollected, IsBuilder}
 use Rattle.ac_input.specs.Limits.{with_pattern}
 use Rattle.ac_literal.specs.declared.prefilter.needles.Needles.{Needles}
@@ -160,7 +160,7 @@ starts-serve m c needles col is ascii =
     }
 
 -- where start bytes serve, they are found
-pub starts-missed : (m : Dictionary) (c : Builders) → IsCollected m c → ((needles : Needles) → c.start_bytes ≡ few.Some needles → all_ascii needles ≡ false) → ¬ StartBytesDemand m
+pub starts-missed : (m : Dictionary) (c : Builders) → IsCollected m c → ((needles : Needles) → c.start_bytes ≡ few.Some needles → all_ascii needles ≡ false) → ¬ (AreFull m.patterns × StartBytesServe m)
 starts-missed m c col never demand = by c.start_bytes refl
   where
     full : AreFull m.patterns
@@ -246,7 +246,7 @@ module _ (m : Dictionary) (c : Builders) (b : Building) (col : IsCollected m c) 
       nothing_served none = let some = subst (λ (ps : List (List ℕ)). 0 < length ps) none served.some in omega arith
 
   -- where it builds none, packed search doesn't serve
-  pub packed-missed : built b.kind b.patterns ≡ None → ¬ PackedDemand m
+  pub packed-missed : built b.kind b.patterns ≡ None → ¬ (AreFull m.patterns × PackedServes m)
   packed-missed made demand =
       let none : b.patterns ≡ [] = built-none b.kind b.patterns made in
       let taken : b.patterns ≡ (added_all (fresh b.kind) m.patterns).patterns = ap (λ (x : Building). x.patterns) so_far.2 in

@@ -5,7 +5,7 @@ use Rattle.std.specs.List.{Contains}
 use Rattle.std.proofs.lemmas.Bool.{and_parts, false≢true, cases_lt}
 use Rattle.std.proofs.lemmas.Grind.{get_or_default_zero}
 use Rattle.std.proofs.lemmas.Option.{slice_get_within, get_or_from_slice_get}
-use Rattle.memchr.specs.Find.{Nowhere, Passes}
+use Rattle.memchr.specs.Find.{Nowhere, Passes, IsFirst}
 use Rattle.ac_input.specs.declared.search.Span.{Span}
 use Rattle.ac_input.specs.declared.search.candidate.Candidate.{Candidate}
 use Rattle.ac_input.specs.declared.search.candidate.Candidate.TheVariants as candidates
@@ -18,7 +18,7 @@ use Rattle.ac_input.specs.declared.search.Anchored.TheVariants.{No}
 use Rattle.ac_input.specs.Input.{search_of}
 use Rattle.ac_input.specs.Candidate.{HasNoByte, IsScan, IsScanned}
 use Rattle.ac_input.proofs.OrderLemmas.{same_text-length, slice_range-length}
-use Rattle.ac_literal.specs.Needles.{is_needle, needle_list, IsFirstNeedle, covered}
+use Rattle.ac_literal.specs.Needles.{is_needle, needle_list, covered}
 use Rattle.ac_literal.specs.Strategy.{AreFull, StandsInSome, IsNeedleScan}
 use Rattle.ac_literal.specs.declared.prefilter.needles.Needles.{Needles}
 use Rattle.ac_literal.specs.declared.prefilter.needles.Needles.TheVariants.{One, Two, Three}
@@ -108,7 +108,7 @@ module _ (m : Dictionary) (needles : Needles) (haystack : List ℕ) (span : Span
       nowhere k.0 (omega arith) (omega arith) k.3
 
   -- a scan that finds nothing
-  pub scanned_none : AllHold → IsFirstNeedle needles haystack span None → Done 0 (covered span None) 0 before after → IsNeedleScan m needles haystack span before after candidates.None
+  pub scanned_none : AllHold → IsFirst (Passes (is_needle needles) haystack) span.start span.end None → Done 0 (covered span None) 0 before after → IsNeedleScan m needles haystack span before after candidates.None
   scanned_none hold nowhere done =
       record {
         answer = record { candidate = nothing_occurs hold nowhere; none = λ _. refl };
@@ -126,7 +126,7 @@ module _ (m : Dictionary) (needles : Needles) (haystack : List ℕ) (span : Span
       }
 
   -- a scan that finds a place, from which the candidate is at most 254 bytes back
-  pub scanned_some : AllHold → AreKnown → (at start : ℕ) → IsFirstNeedle needles haystack span (Some at) → Done 0 (covered span (Some at)) 0 before after
+  pub scanned_some : AllHold → AreKnown → (at start : ℕ) → IsFirst (Passes (is_needle needles) haystack) span.start span.end (Some at) → Done 0 (covered span (Some at)) 0 before after
       → span.start ≤ start → start ≤ at → at ≤ start + 254 → ((o : Occurrence) → Occurs s o → start ≤ o.start)
       → IsNeedleScan m needles haystack span before after (candidates.PossibleStartOfMatch start)
   scanned_some hold known at start first done low high near no_earlier =

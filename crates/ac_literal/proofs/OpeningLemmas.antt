@@ -8,7 +8,7 @@ use Rattle.std.proofs.lemmas.List.{get_or-drop, get_or-map}
 use Rattle.std.proofs.lemmas.Option.{get_or_from_slice_get, slice_get_within}
 use Rattle.ac_input.specs.declared.search.MatchKind.{MatchKind}
 use Rattle.ac_input.specs.Dictionary.{Dictionary, dictionary_of}
-use Rattle.ac_input.specs.Opening.{NoneIsShorter, IsOpening, OpensNotBefore}
+use Rattle.ac_input.specs.Opening.{NoneIsShorter, IsOpening}
 use Rattle.ac_input.specs.LiveLaws.{IsOwnInverse}
 use Rattle.ac_input.specs.Same.{other, same, same_text}
 use Rattle.ac_literal.specs.declared.openings.Openings.{Openings}
@@ -133,7 +133,7 @@ none-shorter patterns pairing kind len long n p is =
 -- ---- what is passed
 
 -- up to a place before which there is no mark
-pub passed-none : (openings : Openings) (text : List ℕ) (count : ℕ) → ((place : ℕ) → place < count → ¬ MayOpen openings text place) → (m : Dictionary) → AreOpenings m openings → OpensNotBefore m openings.len text count
+pub passed-none : (openings : Openings) (text : List ℕ) (count : ℕ) → ((place : ℕ) → place < count → ¬ MayOpen openings text place) → (m : Dictionary) → AreOpenings m openings → ((at : ℕ) → at < count → ¬ IsOpening m openings.len text at)
 passed-none openings text count none m are at within opens = none at within (are.marks text at opens)
 
 module _ (o : Openings) (text : List ℕ) (from to block marks : ℕ) (next : IsNextMarks o.teddy text from to block marks) (before : (place : ℕ) → place < from → ¬ MayOpen o text place) where

@@ -2,14 +2,14 @@
 use Rattle.std.proofs.Common.{◌≡◌, ℕ, ◌+◌, ◌-◌, ◌<◌, ◌≤◌, max, List, length, IsTrue, Some, subst, inl, inr, arith}
 use Rattle.std.specs.Prelude.{slice_index}
 use Rattle.std.proofs.lemmas.Bool.{cases_lt}
-use Rattle.memchr.specs.Find.{Passes}
+use Rattle.memchr.specs.Find.{Passes, IsFirst}
 use Rattle.ac_input.specs.declared.search.Span.{Span}
 use Rattle.ac_input.specs.Same.{same}
 use Rattle.ac_input.specs.Occurrence.{Occurrence, Occurs}
 use Rattle.ac_input.specs.Dictionary.{Dictionary}
 use Rattle.ac_input.specs.declared.search.Anchored.TheVariants.{No}
 use Rattle.ac_input.specs.Input.{search_of}
-use Rattle.ac_literal.specs.Needles.{is_needle, IsFirstNeedle}
+use Rattle.ac_literal.specs.Needles.{is_needle}
 use Rattle.ac_literal.specs.Strategy.{AreRare, distance_of}
 use Rattle.ac_literal.specs.declared.prefilter.needles.Needles.{Needles}
 use Rattle.ac_literal.proofs.CandidateLemmas.{lies}
@@ -25,7 +25,7 @@ module _ (m : Dictionary) (needles : Needles) (distances : List ℕ) (haystack :
       (o.start + held.at, omega arith, omega arith, held.needle (slice_index haystack (o.start + held.at)) (l.same_at held.at within))
 
   -- where the first needle is stepped back by its distance, no occurrence begins before
-  pub rare_no_earlier : (at start : ℕ) → start ≡ max span.start (at - distance_of distances (slice_index haystack at)) → IsFirstNeedle needles haystack span (Some at) → (o : Occurrence) → Occurs (search_of m No haystack span) o → start ≤ o.start
+  pub rare_no_earlier : (at start : ℕ) → start ≡ max span.start (at - distance_of distances (slice_index haystack at)) → IsFirst (Passes (is_needle needles) haystack) span.start span.end (Some at) → (o : Occurrence) → Occurs (search_of m No haystack span) o → start ≤ o.start
   rare_no_earlier at start is first o h =
       let b = first.0 in
       let w = h.within in

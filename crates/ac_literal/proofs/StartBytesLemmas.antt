@@ -3,7 +3,7 @@ use Rattle.std.proofs.Common.{◌≡◌, ℕ, ◌+◌, ◌<◌, ◌≤◌, ◌�
 use Rattle.std.specs.Prelude.{slice_index}
 use Rattle.std.specs.List.{Contains}
 use Rattle.std.proofs.lemmas.Bool.{cases_lt, false≢true}
-use Rattle.memchr.specs.Find.{Passes}
+use Rattle.memchr.specs.Find.{Passes, IsFirst}
 use Rattle.ac_input.specs.declared.search.Span.{Span}
 use Rattle.ac_input.specs.Same.{same}
 use Rattle.ac_input.specs.Occurrence.{Occurrence, Occurs}
@@ -11,7 +11,7 @@ use Rattle.ac_input.specs.Dictionary.{Dictionary}
 use Rattle.ac_input.specs.declared.search.Anchored.TheVariants.{No}
 use Rattle.ac_input.specs.Input.{search_of}
 use Rattle.ac_input.proofs.ContainsLemmas.{Contains-nil, Contains-head, Contains-tail, Contains-cases}
-use Rattle.ac_literal.specs.Needles.{is_needle, IsFirstNeedle}
+use Rattle.ac_literal.specs.Needles.{is_needle}
 use Rattle.ac_literal.specs.Strategy.{AreStarts, begins_same, is_start, StandsInSome}
 use Rattle.ac_literal.specs.declared.prefilter.needles.Needles.{Needles}
 use Rattle.ac_literal.proofs.CandidateLemmas.{lies}
@@ -77,7 +77,7 @@ module _ (m : Dictionary) (needles : Needles) (haystack : List ℕ) (span : Span
   start_known byte h = start-stands m.pairing m.patterns byte (sym (starts.exact byte) ∙ h)
 
   -- no occurrence begins before the first needle
-  pub start_no_earlier : (at : ℕ) → IsFirstNeedle needles haystack span (Some at) → (o : Occurrence) → Occurs (search_of m No haystack span) o → at ≤ o.start
+  pub start_no_earlier : (at : ℕ) → IsFirst (Passes (is_needle needles) haystack) span.start span.end (Some at) → (o : Occurrence) → Occurs (search_of m No haystack span) o → at ≤ o.start
   start_no_earlier at first o h =
       let b = first.0 in
       let w = h.within in

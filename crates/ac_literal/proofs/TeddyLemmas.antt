@@ -9,7 +9,7 @@ use Rattle.ac_literal.specs.declared.packed.teddy.Probe.{Probe}
 use Rattle.ac_literal.specs.declared.packed.teddy.Teddy.{Teddy}
 use Rattle.ac_literal.specs.Packed.{pattern_at, part_search}
 use Rattle.ac_literal.specs.RabinKarp.{NoneBefore}
-use Rattle.ac_literal.specs.Teddy.{HasBucket, KeepsBuckets, LooksBefore, HasPattern, KeepsPatterns, HasPatterns, IsTeddy, HasMarks, low_at, marked_at}
+use Rattle.ac_literal.specs.Teddy.{HasBucket, KeepsBuckets, LooksBefore, HasPattern, KeepsPatterns, IsTeddy, HasMarks, low_at, marked_at}
 use Rattle.ac_literal.proofs.BucketLemmas.{both-have, left-has, has-some}
 use Rattle.ac_literal.proofs.TextLemmas.{starts-lying, lies-bytes}
 
@@ -45,7 +45,7 @@ near-longer t len more le near = record {
 }
 
 -- the patterns so far, and one more
-pub has-more : (patterns : List (List ℕ)) (count bucket : ℕ) (old new : Teddy) → HasPatterns patterns count old → KeepsPatterns old new → HasPattern new (pattern_at patterns count) bucket → HasPatterns patterns (count + 1) new
+pub has-more : (patterns : List (List ℕ)) (count bucket : ℕ) (old new : Teddy) → ((number : ℕ) → number < count → (bucket : ℕ) × HasPattern old (pattern_at patterns number) bucket) → KeepsPatterns old new → HasPattern new (pattern_at patterns count) bucket → ((number : ℕ) → number < (count + 1) → (bucket : ℕ) × HasPattern new (pattern_at patterns number) bucket)
 has-more patterns count bucket old new so_far keeps own number within = elim (cases_eq number count) [
   | inl here ↦ (bucket, subst (λ k. HasPattern new (pattern_at patterns k) bucket) (sym here) own)
   | inr apart ↦

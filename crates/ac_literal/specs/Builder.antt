@@ -7,9 +7,9 @@ use Rattle.ac_input.specs.Dictionary.{Dictionary}
 use Rattle.ac_input.specs.Limits.{with_pattern}
 use Rattle.ac_literal.specs.Packed.{Building, search_kind, fresh, added_all}
 use Rattle.ac_literal.specs.Needles.{AreFew}
-use Rattle.ac_literal.specs.Strategy.{is_start, AreStarts, AreRareOf}
+use Rattle.ac_literal.specs.Strategy.{is_start, AreStarts, AreRareOf, AreFull}
 use Rattle.ac_literal.specs.RareBytes.{IsRareSoFar}
-use Rattle.ac_literal.specs.Prefilter.{IsStrategyOf, MemmemServes, PackedDemand, StartBytesDemand}
+use Rattle.ac_literal.specs.Prefilter.{IsStrategyOf, MemmemServes, PackedServes, StartBytesServe}
 use Rattle.ac_literal.specs.declared.prefilter.needles.Needles.{Needles}
 use Rattle.ac_literal.specs.declared.prefilter.needles.FewBytes.{FewBytes}
 use Rattle.ac_literal.specs.declared.prefilter.strategy.RareBytes.{RareBytes}
@@ -55,15 +55,11 @@ BuildsWhere asked pairing c made = (m : Dictionary) → m.pairing ≡ pairing �
 
 -- the same of packed search, if the search for one pattern doesn't serve
 abbrev pub BuildsPacked : Builders → Option Strategy → Type 0
-BuildsPacked c made = (m : Dictionary) → ¬ MemmemServes m → IsCollected m c → MatchOption made (¬ PackedDemand m) (IsStrategyOf m)
+BuildsPacked c made = (m : Dictionary) → ¬ MemmemServes m → IsCollected m c → MatchOption made (¬ (AreFull m.patterns × PackedServes m)) (IsStrategyOf m)
 
 -- the bytes that patterns begin with; none only if no scan for them is requested
 abbrev pub BuildsStartBytes : Builders → Option Needles → Type 0
-BuildsStartBytes c made = (m : Dictionary) → IsCollected m c → MatchOption made (¬ StartBytesDemand m) (AreStarts m)
-
--- rare bytes that are right, or none
-abbrev pub BuildsRareBytes : Builders → Option RareBytes → Type 0
-BuildsRareBytes c made = (m : Dictionary) → IsCollected m c → IfSome made (AreRareOf m)
+BuildsStartBytes c made = (m : Dictionary) → IsCollected m c → MatchOption made (¬ (AreFull m.patterns × StartBytesServe m)) (AreStarts m)
 
 -- of two scans that are right one is taken; none only where there are no start bytes
 abbrev pub TakesOne : Option Needles → Option RareBytes → Option Strategy → Type 0

@@ -1,6 +1,6 @@
 -- The first of a few bytes, and what it costs to find it.
 use Rattle.std.specs.Prelude.{◌≡◌, ◌≢◌, ℕ, ◌+◌, ◌-◌, ◌⊎◌, Bool, true, false, ◌==◌, nat_lt, ◌&&◌, ◌||◌, List, [], ◌∷◌, Option, None, Some, MatchOption, IsTrue}
-use Rattle.memchr.specs.Find.{Passes, IsFirst, is_byte, is_byte2, is_byte3}
+use Rattle.memchr.specs.Find.{is_byte, is_byte2, is_byte3}
 use Rattle.ac_input.specs.declared.search.Span.{Span}
 use Rattle.ac_literal.specs.declared.prefilter.needles.Needles.{Needles}
 use Rattle.ac_literal.specs.declared.prefilter.needles.Needles.TheVariants.{One, Two, Three}
@@ -32,10 +32,6 @@ abbrev pub all_ascii : Needles → Bool
 all_ascii (One a) = nat_lt a ascii_limit
 all_ascii (Two a b) = nat_lt a ascii_limit && nat_lt b ascii_limit
 all_ascii (Three a b c) = nat_lt a ascii_limit && nat_lt b ascii_limit && nat_lt c ascii_limit
-
--- the first place of the span that holds a needle
-abbrev pub IsFirstNeedle : Needles → List ℕ → Span → Option ℕ → Type 0
-IsFirstNeedle needles haystack span r = IsFirst (Passes (is_needle needles) haystack) span.start span.end r
 
 -- how many places a scan of the span covered that ended there: up to the place, or to the span's end where there is none
 abbrev pub covered : Span → Option ℕ → ℕ

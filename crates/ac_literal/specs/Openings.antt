@@ -1,8 +1,8 @@
 -- What openings mark: the places at which the first bytes of some pattern stand.
-use Rattle.std.specs.Prelude.{◌≢◌, ℕ, List, drop, take}
+use Rattle.std.specs.Prelude.{◌≢◌, ℕ, List, drop, take, ◌<◌}
 use Rattle.ac_input.specs.declared.search.MatchKind.{MatchKind}
 use Rattle.ac_input.specs.Dictionary.{Dictionary, dictionary_of}
-use Rattle.ac_input.specs.Opening.{NoneIsShorter, IsOpening, OpensNotBefore}
+use Rattle.ac_input.specs.Opening.{NoneIsShorter, IsOpening}
 use Rattle.ac_literal.specs.declared.openings.Openings.{Openings}
 use Rattle.ac_literal.specs.Fingerprints.{IsPrinted}
 use Rattle.ac_literal.specs.Teddy.{marked_at}
@@ -23,4 +23,4 @@ OpenAll patterns pairing openings = (kind : MatchKind) → AreOpenings (dictiona
 
 -- at none of the first so many places a pattern opens
 abbrev pub PassesOpenings : Openings → List ℕ → ℕ → Type 0
-PassesOpenings openings bytes passed = (m : Dictionary) → AreOpenings m openings → OpensNotBefore m openings.len bytes passed
+PassesOpenings openings bytes passed = (m : Dictionary) → AreOpenings m openings → (at : ℕ) → at < passed → ¬ IsOpening m openings.len bytes at

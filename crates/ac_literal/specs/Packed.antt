@@ -8,7 +8,7 @@ use Rattle.ac_literal.specs.declared.packed.api.MatchKind.TheVariants.{LeftmostF
 use Rattle.ac_input.specs.declared.search.Span.{Span}
 use Rattle.ac_input.specs.Occurrence.{Search, Occurrence}
 use Rattle.ac_input.specs.Best.{IsBest}
-use Rattle.ac_input.specs.Computed.{walk_of, walk_after}
+use Rattle.ac_input.specs.Computed.{walk_of}
 
 -- the same kind, under the name that the definitions of a search use
 abbrev pub search_kind : MatchKind → search.MatchKind
@@ -100,14 +100,6 @@ leftmost_first patterns = record { kind = LeftmostFirst; patterns = patterns }
 -- the best match of a packed search in a span
 abbrev pub IsBestIn : Packed → List ℕ → Span → Option Occurrence → Type 0
 IsBestIn packed haystack span found = IsBest (search_kind packed.kind) (in_span packed.patterns haystack span) found
-
--- the best match of a packed search in a whole haystack
-abbrev pub IsBestOf : Packed → List ℕ → Option Occurrence → Type 0
-IsBestOf packed haystack found = IsBest (search_kind packed.kind) (in_whole packed.patterns haystack) found
-
--- the matches of a packed search that don't overlap, from a place on, and all of them
-abbrev pub matches_left : Packed → List ℕ → ℕ → List Occurrence
-matches_left packed haystack at = walk_after (search_kind packed.kind) (in_whole packed.patterns haystack) at None
 
 abbrev pub matches_of : Packed → List ℕ → List Occurrence
 matches_of packed haystack = walk_of (search_kind packed.kind) (in_whole packed.patterns haystack)

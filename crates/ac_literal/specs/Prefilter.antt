@@ -57,11 +57,6 @@ AreRareBytes m bytes =
 abbrev pub StartBytesServe : Dictionary → Type 0
 StartBytesServe m = (bytes : List ℕ) × AreStartBytes m bytes
 
--- Rare bytes serve where no pattern is too long for a distance, and at most three bytes are such that each pattern holds one
--- of them, with what is paired with it among them.
-abbrev pub RareBytesServe : Dictionary → Type 0
-RareBytesServe m = (bytes : List ℕ) × AreRareBytes m bytes
-
 -- Packed search serves the patterns of a leftmost kind, as many as it takes, where nothing is paired.
 abbrev pub PackedServes : Dictionary → Type 0
 PackedServes m = (m.kind ≢ Standard) × IsUnpaired m.pairing × (length m.patterns ≤ most_packed)
@@ -70,21 +65,13 @@ PackedServes m = (m.kind ≢ Standard) × IsUnpaired m.pairing × (length m.patt
 abbrev pub MemmemServes : Dictionary → Type 0
 MemmemServes m = IsUnpaired m.pairing × (length m.patterns ≡ 1)
 
--- patterns, none of them empty, for which packed search serves
-abbrev pub PackedDemand : Dictionary → Type 0
-PackedDemand m = AreFull m.patterns × PackedServes m
-
--- patterns, none of them empty, for which start bytes serve
-abbrev pub StartBytesDemand : Dictionary → Type 0
-StartBytesDemand m = AreFull m.patterns × StartBytesServe m
-
 -- where some prefilter is built, if memory suffices
 abbrev pub IsDemanded : Dictionary → Type 0
-IsDemanded m = PackedDemand m ⊎ StartBytesDemand m
+IsDemanded m = (AreFull m.patterns × PackedServes m) ⊎ (AreFull m.patterns × StartBytesServe m)
 
 -- where one may be built
 abbrev pub IsAdmissible : Dictionary → Type 0
-IsAdmissible m = AreFull m.patterns × (MemmemServes m ⊎ (PackedServes m ⊎ (StartBytesServe m ⊎ RareBytesServe m)))
+IsAdmissible m = AreFull m.patterns × (MemmemServes m ⊎ (PackedServes m ⊎ (StartBytesServe m ⊎ ((bytes : List ℕ) × AreRareBytes m bytes))))
 
 -- Which way is built: one that scans for bytes only where they are start bytes or rare bytes that serve, and one that searches
 -- for whole patterns only where the search for one pattern or packed search serves.

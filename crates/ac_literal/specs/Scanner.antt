@@ -2,11 +2,7 @@
 use Rattle.std.specs.Prelude.{◌≡◌, ℕ, List, [], ◌∷◌, Option, Some, None}
 use Rattle.ac_literal.specs.declared.packed.api.MatchKind.{MatchKind}
 use Rattle.ac_literal.specs.declared.packed.scanner.Scanner.{Scanner}
-use Rattle.ac_input.specs.declared.search.Span.{Span}
-use Rattle.ac_input.specs.Occurrence.{Occurrence}
-use Rattle.ac_input.specs.Best.{IsBest}
-use Rattle.ac_literal.specs.Packed.{search_kind, in_span}
-use Rattle.ac_literal.specs.RabinKarp.{IsTable, IsSameTable, IsMatchBefore}
+use Rattle.ac_literal.specs.RabinKarp.{IsTable, IsSameTable}
 use Rattle.ac_literal.specs.Teddy.{IsTeddy}
 
 -- a needle, where there is one, is the only pattern
@@ -24,13 +20,6 @@ pub record IsScanner (patterns : List (List ℕ)) (scanner : Scanner) : Type 0 w
 pub record IsScannerOf (asked : MatchKind) (patterns : List (List ℕ)) (made : Scanner) : Type 0 where
   pub scanner : IsScanner patterns made
   pub kind : made.table.kind ≡ asked
-
--- the best match of a scanner's kind in a span; where there is no result, nothing starts before a place
-abbrev pub IsScannerAnswer : Scanner → List (List ℕ) → List ℕ → Span → Option Occurrence → Type 0
-IsScannerAnswer scanner patterns haystack span found = IsBest (search_kind scanner.table.kind) (in_span patterns haystack span) found
-
-abbrev pub IsScannerAnswerTo : Scanner → List (List ℕ) → List ℕ → Span → ℕ → Option Occurrence → Type 0
-IsScannerAnswerTo scanner patterns haystack span to found = IsMatchBefore scanner.table.kind patterns haystack span to found
 
 -- the same in other memory
 pub record IsSameScanner (scanner copy : Scanner) : Type 0 where

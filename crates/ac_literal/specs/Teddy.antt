@@ -75,14 +75,10 @@ pub record KeepsPatterns (old new : Teddy) : Type 0 where
   pub third : KeepsBuckets old.third new.third
   pub fourth : KeepsBuckets old.fourth new.fourth
 
--- the first n of some patterns are in buckets
-abbrev pub HasPatterns : List (List ℕ) → ℕ → Teddy → Type 0
-HasPatterns patterns count t = (number : ℕ) → number < count → (bucket : ℕ) × HasPattern t (pattern_at patterns number) bucket
-
 -- all patterns are in buckets, and distinguished by their first bytes
 pub record IsTeddy (patterns : List (List ℕ)) (len : ℕ) (t : Teddy) : Type 0 where
   pub near : LooksBefore len t
-  pub all : HasPatterns patterns (length patterns) t
+  pub all : (number : ℕ) → number < (length patterns) → (bucket : ℕ) × HasPattern t (pattern_at patterns number) bucket
 
 -- the next block that has a mark, of 32 places before the place `to`, and its marks; where there is none, no marks, and the place
 -- from which less than a block is left

@@ -6,17 +6,22 @@ use Rattle.ac_noncontiguous.specs.declared.links.Links.{Links}
 use Rattle.ac_noncontiguous.specs.declared.trie.Trie.{Trie}
 use Rattle.ac_noncontiguous.specs.declared.compiler.numbering.Numbering.{Numbering}
 use Rattle.ac_noncontiguous.specs.declared.nfa.tables.State.{State}
-use Rattle.ac_noncontiguous.specs.Nfa.{nothing_kept, kept_of}
-use Rattle.ac_noncontiguous.specs.Assembly.{IsKeptOf, AreKeptBelow, AreKept}
+use Rattle.ac_noncontiguous.specs.Nfa.{kept_of, matches_len}
+use Rattle.ac_noncontiguous.specs.Assembly.{IsKeptOf, AreKept}
+
+-- what is stored for the first n states
+pub record AreKeptBelow (trie : Trie) (numbering : Numbering) (links : Links) (transitions rows : List ℕ) (to : ℕ) (states : List State) : Type 0 where
+  pub counted : length states ≡ to
+  pub kept : (i : ℕ) → i < to → IsKeptOf trie numbering links i (slice_index transitions i) (slice_index rows i) (kept_of states i)
 
 -- what stood in front of the last entry, and that entry
 entry-kept : (states : List State) (s : State) (k : ℕ) → k < length states → kept_of (states ++ s ∷ []) k ≡ kept_of states k
-entry-kept states s k within = get_or_append_left states (s ∷ []) nothing_kept k within
+entry-kept states s k within = get_or_append_left states (s ∷ []) (record { transitions = 0; matches = 0; matches_len = 0; fail = 0; depth = 0; row = 0 }) k within
 
 entry-last : (states : List State) (s : State) (k : ℕ) → k ≡ length states → kept_of (states ++ s ∷ []) k ≡ s
 entry-last states s k last =
     let e : length states + 0 ≡ k = omega arith in
-    subst (λ (n : ℕ). get_or (states ++ s ∷ []) n nothing_kept ≡ s) e (get_or-append-add states (s ∷ []) 0 nothing_kept)
+    subst (λ (n : ℕ). get_or (states ++ s ∷ []) n (record { transitions = 0; matches = 0; matches_len = 0; fail = 0; depth = 0; row = 0 }) ≡ s) e (get_or-append-add states (s ∷ []) 0 (record { transitions = 0; matches = 0; matches_len = 0; fail = 0; depth = 0; row = 0 }))
 
 -- one state more
 pub kept-more : (trie : Trie) (numbering : Numbering) (links : Links) (transitions rows : List ℕ) (to from row : ℕ) (states : List State) (s : State) → from ≡ slice_index transitions to → row ≡ slice_index rows to → IsKeptOf trie numbering links to from row s → AreKeptBelow trie numbering links transitions rows to states → AreKeptBelow trie numbering links transitions rows (to + 1) (states ++ s ∷ [])

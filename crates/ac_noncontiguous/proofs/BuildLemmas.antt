@@ -6,14 +6,14 @@ use Rattle.std.specs.Borrow.{Bor}
 use Rattle.std.specs.Option.{option_map}
 use Rattle.ac_input.specs.declared.search.MatchKind.{MatchKind}
 use Rattle.ac_input.specs.Dictionary.{Dictionary, dictionary_of, IsPattern}
-use Rattle.ac_input.specs.Limits.{first_patterns, without_patterns, with_pattern, IsWithinLimits, IsLimitAt, PatternLength}
+use Rattle.ac_input.specs.Limits.{first_patterns, with_pattern, IsWithinLimits, IsLimitAt, PatternLength}
 use Rattle.ac_literal.specs.Packed.{bytes_of}
 use Rattle.ac_noncontiguous.specs.declared.error.BuildErrorKind.{BuildErrorKind}
 use Rattle.ac_noncontiguous.specs.declared.error.BuildErrorKind.TheVariants.{StateIDOverflow, PatternIDOverflow, PatternTooLong, Memory}
 use Rattle.ac_noncontiguous.specs.Standing.{IsPatternRefused, IsBuildRefused}
 
 -- no pattern, one more, and all of them
-pub first-none : (m : Dictionary) → first_patterns m 0 ≡ without_patterns m.kind m.pairing
+pub first-none : (m : Dictionary) → first_patterns m 0 ≡ (record { patterns = []; pairing = m.pairing; kind = m.kind })
 first-none m = refl
 
 pub first-more : (m : Dictionary) (n : ℕ) (p : List ℕ) → IsPattern m n p → first_patterns m (n + 1) ≡ with_pattern (first_patterns m n) p

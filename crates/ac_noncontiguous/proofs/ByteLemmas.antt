@@ -14,7 +14,7 @@ use Rattle.ac_noncontiguous.specs.declared.trie.State.{State}
 use Rattle.ac_noncontiguous.specs.declared.trie.Trie.{Trie}
 use Rattle.ac_noncontiguous.specs.Kept.{IsTrieOf}
 use Rattle.ac_noncontiguous.specs.Tree.{parent, byte, depth, text}
-use Rattle.ac_noncontiguous.specs.Layout.{IsStateByte, AreStateEdges, AreClassesOfTrie}
+use Rattle.ac_noncontiguous.specs.Layout.{AreStateEdges, AreClassesOfTrie}
 use Rattle.ac_noncontiguous.proofs.TextLemmas.{push-same, text-child, child-deep}
 use Rattle.ac_noncontiguous.proofs.CountLemmas.{prefix-state}
 use Rattle.ac_noncontiguous.proofs.BridgeLemmas.{Stands}
@@ -107,7 +107,7 @@ byte-state m states ends s n p y entered held =
     (j.0, j.1, j.2, parts.1 ∙ (get_or-map (canonical m.pairing) p k y 0 inside ∙ ap (canonical m.pairing) held.2))
 
 -- so the bytes of the states and their partners are those of the entered patterns and theirs
-pub trie-bytes : (trie : Trie) (m : Dictionary) → IsTrieOf m trie → (x : ℕ) → IsStateByte trie (length trie.states.items) x ↔ IsByteOf m x
+pub trie-bytes : (trie : Trie) (m : Dictionary) → IsTrieOf m trie → (x : ℕ) → ((c : ℕ) × (0 < c) × (c < (length trie.states.items)) × IsTrue (same trie.pairing (byte trie.states.items c) x)) ↔ IsByteOf m x
 trie-bytes trie m t x =
     let states = trie.states.items in
     let s = stands-of trie m t in (

@@ -9,7 +9,14 @@ use Rattle.ac_input.specs.LiveLaws.{canonical}
 use Rattle.ac_noncontiguous.specs.declared.trie.Trie.{Trie}
 use Rattle.ac_noncontiguous.specs.declared.compiler.numbering.Numbering.{Numbering}
 use Rattle.ac_noncontiguous.specs.Numbering.{IsNumbering}
-use Rattle.ac_noncontiguous.specs.Edges.{AreTargets, AreTargetsBelow, missing, IsChildFor, IsEdgeTo}
+use Rattle.ac_noncontiguous.specs.Edges.{AreTargets, missing, IsChildFor, IsEdgeTo}
+use Rattle.std.specs.Prelude.{◌⊎◌}
+
+-- So far for the children of lesser bytes than this one.
+pub record AreTargetsBelow (states : List State) (numbers : List ℕ) (of other from : ℕ) (targets : List ℕ) : Type 0 where
+  pub child : (c : ℕ) → 0 < c → c < length states → parent states c ≡ of → byte states c < from → slice_index targets (byte states c) ≡ slice_index numbers c
+  pub none : (b : ℕ) → b < 256 → ((c : ℕ) → 0 < c → c < length states → parent states c ≡ of → byte states c < from → byte states c ≢ b) → slice_index targets b ≡ other
+  pub cases : (b : ℕ) → b < 256 → (slice_index targets b ≡ other) ⊎ ((c : ℕ) × IsChildFor states of b c × (slice_index targets b ≡ slice_index numbers c))
 
 -- before the first child no byte has one
 pub targets-none : (states : List State) (numbers : List ℕ) (of other : ℕ) (targets : List ℕ) → ((b : ℕ) → b < 256 → slice_index targets b ≡ other) → AreTargetsBelow states numbers of other 0 targets

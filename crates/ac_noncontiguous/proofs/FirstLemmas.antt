@@ -6,10 +6,9 @@ use Rattle.std.proofs.lemmas.Option.{slice_get_within}
 use Rattle.ac_input.specs.Dictionary.{Dictionary, Begins}
 use Rattle.ac_input.specs.LiveLaws.{IsOwnInverse, canonical}
 use Rattle.ac_input.specs.Limits.{with_pattern, canonical_text, IsPrefix}
-use Rattle.ac_input.specs.States.{IsFirstBegun}
+use Rattle.ac_input.specs.States.{IsFirstBegun, BeginsBefore}
 use Rattle.ac_input.proofs.AlikeLemmas.{canonical-text}
 use Rattle.ac_noncontiguous.specs.declared.trie.State.{State}
-use Rattle.ac_noncontiguous.specs.Kept.{AreByFirst}
 use Rattle.ac_noncontiguous.specs.Standing.{HasEntered}
 use Rattle.ac_noncontiguous.specs.Tree.{IsTree, depth, text}
 use Rattle.ac_noncontiguous.proofs.BridgeLemmas.{Stands, text-settled}
@@ -52,7 +51,7 @@ first-new m p old new ends end tree tree_new inverse s g j past within b f =
     (cases_lt b (length m.patterns))
 
 -- so the order stays as one more pattern is entered
-pub ordered-more : (m : Dictionary) (p : List ℕ) (old new : List State) (ends : List (Option ℕ)) (end : Option ℕ) → IsTree old → IsTree new → IsOwnInverse m.pairing → HasEntered m old ends → AreByFirst m old → IsMore m p old new end → AreByFirst (with_pattern m p) new
+pub ordered-more : (m : Dictionary) (p : List ℕ) (old new : List State) (ends : List (Option ℕ)) (end : Option ℕ) → IsTree old → IsTree new → IsOwnInverse m.pairing → HasEntered m old ends → ((i j : ℕ) → i < j → j < length old → depth old i ≡ depth old j → BeginsBefore m (text old i) (text old j)) → IsMore m p old new end → ((i j : ℕ) → i < j → j < length new → depth new i ≡ depth new j → BeginsBefore (with_pattern m p) (text new i) (text new j))
 ordered-more m p old new ends end tree tree_new inverse s before g i j lt within level a b f h =
     let deep = child-deep new tree_new j (omega arith) within in
     let some : 0 < i = deep-child new tree_new i (omega (arith, level, deep)) in

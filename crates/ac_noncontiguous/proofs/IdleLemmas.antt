@@ -8,7 +8,6 @@ use Rattle.ac_input.proofs.SameLemmas.{own_inverse-pairing}
 use Rattle.ac_automaton.specs.Automaton.{IsReached, Advances, is_matching}
 use Rattle.ac_automaton.specs.declared.automaton.Advance.{Advance}
 use Rattle.ac_automaton.specs.declared.look.Between.{Between}
-use Rattle.ac_automaton.specs.Named.{IsIdleBy}
 use Rattle.ac_automaton.proofs.CursorLemmas.{reached-state}
 use Rattle.ac_automaton.proofs.IdleLemmas as idle
 use Rattle.ac_automaton.proofs.LinkedLemmas as linked
@@ -22,6 +21,7 @@ use Rattle.ac_noncontiguous.specs.Reads.{dictionary, built_as, matches_at, is_st
 use Rattle.ac_automaton.specs.ReadOn.{is_between, StaysBut}
 use Rattle.ac_noncontiguous.proofs.NextLemmas.{names-numbers, names-edge}
 use Rattle.ac_noncontiguous.proofs.ReadLemmas.{tables-start, all-names, start-plain, state-matches, state-many}
+use Rattle.ac_automaton.proofs.IdleLemmas.{IsIdleBy}
 
 -- the start is kept
 pub start-kept : (m : Dictionary) (tables : Tables) → ∥ AreTablesOf m tables ∥₁ → IsKept tables tables.start

@@ -7,7 +7,7 @@ use Rattle.ac_noncontiguous.specs.declared.trie.Trie.{Trie}
 use Rattle.ac_noncontiguous.specs.declared.compiler.numbering.Numbering.{Numbering}
 use Rattle.ac_noncontiguous.specs.Nfa.{no_transition, byte_at, next_at}
 use Rattle.ac_noncontiguous.specs.Numbering.{IsNumbering}
-use Rattle.ac_noncontiguous.specs.Edges.{IsEdgeTo, AreEdgesTo}
+use Rattle.ac_noncontiguous.specs.Edges.{IsEdgeTo}
 use Rattle.ac_noncontiguous.specs.Layout.{Keeps, AreAppended, HasAll, IsLaid, IsAppended, AreLaidOut}
 use Rattle.ac_noncontiguous.proofs.OrderLemmas.{index-kept, index-last}
 
@@ -93,7 +93,7 @@ appended-skip edges all to old new nowhere part h =
     }
 
 -- so the transitions of a state are laid out
-pub laid-edges : (trie : Trie) (numbering : Numbering) (back i : ℕ) (all : Bool) (edges : List ℕ) (old new : List Transition) → i ≢ 1 → (HasAll numbering.start i → all ≡ true) → ((¬ HasAll numbering.start i) → all ≡ false) → AreEdgesTo trie numbering back i edges → AreAppended edges all 256 old new → IsAppended trie numbering back i old new
+pub laid-edges : (trie : Trie) (numbering : Numbering) (back i : ℕ) (all : Bool) (edges : List ℕ) (old new : List Transition) → i ≢ 1 → (HasAll numbering.start i → all ≡ true) → ((¬ HasAll numbering.start i) → all ≡ false) → ((b : ℕ) → b < 256 → IsEdgeTo trie numbering back i b (slice_index edges b)) → AreAppended edges all 256 old new → IsAppended trie numbering back i old new
 laid-edges trie numbering back i all edges old new not_fail whole part e h =
     record {
       keeps = h.keeps;

@@ -18,10 +18,18 @@ use Rattle.ac_noncontiguous.specs.Tree.{depth, text}
 use Rattle.ac_noncontiguous.specs.Own.{EndsIn, IsOwnList}
 use Rattle.ac_noncontiguous.specs.Order.{IsBreadthFirst}
 use Rattle.ac_noncontiguous.specs.Links.{no_range, in_range, AreFails, AreRanges}
-use Rattle.ac_noncontiguous.specs.Lists.{range_at, IsRangeOf, EndAbove, AreRoom, IsRest, IsListed}
+use Rattle.ac_noncontiguous.specs.Lists.{range_at, IsRangeOf, EndAbove, IsRest, IsListed}
 use Rattle.ac_noncontiguous.specs.Failures.{AreShallower}
 use Rattle.ac_noncontiguous.proofs.BridgeLemmas.{Stands, ends-own, own-ends}
 use Rattle.ac_noncontiguous.proofs.FailsLemmas.{place-of, shallower-before, order-apart}
+
+-- Each range is one of the list, with patterns that end in the state or less deep; those of states that weren't reached yet are
+-- empty.
+pub record AreRoom (states : List State) (ends : List (Option ℕ)) (ranges : List Range) (matches : List ℕ) : Type 0 where
+  pub counted : length ranges ≡ length states
+  pub inside : (i : ℕ) → i < length states → IsRangeOf matches (range_at ranges i)
+  pub above : (i : ℕ) → i < length states → EndAbove states ends (depth states i + 1) (in_range matches (range_at ranges i))
+  pub known : (n : ℕ) → Contains matches n → (e : ℕ) × EndsIn ends e n
 
 -- ---- own patterns
 

@@ -10,7 +10,7 @@ use Rattle.ac_input.specs.Dictionary.{Dictionary}
 use Rattle.ac_noncontiguous.specs.declared.nfa.tables.State.{State}
 use Rattle.ac_noncontiguous.specs.declared.nfa.tables.Transition.{Transition}
 use Rattle.ac_noncontiguous.specs.declared.nfa.tables.Tables.{Tables}
-use Rattle.ac_noncontiguous.specs.Nfa.{kept_of, transitions_from, row_of, no_row, byte_at, next_at, nothing_kept, IsEdge, IsRowEntry, AreTables}
+use Rattle.ac_noncontiguous.specs.Nfa.{kept_of, transitions_from, row_of, no_row, byte_at, next_at, IsEdge, IsRowEntry, AreTables, matches_len}
 use Rattle.ac_noncontiguous.specs.Lookups.{IsKept, StepsTo, StepsOver, AreRisingIn, IsNextIn}
 
 -- what is read at a place of a list is what stands there, whatever a place past the last one is read as
@@ -98,13 +98,13 @@ kept-within tables i h = ∥∥₁_elim h le_prop (λ w. omega (arith, w.2.count
 pub kept-read : (tables : Tables) (i at : ℕ) (x : State) → IsKept tables i → at ≡ i → x ≡ get_or tables.states.items at x → kept_of tables.states.items i ≡ x
 kept-read tables i at x h same is =
     let w = kept-within tables i h in
-    ap (kept_of tables.states.items) (sym same) ∙ read-at tables.states.items at x nothing_kept (omega arith) is
+    ap (kept_of tables.states.items) (sym same) ∙ read-at tables.states.items at x (record { transitions = 0; matches = 0; matches_len = 0; fail = 0; depth = 0; row = 0 }) (omega arith) is
 
 -- and of the entry after it
 pub kept-read_next : (tables : Tables) (i at : ℕ) (x : State) → IsKept tables i → at ≡ i → x ≡ get_or tables.states.items (at + 1) x → kept_of tables.states.items (i + 1) ≡ x
 kept-read_next tables i at x h same is =
     let w = kept-within tables i h in
-    ap (λ (k : ℕ). kept_of tables.states.items (k + 1)) (sym same) ∙ read-at tables.states.items (at + 1) x nothing_kept (omega arith) is
+    ap (λ (k : ℕ). kept_of tables.states.items (k + 1)) (sym same) ∙ read-at tables.states.items (at + 1) x (record { transitions = 0; matches = 0; matches_len = 0; fail = 0; depth = 0; row = 0 }) (omega arith) is
 
 -- its range is in order
 pub kept-ordered : (tables : Tables) (i : ℕ) → IsKept tables i → transitions_from tables.states.items i ≤ transitions_from tables.states.items (i + 1)

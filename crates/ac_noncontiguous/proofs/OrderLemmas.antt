@@ -5,7 +5,7 @@ use Rattle.std.proofs.lemmas.Bool.{cases_lt, cases_eq}
 use Rattle.std.proofs.lemmas.List.{get_or_append_left, get_or-append-add, get_or_read, length-replicate, get_or-replicate}
 use Rattle.ac_noncontiguous.specs.declared.trie.State.{State}
 use Rattle.ac_noncontiguous.specs.Tree.{IsTree, depth, state_at, no_state}
-use Rattle.ac_noncontiguous.specs.Order.{IsNextOf, AreLevels, ComesBefore, IsPassed, AreInOrder, IsBreadthFirst}
+use Rattle.ac_noncontiguous.specs.Order.{IsNextOf, AreLevels, ComesBefore, AreInOrder, IsBreadthFirst}
 use Rattle.ac_noncontiguous.proofs.LinkedLemmas.{depth-le}
 
 -- past the last state there is none
@@ -92,7 +92,7 @@ order-none states =
 pub order-more : (states : List State) (d from at : ℕ) (order : List ℕ) → IsNextOf states d from at → at < length states → AreInOrder states d from order → AreInOrder states d (at + 1) (order ++ at ∷ [])
 order-more states d from at order n inside o =
     let f = n.found inside in
-    let wider : (i : ℕ) → IsPassed states d from i → IsPassed states d (at + 1) i =
+    let wider : (i : ℕ) → ((depth states i < d) ⊎ ((depth states i ≡ d) × (i < from))) → ((depth states i < d) ⊎ ((depth states i ≡ d) × (i < (at + 1)))) =
     λ i p. ⊎_elim (λ (less : depth states i < d). inl less) (λ (same : (depth states i ≡ d) × (i < from)). inr (same.0, omega (arith, same.1, f.0))) p in
     let more : (k : ℕ) → k < length (order ++ at ∷ []) → (k < length order) ⊎ (k ≡ length order) =
     λ k lt. ⊎_elim (λ (old : k < length order). inl old) (λ (ge : length order ≤ k). inr (omega (arith, length-append order (at ∷ [])))) (cases_lt k (length order)) in
@@ -112,8 +112,8 @@ order-more states d from at order n inside o =
           ⊎_elim
           (λ (old : k < length order).
           let w = o.within k old in
-          subst (λ (i : ℕ). (i < length states) × IsPassed states d (at + 1) i) (sym (index-kept order at k old)) (w.0, wider (slice_index order k) w.1))
-          (λ (last : k ≡ length order). subst (λ (i : ℕ). (i < length states) × IsPassed states d (at + 1) i) (sym (index-last order at k last)) (inside, inr (f.1, omega arith)))
+          subst (λ (i : ℕ). (i < length states) × ((depth states i < d) ⊎ ((depth states i ≡ d) × (i < (at + 1))))) (sym (index-kept order at k old)) (w.0, wider (slice_index order k) w.1))
+          (λ (last : k ≡ length order). subst (λ (i : ℕ). (i < length states) × ((depth states i < d) ⊎ ((depth states i ≡ d) × (i < (at + 1))))) (sym (index-last order at k last)) (inside, inr (f.1, omega arith)))
           (more k lt);
       rising = λ j k lt within.
           ⊎_elim

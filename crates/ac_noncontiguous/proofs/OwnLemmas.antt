@@ -5,9 +5,15 @@ use Rattle.std.proofs.lemmas.Bool.{cases_lt, cases_eq}
 use Rattle.std.proofs.lemmas.List.{length-replicate, get_or-replicate}
 use Rattle.std.proofs.lemmas.Option.{slice_get_within, slice_get_read}
 use Rattle.ac_noncontiguous.specs.declared.trie.State.{State}
-use Rattle.ac_noncontiguous.specs.Own.{EndsIn, AreEnds, IsNextEnd, AreOwnChains, AreOwnBefore, IsOwnList}
+use Rattle.ac_noncontiguous.specs.Own.{EndsIn, IsNextEnd, AreOwnChains, IsOwnList}
 use Rattle.ac_noncontiguous.proofs.DictionaryLemmas.{get-cases}
 use Rattle.ac_noncontiguous.proofs.OrderLemmas.{contains-kept, contains-last, index-kept, index-last}
+
+-- the patterns before one that end in a state, each once and in order
+pub record AreOwnBefore (ends : List (Option ℕ)) (i from : ℕ) (own : List ℕ) : Type 0 where
+  pub all : (n : ℕ) → n < from → EndsIn ends i n → Contains own n
+  pub within : (k : ℕ) → k < length own → (slice_index own k < from) × EndsIn ends i (slice_index own k)
+  pub rising : (j k : ℕ) → j < k → k < length own → slice_index own j < slice_index own k
 
 -- past the last pattern there is none
 pub own-filled : (states len : ℕ) (ends : List (Option ℕ)) (first next : List ℕ) → len ≡ length ends → first ≡ replicate states len → length next ≡ len → AreOwnChains states ends len first next
@@ -130,11 +136,11 @@ next-nearer ends i at next inside n =
     ⊎_elim (λ (lt : next < length ends). omega (arith, (n.found lt).0)) (λ (ge : length ends ≤ next). omega arith) (cases_lt next (length ends))
 
 -- where patterns end stays among more states
-pub ends-kept : (ends : List (Option ℕ)) (few more : ℕ) → few ≤ more → AreEnds ends few → AreEnds ends more
+pub ends-kept : (ends : List (Option ℕ)) (few more : ℕ) → few ≤ more → ((n i : ℕ) → EndsIn ends i n → i < few) → ((n i : ℕ) → EndsIn ends i n → i < more)
 ends-kept ends few more le placed n i e = omega (arith, placed n i e)
 
 -- one more pattern ends in one of the states, or nowhere
-pub ends-pushed : (ends new : List (Option ℕ)) (end : Option ℕ) (states : ℕ) → new ≡ ends ++ end ∷ [] → ((id : ℕ) → end ≡ Some id → id < states) → AreEnds ends states → AreEnds new states
+pub ends-pushed : (ends new : List (Option ℕ)) (end : Option ℕ) (states : ℕ) → new ≡ ends ++ end ∷ [] → ((id : ℕ) → end ≡ Some id → id < states) → ((n i : ℕ) → EndsIn ends i n → i < states) → ((n i : ℕ) → EndsIn new i n → i < states)
 ends-pushed ends new end states pushed within placed n i e =
     ⊎_elim
     (λ (there : EndsIn ends i n). placed n i there)
@@ -142,10 +148,10 @@ ends-pushed ends new end states pushed within placed n i e =
     (get-cases ends end (Some i) n (subst (λ (xs : List (Option ℕ)). slice_get xs n ≡ Some (Some i)) pushed e))
 
 -- and among those of a list of which one is set
-pub ends-set : (ends : List (Option ℕ)) (few : ℕ) (xs : List State) (j : ℕ) (r : State) → few ≤ length xs → AreEnds ends few → AreEnds ends (length (slice_set xs j r))
+pub ends-set : (ends : List (Option ℕ)) (few : ℕ) (xs : List State) (j : ℕ) (r : State) → few ≤ length xs → ((n i : ℕ) → EndsIn ends i n → i < few) → ((n i : ℕ) → EndsIn ends i n → i < (length (slice_set xs j r)))
 ends-set ends few xs j r le placed = ends-kept ends few (length (slice_set xs j r)) (omega (arith, length-set xs j r)) placed
 
 -- also where there was no memory for it
-pub ends-tried : (stored : Bool) (ends new : List (Option ℕ)) (end : Option ℕ) (states : ℕ) → new ≡ (if stored then ends ++ end ∷ [] else ends) → ((id : ℕ) → end ≡ Some id → id < states) → AreEnds ends states → AreEnds new states
+pub ends-tried : (stored : Bool) (ends new : List (Option ℕ)) (end : Option ℕ) (states : ℕ) → new ≡ (if stored then ends ++ end ∷ [] else ends) → ((id : ℕ) → end ≡ Some id → id < states) → ((n i : ℕ) → EndsIn ends i n → i < states) → ((n i : ℕ) → EndsIn new i n → i < states)
 ends-tried true ends new end states pushed within placed = ends-pushed ends new end states pushed within placed
-ends-tried false ends new end states same within placed = subst (λ (xs : List (Option ℕ)). AreEnds xs states) (sym same) placed
+ends-tried false ends new end states same within placed = subst (λ (xs : List (Option ℕ)). ((n i : ℕ) → EndsIn xs i n → i < states)) (sym same) placed

@@ -32,11 +32,12 @@ use Rattle.ac_noncontiguous.specs.declared.nfa.tables.Tables.{Tables}
 use Rattle.ac_noncontiguous.specs.Nfa.{state_of, transitions_from, matches_from, matches_len, no_transition, byte_at, next_at, edge_of, IsEdge, AreTexts, AreTransitions, AreRows, AreFailures, AreLists, AreTablesOf}
 use Rattle.ac_noncontiguous.specs.Lookups.{IsKept, IsVisited, other_start, naming_of, IsNamingOf, LeadsNext, AreSame}
 use Rattle.ac_noncontiguous.specs.Reads.{dictionary, built_as, matches_at, is_start_at, is_special_at, IsRead}
-use Rattle.ac_noncontiguous.specs.ReadCalls.{state_len, fail_in, depth_in, edges_in, special_in, CountsIn, StandFor, TextsBegin, FailsIn, ListsIn, IsFull, AreLeading, EdgesLeadIn, MayBeMet, LeadsIn, AreRead, OrderedIn, AlikeIn, SpecialIn, IsDeepIn, IsReadable}
+use Rattle.ac_noncontiguous.specs.ReadCalls.{state_len, fail_in, depth_in, edges_in, special_in, CountsIn, StandFor, TextsBegin, FailsIn, ListsIn, IsFull, AreLeading, EdgesLeadIn, MayBeMet, LeadsIn, AreRead, SpecialIn, IsDeepIn, IsReadable, classes_in, OfTexts, AreOrdered}
 use Rattle.ac_noncontiguous.proofs.LookupLemmas.{range-within}
 use Rattle.ac_noncontiguous.proofs.NextLemmas.{by-number, state-some, state-none, is-dead, is-met, met-is, of-names}
 use Rattle.ac_noncontiguous.proofs.NamesLemmas.{names-one}
 use Rattle.ac_noncontiguous.proofs.ReadLemmas.{tables-start, all-names}
+use Rattle.ac_input.specs.Classes.{ClassesLeadAlike}
 
 -- a number below the count of states is that of one
 pub below-kept : (nfa : NFA) (sid : ℕ) → sid < state_len nfa → IsKept nfa.tables sid
@@ -268,7 +269,7 @@ special-in nfa text t =
 
 -- ---- the order of the states
 
-pub ordered-in : (nfa : NFA) → OrderedIn nfa
+pub ordered-in : (nfa : NFA) → OfTexts nfa (AreOrdered nfa)
 ordered-in nfa text t =
     let counted = t.counted in
     let count : t.len ≡ state_len nfa = omega (arith, counted) in
@@ -402,7 +403,7 @@ are-read nfa =
 -- ---- classes
 
 -- bytes of one class lead alike
-pub alike-in : (nfa : NFA) → AlikeIn nfa
+pub alike-in : (nfa : NFA) → ClassesLeadAlike (dictionary nfa) (classes_in nfa)
 alike-in nfa b c b_in c_in one =
     let m = dictionary nfa in
     unknown-alike m b c (own_inverse-pairing nfa.pairing nfa.paired) (λ ne. (

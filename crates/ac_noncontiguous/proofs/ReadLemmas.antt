@@ -17,9 +17,9 @@ use Rattle.ac_input.specs.Failure.{IsList}
 use Rattle.ac_input.specs.Input.{is_anchored}
 use Rattle.ac_input.proofs.SameLemmas.{own_inverse-pairing}
 use Rattle.ac_automaton.specs.Automaton.{IsReached, IsState, AtEach, Leads, IsReadCost, TellsDead, TellsStart}
-use Rattle.ac_automaton.specs.Named.{AreNames, AllNames, IsSpecialState, IsFirst}
+use Rattle.ac_automaton.specs.Named.{IsFirst}
 use Rattle.ac_automaton.proofs.CursorLemmas.{list-none}
-use Rattle.ac_automaton.proofs.NamedLemmas.{reached-met, state-met, read-start, read-next, read-cost, read-dead, read-starts, read-known}
+use Rattle.ac_automaton.proofs.NamedLemmas.{reached-met, state-met, read-start, read-next, read-cost, read-dead, read-starts, read-known, AllNames, AreNames, IsSpecialState}
 use Rattle.ac_noncontiguous.specs.declared.nfa.NFA.{NFA}
 use Rattle.ac_noncontiguous.specs.declared.nfa.tables.State.{State}
 use Rattle.ac_noncontiguous.specs.declared.nfa.tables.Tables.{Tables}

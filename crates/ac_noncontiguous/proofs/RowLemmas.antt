@@ -16,8 +16,8 @@ use Rattle.ac_noncontiguous.specs.Nfa.{no_row}
 use Rattle.ac_noncontiguous.specs.Numbering.{FitsTrie, IsNumbering}
 use Rattle.ac_noncontiguous.specs.Assembly.{IsFailureOf, number_or_dead}
 use Rattle.ac_noncontiguous.specs.Entering.{HasNoChild}
-use Rattle.ac_noncontiguous.specs.Edges.{IsEdgeTo, AreEdgesTo}
-use Rattle.ac_noncontiguous.specs.Layout.{AreParted, AreAlone, LeadAlike, KeepsRows, IsRowAppended, or_failure, AreWithFailures, LeadsOver, ByItself, ByFailure, AreOfDead, IsRowAt, HaveRows, AreRowsOf}
+use Rattle.ac_noncontiguous.specs.Edges.{IsEdgeTo}
+use Rattle.ac_noncontiguous.specs.Layout.{AreAlone, LeadAlike, KeepsRows, IsRowAppended, or_failure, AreWithFailures, LeadsOver, ByItself, ByFailure, AreOfDead, IsRowAt, HaveRows, AreRowsOf}
 use Rattle.ac_noncontiguous.proofs.EdgeLemmas.{edge-dead}
 
 -- ---- classes
@@ -27,7 +27,7 @@ parted-kept : (old new : List Bool) (x : ℕ) → ((b : ℕ) → has old b ≡ t
 parted-kept old new x kept h = (kept x h.0, λ before e. kept before (h.1 before e))
 
 -- those around the bytes of one state more
-pub parted-more : (trie : Trie) (id b o : ℕ) (old mid new : List Bool) → AreParted trie id old → b ≡ byte trie.states.items id → b < 256 → o ≡ other trie.pairing b → IsParted mid b → ((x : ℕ) → has old x ≡ true → has mid x ≡ true) → IsParted new o → ((x : ℕ) → has mid x ≡ true → has new x ≡ true) → AreParted trie (id + 1) new
+pub parted-more : (trie : Trie) (id b o : ℕ) (old mid new : List Bool) → ((c : ℕ) → 0 < c → c < id → (byte trie.states.items c < 256) × IsParted old (byte trie.states.items c) × IsParted old (other trie.pairing (byte trie.states.items c))) → b ≡ byte trie.states.items id → b < 256 → o ≡ other trie.pairing b → IsParted mid b → ((x : ℕ) → has old x ≡ true → has mid x ≡ true) → IsParted new o → ((x : ℕ) → has mid x ≡ true → has new x ≡ true) → ((c : ℕ) → 0 < c → c < (id + 1) → (byte trie.states.items c < 256) × IsParted new (byte trie.states.items c) × IsParted new (other trie.pairing (byte trie.states.items c)))
 parted-more trie id b o old mid new before is_byte small is_other at_byte first at_other second c some within =
     let both : (x : ℕ) → has old x ≡ true → has new x ≡ true = λ x h. second x (first x h) in
     ⊎_elim
@@ -44,7 +44,7 @@ parted-more trie id b o old mid new before is_byte small is_other at_byte first 
     (cases_lt c id)
 
 -- the byte of each state, parted from the others, is a class of its own
-pub parted-all : (trie : Trie) (boundaries : List Bool) (classes : List ℕ) → AreClassesOf boundaries classes → AreParted trie (length trie.states.items) boundaries → AreAlone trie classes
+pub parted-all : (trie : Trie) (boundaries : List Bool) (classes : List ℕ) → AreClassesOf boundaries classes → ((c : ℕ) → 0 < c → c < (length trie.states.items) → (byte trie.states.items c < 256) × IsParted boundaries (byte trie.states.items c) × IsParted boundaries (other trie.pairing (byte trie.states.items c))) → AreAlone trie classes
 parted-all trie boundaries classes h parted c some within =
     let p = parted c some within in
     (parted-alone boundaries classes h _ p.0 (λ _. p.1.0) p.1.1, parted-alone boundaries classes h _ (trie.paired.bytes _ p.0) (λ _. p.2.0) p.2.1)
@@ -65,7 +65,7 @@ alike-none trie classes of x y alone ne small y_small same c some within above i
     (cases_lt x (other trie.pairing x + 1))
 
 -- bytes of one class lead to one state
-pub lead-alike : (trie : Trie) (numbering : Numbering) (back i : ℕ) (classes edges : List ℕ) → AreAlone trie classes → i ≢ 1 → AreEdgesTo trie numbering back i edges → LeadAlike classes edges
+pub lead-alike : (trie : Trie) (numbering : Numbering) (back i : ℕ) (classes edges : List ℕ) → AreAlone trie classes → i ≢ 1 → ((b : ℕ) → b < 256 → IsEdgeTo trie numbering back i b (slice_index edges b)) → LeadAlike classes edges
 lead-alike trie numbering back i classes edges alone not_fail e b c b_small c_small same =
     ⊎_elim
     (λ (equal : b ≡ c). ap (slice_index edges) equal)
@@ -185,7 +185,7 @@ have-dead trie numbering links back classes it n h =
     }
 
 -- the row of one state more, made from that of its failure
-pub have-more : (trie : Trie) (numbering : Numbering) (links : Links) (back id i failure from row : ℕ) (classes offsets edges leads old new : List ℕ) → IsNumbering (length trie.states.items) numbering → FitsTrie (length trie.states.items) links → id < length trie.states.items → i ≡ slice_index numbering.of.items id → IsFailureOf numbering links id failure → from ≡ slice_index offsets failure → from ≢ no_row → AreEdgesTo trie numbering back i edges → AreWithFailures classes edges old from leads → row ≡ length old → IsRowAppended classes leads 256 old new → HaveRows trie numbering links back classes offsets old → HaveRows trie numbering links back classes (slice_set offsets i row) new
+pub have-more : (trie : Trie) (numbering : Numbering) (links : Links) (back id i failure from row : ℕ) (classes offsets edges leads old new : List ℕ) → IsNumbering (length trie.states.items) numbering → FitsTrie (length trie.states.items) links → id < length trie.states.items → i ≡ slice_index numbering.of.items id → IsFailureOf numbering links id failure → from ≡ slice_index offsets failure → from ≢ no_row → ((b : ℕ) → b < 256 → IsEdgeTo trie numbering back i b (slice_index edges b)) → AreWithFailures classes edges old from leads → row ≡ length old → IsRowAppended classes leads 256 old new → HaveRows trie numbering links back classes offsets old → HaveRows trie numbering links back classes (slice_set offsets i row) new
 have-more trie numbering links back id i failure from row classes offsets edges leads old new n fits within is fails is_from some e with at appended h =
     let own = n.numbers.numbers id within in
     let past : 1 < i = omega (arith, is, own.0) in

@@ -11,10 +11,13 @@ use Rattle.ac_noncontiguous.specs.declared.trie.State.{State}
 use Rattle.ac_noncontiguous.specs.declared.trie.Trie.{Trie}
 use Rattle.ac_noncontiguous.specs.Entering.{IsMarked, IsEnd}
 use Rattle.ac_noncontiguous.specs.Standing.{HasEntered}
-use Rattle.ac_noncontiguous.specs.Kept.{AreByFirst, KeepsSettings, IsNoted, IsTrieOf}
+use Rattle.ac_noncontiguous.specs.Kept.{KeepsSettings, IsNoted, IsTrieOf}
 use Rattle.ac_noncontiguous.proofs.StandingLemmas.{more-entered, stand-entered, more-left_out, stand-left_out}
 use Rattle.ac_noncontiguous.proofs.FirstLemmas.{ordered-more}
 use Rattle.ac_noncontiguous.proofs.CountLemmas.{stand-counts}
+use Rattle.std.specs.Prelude.{◌<◌}
+use Rattle.ac_input.specs.States.{BeginsBefore}
+use Rattle.ac_noncontiguous.specs.Tree.{depth, text}
 
 -- the pairing of a trie's dictionary is its own inverse
 pub trie-inverse : (m : Dictionary) (old : Trie) → IsTrieOf m old → IsOwnInverse m.pairing
@@ -34,7 +37,7 @@ trie-entered m p old mid marked new id t short w kept k kept_marked n =
       pairing = t.pairing ∙ sym (n.pairing ∙ (kept_marked.pairing ∙ kept.pairing));
       kind = t.kind ∙ sym (n.kind ∙ (kept_marked.kind ∙ kept.kind));
       stands = subst (λ (s : List State). HasEntered (with_pattern m p) s new.ends.items) (sym (ap (λ v. v.items) n.states)) (subst (λ (e : List (Option ℕ)). HasEntered (with_pattern m p) marked.states.items e) (sym ends) stands);
-      by_first = subst (AreByFirst (with_pattern m p)) (sym (ap (λ v. v.items) n.states)) (ordered-more m p old.states.items marked.states.items old.ends.items (Some id) old.tree marked.tree (trie-inverse m old t) t.stands t.by_first more);
+      by_first = subst (λ states. (i j : ℕ) → i < j → j < length states → depth states i ≡ depth states j → BeginsBefore (with_pattern m p) (text states i) (text states j)) (sym (ap (λ v. v.items) n.states)) (ordered-more m p old.states.items marked.states.items old.ends.items (Some id) old.tree marked.tree (trie-inverse m old t) t.stands t.by_first more);
     }
 
 -- one more pattern is shadowed
@@ -48,7 +51,7 @@ trie-left_out m p old mid new t short w kept n =
       pairing = t.pairing ∙ sym (n.pairing ∙ kept.pairing);
       kind = t.kind ∙ sym (n.kind ∙ kept.kind);
       stands = subst (λ (s : List State). HasEntered (with_pattern m p) s new.ends.items) (sym (ap (λ v. v.items) n.states)) (subst (λ (e : List (Option ℕ)). HasEntered (with_pattern m p) mid.states.items e) (sym ends) stands);
-      by_first = subst (AreByFirst (with_pattern m p)) (sym (ap (λ v. v.items) n.states)) (ordered-more m p old.states.items mid.states.items old.ends.items None old.tree mid.tree (trie-inverse m old t) t.stands t.by_first more);
+      by_first = subst (λ states. (i j : ℕ) → i < j → j < length states → depth states i ≡ depth states j → BeginsBefore (with_pattern m p) (text states i) (text states j)) (sym (ap (λ v. v.items) n.states)) (ordered-more m p old.states.items mid.states.items old.ends.items None old.tree mid.tree (trie-inverse m old t) t.stands t.by_first more);
     }
 
 -- a trie stands for no dictionary that passes a limit

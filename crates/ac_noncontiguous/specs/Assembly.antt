@@ -35,11 +35,6 @@ pub record IsKeptOf (trie : Trie) (numbering : Numbering) (links : Links) (i fro
   pub matches : 1 < i → (state.matches ≡ (slice_index_or links.ranges.items (slice_index numbering.at.items i) no_range).from) × (state.matches_len ≡ range_len links.ranges.items (slice_index numbering.at.items i))
   pub fails : 1 < i → IsFailureOf numbering links (slice_index numbering.at.items i) state.fail
 
--- what is stored for the first n states
-pub record AreKeptBelow (trie : Trie) (numbering : Numbering) (links : Links) (transitions rows : List ℕ) (to : ℕ) (states : List State) : Type 0 where
-  pub counted : length states ≡ to
-  pub kept : (i : ℕ) → i < to → IsKeptOf trie numbering links i (slice_index transitions i) (slice_index rows i) (kept_of states i)
-
 -- what is stored for all states, and after them where the transitions end
 pub record AreKept (trie : Trie) (numbering : Numbering) (links : Links) (transitions rows : List ℕ) (states : List State) : Type 0 where
   pub counted : length states ≡ length numbering.at.items + 1

@@ -18,12 +18,6 @@ pub record AreTargets (states : List State) (numbers : List ℕ) (of other : ℕ
   pub none : (b : ℕ) → b < 256 → HasNoChild states of b → slice_index targets b ≡ other
   pub cases : (b : ℕ) → b < 256 → (slice_index targets b ≡ other) ⊎ ((c : ℕ) × IsChildFor states of b c × (slice_index targets b ≡ slice_index numbers c))
 
--- So far for the children of lesser bytes than this one.
-pub record AreTargetsBelow (states : List State) (numbers : List ℕ) (of other from : ℕ) (targets : List ℕ) : Type 0 where
-  pub child : (c : ℕ) → 0 < c → c < length states → parent states c ≡ of → byte states c < from → slice_index targets (byte states c) ≡ slice_index numbers c
-  pub none : (b : ℕ) → b < 256 → ((c : ℕ) → 0 < c → c < length states → parent states c ≡ of → byte states c < from → byte states c ≢ b) → slice_index targets b ≡ other
-  pub cases : (b : ℕ) → b < 256 → (slice_index targets b ≡ other) ⊎ ((c : ℕ) × IsChildFor states of b c × (slice_index targets b ≡ slice_index numbers c))
-
 -- where a byte leads from a state that is no longer by it: from the unanchored start back, and from the others to none
 abbrev pub missing : ℕ → ℕ → ℕ → ℕ
 missing start back i = if i == start then back else nowhere
@@ -35,7 +29,3 @@ pub record IsEdgeTo (trie : Trie) (numbering : Numbering) (back i b next : ℕ) 
   pub child : 1 < i → (c : ℕ) → IsChildFor trie.states.items (slice_index numbering.at.items i) (canonical trie.pairing b) c → next ≡ slice_index numbering.of.items c
   pub none : 1 < i → HasNoChild trie.states.items (slice_index numbering.at.items i) (canonical trie.pairing b) → next ≡ missing numbering.start back i
   pub cases : 1 < i → (next ≡ missing numbering.start back i) ⊎ ((c : ℕ) × IsChildFor trie.states.items (slice_index numbering.at.items i) (canonical trie.pairing b) c)
-
--- where each byte leads from a state
-abbrev pub AreEdgesTo : Trie → Numbering → ℕ → ℕ → List ℕ → Type 0
-AreEdgesTo trie numbering back i edges = (b : ℕ) → b < 256 → IsEdgeTo trie numbering back i b (slice_index edges b)

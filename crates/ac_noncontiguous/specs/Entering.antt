@@ -21,9 +21,8 @@ pub record IsChildStep (old new : List State) (of low id : ℕ) : Type 0 where
 -- why a child can't be added: there is no number for it, or no memory
 abbrev pub IsChildRefused : List State → ℕ → ℕ → BuildErrorKind → Type 0
 IsChildRefused states of low (StateIDOverflow max requested) = (max ≡ greatest_number) × (max < requested) × (greatest_number + 1 < length states + 4) × HasNoChild states of low
-IsChildRefused states of low (PatternIDOverflow max requested) = ⊥
-IsChildRefused states of low (PatternTooLong pattern len) = ⊥
 IsChildRefused states of low Memory = Unit {0}
+IsChildRefused states of low other = ⊥
 
 -- The first bytes of a pattern were entered, up to a state. Each state that was added stands for a beginning of them, and has no
 -- pattern of its own; under leftmost-first no state on the way has one.

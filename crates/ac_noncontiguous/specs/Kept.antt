@@ -5,7 +5,6 @@ use Rattle.ac_input.specs.Limits.{with_pattern}
 use Rattle.ac_input.specs.States.{BeginsBefore}
 use Rattle.ac_noncontiguous.specs.declared.error.BuildErrorKind.{BuildErrorKind}
 use Rattle.ac_noncontiguous.specs.declared.trie.Trie.{Trie}
-use Rattle.ac_noncontiguous.specs.declared.trie.State.{State}
 use Rattle.ac_noncontiguous.specs.Tree.{depth, text}
 use Rattle.ac_noncontiguous.specs.Standing.{HasEntered, IsPatternRefused}
 
@@ -22,16 +21,12 @@ pub record IsNoted (old new : Trie) (end : Option ℕ) : Type 0 where
   pub states : new.states ≡ old.states
   pub ends : new.ends.items ≡ old.ends.items ++ end ∷ []
 
--- the states of one depth come by the first pattern that begins with their texts
-abbrev pub AreByFirst : Dictionary → List State → Type 0
-AreByFirst m states = (i j : ℕ) → i < j → j < length states → depth states i ≡ depth states j → BeginsBefore m (text states i) (text states j)
-
 -- the trie of the patterns of a dictionary, under its pairing and of its kind
 pub record IsTrieOf (m : Dictionary) (trie : Trie) : Type 0 where
   pub pairing : m.pairing ≡ trie.pairing
   pub kind : m.kind ≡ trie.kind
   pub stands : HasEntered m trie.states.items trie.ends.items
-  pub by_first : AreByFirst m trie.states.items
+  pub by_first : (i j : ℕ) → i < j → j < length trie.states.items → depth trie.states.items i ≡ depth trie.states.items j → BeginsBefore m (text trie.states.items i) (text trie.states.items j)
 
 -- The new trie is that of any dictionary of the old one with one more pattern; or that pattern is an error for any of them.
 abbrev pub TakesPattern : Trie → List ℕ → Trie → Type 0

@@ -54,25 +54,17 @@ pub record AreLaidOut (trie : Trie) (numbering : Numbering) (back states : ℕ) 
   pub within : (i : ℕ) → i ≤ states → slice_index offsets i ≤ length transitions
   pub laid : (i : ℕ) → i < states → IsLaid trie numbering back i (slice_index offsets i) (slice_index offsets (i + 1)) transitions
 
--- the byte of each of the first n states of a trie, and its partner, have boundaries around them
-abbrev pub AreParted : Trie → ℕ → List Bool → Type 0
-AreParted trie states boundaries = (c : ℕ) → 0 < c → c < states → (byte trie.states.items c < 256) × IsParted boundaries (byte trie.states.items c) × IsParted boundaries (other trie.pairing (byte trie.states.items c))
-
 -- the byte of each state of a trie, and its partner, are classes of their own
 abbrev pub AreAlone : Trie → List ℕ → Type 0
 AreAlone trie classes = (c : ℕ) → 0 < c → c < length trie.states.items → IsAlone classes (byte trie.states.items c) × IsAlone classes (other trie.pairing (byte trie.states.items c))
 
--- the byte is that of one of the first n states of a trie, or the partner of one
-abbrev pub IsStateByte : Trie → ℕ → ℕ → Type 0
-IsStateByte trie states x = (c : ℕ) × (0 < c) × (c < states) × IsTrue (same trie.pairing (byte trie.states.items c) x)
-
 -- a byte is a boundary exactly where it or the next one is such a byte
 abbrev pub AreStateEdges : Trie → ℕ → List Bool → Type 0
-AreStateEdges trie states boundaries = (b : ℕ) → IsTrue (has boundaries b) ↔ ((x : ℕ) × IsStateByte trie states x × IsTrue (is_edge x x b))
+AreStateEdges trie states boundaries = (b : ℕ) → IsTrue (has boundaries b) ↔ ((x : ℕ) × ((c : ℕ) × (0 < c) × (c < states) × IsTrue (same trie.pairing (byte trie.states.items c) x)) × IsTrue (is_edge x x b))
 
 -- the boundaries around the bytes of the first n states of a trie and their partners, and no others
 pub record AreBoundaries (trie : Trie) (states : ℕ) (boundaries : List Bool) : Type 0 where
-  pub parted : AreParted trie states boundaries
+  pub parted : (c : ℕ) → 0 < c → c < states → (byte trie.states.items c < 256) × IsParted boundaries (byte trie.states.items c) × IsParted boundaries (other trie.pairing (byte trie.states.items c))
   pub edges : AreStateEdges trie states boundaries
 
 -- the classes that the bytes of the states of a trie and their partners make, each of those alone

@@ -21,14 +21,6 @@ pub record EndAbove (states : List State) (ends : List (Option ℕ)) (deep : ℕ
   pub distinct : IsDistinct list
   pub ended : (n : ℕ) → Contains list n → (e : ℕ) × EndsIn ends e n × (depth states e < deep)
 
--- Each range is one of the list, with patterns that end in the state or less deep; those of states that weren't reached yet are
--- empty.
-pub record AreRoom (states : List State) (ends : List (Option ℕ)) (ranges : List Range) (matches : List ℕ) : Type 0 where
-  pub counted : length ranges ≡ length states
-  pub inside : (i : ℕ) → i < length states → IsRangeOf matches (range_at ranges i)
-  pub above : (i : ℕ) → i < length states → EndAbove states ends (depth states i + 1) (in_range matches (range_at ranges i))
-  pub known : (n : ℕ) → Contains matches n → (e : ℕ) × EndsIn ends e n
-
 -- where the patterns of the failure of a state stand
 pub record IsRest (fails : List (Option ℕ)) (ranges : List Range) (i : ℕ) (rest : Range) : Type 0 where
   pub some : (f : ℕ) → slice_get fails i ≡ Some (Some f) → rest ≡ range_at ranges f

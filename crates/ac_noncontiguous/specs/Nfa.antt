@@ -17,12 +17,8 @@ use Rattle.ac_noncontiguous.specs.declared.nfa.tables.Tables.{Tables}
 
 -- ---- what is stored for a state, by its number
 
--- what a place past the last state is read as
-abbrev pub nothing_kept : State
-nothing_kept = record { transitions = 0; matches = 0; matches_len = 0; fail = 0; depth = 0; row = 0 }
-
 abbrev pub kept_of : List State → ℕ → State
-kept_of states i = slice_index_or states i nothing_kept
+kept_of states i = slice_index_or states i (record { transitions = 0; matches = 0; matches_len = 0; fail = 0; depth = 0; row = 0 })
 
 -- where its transitions begin; they end where those of the next state begin
 abbrev pub transitions_from : List State → ℕ → ℕ

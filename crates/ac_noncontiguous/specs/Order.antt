@@ -19,14 +19,10 @@ pub record AreLevels (states : List State) (from : ℕ) (first next : List ℕ) 
 abbrev pub ComesBefore : List State → ℕ → ℕ → Type 0
 ComesBefore states i j = (depth states i < depth states j) ⊎ ((depth states i ≡ depth states j) × (i < j))
 
--- the state is less deep, or as deep and before a state
-abbrev pub IsPassed : List State → ℕ → ℕ → ℕ → Type 0
-IsPassed states d from i = (depth states i < d) ⊎ ((depth states i ≡ d) × (i < from))
-
 -- the states of lesser depths, and those of a depth up to a state, each once and in order
 pub record AreInOrder (states : List State) (d from : ℕ) (order : List ℕ) : Type 0 where
-  pub all : (i : ℕ) → i < length states → IsPassed states d from i → Contains order i
-  pub within : (k : ℕ) → k < length order → (slice_index order k < length states) × IsPassed states d from (slice_index order k)
+  pub all : (i : ℕ) → i < length states → ((depth states i < d) ⊎ ((depth states i ≡ d) × (i < from))) → Contains order i
+  pub within : (k : ℕ) → k < length order → (slice_index order k < length states) × ((depth states (slice_index order k) < d) ⊎ ((depth states (slice_index order k) ≡ d) × ((slice_index order k) < from)))
   pub rising : (j k : ℕ) → j < k → k < length order → ComesBefore states (slice_index order j) (slice_index order k)
 
 -- all states, each once, in order of their depth, and those of one depth as they were added

@@ -6,10 +6,6 @@ use Rattle.std.specs.List.{Contains}
 abbrev pub EndsIn : List (Option ℕ) → ℕ → ℕ → Type 0
 EndsIn ends i n = slice_get ends n ≡ Some (Some i)
 
--- each pattern that ends somewhere ends in one of so many states
-abbrev pub AreEnds : List (Option ℕ) → ℕ → Type 0
-AreEnds ends states = (n i : ℕ) → EndsIn ends i n → i < states
-
 -- the first pattern that ends in a state, from a pattern on; the number past the last one where there is none
 pub record IsNextEnd (ends : List (Option ℕ)) (i from at : ℕ) : Type 0 where
   pub found : at < length ends → (from ≤ at) × EndsIn ends i at
@@ -20,12 +16,6 @@ pub record AreOwnChains (states : ℕ) (ends : List (Option ℕ)) (from : ℕ) (
   pub lens : (length first ≡ states) × (length next ≡ length ends)
   pub firsts : (i : ℕ) → i < states → IsNextEnd ends i from (slice_index first i)
   pub nexts : (n i : ℕ) → from ≤ n → EndsIn ends i n → IsNextEnd ends i (n + 1) (slice_index next n)
-
--- the patterns before one that end in a state, each once and in order
-pub record AreOwnBefore (ends : List (Option ℕ)) (i from : ℕ) (own : List ℕ) : Type 0 where
-  pub all : (n : ℕ) → n < from → EndsIn ends i n → Contains own n
-  pub within : (k : ℕ) → k < length own → (slice_index own k < from) × EndsIn ends i (slice_index own k)
-  pub rising : (j k : ℕ) → j < k → k < length own → slice_index own j < slice_index own k
 
 -- the patterns that end in a state, each once and in order
 pub record IsOwnList (ends : List (Option ℕ)) (i : ℕ) (own : List ℕ) : Type 0 where

@@ -3,16 +3,12 @@ use Rattle.std.specs.Prelude.{◌≡◌, ℕ, ◌≤◌, map, List, length, slic
 use Rattle.ac_input.specs.Number.{greatest_number}
 use Rattle.ac_input.specs.Work.{longest, shortest}
 
--- how long each pattern is
-abbrev pub lens_of : List (List ℕ) → List ℕ
-lens_of patterns = map (λ p. length p) patterns
-
 -- no pattern is longer than the greatest number
 abbrev pub AreShort : List (List ℕ) → Type 0
 AreShort patterns = (n : ℕ) (p : List ℕ) → slice_get patterns n ≡ Some p → length p ≤ greatest_number
 
 -- what is stored for patterns: how long each is, the shortest and the longest
 pub record AreLens (patterns : List (List ℕ)) (each : List ℕ) (least most : ℕ) : Type 0 where
-  pub lens : each ≡ lens_of patterns
+  pub lens : each ≡ map (λ p. length p) patterns
   pub no_shorter : least ≡ shortest patterns
   pub no_longer : most ≡ longest patterns

@@ -6,7 +6,7 @@ use Rattle.ac_input.specs.declared.search.Anchored.{Anchored}
 use Rattle.ac_input.specs.declared.search.Anchored.TheVariants.{No, Yes}
 use Rattle.ac_automaton.specs.Automaton.{IsReached}
 use Rattle.ac_input.specs.Candidate.{Filter}
-use Rattle.ac_input.specs.Classes.{AreByteClasses, ClassesLeadAlike}
+use Rattle.ac_input.specs.Classes.{AreByteClasses}
 use Rattle.ac_input.specs.Dictionary.{Dictionary, BeginsEntered}
 use Rattle.ac_input.specs.Failure.{IsList, AreOnce}
 use Rattle.ac_input.specs.Input.{is_anchored}
@@ -52,17 +52,9 @@ pub record CountsIn (nfa : NFA) (states : ℕ) : Type 0 where
   pub counted : ∥ HasStates (dictionary nfa) states ∥₁
   pub few : states ≤ greatest_number + 1
 
--- the dictionary is within the limits of a build
-abbrev pub IsWithin : NFA → Type 0
-IsWithin nfa = ∥ IsWithinLimits (dictionary nfa) ∥₁
-
 -- The states stand for these texts, from state 2 on.
 abbrev pub StandFor : NFA → (ℕ → List ℕ) → Type 0
 StandFor nfa text = AreTables (dictionary nfa) text nfa.tables
-
--- they stand for some texts
-abbrev pub StandForSome : NFA → Type 0
-StandForSome nfa = ∥ ((text : ℕ → List ℕ) × StandFor nfa text) ∥₁
 
 -- whatever the states stand for, this holds of their texts
 abbrev pub OfTexts : NFA → ((ℕ → List ℕ) → Type 0) → Type 0
@@ -157,9 +149,6 @@ pub record AreOrdered (nfa : NFA) (text : ℕ → List ℕ) : Type 0 where
   pub deeper : (i j : ℕ) → i < j → j < state_len nfa → InOneRun (special_in nfa).start_unanchored_id i j → depth_in nfa i ≤ depth_in nfa j
   pub by_first : (i j : ℕ) → i < j → j < state_len nfa → InOneRun (special_in nfa).start_unanchored_id i j → depth_in nfa i ≡ depth_in nfa j → BeginsBefore (dictionary nfa) (text i) (text j)
 
-abbrev pub OrderedIn : NFA → Type 0
-OrderedIn nfa = OfTexts nfa (AreOrdered nfa)
-
 -- ---- the numbers between the parts of the states
 
 -- The numbers between the parts of the states. Those at which some pattern matches come first, then the unanchored start, the
@@ -182,20 +171,16 @@ SpecialIn nfa special = OfTexts nfa (λ text. AreBounds nfa text special)
 abbrev pub ClassesAreThose : NFA → Type 0
 ClassesAreThose nfa = ∥ AreByteClasses (dictionary nfa) (classes_in nfa) ∥₁
 
--- bytes of one class lead alike from every state
-abbrev pub AlikeIn : NFA → Type 0
-AlikeIn nfa = ClassesLeadAlike (dictionary nfa) (classes_in nfa)
-
 -- ---- the whole
 
 -- What the read calls say of an automaton as a whole, and of each of its states. Another automaton is made from it by this alone.
 pub record IsReadable (nfa : NFA) : Type 0 where
-  pub stand : StandForSome nfa
+  pub stand : ∥ ((text : ℕ → List ℕ) × StandFor nfa text) ∥₁
   pub begin : TextsBegin nfa
   pub bounds : SpecialIn nfa (special_in nfa)
   pub counted : CountsIn nfa (state_len nfa)
-  pub within : IsWithin nfa
-  pub ordered : OrderedIn nfa
+  pub within : ∥ IsWithinLimits (dictionary nfa) ∥₁
+  pub ordered : OfTexts nfa (AreOrdered nfa)
   pub classes : ClassesAreThose nfa
   pub paired : IsPairing (dictionary nfa).pairing
   pub fails : (sid : ℕ) → sid < state_len nfa → FailsIn nfa sid (fail_in nfa sid)

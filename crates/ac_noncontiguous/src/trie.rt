@@ -11,15 +11,15 @@
 //!
 //! Under leftmost-first a pattern that begins with an earlier one can never match, and is not entered: the walk that enters it
 //! meets the state in which the earlier one ends.
-ghost use Rattle.std.specs.Prelude.{◌≡◌, ℕ, Some, ◌+◌, ◌<◌, ◌≤◌, length, map, true, false, IsTrue, OnOk, IfOk, IfErr};
+ghost use Rattle.std.specs.Prelude.{◌≡◌, ℕ, [], Some, ◌+◌, ◌<◌, ◌≤◌, length, map, true, false, IsTrue, OnOk, IfOk, IfErr};
 ghost use Rattle.ac_input.specs.Same.{other};
 ghost use Rattle.ac_input.specs.Pairing.{IsPairing};
 ghost use Rattle.ac_input.specs.LiveLaws.{canonical};
 ghost use Rattle.ac_input.specs.Dictionary.{Dictionary, dictionary_of};
 ghost use Rattle.ac_input.specs.Number.{greatest_number};
-ghost use Rattle.ac_input.specs.Limits.{without_patterns, with_pattern};
+ghost use Rattle.ac_input.specs.Limits.{with_pattern};
 ghost use Rattle.ac_literal.specs.Packed.{bytes_of};
-ghost use Rattle.ac_noncontiguous.specs.Own.{AreEnds};
+ghost use Rattle.ac_noncontiguous.specs.Own.{EndsIn};
 ghost use Rattle.ac_noncontiguous.specs.Tree.{IsTree, IsChildPlace, IsAdded, state_at, is_match, byte as byte_of};
 ghost use Rattle.ac_noncontiguous.specs.Entering.{IsMarked, IsChildStep, IsChildRefused, IsEnd, IsStuck};
 ghost use Rattle.ac_noncontiguous.specs.Standing.{IsPatternRefused, IsBuildRefused};
@@ -74,7 +74,7 @@ pub(crate) struct Trie {
     ghost few: { length states.items + 3 ≤ greatest_number + 1 },
     ghost counted: { length ends.items ≤ greatest_number + 1 },
     ghost paired: { IsPairing pairing },
-    ghost placed: { AreEnds ends.items (length states.items) },
+    ghost placed: { (n i : ℕ) → EndsIn ends.items i n → i < length states.items },
 }
 
 impl Trie {
@@ -82,7 +82,7 @@ impl Trie {
 
     /// The trie of no patterns: the start alone.
     pub(crate) fn new(alloc: Global, kind: MatchKind, pairing: Pairing) -> Result<Trie, BuildError>
-        ensures made { IfOk result (IsTrieOf (without_patterns kind pairing)) }
+        ensures made { IfOk result (IsTrieOf (dictionary_of [] pairing kind)) }
         ensures refused { IfErr result (λ error. error ≡ BuildErrorKind.Memory) }
     {
         let start = State {

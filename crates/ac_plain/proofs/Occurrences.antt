@@ -4,7 +4,6 @@ use Rattle.std.specs.Prelude.{slice_get}
 use Rattle.std.proofs.lemmas.Option.{slice_get_within, same_Some}
 use Rattle.ac_input.specs.Occurrence.{Search, Occurrence, Occurs, StartsAt}
 use Rattle.ac_input.proofs.OrderLemmas.{occurs-end, occurrence_from_parts}
-use Rattle.ac_plain.specs.Naive.{EndsAt}
 
 -- a search lies within its haystack where the same search does
 pub fits_too : {s t : Search} → s ≡ t → s.end ≤ length s.haystack → t.end ≤ length t.haystack
@@ -28,7 +27,7 @@ module _ (s : Search) (n : ℕ) (p : List ℕ) (fits : s.end ≤ length s.haysta
       occurrence_from_parts o (record { pattern = n; start = at; end = at + length p }) h.1 h.0.1 (omega arith)
 
   -- a pattern ends at a place as one occurrence at most
-  pub only_to : (end : ℕ) (o : Occurrence) → EndsAt s end o × (o.pattern ≡ n) → o ≡ record { pattern = n; start = end - length p; end = end }
+  pub only_to : (end : ℕ) (o : Occurrence) → (Occurs s o × (o.end ≡ end)) × (o.pattern ≡ n) → o ≡ record { pattern = n; start = end - length p; end = end }
   only_to end o h =
       let long = ends o h.0.0 h.1 in
       occurrence_from_parts o (record { pattern = n; start = end - length p; end = end }) h.1 (omega arith) h.0.1
@@ -38,5 +37,5 @@ module _ (s : Search) (n : ℕ) (p : List ℕ) (fits : s.end ≤ length s.haysta
   none_from at long o h = omega (arith, ends o h.0.0 h.1, h.0.0.within)
 
   -- no occurrence ends past the end, or where the pattern is longer than what lies before
-  pub none_to : (end : ℕ) → (s.end < end) ⊎ (end < length p) → (o : Occurrence) → ¬ (EndsAt s end o × (o.pattern ≡ n))
+  pub none_to : (end : ℕ) → (s.end < end) ⊎ (end < length p) → (o : Occurrence) → ¬ ((Occurs s o × (o.end ≡ end)) × (o.pattern ≡ n))
   none_to end out o h = omega (arith, ends o h.0.0 h.1, h.0.0.within)

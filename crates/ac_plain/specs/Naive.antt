@@ -17,13 +17,9 @@ abbrev pub IsOnly : (Occurrence → Type 0) → Option Occurrence → Type 0
 IsOnly P None = (o : Occurrence) → ¬ P o
 IsOnly P (Some it) = P it × ((o : Occurrence) → P o → o ≡ it)
 
--- the occurrences of a search that end at a place
-abbrev pub EndsAt : Search → ℕ → Occurrence → Type 0
-EndsAt s end o = Occurs s o × (o.end ≡ end)
-
 -- those that end at a place and come after a given one
 abbrev pub EndsAfter : Search → ℕ → Option Occurrence → Occurrence → Type 0
-EndsAfter s end before o = EndsAt s end o × IsAfter before o
+EndsAfter s end before o = (Occurs s o × (o.end ≡ end)) × IsAfter before o
 
 -- those that end at a place or later and come after a given one
 abbrev pub ReachesAfter : Search → ℕ → Option Occurrence → Occurrence → Type 0

@@ -16,7 +16,7 @@ ghost use Rattle.ac_input.specs.Best.{preference, IsLeast, IsBest, asked_kind, I
 ghost use Rattle.ac_input.specs.Walk.{Repeats, IsPick, IsWalk};
 ghost use Rattle.ac_input.specs.Computed.{walk_of};
 ghost use Rattle.ac_input.specs.Listing.{IsListing};
-ghost use Rattle.ac_plain.specs.Naive.{search_for, IsOnly, EndsAt, EndsAfter, ReachesAfter, LiesAlike, preferred};
+ghost use Rattle.ac_plain.specs.Naive.{search_for, IsOnly, EndsAfter, ReachesAfter, LiesAlike, preferred};
 
 pub mod picks;
 
@@ -238,7 +238,7 @@ impl<'a> Naive<'a> {
 
     /// The pattern of this number, where it ends at the place.
     fn pattern_ending_at(&self, number: usize, end: usize) -> Option<Found>
-        ensures { IsOnly (λ o. EndsAt self.now end o × (o.pattern ≡ number)) result }
+        ensures { IsOnly (λ o. (Occurs self.now o × (o.end ≡ end)) × (o.pattern ≡ number)) result }
     {
         let pattern = self.pattern(number)?;
         if self.span.end < end || end < pattern.len() {

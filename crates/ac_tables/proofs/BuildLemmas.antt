@@ -13,8 +13,14 @@ use Rattle.ac_noncontiguous.specs.Reads.{matches_at}
 use Rattle.ac_noncontiguous.specs.ReadCalls.{fail_in, depth_in, edges_in, EdgesLeadIn}
 use Rattle.ac_tables.specs.Words.{StateParts, words_of}
 use Rattle.ac_tables.specs.ContiguousTable.{placed_edge, parts_of, place_in, words_at, words_before}
-use Rattle.ac_tables.specs.ContiguousBuild.{ArePlacesIn, AreReadTo, IsKnown, AreKnown, IsWritten}
+use Rattle.ac_tables.specs.ContiguousBuild.{ArePlacesIn, IsKnown, AreKnown, IsWritten}
 use Rattle.ac_tables.proofs.LenLemmas.{not-equal}
+
+-- The first n transitions of a state were read, and these are left.
+pub record AreReadTo (classes : List ℕ) (place : ℕ → ℕ) (edges : List (ℕ × ℕ)) (n : ℕ) (done left : List (ℕ × ℕ)) : Type 0 where
+  pub read : done ≡ map (placed_edge classes place) (take n edges)
+  pub rest : left ≡ drop n edges
+  pub within : n ≤ length edges
 
 -- ---- the transitions, one after another
 

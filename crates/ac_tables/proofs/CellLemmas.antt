@@ -22,7 +22,7 @@ use Rattle.ac_noncontiguous.specs.Reads.{dictionary}
 use Rattle.ac_noncontiguous.specs.ReadCalls.{state_len, fail_in, edges_in, special_in, classes_in, StandFor, FailsIn, EdgesLeadIn, IsEdgeIn, MayBeMet, LeadsIn, IsReadable}
 use Rattle.ac_noncontiguous.proofs.NextLemmas.{state-some, state-none, straight, stuck, stuck-dead}
 use Rattle.ac_tables.specs.DfaTable.{IsCell}
-use Rattle.ac_tables.specs.Filling.{RowPlan, number_in, cell_in, IsSource, IsFit, IsRowRight, IsUnwritten, entry_in, HasClass, IsEntry, Written, Kept}
+use Rattle.ac_tables.specs.Filling.{RowPlan, number_in, IsSource, IsFit, IsRowRight, IsUnwritten, entry_in, IsEntry, Written, Kept}
 use Rattle.ac_tables.proofs.RowLemmas.{row-first}
 
 -- ---- the automaton
@@ -166,7 +166,7 @@ written-right p anchored sid k c byte next cell fit e met past is byte_in same w
 -- ---- without one
 
 -- a byte that no transition has leads to none
-no-edge : (p : RowPlan) (sid byte : ℕ) → EdgesLeadIn p.nfa sid → byte < 256 → ((k c next : ℕ) → ¬ HasClass p.classes (edges_in p.nfa sid) (class p.classes byte) k c next) → (text : ℕ → List ℕ) → StandFor p.nfa text → IsEdgeIn p.nfa text sid byte 1
+no-edge : (p : RowPlan) (sid byte : ℕ) → EdgesLeadIn p.nfa sid → byte < 256 → ((k c next : ℕ) → ¬ ((slice_get (edges_in p.nfa sid) k ≡ Some (c, next)) × (class p.classes c ≡ (class p.classes byte)))) → (text : ℕ → List ℕ) → StandFor p.nfa text → IsEdgeIn p.nfa text sid byte 1
 no-edge p sid byte e byte_in none text t = (e.leading text t).missing byte byte_in (λ k next is. none k byte next (is, refl))
 
 -- where the failure leads with it, the state does
@@ -200,8 +200,8 @@ leads-by_failure nfa sid byte next source f met past edge h =
 pub row-plain : (p : RowPlan) (sid : ℕ) (old new : List ℕ) → IsFit p → EdgesLeadIn p.nfa sid → FailsIn p.nfa sid (fail_in p.nfa sid) → MayBeMet p.nfa No sid → 1 < sid → ((x : ℕ) → x < p.stride → IsEntry p No (edges_in p.nfa sid) x (slice_index old (number_in p No (fail_in p.nfa sid) + x)) (slice_index new (number_in p No sid + x))) → IsRowRight p No (fail_in p.nfa sid) old → IsRowRight p No sid new
 row-plain p sid old new fit e f met past entries right byte small = by (entries (class p.classes byte) (fit.letters byte small))
   where
-    by : IsEntry p No (edges_in p.nfa sid) (class p.classes byte) (slice_index old (cell_in p No (fail_in p.nfa sid) byte)) (slice_index new (cell_in p No sid byte)) → (to : ℕ) × IsCell p.nfa p.kind p.stride (slice_index new (cell_in p No sid byte)) No sid byte to
-    by (Written k c next has is) = written-right p No sid k c byte next (slice_index new (cell_in p No sid byte)) fit e met past has.0 small has.1 is
+    by : IsEntry p No (edges_in p.nfa sid) (class p.classes byte) (slice_index old (number_in p No (fail_in p.nfa sid) + class p.classes byte)) (slice_index new (number_in p No sid + class p.classes byte)) → (to : ℕ) × IsCell p.nfa p.kind p.stride (slice_index new (number_in p No sid + class p.classes byte)) No sid byte to
+    by (Written k c next has is) = written-right p No sid k c byte next (slice_index new (number_in p No sid + class p.classes byte)) fit e met past has.0 small has.1 is
     by (Kept none is) =
         let r = right byte small in
         (r.0, (leads-by_failure p.nfa sid byte r.0 fit.source f met past (no-edge p sid byte e small none) r.1.0, is ∙ r.1.1))
@@ -210,8 +210,8 @@ row-plain p sid old new fit e f met past entries right byte small = by (entries 
 pub row-anchored : (p : RowPlan) (sid : ℕ) (old new : List ℕ) → IsFit p → EdgesLeadIn p.nfa sid → MayBeMet p.nfa Yes sid → 1 < sid → ((x : ℕ) → x < p.stride → IsEntry p Yes (edges_in p.nfa sid) x (slice_index old (number_in p Yes sid + x)) (slice_index new (number_in p Yes sid + x))) → IsUnwritten p.stride (number_in p Yes sid) old → IsRowRight p Yes sid new
 row-anchored p sid old new fit e met past entries blank byte small = by (entries (class p.classes byte) (fit.letters byte small))
   where
-    by : IsEntry p Yes (edges_in p.nfa sid) (class p.classes byte) (slice_index old (cell_in p Yes sid byte)) (slice_index new (cell_in p Yes sid byte)) → (to : ℕ) × IsCell p.nfa p.kind p.stride (slice_index new (cell_in p Yes sid byte)) Yes sid byte to
-    by (Written k c next has is) = written-right p Yes sid k c byte next (slice_index new (cell_in p Yes sid byte)) fit e met past has.0 small has.1 is
+    by : IsEntry p Yes (edges_in p.nfa sid) (class p.classes byte) (slice_index old (number_in p Yes sid + class p.classes byte)) (slice_index new (number_in p Yes sid + class p.classes byte)) → (to : ℕ) × IsCell p.nfa p.kind p.stride (slice_index new (number_in p Yes sid + class p.classes byte)) Yes sid byte to
+    by (Written k c next has is) = written-right p Yes sid k c byte next (slice_index new (number_in p Yes sid + class p.classes byte)) fit e met past has.0 small has.1 is
     by (Kept none is) = (
       0,
       (leads-over p sid byte byte fit met small small refl (no-edge p sid byte e small none), is ∙ (blank (class p.classes byte) (fit.letters byte small) ∙ sym (number-dead p Yes))),

@@ -15,9 +15,8 @@ use Rattle.ac_input.specs.Input.{is_anchored}
 use Rattle.ac_input.proofs.SameLemmas.{own_inverse-pairing}
 use Rattle.ac_automaton.specs.Held.{last_special_of}
 use Rattle.ac_automaton.specs.Automaton.{IsReached, IsState, AtEach, Leads, TellsDead, TellsStart}
-use Rattle.ac_automaton.specs.Named.{Naming, AreNames, IsSpecialState, IsStep}
-use Rattle.ac_automaton.specs.Named.{AllNames}
-use Rattle.ac_automaton.proofs.NamedLemmas.{reached-met, read-met, read-next, read-start, read-dead, read-starts, read-known}
+use Rattle.ac_automaton.specs.Named.{Naming, IsStep}
+use Rattle.ac_automaton.proofs.NamedLemmas.{reached-met, read-met, read-next, read-start, read-dead, read-starts, read-known, AllNames, AreNames, IsSpecialState}
 use Rattle.ac_tables.specs.declared.dfa.DFA.{DFA}
 use Rattle.ac_tables.specs.declared.dfa.table.Table.{Table}
 use Rattle.ac_tables.specs.DfaTable.{AreDfaRows, stride_of, dfa_list_of, list_start, list_end, dfa_matches_by, start_by}

@@ -15,7 +15,7 @@ use Rattle.ac_tables.specs.declared.contiguous.NFA.{NFA}
 use Rattle.ac_tables.specs.declared.contiguous.table.Table.{Table}
 use Rattle.ac_tables.specs.ContiguousTable.{AreStates}
 use Rattle.ac_tables.specs.ContiguousReads.{contiguous_dictionary, IsLaidOut, IsMet, LooksUp}
-use Rattle.ac_tables.specs.WordReads.{IsStateAt, HoldsState, ByteLeadsTo, IsFailOf}
+use Rattle.ac_tables.specs.WordReads.{IsStateAt, HoldsState, ByteLeadsTo}
 use Rattle.ac_tables.specs.Words.{StateParts, next_by}
 
 -- ---- a state that is met
@@ -61,17 +61,17 @@ laid-edge nfa anchored sid byte next small steps names fits met =
     subst (IsEdgeBy (contiguous_dictionary nfa) names nfa.table.start sid byte) (sym (steps (fits.0 sid) s)) (fits.1.linked.edges anchored sid byte met small)
 
 -- and a failure is one of them
-pub laid-failure : (nfa : NFA) (sid fail : ℕ) → IsFailOf nfa.table sid fail → OfNames (IsLaidOut nfa) false sid (λ names. IsFailureBy (contiguous_dictionary nfa) names sid fail)
+pub laid-failure : (nfa : NFA) (sid fail : ℕ) → ((s : StateParts) → IsStateAt nfa.table sid s → fail ≡ s.fail) → OfNames (IsLaidOut nfa) false sid (λ names. IsFailureBy (contiguous_dictionary nfa) names sid fail)
 laid-failure nfa sid fail fails names fits met =
     let s = met-state (contiguous_dictionary nfa) nfa.table names fits.0 false sid fits.1 met in
     subst (IsFailureBy (contiguous_dictionary nfa) names sid) (sym (fails (fits.0 sid) s)) (fits.1.linked.failures sid met)
 
 -- unanchored searches may come to the failure of a state
-pub met-fail : (nfa : NFA) (sid fail : ℕ) → IsMet nfa false sid → IsFailOf nfa.table sid fail → IsMet nfa false fail
+pub met-fail : (nfa : NFA) (sid fail : ℕ) → IsMet nfa false sid → ((s : StateParts) → IsStateAt nfa.table sid s → fail ≡ s.fail) → IsMet nfa false fail
 met-fail nfa sid fail h fails = ∥∥₁_map h (λ w. (w.0, w.1, (laid-failure nfa sid fail fails w.0 w.1 w.2).met))
 
 -- and its number fits
-pub fail-small : (nfa : NFA) (sid fail : ℕ) → IsMet nfa false sid → IsFailOf nfa.table sid fail → fail ≤ greatest_number
+pub fail-small : (nfa : NFA) (sid fail : ℕ) → IsMet nfa false sid → ((s : StateParts) → IsStateAt nfa.table sid s → fail ≡ s.fail) → fail ≤ greatest_number
 fail-small nfa sid fail h fails = ∥∥₁_elim h le_prop (λ w. w.1.1.small false fail (laid-failure nfa sid fail fails w.0 w.1 w.2).met)
 
 -- ---- one look-up

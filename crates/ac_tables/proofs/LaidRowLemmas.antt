@@ -12,9 +12,8 @@ use Rattle.ac_noncontiguous.specs.declared.nfa.NFA.{NFA}
 use Rattle.ac_noncontiguous.specs.Nfa.{state_of}
 use Rattle.ac_noncontiguous.specs.Reads.{dictionary}
 use Rattle.ac_noncontiguous.specs.ReadCalls.{state_len, MayBeMet, LeadsIn, IsReadable}
-use Rattle.ac_tables.specs.Places.{is_met}
 use Rattle.ac_tables.specs.ContiguousTable.{place_in}
-use Rattle.ac_tables.specs.ContiguousBuild.{ArePlacesIn, AreRowsFrom, AreSomeClassesFor, HasStride, row_plan}
+use Rattle.ac_tables.specs.ContiguousBuild.{ArePlacesIn, AreRowsFrom, AreSomeClassesFor, HasStride}
 use Rattle.ac_tables.specs.Filling.{IsFit, AreRowsUpTo}
 use Rattle.ac_tables.specs.ContiguousRows.{AreUnanchoredRows, AreRowsIfAny, AreSameIfAny, row_len, place_in_row, row_after, IsRowIn}
 use Rattle.ac_tables.specs.Cut.{Rise}
@@ -22,7 +21,7 @@ use Rattle.ac_tables.specs.declared.contiguous.rows.Rows.{Rows}
 use Rattle.ac_input.specs.Dictionary.{Dictionary}
 use Rattle.ac_tables.proofs.CutLemmas.{row-is}
 use Rattle.ac_tables.proofs.DfaBuildLemmas.{chosen-fit}
-use Rattle.ac_tables.proofs.PlacesLemmas.{met-stands, met-unanchored, named-state}
+use Rattle.ac_tables.proofs.PlacesLemmas.{met-stands, met-unanchored, named-state, is_met}
 use Rattle.ac_tables.proofs.StandLemmas.{place-rises, place-one}
 use Rattle.ac_tables.proofs.LayLemmas.{Laid, start_in, names_in, text-some, text-none, met-at, text-at, met-but}
 
@@ -113,17 +112,17 @@ rows-if-any nfa dense_depth classes places text (Some rows) h laid made = rows-n
 -- ---- rows that are filled
 
 -- rows of this length may be filled,
-pub plan-fit : (nfa : NFA) (classes : List ℕ) (stride : ℕ) → IsReadable nfa → AreSomeClassesFor nfa classes → HasStride classes stride → state_len nfa * stride ≤ greatest_number → IsFit (row_plan nfa classes stride)
+pub plan-fit : (nfa : NFA) (classes : List ℕ) (stride : ℕ) → IsReadable nfa → AreSomeClassesFor nfa classes → HasStride classes stride → state_len nfa * stride ≤ greatest_number → IsFit (record { nfa = nfa; kind = Unanchored; classes = classes; stride = stride })
 plan-fit nfa classes stride r chosen has small =
     let le : (state_len nfa - 1) * stride ≤ state_len nfa * stride = mul-le-mul_right stride (let one : state_len nfa - 1 ≤ state_len nfa = omega arith in one) in
     chosen-fit chosen.0 nfa Unanchored classes stride r chosen.1 has.least has.wide (omega (arith, le, small))
 
 -- and are those of the automaton
-pub rows-from : (nfa : NFA) (classes places : List ℕ) (rows : Rows) (stride : ℕ) → rows.places.items ≡ places → stride ≡ row_len rows → IsFit (row_plan nfa classes stride) → AreRowsUpTo (row_plan nfa classes stride) (state_len nfa) (state_len nfa) rows.trans.items → AreRowsFrom nfa classes places rows
+pub rows-from : (nfa : NFA) (classes places : List ℕ) (rows : Rows) (stride : ℕ) → rows.places.items ≡ places → stride ≡ row_len rows → IsFit (record { nfa = nfa; kind = Unanchored; classes = classes; stride = stride }) → AreRowsUpTo (record { nfa = nfa; kind = Unanchored; classes = classes; stride = stride }) (state_len nfa) (state_len nfa) rows.trans.items → AreRowsFrom nfa classes places rows
 rows-from nfa classes places rows stride at is fit filled = record {
   at = at;
-  fit = subst (λ (s : ℕ). IsFit (row_plan nfa classes s)) is fit;
-  filled = subst (λ (s : ℕ). AreRowsUpTo (row_plan nfa classes s) (state_len nfa) (state_len nfa) rows.trans.items) is filled;
+  fit = subst (λ (s : ℕ). IsFit (record { nfa = nfa; kind = Unanchored; classes = classes; stride = s })) is fit;
+  filled = subst (λ (s : ℕ). AreRowsUpTo (record { nfa = nfa; kind = Unanchored; classes = classes; stride = s }) (state_len nfa) (state_len nfa) rows.trans.items) is filled;
 }
 
 -- how many entries they have

@@ -13,12 +13,11 @@ use Rattle.ac_noncontiguous.specs.declared.nfa.NFA.{NFA}
 use Rattle.ac_noncontiguous.specs.Nfa.{state_of}
 use Rattle.ac_noncontiguous.specs.Reads.{dictionary}
 use Rattle.ac_noncontiguous.specs.ReadCalls.{state_len, fail_in, special_in, StandFor, TextsBegin, SpecialIn, AreBounds, IsEdgeIn}
-use Rattle.ac_tables.specs.Places.{is_met, met_state_at, named_by, AreApartInTable}
 use Rattle.ac_tables.specs.Words.{StateParts, next_by}
 use Rattle.ac_tables.specs.ContiguousTable.{parts_of, place_in}
 use Rattle.ac_tables.specs.TableClasses.{AreServing}
 use Rattle.ac_tables.specs.ContiguousBuild.{AreKnown}
-use Rattle.ac_tables.proofs.PlacesLemmas.{at-some, at-found, named-met, named-state, named-text, met-stands, met-unanchored, met-anchored, met-other}
+use Rattle.ac_tables.proofs.PlacesLemmas.{AreApartInTable, at-some, at-found, named-met, named-state, named-text, met-stands, met-unanchored, met-anchored, met-other, named_by, met_state_at, is_met}
 use Rattle.ac_tables.proofs.StandLemmas.{stands, place-one}
 use Rattle.ac_tables.proofs.EntryLemmas.{entry}
 

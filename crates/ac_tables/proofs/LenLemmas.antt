@@ -1,7 +1,7 @@
 -- How many words a state has.
 use Rattle.std.proofs.Common.{◌≡◌, ◌≢◌, ◌⊎◌, ℕ, suc, ◌+◌, ◌<◌, ◌≤◌, ◌/◌, true, false, List, [], ◌∷◌, ◌++◌, length, refl, sym, ap, ◌∙◌, ⊎_elim, arith, length-append}
-use Rattle.std.specs.Prelude.{◌||◌, ◌==◌, nat_lt, if◌then◌else◌}
-use Rattle.std.proofs.lemmas.Bool.{cases_lt, or_left, or_right, cond-true, cond-false}
+use Rattle.std.specs.Prelude.{◌||◌, ◌&&◌, ◌==◌, nat_lt, if◌then◌else◌}
+use Rattle.std.proofs.lemmas.Bool.{cases_Bool, cases_lt, cond-true, cond-false}
 use Rattle.std.proofs.lemmas.Bool.Decides.{nat_tests}
 use Rattle.std.proofs.lemmas.List.{length-map, get_or_append_left, get_or_push}
 use Rattle.std.proofs.lemmas.List.FromFn.{length-map-range_with_len}
@@ -11,7 +11,7 @@ use Rattle.ac_noncontiguous.specs.declared.nfa.NFA.{NFA}
 use Rattle.ac_noncontiguous.specs.ReadCalls.{state_len}
 use Rattle.ac_tables.specs.ContiguousTable.{len_at, len_before, place_in, ArePlacesTooGreat}
 use Rattle.ac_tables.specs.ContiguousBuild.{ArePlacesOf}
-use Rattle.ac_tables.specs.Words.{StateParts, Form, Dense, One, Sparse, most_sparse, is_single, form_of, next_by, packed, classes_of, nexts_of, transition_words, match_words, words_of}
+use Rattle.ac_tables.specs.Words.{StateParts, Form, Dense, One, Sparse, most_sparse, is_single, form_of, next_by, packed, classes_of, nexts_of, transition_words, match_words, word_count, words_of}
 
 -- two numbers that differ
 pub not-equal : (a b : ℕ) → a ≢ b → (a == b) ≡ false
@@ -19,16 +19,13 @@ not-equal a b ne = grind (arith, nat_tests)
 
 -- ---- lists and classes
 
--- the words of several patterns, and of one or none
-pub match-many : (ns : List ℕ) → 1 < length ns → length (match_words ns) ≡ length ns + 1
-match-many [] some = absurd (omega (arith, some))
-match-many (n ∷ []) some = absurd (omega (arith, some))
-match-many (n ∷ o ∷ ns) some = omega arith
-
-pub match-few : (ns : List ℕ) → length ns ≤ 1 → length (match_words ns) ≡ length ns
-match-few [] few = refl
-match-few (n ∷ []) few = refl
-match-few (n ∷ o ∷ ns) few = absurd (omega (arith, few))
+-- one pattern has a word, and several are counted
+match-long : (ns : List ℕ) → length (match_words ns) ≡ (if nat_lt 1 (length ns) then length ns + 1 else length ns)
+match-long [] = refl
+match-long (n ∷ []) = refl
+match-long (n ∷ o ∷ ns) =
+    let many = cond-true (nat_lt 1 (length (n ∷ o ∷ ns))) (length (n ∷ o ∷ ns) + 1) (length (n ∷ o ∷ ns)) (grind (arith, nat_tests)) in
+    omega (arith, many)
 
 -- a word has four classes
 pub packed-long : (cs : List ℕ) → length (packed cs) ≡ (length cs + 3) / 4
@@ -45,27 +42,6 @@ packed-long (a ∷ b ∷ c ∷ d ∷ rest) =
 
 -- ---- by the form of a state
 
--- a shallow state is dense, and one with many transitions
-form-dense : (s : StateParts) → (s.shallow ≡ true) ⊎ (most_sparse < length s.edges) → form_of s ≡ Dense
-form-dense s h =
-    let test : (s.shallow || nat_lt most_sparse (length s.edges)) ≡ true =
-    ⊎_elim
-    (λ (a : s.shallow ≡ true). or_left s.shallow (nat_lt most_sparse (length s.edges)) a)
-    (λ (b : most_sparse < length s.edges). or_right s.shallow (nat_lt most_sparse (length s.edges)) (grind (arith, nat_tests)))
-    h in
-    cond-true (s.shallow || nat_lt most_sparse (length s.edges)) Dense (if is_single s then One else Sparse) test
-
--- one with few is sparse, but for a single one without patterns
-form-sparse : (s : StateParts) → s.shallow ≡ false → length s.edges ≤ most_sparse → (length s.edges ≢ 1) ⊎ (length s.matches ≢ 0) → form_of s ≡ Sparse
-form-sparse s deep few h =
-    let test : (s.shallow || nat_lt most_sparse (length s.edges)) ≡ false = grind (arith, nat_tests) in
-    let single : is_single s ≡ false =
-    ⊎_elim
-    (λ (a : length s.edges ≢ 1). grind (arith, nat_tests))
-    (λ (b : length s.matches ≢ 0). grind (arith, nat_tests))
-    h in
-    cond-false (s.shallow || nat_lt most_sparse (length s.edges)) Dense (if is_single s then One else Sparse) test ∙ cond-false (is_single s) One Sparse single
-
 -- kind and failure, the transitions, and the patterns
 pub form-long : (alphabet : ℕ) (s : StateParts) (form : Form) → form_of s ≡ form → length (words_of alphabet s) ≡ 2 + length (transition_words form alphabet s.edges) + length (match_words s.matches)
 form-long alphabet s form is =
@@ -73,22 +49,45 @@ form-long alphabet s form is =
     let same = ap (λ (f : Form). length (transition_words f alphabet s.edges)) is in
     omega (arith, own, same)
 
--- an entry for each class
-pub dense-long : (alphabet : ℕ) (s : StateParts) → (s.shallow ≡ true) ⊎ (most_sparse < length s.edges) → length (words_of alphabet s) ≡ 2 + alphabet + length (match_words s.matches)
-dense-long alphabet s h =
-    let long = form-long alphabet s Dense (form-dense s h) in
-    let wide = length-map-range_with_len (next_by s.edges) 0 alphabet in
-    omega (arith, long, wide)
+-- the classes of a few transitions, four in a word, and the next states
+sparse-long : (alphabet : ℕ) (edges : List (ℕ × ℕ)) → length (transition_words Sparse alphabet edges) ≡ (length edges + 3) / 4 + length edges
+sparse-long alphabet edges =
+    let both = length-append (packed (classes_of edges)) (nexts_of edges) in
+    let classes = packed-long (classes_of edges) in
+    let count = ap (λ (k : ℕ). (k + 3) / 4) (length-map edges (λ (e : ℕ × ℕ). e.0)) in
+    let nexts = length-map edges (λ (e : ℕ × ℕ). e.1) in
+    omega (arith, both, classes, count, nexts)
 
--- the classes and the next states
-pub sparse-long : (alphabet : ℕ) (s : StateParts) → s.shallow ≡ false → length s.edges ≤ most_sparse → (length s.edges ≢ 1) ⊎ (length s.matches ≢ 0) → length (words_of alphabet s) ≡ 2 + (length s.edges + 3) / 4 + length s.edges + length (match_words s.matches)
-sparse-long alphabet s deep few h =
-    let long = form-long alphabet s Sparse (form-sparse s deep few h) in
-    let both = length-append (packed (classes_of s.edges)) (nexts_of s.edges) in
-    let classes = packed-long (classes_of s.edges) in
-    let count = ap (λ (k : ℕ). (k + 3) / 4) (length-map s.edges (λ (e : ℕ × ℕ). e.0)) in
-    let nexts = length-map s.edges (λ (e : ℕ × ℕ). e.1) in
-    omega (arith, long, both, classes, count, nexts)
+-- the words of a state are as many as its transitions and patterns say
+pub words-long : (alphabet : ℕ) (s : StateParts) → length (words_of alphabet s) ≡ word_count alphabet s.shallow (length s.edges) (length s.matches)
+words-long alphabet s =
+    let list = match-long s.matches in
+    let few = s.shallow || nat_lt most_sparse (length s.edges) in
+    let sparse = (length s.edges + 3) / 4 + length s.edges in
+    let rest = if is_single s then One else Sparse in
+    ⊎_elim
+    (λ (dense : few ≡ true).
+    let long = form-long alphabet s Dense (cond-true few Dense rest dense) in
+    let wide = length-map-range_with_len (next_by s.edges) 0 alphabet in
+    let is = cond-true few alphabet (if is_single s then 1 else sparse) dense in
+    omega (arith, long, wide, is, list))
+    (λ (not_dense : few ≡ false).
+    let is = cond-false few alphabet (if is_single s then 1 else sparse) not_dense in
+    let form = cond-false few Dense rest not_dense in
+    ⊎_elim
+    (λ (single : is_single s ≡ true).
+    let long = form-long alphabet s One (form ∙ cond-true (is_single s) One Sparse single) in
+    let one : length s.edges ≡ 1 = grind (arith, nat_tests, single) in
+    let next = length-map s.edges (λ (e : ℕ × ℕ). e.1) in
+    let count = cond-true (is_single s) 1 sparse single in
+    omega (arith, long, one, next, is, count, list))
+    (λ (several : is_single s ≡ false).
+    let long = form-long alphabet s Sparse (form ∙ cond-false (is_single s) One Sparse several) in
+    let wide = sparse-long alphabet s.edges in
+    let count = cond-false (is_single s) 1 sparse several in
+    omega (arith, long, wide, is, count, list))
+    (cases_Bool (is_single s)))
+    (cases_Bool few)
 
 -- ---- places
 

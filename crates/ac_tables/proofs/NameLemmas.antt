@@ -12,8 +12,8 @@ use Rattle.ac_input.specs.Failure.{IsList}
 use Rattle.ac_input.specs.Input.{is_anchored}
 use Rattle.ac_automaton.specs.Held.{last_special_of}
 use Rattle.ac_automaton.specs.Automaton.{IsReached, IsState}
-use Rattle.ac_automaton.specs.Named.{Naming, IsFirst, AllNames, OfNames, IsSpecialState}
-use Rattle.ac_automaton.proofs.NamedLemmas.{reached-met, state-met, read-start, read-known}
+use Rattle.ac_automaton.specs.Named.{Naming, IsFirst, OfNames}
+use Rattle.ac_automaton.proofs.NamedLemmas.{reached-met, state-met, read-start, read-known, AllNames, IsSpecialState}
 use Rattle.ac_tables.specs.declared.contiguous.NFA.{NFA}
 use Rattle.ac_tables.specs.declared.contiguous.table.Table.{Table}
 use Rattle.ac_tables.specs.ContiguousTable.{AreStates}

@@ -12,7 +12,7 @@ use Rattle.ac_automaton.specs.declared.look.LookUp.{Ghosts}
 use Rattle.ac_automaton.proofs.AheadLemmas.{blank-note}
 use Rattle.ac_tables.specs.ByRows.{by_rows_built_as, row_matches_at, IsRowRead}
 use Rattle.ac_tables.specs.ContiguousReads.{contiguous_matches_at, IsContiguousRead}
-use Rattle.ac_tables.specs.ContiguousRows.{IsRowFor, IsLastUpTo, IsNotePlaced, place_in_row, row_len}
+use Rattle.ac_tables.specs.ContiguousRows.{IsLastUpTo, IsNotePlaced, place_in_row, row_len, IsRowIn}
 use Rattle.ac_tables.specs.Cut.{IsCountBelow}
 use Rattle.ac_tables.specs.WordReads.{matches_by}
 use Rattle.ac_tables.specs.declared.contiguous.by_rows.ByRows.{ByRows}
@@ -43,7 +43,7 @@ quiet-past by last row past more =
     (cases_lt (row / row_len rows) (length rows.places.items))
 
 -- several walks may go side by side over rows
-pub may-note-rows : (by : ByRows) (start last : ℕ) → IsRowFor by.rows.now by.nfa.now.table.start start → IsLastUpTo by.rows.now by.nfa.now.table.max_match last → MayNote row_look_ups by start last
+pub may-note-rows : (by : ByRows) (start last : ℕ) → (IsRowIn by.rows.now start × (place_in_row by.rows.now start ≡ by.nfa.now.table.start)) → IsLastUpTo by.rows.now by.nfa.now.table.max_match last → MayNote row_look_ups by start last
 may-note-rows by start last first past = record {
   starts = row-read by No [] start first.0 refl (start-read by.nfa.now No (place_in_row by.rows.now start) first.1);
   quiet = λ row more. quiet-past by last row past more;

@@ -7,10 +7,10 @@ use Rattle.ac_input.specs.Dictionary.{Dictionary}
 use Rattle.ac_automaton.specs.declared.automaton.Advance.{Advance}
 use Rattle.ac_automaton.specs.declared.look.Between.{Between}
 use Rattle.ac_automaton.specs.Automaton.{IsReached, Advances, is_matching}
-use Rattle.ac_automaton.specs.Named.{Naming, IsStep, IsIdleBy}
+use Rattle.ac_automaton.specs.Named.{Naming, IsStep}
 use Rattle.ac_automaton.specs.Starters.{SkipsIdle}
 use Rattle.ac_automaton.proofs.CursorLemmas.{reached-state}
-use Rattle.ac_automaton.proofs.IdleLemmas.{idle-stays, advances-alike}
+use Rattle.ac_automaton.proofs.IdleLemmas.{idle-stays, advances-alike, IsIdleBy}
 use Rattle.ac_automaton.proofs.LinkedLemmas.{straight}
 use Rattle.ac_automaton.proofs.PassLemmas.{matching-some, some-matching}
 use Rattle.ac_automaton.specs.ReadOn.{is_between, StaysBut}

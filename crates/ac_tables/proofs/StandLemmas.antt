@@ -6,55 +6,28 @@ use Rattle.std.proofs.lemmas.List.{append-nil, length-map, drop_at, take_at}
 use Rattle.std.proofs.lemmas.List.FromFn.{length-map-range_with_len}
 use Rattle.ac_input.specs.Alphabet.{alphabet_len}
 use Rattle.ac_noncontiguous.specs.declared.nfa.NFA.{NFA}
-use Rattle.ac_noncontiguous.specs.ReadCalls.{edges_in}
-use Rattle.ac_tables.specs.Words.{StateParts, Form, Dense, One, Sparse, most_sparse, form_of, next_by, packed, classes_of, nexts_of, transition_words, match_words, words_of, AreWordsAt}
+use Rattle.ac_noncontiguous.specs.ReadCalls.{depth_in, edges_in}
+use Rattle.ac_noncontiguous.specs.Reads.{matches_at}
+use Rattle.ac_tables.specs.Words.{StateParts, Form, Dense, One, Sparse, most_sparse, form_of, next_by, packed, classes_of, nexts_of, transition_words, match_words, word_count, words_of, AreWordsAt}
 use Rattle.ac_tables.specs.ContiguousTable.{placed_edge, parts_of, len_at, len_before, place_in, words_at, words_before}
-use Rattle.ac_tables.proofs.LenLemmas.{not-equal, packed-long, form-long}
+use Rattle.ac_tables.proofs.LenLemmas.{not-equal, words-long}
 
 -- ---- as many words, wherever the states stand
-
--- the form, by what counts for it
-abbrev form_by : Bool → ℕ → ℕ → Form
-form_by shallow transitions matches = if shallow || nat_lt most_sparse transitions then Dense else if (transitions == 1) && (matches == 0) then One else Sparse
-
--- the transitions take as many words as others that are as many
-transitions-alike : (form : Form) (alphabet : ℕ) (es fs : List (ℕ × ℕ)) → length es ≡ length fs → length (transition_words form alphabet es) ≡ length (transition_words form alphabet fs)
-transitions-alike Dense alphabet es fs same = length-map-range_with_len (next_by es) 0 alphabet ∙ sym (length-map-range_with_len (next_by fs) 0 alphabet)
-transitions-alike One alphabet es fs same = length-map es (λ (e : ℕ × ℕ). e.1) ∙ (same ∙ sym (length-map fs (λ (e : ℕ × ℕ). e.1)))
-transitions-alike Sparse alphabet es fs same =
-    let a = length-append (packed (classes_of es)) (nexts_of es) in
-    let b = length-append (packed (classes_of fs)) (nexts_of fs) in
-    let classes : length (classes_of es) ≡ length (classes_of fs) = length-map es (λ (e : ℕ × ℕ). e.0) ∙ (same ∙ sym (length-map fs (λ (e : ℕ × ℕ). e.0))) in
-    let words : length (packed (classes_of es)) ≡ length (packed (classes_of fs)) = packed-long (classes_of es) ∙ (ap (λ (k : ℕ). (k + 3) / 4) classes ∙ sym (packed-long (classes_of fs))) in
-    let nexts : length (nexts_of es) ≡ length (nexts_of fs) = length-map es (λ (e : ℕ × ℕ). e.1) ∙ (same ∙ sym (length-map fs (λ (e : ℕ × ℕ). e.1))) in
-    omega (arith, a, b, words, nexts)
-
--- so does a state
-long-alike : (alphabet : ℕ) (s t : StateParts) → s.shallow ≡ t.shallow → length s.edges ≡ length t.edges → s.matches ≡ t.matches → length (words_of alphabet s) ≡ length (words_of alphabet t)
-long-alike alphabet s t shallow edges matches =
-    let form : form_of s ≡ form_of t =
-    ap (λ (b : Bool). form_by b (length s.edges) (length s.matches)) shallow
-    ∙ ap (λ (n : ℕ). form_by t.shallow n (length s.matches)) edges
-    ∙ ap (λ (ns : List ℕ). form_by t.shallow (length t.edges) (length ns)) matches in
-    let a = form-long alphabet s (form_of t) form in
-    let b = form-long alphabet t (form_of t) refl in
-    let words = transitions-alike (form_of t) alphabet s.edges t.edges edges in
-    let lists = ap (λ (ns : List ℕ). length (match_words ns)) matches in
-    omega (arith, a, b, words, lists)
 
 -- the words of a state are as many as its length says
 at-long : (nfa : NFA) (dense_depth : ℕ) (classes : List ℕ) (sid : ℕ) → length (words_at nfa dense_depth classes sid) ≡ len_at nfa dense_depth classes sid
 at-long nfa dense_depth classes sid =
     let place = place_in nfa dense_depth classes in
     let own = parts_of nfa dense_depth classes place sid in
-    let plain = parts_of nfa dense_depth classes (λ (i : ℕ). i) sid in
+    let count = λ (edges : ℕ). word_count (alphabet_len classes) own.shallow edges (length own.matches) in
     ⊎_elim
     (λ (fail : sid ≡ 1).
-    ap length (cond-true (sid == 1) [] (words_of (alphabet_len classes) own) (eq-eqb sid 1 fail)) ∙ sym (cond-true (sid == 1) 0 (length (words_of (alphabet_len classes) plain)) (eq-eqb sid 1 fail)))
+    ap length (cond-true (sid == 1) [] (words_of (alphabet_len classes) own) (eq-eqb sid 1 fail)) ∙ sym (cond-true (sid == 1) 0 (count (length (edges_in nfa sid))) (eq-eqb sid 1 fail)))
     (λ (stands : sid ≢ 1).
     ap length (cond-false (sid == 1) [] (words_of (alphabet_len classes) own) (not-equal sid 1 stands))
-    ∙ (long-alike (alphabet_len classes) own plain refl (length-map (edges_in nfa sid) (placed_edge classes place) ∙ sym (length-map (edges_in nfa sid) (placed_edge classes (λ (i : ℕ). i)))) refl
-    ∙ sym (cond-false (sid == 1) 0 (length (words_of (alphabet_len classes) plain)) (not-equal sid 1 stands))))
+    ∙ (words-long (alphabet_len classes) own
+    ∙ (ap count (length-map (edges_in nfa sid) (placed_edge classes place))
+    ∙ sym (cond-false (sid == 1) 0 (count (length (edges_in nfa sid))) (not-equal sid 1 stands)))))
     (cases_eq sid 1)
 
 -- and so are those of the first n states
@@ -113,8 +86,8 @@ stands nfa dense_depth classes words sid n is lt not_fail =
 -- a state has two words or more
 at-two : (nfa : NFA) (dense_depth : ℕ) (classes : List ℕ) (sid : ℕ) → sid ≢ 1 → 2 ≤ len_at nfa dense_depth classes sid
 at-two nfa dense_depth classes sid not_fail =
-    let plain = parts_of nfa dense_depth classes (λ (i : ℕ). i) sid in
-    let is : len_at nfa dense_depth classes sid ≡ length (words_of (alphabet_len classes) plain) = cond-false (sid == 1) 0 (length (words_of (alphabet_len classes) plain)) (not-equal sid 1 not_fail) in
+    let count = word_count (alphabet_len classes) (nat_lt (depth_in nfa sid) dense_depth) (length (edges_in nfa sid)) (length (matches_at nfa sid)) in
+    let is : len_at nfa dense_depth classes sid ≡ count = cond-false (sid == 1) 0 count (not-equal sid 1 not_fail) in
     omega (arith, is)
 
 -- more states have no fewer words

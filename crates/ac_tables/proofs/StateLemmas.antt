@@ -11,7 +11,7 @@ use Rattle.ac_input.specs.Number.{greatest_number}
 use Rattle.ac_input.specs.Alphabet.{alphabet_len}
 use Rattle.ac_tables.specs.declared.contiguous.table.Table.{Table}
 use Rattle.ac_tables.specs.Words.{StateParts, form_of, next_by, packed, classes_of, nexts_of, kind_word, first_class}
-use Rattle.ac_tables.specs.WordReads.{unpacked, IsFirstPlace, IsStateAt, HoldsState, IsSparseAt, ByteLeadsTo, IsFailOf}
+use Rattle.ac_tables.specs.WordReads.{unpacked, IsFirstPlace, IsStateAt, HoldsState, IsSparseAt, ByteLeadsTo}
 use Rattle.ac_tables.proofs.DecodeLemmas.{state-kind, state-fail, form-dense, form-one, form-sparse, kind-one, dense-next, one-next, sparse-classes, sparse-nexts, stands-item}
 use Rattle.ac_tables.proofs.PackedLemmas.{AreBytes, unpack-packed, unpack-long, first-hit, no-hit}
 
@@ -177,7 +177,7 @@ pub fail-within : (table : Table) (sid : ℕ) → HoldsState table sid → sid +
 fail-within table sid h = ∥∥₁_elim h le_prop (λ w. (state-fail table.words.items sid table.alphabet_len w.0 w.1.stands).0)
 
 -- and says to which
-pub fail-read : (table : Table) (sid place fail : ℕ) → place ≡ sid + 1 → fail ≡ get_or table.words.items place fail → IsFailOf table sid fail
+pub fail-read : (table : Table) (sid place fail : ℕ) → place ≡ sid + 1 → fail ≡ get_or table.words.items place fail → ((s : StateParts) → IsStateAt table sid s → fail ≡ s.fail)
 fail-read table sid place fail is read s h =
     let there = state-fail table.words.items sid table.alphabet_len s h.stands in
     let within = there.0 in

@@ -13,13 +13,21 @@ use Rattle.ac_noncontiguous.specs.Nfa.{state_of}
 use Rattle.ac_noncontiguous.specs.Reads.{dictionary, matches_at}
 use Rattle.ac_noncontiguous.specs.ReadCalls.{state_len, edges_in, special_in, AreBounds}
 use Rattle.ac_tables.specs.declared.contiguous.table.Table.{Table}
-use Rattle.ac_tables.specs.Places.{is_met}
 use Rattle.ac_tables.specs.Words.{StateParts, next_by, words_of, AreWordsAt}
-use Rattle.ac_tables.specs.ContiguousTable.{placed_edge, parts_of, place_in, AreStates}
-use Rattle.ac_tables.specs.ContiguousBuild.{IsWordTableOf}
-use Rattle.ac_tables.proofs.PlacesLemmas.{met-stands, met-other, met-start, met-start_anchored}
+use Rattle.ac_tables.specs.ContiguousTable.{placed_edge, parts_of, place_in, AreStates, AreWordsOf}
+use Rattle.ac_tables.proofs.PlacesLemmas.{met-stands, met-other, met-start, met-start_anchored, is_met}
 use Rattle.ac_tables.proofs.StandLemmas.{stands, place-rises, place-one, place-later}
 use Rattle.ac_tables.proofs.LayLemmas.{Laid, start_in, names_in, parts_in, text-past, text-some, text-none, zero-or-past, parts-at, at-met, met-at, text-at, linked}
+
+-- The table is that of an automaton: its words, and the places of its starts and of its last state that matches.
+pub record IsWordTableOf (nfa : NFA) (dense_depth : ℕ) (table : Table) : Type 0 where
+  pub words : AreWordsOf nfa dense_depth table.classes table.words.items
+  pub alphabet : table.alphabet_len ≡ alphabet_len table.classes
+  pub few_classes : table.alphabet_len ≤ 256
+  pub classes : IsClasses table.classes
+  pub start : table.start ≡ place_in nfa dense_depth table.classes (special_in nfa).start_unanchored_id
+  pub start_anchored : table.start_anchored ≡ place_in nfa dense_depth table.classes (special_in nfa).start_anchored_id
+  pub max_match : table.max_match ≡ place_in nfa dense_depth table.classes (special_in nfa).max_match_id
 
 -- the class of a transition is one of the alphabet
 placed-fits : (classes : List ℕ) (place : ℕ → ℕ) (edges : List (ℕ × ℕ)) (k : ℕ) (edge : ℕ × ℕ) → IsClasses classes → ((byte next : ℕ) → slice_get edges k ≡ Some (byte, next) → byte < 256) → slice_get (map (placed_edge classes place) edges) k ≡ Some edge → edge.0 < alphabet_len classes

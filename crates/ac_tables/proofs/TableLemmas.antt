@@ -22,8 +22,7 @@ use Rattle.ac_noncontiguous.proofs.NextLemmas.{state-some, state-none}
 use Rattle.ac_tables.specs.declared.dfa.table.Table.{Table}
 use Rattle.ac_tables.specs.DfaMade.{nfa_start_of, number_by, IsDfaTableOf}
 use Rattle.ac_tables.specs.DfaTable.{dfa_row_of, stride_of, list_index, dfa_list_of, dfa_matches_by, start_by, AreDfaRows}
-use Rattle.ac_tables.specs.Places.{is_met, named_by, AreApartInTable}
-use Rattle.ac_tables.proofs.PlacesLemmas.{named-met, named-state, named-text, met-stands, met-unanchored, met-anchored, met-start, met-start_anchored}
+use Rattle.ac_tables.proofs.PlacesLemmas.{AreApartInTable, named-met, named-state, named-text, met-stands, met-unanchored, met-anchored, met-start, met-start_anchored, named_by, is_met}
 use Rattle.ac_tables.proofs.RowLemmas.{row-first, row-below, row-past, row-room, row-one, row-le, row-starts, row-before_starts, scale-one, scale-le, number-row, index-is}
 use Rattle.ac_tables.proofs.CellLemmas.{texts-of, last-match_is}
 

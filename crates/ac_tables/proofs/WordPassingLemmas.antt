@@ -22,7 +22,7 @@ use Rattle.ac_automaton.specs.declared.look.LookUp.{Ghosts}
 use Rattle.ac_tables.specs.declared.contiguous.NFA.{NFA}
 use Rattle.ac_tables.specs.declared.contiguous.table.Table.{Table}
 use Rattle.ac_tables.specs.Words.{StateParts, next_by}
-use Rattle.ac_tables.specs.WordReads.{unpacked, IsFirstPlace, IsStateAt, IsSparseAt, ByteLeadsTo, IsFailOf}
+use Rattle.ac_tables.specs.WordReads.{unpacked, IsFirstPlace, IsStateAt, IsSparseAt, ByteLeadsTo}
 use Rattle.ac_tables.specs.ContiguousReads.{contiguous_dictionary, contiguous_built_as, contiguous_matches_at, is_contiguous_start_at, is_contiguous_special_at, IsLaidOut, IsContiguousRead}
 use Rattle.ac_automaton.specs.ReadOn.{is_between}
 use Rattle.ac_tables.proofs.DecodeLemmas.{state-fail}
@@ -154,7 +154,7 @@ fail_by table sid = slice_index table.words.items (sid + 1)
 byte-leads : (table : Table) (sid byte : ℕ) → ByteLeadsTo table sid byte (edge_by table sid byte)
 byte-leads table sid byte = λ s h. class-leads table sid (class table.classes byte) s h
 
-fails-by : (table : Table) (sid : ℕ) → IsFailOf table sid (fail_by table sid)
+fails-by : (table : Table) (sid : ℕ) → ((s : StateParts) → IsStateAt table sid s → (fail_by table sid) ≡ s.fail)
 fails-by table sid = λ s h. (state-fail table.words.items sid table.alphabet_len s h.stands).1
 
 -- by its words the automaton is one that follows failures

@@ -14,24 +14,25 @@ use Rattle.ac_noncontiguous.specs.declared.error.BuildErrorKind.{BuildErrorKind}
 use Rattle.ac_noncontiguous.specs.declared.error.BuildErrorKind.TheVariants.{StateIDOverflow, PatternIDOverflow, PatternTooLong, Memory}
 use Rattle.ac_noncontiguous.specs.declared.nfa.NFA.{NFA}
 use Rattle.ac_noncontiguous.specs.Reads.{dictionary}
-use Rattle.ac_noncontiguous.specs.ReadCalls.{state_len, classes_in, special_in, StandForSome, TextsBegin, SpecialIn, ClassesAreThose, AlikeIn}
+use Rattle.ac_noncontiguous.specs.ReadCalls.{state_len, classes_in, special_in, TextsBegin, SpecialIn, ClassesAreThose, StandFor}
 use Rattle.ac_tables.specs.declared.contiguous.table.Table.{Table}
 use Rattle.ac_automaton.specs.Named.{Naming}
 use Rattle.ac_tables.specs.Words.{StateParts, words_of, AreWordsAt}
 use Rattle.ac_tables.specs.ContiguousTable.{AreStates, AreSomeStates, ArePlacesTooGreat}
 use Rattle.ac_tables.specs.ContiguousBuilder.{ContiguousSettings, IsRefusedFrom}
 use Rattle.ac_tables.specs.TableClasses.{AreClassesFor, AreServing}
-use Rattle.ac_tables.specs.ContiguousBuild.{ArePlacesIn, AreKnown, IsWordTableOf, IsCopiedTable, IsRefusedFor, AreRowsFrom}
+use Rattle.ac_tables.specs.ContiguousBuild.{ArePlacesIn, AreKnown, IsCopiedTable, IsRefusedFor, AreRowsFrom}
 use Rattle.ac_tables.specs.ContiguousRows.{AreRowsIfAny, AreSameIfAny}
 use Rattle.ac_tables.specs.declared.contiguous.rows.Rows.{Rows}
 use Rattle.ac_tables.proofs.LaidRowLemmas.{rows-if-any, rows-copied}
 use Rattle.ac_tables.proofs.LayLemmas.{Laid, names_in, parts_in}
-use Rattle.ac_tables.proofs.StatesLemmas.{states}
+use Rattle.ac_tables.proofs.StatesLemmas.{states, IsWordTableOf}
+use Rattle.ac_input.specs.Classes.{ClassesLeadAlike}
 
 -- ---- classes that serve
 
 -- those of the automaton do
-pub own-serve : (nfa : NFA) (classes : List ℕ) → ClassesAreThose nfa → AlikeIn nfa → classes ≡ classes_in nfa → AreServing (dictionary nfa) classes
+pub own-serve : (nfa : NFA) (classes : List ℕ) → ClassesAreThose nfa → ClassesLeadAlike (dictionary nfa) (classes_in nfa) → classes ≡ classes_in nfa → AreServing (dictionary nfa) classes
 own-serve nfa classes those alike is =
     subst (AreServing (dictionary nfa)) (sym is)
     (record {
@@ -49,7 +50,7 @@ singles-serve m classes h = record {
 -- ---- places that are read
 
 -- both starts are states, and so is the last one that matches
-pub specials-within : (nfa : NFA) → StandForSome nfa → SpecialIn nfa (special_in nfa) → ((special_in nfa).start_anchored_id < state_len nfa) × ((special_in nfa).max_match_id < state_len nfa)
+pub specials-within : (nfa : NFA) → (∥ ((text : ℕ → List ℕ) × StandFor nfa text) ∥₁) → SpecialIn nfa (special_in nfa) → ((special_in nfa).start_anchored_id < state_len nfa) × ((special_in nfa).max_match_id < state_len nfa)
 specials-within nfa some bounds = (
   ∥∥₁_elim some le_prop (λ w. (bounds w.0 w.1).within),
   ∥∥₁_elim some le_prop (λ w.
@@ -69,7 +70,7 @@ places-small nfa dense_depth classes places h great = let fits = h.fits great.0 
 -- ---- the states
 
 -- whatever texts the states stand for, the table holds them, and the rows are theirs
-pub some-states : (nfa : NFA) (dense_depth : ℕ) (table : Table) (rows : Option Rows) (places : List ℕ) → StandForSome nfa → TextsBegin nfa → AreKnown nfa (state_len nfa) → SpecialIn nfa (special_in nfa) → IsPairing (dictionary nfa).pairing → AreServing (dictionary nfa) table.classes → ArePlacesIn nfa dense_depth table.classes places → IsWordTableOf nfa dense_depth table → IfSome rows (AreRowsFrom nfa table.classes places) → AreSomeStates (dictionary nfa) table rows
+pub some-states : (nfa : NFA) (dense_depth : ℕ) (table : Table) (rows : Option Rows) (places : List ℕ) → (∥ ((text : ℕ → List ℕ) × StandFor nfa text) ∥₁) → TextsBegin nfa → AreKnown nfa (state_len nfa) → SpecialIn nfa (special_in nfa) → IsPairing (dictionary nfa).pairing → AreServing (dictionary nfa) table.classes → ArePlacesIn nfa dense_depth table.classes places → IsWordTableOf nfa dense_depth table → IfSome rows (AreRowsFrom nfa table.classes places) → AreSomeStates (dictionary nfa) table rows
 some-states nfa dense_depth table rows places some begin known bounds paired serving h made filled =
     ∥∥₁_map some (λ w.
     let laid : Laid nfa w.0 dense_depth table.classes = record {
@@ -96,7 +97,7 @@ same-dictionary m patterns pairing kind p q k =
 
 -- a place that is too great by the classes is so by the settings
 pub refused-laid : (s : ContiguousSettings) (from : NFA) (classes : List ℕ) (error : BuildErrorKind) → AreClassesFor from s.byte_classes classes → IsRefusedFor from s.dense_depth classes error → IsRefusedFrom s from error
-refused-laid s from classes (StateIDOverflow max requested) chosen h = (h.0, h.1, classes, chosen, h.2)
+refused-laid s from classes (StateIDOverflow max requested) chosen h = (h.0, h.1, (classes, chosen, h.2))
 refused-laid s from classes (PatternIDOverflow max requested) chosen h = h
 refused-laid s from classes (PatternTooLong pattern len) chosen h = h
 refused-laid s from classes Memory chosen h = h

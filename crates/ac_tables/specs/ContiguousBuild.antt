@@ -1,27 +1,21 @@
 -- How the words of a contiguous automaton are made, state by state.
-use Rattle.std.specs.Prelude.{◌≡◌, ◌≢◌, ℕ, ◌<◌, ◌≤◌, Bool, List, ◌++◌, map, take, drop, length, slice_index, ◌==◌, if◌then◌else◌}
+use Rattle.std.specs.Prelude.{◌≡◌, ◌≢◌, ℕ, ◌<◌, ◌≤◌, Bool, List, ◌++◌, map, length, slice_index, ◌==◌, if◌then◌else◌}
 use Rattle.ac_automaton.specs.Named.{nowhere}
 use Rattle.ac_input.specs.Number.{greatest_number}
-use Rattle.ac_input.specs.Alphabet.{alphabet_len, IsClasses, IsLeastPowerOfTwo}
+use Rattle.ac_input.specs.Alphabet.{alphabet_len, IsLeastPowerOfTwo}
 use Rattle.ac_noncontiguous.specs.declared.error.BuildErrorKind.{BuildErrorKind}
 use Rattle.ac_noncontiguous.specs.declared.error.BuildErrorKind.TheVariants.{StateIDOverflow, PatternIDOverflow, PatternTooLong, Memory}
 use Rattle.ac_noncontiguous.specs.declared.nfa.NFA.{NFA}
-use Rattle.ac_noncontiguous.specs.ReadCalls.{state_len, fail_in, special_in, FailsIn, EdgesLeadIn, ListsIn, edges_in}
+use Rattle.ac_noncontiguous.specs.ReadCalls.{state_len, fail_in, FailsIn, EdgesLeadIn, ListsIn, edges_in}
 use Rattle.ac_noncontiguous.specs.Reads.{matches_at}
 use Rattle.ac_tables.specs.Words.{StateParts, words_of}
 use Rattle.ac_input.specs.declared.search.StartKind.TheVariants.{Unanchored}
 use Rattle.ac_tables.specs.ContiguousRows.{row_len}
-use Rattle.ac_tables.specs.Filling.{RowPlan, IsFit, AreRowsUpTo}
+use Rattle.ac_tables.specs.Filling.{IsFit, AreRowsUpTo}
 use Rattle.ac_tables.specs.TableClasses.{AreClassesFor}
 use Rattle.ac_tables.specs.declared.contiguous.rows.Rows.{Rows}
 use Rattle.ac_tables.specs.ContiguousTable.{placed_edge, place_in, words_at, AreWordsOf, ArePlacesTooGreat}
 use Rattle.ac_tables.specs.declared.contiguous.table.Table.{Table}
-
--- ---- how many words
-
--- how many words each state has of which this is known
-abbrev pub IsLen : ℕ → Bool → ℕ → ℕ → ℕ → Type 0
-IsLen alphabet shallow transitions matches len = (s : StateParts) → s.shallow ≡ shallow → length s.edges ≡ transitions → length s.matches ≡ matches → len ≡ length (words_of alphabet s)
 
 -- ---- places
 
@@ -46,9 +40,8 @@ ArePlacesIn nfa dense_depth classes places = ArePlacesOf nfa dense_depth classes
 -- Why there are no such words: some place is too great, or memory ends.
 abbrev pub IsRefusedFor : NFA → ℕ → List ℕ → BuildErrorKind → Type 0
 IsRefusedFor nfa dense_depth classes (StateIDOverflow max requested) = (max ≡ greatest_number) × (max < requested) × ArePlacesTooGreat nfa dense_depth classes
-IsRefusedFor nfa dense_depth classes (PatternIDOverflow max requested) = ⊥
-IsRefusedFor nfa dense_depth classes (PatternTooLong pattern len) = ⊥
 IsRefusedFor nfa dense_depth classes Memory = Unit {0}
+IsRefusedFor nfa dense_depth classes other = ⊥
 
 -- ---- states
 
@@ -64,16 +57,6 @@ AreKnown nfa n = (sid : ℕ) → sid < n → sid ≢ nowhere → IsKnown nfa sid
 
 -- ---- the table
 
--- The table is that of an automaton: its words, and the places of its starts and of its last state that matches.
-pub record IsWordTableOf (nfa : NFA) (dense_depth : ℕ) (table : Table) : Type 0 where
-  pub words : AreWordsOf nfa dense_depth table.classes table.words.items
-  pub alphabet : table.alphabet_len ≡ alphabet_len table.classes
-  pub few_classes : table.alphabet_len ≤ 256
-  pub classes : IsClasses table.classes
-  pub start : table.start ≡ place_in nfa dense_depth table.classes (special_in nfa).start_unanchored_id
-  pub start_anchored : table.start_anchored ≡ place_in nfa dense_depth table.classes (special_in nfa).start_anchored_id
-  pub max_match : table.max_match ≡ place_in nfa dense_depth table.classes (special_in nfa).max_match_id
-
 -- the words of a state were put after the others, and the read calls describe it
 pub record IsWritten (nfa : NFA) (dense_depth : ℕ) (classes : List ℕ) (sid : ℕ) (before after : List ℕ) : Type 0 where
   pub words : after ≡ before ++ words_at nfa dense_depth classes sid
@@ -82,12 +65,6 @@ pub record IsWritten (nfa : NFA) (dense_depth : ℕ) (classes : List ℕ) (sid :
 -- all of them were
 abbrev pub AreReadBy : NFA → List ℕ → List ℕ → ℕ → List (ℕ × ℕ) → Type 0
 AreReadBy nfa classes places sid edges = edges ≡ map (placed_edge classes (slice_index places)) (edges_in nfa sid)
-
--- The first n transitions of a state were read, and these are left.
-pub record AreReadTo (classes : List ℕ) (place : ℕ → ℕ) (edges : List (ℕ × ℕ)) (n : ℕ) (done left : List (ℕ × ℕ)) : Type 0 where
-  pub read : done ≡ map (placed_edge classes place) (take n edges)
-  pub rest : left ≡ drop n edges
-  pub within : n ≤ length edges
 
 -- a copy of the table
 pub record IsCopiedTable (old new : Table) : Type 0 where
@@ -104,15 +81,11 @@ AreAllWritten nfa dense_depth classes words = AreWordsOf nfa dense_depth classes
 
 -- ---- the rows
 
--- where the rows of an automaton stand: in the order of its states
-abbrev pub row_plan : NFA → List ℕ → ℕ → RowPlan
-row_plan nfa classes stride = record { nfa = nfa; kind = Unanchored; classes = classes; stride = stride }
-
 -- The rows are those of an automaton whose states have these places.
 pub record AreRowsFrom (nfa : NFA) (classes places : List ℕ) (rows : Rows) : Type 0 where
   pub at : rows.places.items ≡ places
-  pub fit : IsFit (row_plan nfa classes (row_len rows))
-  pub filled : AreRowsUpTo (row_plan nfa classes (row_len rows)) (state_len nfa) (state_len nfa) rows.trans.items
+  pub fit : IsFit (record { nfa = nfa; kind = Unanchored; classes = classes; stride = (row_len rows) })
+  pub filled : AreRowsUpTo (record { nfa = nfa; kind = Unanchored; classes = classes; stride = (row_len rows) }) (state_len nfa) (state_len nfa) rows.trans.items
 
 -- the classes are the automaton's, or each byte alone
 abbrev pub AreSomeClassesFor : NFA → List ℕ → Type 0

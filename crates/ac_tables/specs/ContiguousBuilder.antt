@@ -9,14 +9,14 @@ use Rattle.ac_noncontiguous.specs.declared.error.BuildErrorKind.{BuildErrorKind}
 use Rattle.ac_noncontiguous.specs.declared.error.BuildErrorKind.TheVariants.{StateIDOverflow, PatternIDOverflow, PatternTooLong, Memory}
 use Rattle.ac_noncontiguous.specs.declared.nfa.NFA.{NFA as Noncontiguous}
 use Rattle.ac_noncontiguous.specs.Builder.{Settings, IsBuiltOf, dictionary_by}
-use Rattle.ac_noncontiguous.specs.ReadCalls.{IsWithin}
 use Rattle.ac_noncontiguous.specs.Reads.{built_as, dictionary}
 use Rattle.ac_noncontiguous.specs.Standing.{IsBuildRefused}
 use Rattle.ac_tables.specs.declared.contiguous.NFA.{NFA}
 use Rattle.ac_tables.specs.declared.contiguous.builder.Laid.{Laid}
 use Rattle.ac_tables.specs.TableClasses.{AreClassesFor}
-use Rattle.ac_tables.specs.ContiguousTable.{AreWordsOf, ArePlacesTooGreat, AreSomeStates}
+use Rattle.ac_tables.specs.ContiguousTable.{AreWordsOf, ArePlacesTooGreat, AreSomeStates, IsContiguousTooLarge}
 use Rattle.ac_tables.specs.ContiguousReads.{contiguous_built_as}
+use Rattle.ac_input.specs.Limits.{IsWithinLimits}
 
 -- The kind, which bytes are paired, whether a prefilter is wanted, to which depth states are dense, whether bytes are put into
 -- classes, and how many bytes of memory rows may take.
@@ -69,17 +69,16 @@ pub record IsMadeFrom (s : ContiguousSettings) (from : Noncontiguous) (made : NF
 
 -- Why none was made: the first word of a state would stand too far on, or memory ended.
 abbrev pub IsRefusedFrom : ContiguousSettings → Noncontiguous → BuildErrorKind → Type 0
-IsRefusedFrom s from (StateIDOverflow max requested) = (max ≡ greatest_number) × (max < requested) × (classes : List ℕ) × AreClassesFor from s.byte_classes classes × ArePlacesTooGreat from s.dense_depth classes
-IsRefusedFrom s from (PatternIDOverflow max requested) = ⊥
-IsRefusedFrom s from (PatternTooLong pattern len) = ⊥
+IsRefusedFrom s from (StateIDOverflow max requested) = (max ≡ greatest_number) × (max < requested) × IsContiguousTooLarge from s.dense_depth s.byte_classes
 IsRefusedFrom s from Memory = Unit {0}
+IsRefusedFrom s from other = ⊥
 
 -- The words and the rows are those of a noncontiguous automaton, in these classes.
 pub record IsLaidOf (from : Noncontiguous) (dense_depth : ℕ) (classes : List ℕ) (laid : Laid) : Type 0 where
   pub words : AreWordsOf from dense_depth classes laid.table.words.items
   pub small : ¬ ArePlacesTooGreat from dense_depth classes
   pub stands : AreSomeStates (dictionary from) laid.table laid.rows
-  pub within : IsWithin from
+  pub within : ∥ IsWithinLimits (dictionary from) ∥₁
 
 -- ---- from patterns
 

@@ -44,14 +44,6 @@ IsRowIn rows row = IsRow rows.places.items (row_len rows) row
 abbrev pub place_in_row : Rows → ℕ → ℕ
 place_in_row rows row = place_at rows.places.items (row_len rows) row
 
--- the row of the state at a place
-abbrev pub IsRowFor : Rows → ℕ → ℕ → Type 0
-IsRowFor rows place row = IsRowIn rows row × (place_in_row rows row ≡ place)
-
--- a row begins at the number, and its state stands at the place
-abbrev pub IsPlaceIf : Rows → ℕ → ℕ → Type 0
-IsPlaceIf rows row place = IsRowIn rows row × (place ≡ place_in_row rows row)
-
 -- past this number there are only rows of states that stand past a place
 abbrev pub IsLastUpTo : Rows → ℕ → ℕ → Type 0
 IsLastUpTo rows sid last = (row : ℕ) → last < row → row / row_len rows < length rows.places.items → sid < place_in_row rows row

@@ -12,7 +12,8 @@ use Rattle.ac_noncontiguous.specs.declared.nfa.NFA.{NFA}
 use Rattle.ac_noncontiguous.specs.Nfa.{IsHeldFor}
 use Rattle.ac_noncontiguous.specs.ReadCalls.{state_len, fail_in, depth_in, edges_in}
 use Rattle.ac_noncontiguous.specs.Reads.{matches_at}
-use Rattle.ac_tables.specs.Words.{StateParts, next_by, words_of, AreWordsAt}
+use Rattle.ac_tables.specs.TableClasses.{AreClassesFor}
+use Rattle.ac_tables.specs.Words.{StateParts, next_by, word_count, words_of, AreWordsAt}
 use Rattle.ac_tables.specs.ContiguousRows.{AreRowsIfAny}
 use Rattle.ac_tables.specs.declared.contiguous.rows.Rows.{Rows}
 use Rattle.ac_tables.specs.declared.contiguous.table.Table.{Table}
@@ -34,7 +35,7 @@ parts_of nfa dense_depth classes place sid = record {
 
 -- how many words a state has; the fail state has none
 abbrev pub len_at : NFA → ℕ → List ℕ → ℕ → ℕ
-len_at nfa dense_depth classes sid = if sid == nowhere then 0 else length (words_of (alphabet_len classes) (parts_of nfa dense_depth classes (λ i. i) sid))
+len_at nfa dense_depth classes sid = if sid == nowhere then 0 else word_count (alphabet_len classes) (nat_lt (depth_in nfa sid) dense_depth) (length (edges_in nfa sid)) (length (matches_at nfa sid))
 
 -- how many words the first n states have
 abbrev pub len_before : NFA → ℕ → List ℕ → ℕ → ℕ
@@ -61,6 +62,13 @@ AreWordsOf nfa dense_depth classes words = words ≡ words_before nfa dense_dept
 -- the first word of some state would stand past the greatest number
 abbrev pub ArePlacesTooGreat : NFA → ℕ → List ℕ → Type 0
 ArePlacesTooGreat nfa dense_depth classes = (sid : ℕ) × (sid < state_len nfa) × (greatest_number < place_in nfa dense_depth classes sid)
+
+-- the contiguous automaton of this one is too large in the classes that serve, or isn't
+abbrev pub IsContiguousTooLarge : NFA → ℕ → Bool → Type 0
+IsContiguousTooLarge nfa dense_depth byte_classes = (classes : List ℕ) × AreClassesFor nfa byte_classes classes × ArePlacesTooGreat nfa dense_depth classes
+
+abbrev pub IsContiguousWithin : NFA → ℕ → Bool → Type 0
+IsContiguousWithin nfa dense_depth byte_classes = (classes : List ℕ) × AreClassesFor nfa byte_classes classes × ¬ ArePlacesTooGreat nfa dense_depth classes
 
 -- ---- the words as a search reads them
 

@@ -55,9 +55,6 @@ states_in dfa = length (transitions_in dfa) / stride_in dfa
 abbrev pub start_kind_in : DFA → StartKind
 start_kind_in dfa = dfa.table.kind
 
-abbrev pub row_classes_in : DFA → List ℕ
-row_classes_in dfa = dfa.table.classes
-
 -- ---- made of an automaton
 
 -- what an automaton is built as, but that exactly one state is looked at for a byte
@@ -69,9 +66,9 @@ determined built = record built { deterministic = true }
 pub record IsDfaOf (s : DfaSettings) (nfa : NFA) (dfa : DFA) : Type 0 where
   pub built : dfa_built_as dfa ≡ determined (built_as nfa)
   pub starts : start_kind_in dfa ≡ s.start_kind
-  pub classes : AreClassesFor nfa s.byte_classes (row_classes_in dfa)
+  pub classes : AreClassesFor nfa s.byte_classes dfa.table.classes
   pub states : states_in dfa ≡ dfa_states s.start_kind (state_len nfa)
-  pub laid : AreTransitionsOf nfa s.start_kind (row_classes_in dfa) (stride_in dfa) (transitions_in dfa)
+  pub laid : AreTransitionsOf nfa s.start_kind dfa.table.classes (stride_in dfa) (transitions_in dfa)
   pub within : ¬ IsDfaTooLarge (dictionary nfa) s.start_kind s.byte_classes
 
 -- the table of a dictionary would be too large, or memory has ended
@@ -112,6 +109,6 @@ IsDfaRefusedAtFirst patterns error = (s : DfaSettings) × AreDfaFirst s × IsDfa
 pub record IsDfaCopy (old new : DFA) : Type 0 where
   pub built : dfa_built_as new ≡ dfa_built_as old
   pub starts : start_kind_in new ≡ start_kind_in old
-  pub classes : row_classes_in new ≡ row_classes_in old
+  pub classes : new.table.classes ≡ old.table.classes
   pub stride : stride_in new ≡ stride_in old
   pub transitions : transitions_in new ≡ transitions_in old

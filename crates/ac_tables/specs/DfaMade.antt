@@ -13,11 +13,7 @@ use Rattle.ac_tables.specs.declared.dfa.table.Table.{Table}
 use Rattle.ac_tables.specs.DfaLists.{AreListsOf}
 use Rattle.ac_tables.specs.DfaTable.{dfa_number_of, stride_of}
 use Rattle.ac_tables.specs.TableClasses.{AreClassesFor}
-use Rattle.ac_tables.specs.Filling.{RowPlan, IsFit, AreRowsUpTo}
-
--- where the rows of a table stand
-abbrev pub plan_by : NFA → Table → RowPlan
-plan_by nfa table = record { nfa = nfa; kind = table.kind; classes = table.classes; stride = stride_of table }
+use Rattle.ac_tables.specs.Filling.{IsFit, AreRowsUpTo}
 
 -- where the unanchored start of the automaton stands
 abbrev pub nfa_start_of : NFA → ℕ
@@ -30,10 +26,10 @@ number_by nfa table anchored i = dfa_number_of table.kind (nfa_start_of nfa) (st
 -- The table is made of an automaton: rows, lists and numbers are those of its states.
 pub record IsDfaTableOf (nfa : NFA) (table : Table) : Type 0 where
   pub readable : IsReadable nfa
-  pub fit : IsFit (plan_by nfa table)
+  pub fit : IsFit (record { nfa = nfa; kind = table.kind; classes = table.classes; stride = stride_of table })
   pub wide : table.stride2 ≤ 8
   pub least : IsLeastExponent (alphabet_len table.classes) table.stride2
-  pub rows : AreRowsUpTo (plan_by nfa table) (state_len nfa) (state_len nfa) table.trans.items
+  pub rows : AreRowsUpTo (record { nfa = nfa; kind = table.kind; classes = table.classes; stride = stride_of table }) (state_len nfa) (state_len nfa) table.trans.items
   pub lists : AreListsOf nfa table.lists
   pub start : table.start ≡ number_by nfa table false (nfa_start_of nfa)
   pub start_anchored : table.start_anchored ≡ number_by nfa table true (nfa_start_of nfa + 1)
@@ -48,6 +44,5 @@ pub record IsTableFor (nfa : NFA) (start_kind : StartKind) (classed : Bool) (tab
 -- why there is no such table: it would be too large, or memory has ended
 abbrev pub IsTableRefused : NFA → StartKind → Bool → BuildErrorKind → Type 0
 IsTableRefused nfa kind classed (StateIDOverflow max requested) = (max ≡ greatest_number) × (max < requested) × ∥ IsDfaTooLarge (dictionary nfa) kind classed ∥₁
-IsTableRefused nfa kind classed (PatternIDOverflow max requested) = ⊥
-IsTableRefused nfa kind classed (PatternTooLong pattern len) = ⊥
 IsTableRefused nfa kind classed Memory = Unit {0}
+IsTableRefused nfa kind classed other = ⊥

@@ -12,7 +12,7 @@ use Rattle.ac_noncontiguous.specs.declared.error.BuildErrorKind.{BuildErrorKind}
 use Rattle.ac_noncontiguous.specs.declared.error.BuildErrorKind.TheVariants.{StateIDOverflow, PatternIDOverflow, PatternTooLong, Memory}
 use Rattle.ac_noncontiguous.specs.declared.nfa.NFA.{NFA}
 use Rattle.ac_noncontiguous.specs.Reads.{dictionary}
-use Rattle.ac_noncontiguous.specs.ReadCalls.{state_len, depth_in, special_in, classes_in, MayBeMet, StandForSome, ClassesAreThose}
+use Rattle.ac_noncontiguous.specs.ReadCalls.{state_len, depth_in, special_in, classes_in, MayBeMet, ClassesAreThose, StandFor}
 use Rattle.ac_tables.specs.DfaTable.{dfa_number_of, IsCell}
 
 -- ---- the size
@@ -20,9 +20,7 @@ use Rattle.ac_tables.specs.DfaTable.{dfa_number_of, IsCell}
 -- an error since the number of the last state is past the greatest
 abbrev pub IsOverflow : ℕ → BuildErrorKind → Type 0
 IsOverflow last (StateIDOverflow max requested) = (max ≡ greatest_number) × (max < requested) × (greatest_number < last)
-IsOverflow last (PatternIDOverflow max requested) = ⊥
-IsOverflow last (PatternTooLong pattern len) = ⊥
-IsOverflow last Memory = ⊥
+IsOverflow last other = ⊥
 
 -- ---- what is filled
 
@@ -37,14 +35,10 @@ pub record RowPlan : Type 0 where
 abbrev pub number_in : RowPlan → Anchored → ℕ → ℕ
 number_in p anchored sid = dfa_number_of p.kind (special_in p.nfa).start_unanchored_id p.stride (is_anchored anchored) sid
 
--- where the entry of a byte stands in the row of a state
-abbrev pub cell_in : RowPlan → Anchored → ℕ → ℕ → ℕ
-cell_in p anchored sid byte = number_in p anchored sid + class p.classes byte
-
 -- What all rows need of an automaton: its states stand for texts, both starts are states past the first two, each byte is the
 -- partner of its partner, and its classes are those of its dictionary.
 pub record IsSource (nfa : NFA) : Type 0 where
-  pub stand : StandForSome nfa
+  pub stand : ∥ ((text : ℕ → List ℕ) × StandFor nfa text) ∥₁
   pub starts : (1 < (special_in nfa).start_unanchored_id) × ((special_in nfa).start_unanchored_id + 1 < state_len nfa)
   pub paired : IsPairing (dictionary nfa).pairing
   pub classes : ClassesAreThose nfa
@@ -61,7 +55,7 @@ pub record IsFit (p : RowPlan) : Type 0 where
 
 -- the row of a state is right: each byte's entry is the number of the state to which it leads
 abbrev pub IsRowRight : RowPlan → Anchored → ℕ → List ℕ → Type 0
-IsRowRight p anchored sid trans = (byte : ℕ) → byte < 256 → (next : ℕ) × IsCell p.nfa p.kind p.stride (slice_index trans (cell_in p anchored sid byte)) anchored sid byte next
+IsRowRight p anchored sid trans = (byte : ℕ) → byte < 256 → (next : ℕ) × IsCell p.nfa p.kind p.stride (slice_index trans (number_in p anchored sid + class p.classes byte)) anchored sid byte next
 
 -- from this place on, this many places hold nothing but the dead state
 abbrev pub IsUnwritten : ℕ → ℕ → List ℕ → Type 0
@@ -77,14 +71,10 @@ pub record IsChangedIn (stride at : ℕ) (old new : List ℕ) : Type 0 where
 abbrev pub entry_in : RowPlan → Anchored → ℕ → ℕ
 entry_in p anchored next = if next == 1 then 0 else number_in p anchored next
 
--- one of some transitions has a byte of this class
-abbrev pub HasClass : List ℕ → List (ℕ × ℕ) → ℕ → ℕ → ℕ → ℕ → Type 0
-HasClass classes edges x k byte next = (slice_get edges k ≡ Some (byte, next)) × (class classes byte ≡ x)
-
 -- A class has the entry of one of some transitions that has a byte of it, or where there is none the entry that it had.
 pub data IsEntry (p : RowPlan) (anchored : Anchored) (edges : List (ℕ × ℕ)) (x old new : ℕ) : Type 0 where
-  Written : (k byte next : ℕ) → HasClass p.classes edges x k byte next → new ≡ entry_in p anchored next → IsEntry p anchored edges x old new
-  Kept : ((k byte next : ℕ) → ¬ HasClass p.classes edges x k byte next) → new ≡ old → IsEntry p anchored edges x old new
+  Written : (k byte next : ℕ) → ((slice_get edges k ≡ Some (byte, next)) × (class p.classes byte ≡ x)) → new ≡ entry_in p anchored next → IsEntry p anchored edges x old new
+  Kept : ((k byte next : ℕ) → ¬ ((slice_get edges k ≡ Some (byte, next)) × (class p.classes byte ≡ x))) → new ≡ old → IsEntry p anchored edges x old new
 
 -- some transitions are written over a row
 pub record AreWritten (p : RowPlan) (anchored : Anchored) (at : ℕ) (edges : List (ℕ × ℕ)) (old new : List ℕ) : Type 0 where

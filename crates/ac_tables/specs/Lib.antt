@@ -17,7 +17,6 @@ pub use Rattle.ac_input.specs.Classes
 pub use Rattle.ac_input.specs.Dfa
 pub use Rattle.ac_automaton.specs.Automaton
 pub use Rattle.ac_automaton.specs.Named
-pub mod Places
 pub mod TableClasses
 pub mod DfaTable
 pub mod DfaLookups

@@ -51,10 +51,6 @@ pub record IsIdleAt (table : Table) (byte : ℕ) : Type 0 where
   pub plain : table.max_match < table.start
   pub stays : ByteLeadsTo table table.start byte table.start
 
--- to which state one fails
-abbrev pub IsFailOf : Table → ℕ → ℕ → Type 0
-IsFailOf table sid fail = (s : StateParts) → IsStateAt table sid s → fail ≡ s.fail
-
 -- how many words the transitions of a state have, by its kind
 abbrev pub transitions_len : ℕ → ℕ → ℕ
 transitions_len alphabet kind = if kind == dense_kind then alphabet else if kind == one_kind then 1 else kind + (kind + 3) / 4

@@ -2,7 +2,7 @@
 --
 -- A state is a few 32-bit words: its kind, its failure, the classes of its transitions where these are sparse, the transitions, and
 -- its patterns where it has some.
-use Rattle.std.specs.Prelude.{◌≡◌, ℕ, zero, suc, ◌+◌, ◌*◌, ◌<◌, ◌≤◌, nat_lt, ◌==◌, ◌&&◌, ◌||◌, Bool, if◌then◌else◌, map, List, [], ◌∷◌, ◌++◌, length, take, drop}
+use Rattle.std.specs.Prelude.{◌≡◌, ℕ, zero, suc, ◌+◌, ◌*◌, ◌/◌, ◌<◌, ◌≤◌, nat_lt, ◌==◌, ◌&&◌, ◌||◌, Bool, if◌then◌else◌, map, List, [], ◌∷◌, ◌++◌, length, take, drop}
 use Rattle.std.specs.List.{All, range_with_len}
 use Rattle.ac_automaton.specs.Named.{nowhere}
 use Rattle.ac_input.specs.Number.{greatest_number}
@@ -110,6 +110,14 @@ words_of alphabet s = kind_word (form_of s) s.edges ∷ s.fail ∷ (transition_w
 -- how many words stand before the transitions: the kind and the failure
 abbrev pub head_len : ℕ
 head_len = 2
+
+-- How many words a state takes: its head, its transitions by their form, and its patterns, which are counted where there are
+-- several.
+abbrev pub word_count : ℕ → Bool → ℕ → ℕ → ℕ
+word_count alphabet shallow transitions matches =
+    head_len
+    + (if shallow || nat_lt most_sparse transitions then alphabet else if (transitions == 1) && (matches == 0) then 1 else (transitions + 3) / 4 + transitions)
+    + (if nat_lt 1 matches then matches + 1 else matches)
 
 -- the words of a state but for its patterns
 abbrev pub leading_words : ℕ → StateParts → List ℕ

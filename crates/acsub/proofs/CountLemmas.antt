@@ -12,7 +12,7 @@ use Rattle.ac_input.specs.Work.{lookups_per_byte}
 use Rattle.ac_input.specs.declared.search.Anchored.{Anchored}
 use Rattle.ac_input.specs.declared.steps.Steps.{Steps}
 use Rattle.ac_automaton.specs.Automaton.{Built}
-use Rattle.ac_automaton.specs.Iter.{AnswersFindIter, IsWalkAfter, IsWithinBudget, Walk, WalkCounts, fresh_walk, passed}
+use Rattle.ac_automaton.specs.Iter.{AnswersFindIter, IsWithinBudget, Walk, WalkCounts, fresh_walk, passed, walk_after_pick}
 use Rattle.ac_automaton.specs.OverlappingIter.{AnswersOverlappingIter, IsRunAfter, IsWithinOneWalk, Run, RunCounts, fresh_run}
 use Rattle.ac_automaton.specs.Replace.{matches_in}
 use Rattle.ac_automaton.specs.Stream.{read_again}
@@ -23,7 +23,7 @@ use Rattle.acsub.specs.Finder.{IsServing}
 use Rattle.acsub.specs.Input.{ReadsWhole}
 use Rattle.acsub.specs.Matches.{IsCounted, IsHeldCost, IsListingCounted, IsWalkCounted}
 use Rattle.acsub.specs.Plan.{Plan}
-use Rattle.acsub.specs.Run.{CostsRun, read_in_all}
+use Rattle.acsub.specs.Run.{CostsRun, read_for_run}
 use Rattle.acsub.specs.Served.{AreLooksFor, IsServedByDfa}
 use Rattle.acsub.specs.Stream.{CostsStreaming}
 use Rattle.acsub.specs.Transformed.{IsStreamed}
@@ -35,17 +35,17 @@ use Rattle.acsub.specs.declared.matches.Matches.TheVariants as sources
 -- ---- one more match
 
 -- a walk goes on by the same automaton
-walk-built : (w v : Walk) (r : Option Occurrence) → IsWalkAfter w r v → v.built ≡ w.built
+walk-built : (w v : Walk) (r : Option Occurrence) → (v ≡ record (walk_after_pick w r) { looked = v.looked; scanned = v.scanned; moved = v.moved }) → v.built ≡ w.built
 walk-built w v None after = ap (λ (u : Walk). u.built) after
 walk-built w v (Some o) after = ap (λ (u : Walk). u.built) after
 
 -- over the same input
-walk-asked : (w v : Walk) (r : Option Occurrence) → IsWalkAfter w r v → v.asked ≡ w.asked
+walk-asked : (w v : Walk) (r : Option Occurrence) → (v ≡ record (walk_after_pick w r) { looked = v.looked; scanned = v.scanned; moved = v.moved }) → v.asked ≡ w.asked
 walk-asked w v None after = ap (λ (u : Walk). u.asked) after
 walk-asked w v (Some o) after = ap (λ (u : Walk). u.asked) after
 
 -- the next match of a walk was counted
-pub walk-counted : (w v : Walk) (r : Option Occurrence) (before after : Steps) → IsWalkAfter w r v → WalkCounts w v before after → IsWithinBudget v
+pub walk-counted : (w v : Walk) (r : Option Occurrence) (before after : Steps) → (v ≡ record (walk_after_pick w r) { looked = v.looked; scanned = v.scanned; moved = v.moved }) → WalkCounts w v before after → IsWithinBudget v
     → (plan : Plan) (n : ℕ) (begun : Steps) → IsWalkCounted plan n begun before w → IsWalkCounted plan n begun after v
 walk-counted w v r before after goes (states, places, bytes, done, looked, scanned, moved) paid plan n begun h =
     let built = walk-built w v r goes in
@@ -171,7 +171,7 @@ nothing_cost plan r steps error =
     record {
       gained = [];
       read = sym (append-nil (pieces_of r));
-      streamed = λ _. record { looked = no-looks plan (read_in_all plan []) steps; scanned = refl; moved = omega arith };
+      streamed = λ _. record { looked = no-looks plan (read_for_run plan []) steps; scanned = refl; moved = omega arith };
       whole = λ _. tt;
       whole_input = λ _. nothing-counted plan 0 steps;
     }
@@ -203,7 +203,7 @@ unread-cost remaining plan r r' steps errors.Position held h = absurd h
 pub streamed-cost : {R : Type 0} (plan : Plan) (b : Built) (supports : Anchored → Type 0) (r r' : Watched R) (before after : Steps) (result : Result (Unit {0}) RunError) → IsServing plan.settings plan.rules b supports → IsStreamed plan → CostsStreaming b r r' before after result → CostsRun plan r r' before after result
 streamed-cost plan b supports r r' before after result serves streamed (pieces, read, cost, whole) =
     let x = concat pieces in
-    let n = read_in_all plan x in
+    let n = read_for_run plan x in
     let same : length x + read_again b.dictionary (length (matches_in b x)) ≡ n = ap (λ (m : Dictionary). length x + read_again m (length (walk_of m.kind (search_in m (whole_of x))))) serves.dictionary in
     let looked = subst (λ (k : ℕ). looked_of after ≤ looked_of before + lookups_per_byte b.deterministic * k) same cost.looked in
     record {

@@ -16,7 +16,6 @@ use Rattle.ac_literal.specs.declared.packed.api.MatchKind.TheVariants as packed_
 use Rattle.ac_literal.specs.declared.packed.api.MatchKind as packed_kinds
 use Rattle.ac_literal.specs.Packed.{AreServed, Packed, pattern_at, search_kind, part_search}
 use Rattle.ac_automaton.specs.Automaton.{Built, walk_in, listing_in}
-use Rattle.ac_automaton.specs.OverlappingIter.{CanRun}
 use Rattle.ac_automaton.specs.Replace.{LieInOrder}
 use Rattle.acsub.specs.Finder.{IsFinderOf, IsServing, whole_search, whole_walk, whole_listing}
 use Rattle.acsub.specs.Lines.{rule_at}
@@ -29,6 +28,8 @@ use Rattle.acsub.specs.declared.settings.Mode.TheVariants as mode
 use Rattle.acsub.specs.declared.settings.SettingError.TheVariants as error
 use Rattle.acsub.specs.declared.settings.Settings.{Settings}
 use Rattle.ac_automaton.proofs.ReplaceLemmas.{walk-lies}
+use Rattle.ac_input.specs.declared.search.Anchored.TheVariants.{No}
+use Rattle.ac_automaton.specs.Overlapping.{CanOverlap}
 
 -- the walk of a packed search that serves a plan is the one of the plan
 pub packed-walk : {A : Type 0} (built : A → Built) (supports : A → Anchored → Type 0) (plan : Plan) (input : List ℕ) (searcher : Packed) → IsFinderOf built supports plan.settings plan.rules (finders.Packed searcher)
@@ -50,7 +51,7 @@ automaton-listing b supports plan input serves = ap (λ (m : Dictionary). listin
 
 -- under the standard kind it can list
 pub automaton-runs : (b : Built) (supports : Anchored → Type 0) (plan : Plan) (input : List ℕ) → IsServing plan.settings plan.rules b supports
-    → plan.settings.kind ≡ kind.Standard → CanRun b supports (whole_of input)
+    → plan.settings.kind ≡ kind.Standard → (CanOverlap b supports (whole_of input) × ((whole_of input).anchored ≡ No))
 automaton-runs b supports plan input serves standard = ((serves.start, ap (λ (m : Dictionary). m.kind) serves.dictionary ∙ standard), refl)
 
 -- packed search has no standard kind

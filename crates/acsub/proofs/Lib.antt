@@ -15,6 +15,7 @@ pub mod CountLemmas
 pub mod SendingLemmas
 pub mod BuiltLemmas
 pub mod StreamListLemmas
+pub mod StreamOverlapLemmas
 pub mod StreamedLemmas
 pub mod OutcomeLemmas
 pub mod FileLemmas

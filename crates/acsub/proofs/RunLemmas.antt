@@ -1,10 +1,11 @@
 -- What was moved, and which results go with it.
-use Rattle.std.proofs.Common.{◌≡◌, ◌≢◌, ℕ, Option, List, [], Result, Ok, Err, refl, sym, ap, ◌∙◌, subst, add-zero}
+use Rattle.std.proofs.Common.{◌≡◌, ◌≢◌, ℕ, Option, List, [], ◌++◌, false, Result, Ok, Err, refl, sym, ap, ◌∙◌, subst, add-zero}
+use Rattle.std.specs.Prelude.{OnOk}
 use Rattle.std.specs.List.{concat}
 use Rattle.std.proofs.lemmas.List.{append-nil}
 use Rattle.ac_automaton.specs.Moved.{AreWhole, HasGiven, HasMoved, Moved}
 use Rattle.ac_automaton.specs.Output.{Sent, Stopped}
-use Rattle.ac_automaton.specs.Watched.{IsOfWrite}
+use Rattle.ac_automaton.specs.Watched.{IsOfWrite, taken_of}
 use Rattle.ac_automaton.specs.declared.error.MatchErrorKind.{MatchErrorKind}
 use Rattle.ac_automaton.specs.declared.error.StreamError.{StreamError}
 use Rattle.ac_automaton.specs.declared.error.StreamError.TheVariants as stream
@@ -13,13 +14,14 @@ use Rattle.ac_automaton.proofs.MovedLemmas.{given-none, taken-none}
 use Rattle.ac_automaton.proofs.OutputLemmas.{HasTaken-from_sent, HasTaken-from_stopped}
 use Rattle.acsub.specs.declared.error.RunError.{RunError}
 use Rattle.acsub.specs.declared.error.RunError.TheVariants as errors
+use Rattle.acsub.specs.declared.settings.Settings.{Settings}
 use Rattle.acsub.specs.Input.{ReadsWhole}
 use Rattle.acsub.specs.Settings.{IsAccepted}
 use Rattle.acsub.specs.Stream.{IsReturnedAs}
 use Rattle.acsub.specs.Transformed.{IsStreamed, output_of}
-use Rattle.acsub.specs.Run.{AnswersRules, HasBegun, Prepares, RanPrepared, RanToFailedWrite}
+use Rattle.acsub.specs.Run.{AnswersRules, HasBegun, Prepares, RanIn, RanPrepared, RanRules, RanToFailedWrite, WroteText, WroteTextBy}
 use Rattle.acsub.specs.Finder.{Builds, FailsToBuild}
-use Rattle.acsub.specs.Plan.{Plan}
+use Rattle.acsub.specs.Plan.{Plan, plan_for}
 
 -- nothing was moved
 abbrev pub nothing : Moved
@@ -134,3 +136,20 @@ built_error asked errors.Position accepted h = absurd h
 pub built_answer : (asked : Plan) (result : Result Plan RunError) → IsAccepted asked.settings asked.rules → Builds asked result → Prepares asked result
 built_answer asked (Ok plan) accepted (same, buildable) = (same, accepted, buildable)
 built_answer asked (Err e) accepted h = built_error asked e accepted h
+
+-- ---- the text of the whole input
+
+-- a run that returns Ok has written the text of all that it read
+pub wrote-text : {R W : Type 0} (remaining : R → Option (List ℕ)) (contents : W → Option (List ℕ)) (plan : Plan) (r r' : Watched R) (w w' : Watched W) (result : Result (Unit {0}) RunError) → RanRules remaining contents r r' w w' plan result → OnOk result (WroteText plan.settings plan.rules r r' w w')
+wrote-text remaining contents plan r r' w w' (Ok done) (m, moved, whole) = record {
+  pieces = m.pieces;
+  read = moved.reader.pieces;
+  whole = whole.whole;
+  written = moved.writer.taken ∙ ap (λ (text : List ℕ). taken_of w ++ text) whole.written;
+}
+wrote-text remaining contents plan r r' w w' (Err error) ran = tt
+
+-- so has one by the rules of a file
+pub wrote-text_by : {R W : Type 0} (remaining : R → Option (List ℕ)) (contents : W → Option (List ℕ)) (settings : Settings) (file : List ℕ) (r r' : Watched R) (w w' : Watched W) (result : Result (Unit {0}) RunError) → RanIn false remaining contents r r' w w' (plan_for settings) file result → OnOk result (WroteTextBy settings file r r' w w')
+wrote-text_by remaining contents settings file r r' w w' (Ok done) (m, moved, (rules, grammar, whole)) = (rules, grammar, wrote-text remaining contents (plan_for settings rules) r r' w w' (Ok done) (m, moved, whole))
+wrote-text_by remaining contents settings file r r' w w' (Err error) ran = tt

@@ -25,7 +25,7 @@ use Rattle.ac_automaton.specs.Output.{Sent, Stopped}
 use Rattle.ac_automaton.specs.Replace.{LieInOrder, matches_in}
 use Rattle.ac_automaton.specs.Stream.{AreAllGiven, CanBeCounted, CanStreamAnyKind, Decides, EachIsDecided, FindsHeld, IsAnyKindConfigRefusal, IsAnyKindRefusal, IsOnCourse, IsSearched, ReadsNothing, StreamProgress, cut_of, end_of, fresh_progress, matches_read, read_by, room_of}
 use Rattle.ac_automaton.specs.StreamAnswer.{WroteToFailedWrite}
-use Rattle.ac_automaton.specs.StreamIter.{HasGained, IsInputOver, IsStopped, NextGives, StaysStopped, read_before_last}
+use Rattle.ac_automaton.specs.StreamIter.{HasGained, IsStopped, NextGives, StaysStopped, read_before_last}
 use Rattle.ac_automaton.specs.Watched.{IsOfWrite, has_ended, inner_of, pieces_of, stalls_of}
 use Rattle.ac_automaton.specs.declared.watched.Watched.{Watched}
 use Rattle.ac_automaton.proofs.MovedLemmas.{given-then, turns-filled}
@@ -47,7 +47,7 @@ use Rattle.acsub.specs.Plan.{Plan, plan_for}
 use Rattle.acsub.specs.Served.{dictionary_for}
 use Rattle.acsub.specs.Sides.{rule_patterns, replacements_of}
 use Rattle.acsub.specs.Stream.{CostsStreaming, IsReturnedAs, Streams}
-use Rattle.acsub.specs.Transformed.{IsDecidedList, IsOutputFront, IsStreamed, output_of, text_in}
+use Rattle.acsub.specs.Transformed.{IsDecidedList, IsOutputFront, IsStreamed, output_of, room_in, text_in}
 use Rattle.acsub.specs.declared.settings.Mode.{Mode}
 use Rattle.acsub.specs.declared.settings.Mode.TheVariants as modes
 use Rattle.acsub.specs.declared.settings.Settings.{Settings}
@@ -362,7 +362,7 @@ module _ {R W : Type 0} (remaining : R → Option (List ℕ)) (contents : W → 
         let unread : read_by t ≡ read_by s = read-gained remaining s t r r1 gained 0 has ∙ ap (λ (ps : List (List ℕ)). read_by s ++ concat ps) none.0 ∙ append-nil (read_by s) in
         let still : has_ended r1 ≡ has_ended r = turns-filled (has_ended r) (has_ended r1) gained has.read.turns (subst AreFilled (sym none.0) tt) in
         absurd (⊎_elim
-        (λ (over : IsInputOver t r1 × AreAllGiven t). ⊎_elim
+        (λ (over : ((has_ended r1 ≡ true) ⊎ (t.closed ≡ true)) × AreAllGiven t). ⊎_elim
         (λ (ended : has_ended r1 ≡ true). false≢true (sym may.2 ∙ sym still ∙ ended))
         (λ (closed : t.closed ≡ true). false≢true (sym may.1 ∙ sym none.1 ∙ closed))
         over.0)
@@ -379,7 +379,7 @@ module _ {R W : Type 0} (remaining : R → Option (List ℕ)) (contents : W → 
         let stopped = over-stopped over in
         let same = stays stopped in
         let counted : CanBeCounted (read_by t) = subst (λ (ps : List (List ℕ)). CanBeCounted (concat ps)) (sym same.1) h.countable in
-        let all : AreAllGiven t = ⊎_elim (λ (done : IsInputOver t r1 × AreAllGiven t). done.1) (λ (many : ¬ CanBeCounted (read_by t)). absurd (many counted)) next.4 in
+        let all : AreAllGiven t = ⊎_elim (λ (done : ((has_ended r1 ≡ true) ⊎ (t.closed ≡ true)) × AreAllGiven t). done.1) (λ (many : ¬ CanBeCounted (read_by t)). absurd (many counted)) next.4 in
         let each : EachIsDecided t = ⊎_elim (λ (none : (next.0 ≡ []) × (t.closed ≡ s.closed)). inr (none.1 ∙ over.1)) (λ (whole : AreWhole next.0 × AreAllGiven t × EachIsDecided t × IsAtEnd (remaining (inner_of r1))). whole.2) next.2 in
         let gave : HasGiven remaining r0 r t.pieces 0 = subst (λ (ps : List (List ℕ)). HasGiven remaining r0 r ps 0) (sym same.1) h.read in (
           ends (subst (λ (x : Watched R). HasGiven remaining r0 x t.pieces 0) (sym (unread stopped)) gave) next.1.built same.2 (subst AreWhole (sym same.1) over.0) (all.all each),
@@ -578,13 +578,15 @@ module _ (settings : Settings) (rules : List Rule) (b : Built) (built : b.dictio
   lines-front x text front = record {
     replaced = λ other. let apart : modes.List ≡ modes.Replace = sym mode ∙ other in absurd (cc);
     listed = λ _. subst (λ (m : Dictionary). IsDecidedList m x text) built front;
+    overlapping = λ other. let apart : modes.List ≡ modes.Overlap = sym mode ∙ other in absurd (cc);
   }
 
   -- the result of a list is that of a run that writes while it reads
   pub streams-listed : {R W : Type 0} (remaining : R → Option (List ℕ)) (contents : W → Option (List ℕ)) (r0 r1 : Watched R) (w0 w1 : Watched W) (searched : Result (Unit {0}) StreamError) (result : Result (Unit {0}) RunError) → IsReturnedAs searched result
       → ListsStream remaining contents b r0 r1 w0 w1 searched → Streams remaining contents r0 r1 w0 w1 (plan_for settings rules) result
   streams-listed remaining contents r0 r1 w0 w1 searched result returned (m, moved, short, a) =
-      (m, moved, pieces-within b settings rules m built short, searched, returned, answers-alike (listed_in b) (output_of settings rules) (IsListedFront b) (IsOutputFront settings rules) lines-output lines-front m searched a)
+      let within = subst (λ (asked : Mode). AllFit (room_in asked rules) m.pieces) (sym mode) (pieces-within b settings rules m built short) in
+      (m, moved, within, searched, returned, answers-alike (listed_in b) (output_of settings rules) (IsListedFront b) (IsOutputFront settings rules) lines-output lines-front m searched a)
 
 -- nothing was moved, where there was no memory
 pub nothing-listed : {R W : Type 0} (remaining : R → Option (List ℕ)) (contents : W → Option (List ℕ)) (b : Built) (reader : Watched R) (writer : Watched W) → ListsStream remaining contents b reader reader writer writer (Err reads.Memory)

@@ -40,7 +40,7 @@ use Rattle.acsub.specs.Sides.{rule_patterns, replacements_of}
 use Rattle.acsub.specs.Stream.{CostsStreaming, IsReturnedAs, Streams}
 use Rattle.acsub.proofs.CutLemmas.{cut-begins}
 use Rattle.acsub.proofs.RunLemmas.{HasMoved-nothing, nothing}
-use Rattle.acsub.specs.Transformed.{IsOutputFront, IsStreamed, output_of, stream_room, text_in}
+use Rattle.acsub.specs.Transformed.{IsOutputFront, IsStreamed, output_of, room_in, stream_room, text_in}
 
 -- ---- that a stream can be searched
 
@@ -87,6 +87,7 @@ replaced-front b settings rules x text is mode f =
         front = f.front ∙ replaced-output b settings rules (take f.cut x) is mode;
       };
       listed = λ other. let apart : modes.Replace ≡ modes.List = sym mode ∙ other in absurd (cc);
+      overlapping = λ other. let apart : modes.Replace ≡ modes.Overlap = sym mode ∙ other in absurd (cc);
     }
 
 -- an automaton of the rules' patterns
@@ -110,7 +111,7 @@ front-begins plan x text modes.List is streamed f =
       lines.0,
       ap (λ (k : Mode). text_in k plan.settings.kind (replacements_of plan.rules) (whole_search plan.settings (rule_patterns plan.rules) x)) is ∙ lines.1 ∙ ap (λ (t : List ℕ). t ++ lines.0) (sym front.2),
     )
-front-begins plan x text modes.Overlap is streamed f = absurd (streamed.1 is)
+front-begins plan x text modes.Overlap is streamed f = ([], sym (f.overlapping is) ∙ sym (append-nil text))
 
 -- ---- what the results say
 
@@ -135,7 +136,7 @@ module _ (made text_of : List ℕ → List ℕ) (begun front : List ℕ → List
   answers-alike m (Err stream.Position) h = record { long = h.long; written = subst (IsBeginning m.taken) (same (concat m.pieces)) h.written; failed = h.failed }
 
 -- the room goes by the longest of the rules' patterns
-pub pieces-within : (b : Built) (settings : Settings) (rules : List Rule) (m : Moved) → b.dictionary ≡ dictionary_for settings rules → AllFit (room_of b) m.pieces → AllFit (stream_room rules) m.pieces
+pub pieces-within : (b : Built) (settings : Settings) (rules : List Rule) (m : Moved) → b.dictionary ≡ dictionary_for settings rules → AllFit (room_of b) m.pieces → AllFit (room_for (kept_for (longest (rule_patterns rules)))) m.pieces
 pieces-within b settings rules m is short = subst (λ (d : Dictionary). AllFit (room_for (kept_for (longest d.patterns))) m.pieces) is short
 
 -- what was replaced over a stream
@@ -143,7 +144,8 @@ pub streams-replaced : {R W : Type 0} (remaining : R → Option (List ℕ)) (con
     → ReplacesStream remaining contents b texts r r' w w' searched → Streams remaining contents r r' w w' (plan_for settings rules) result
 streams-replaced remaining contents b settings rules texts r r' w w' searched result is mode same returned (m, moved, short, a) =
     let alike = answers-alike (replaced_in b (replacements_of rules)) (output_of settings rules) (IsReplacedFront b (replacements_of rules)) (IsOutputFront settings rules) (λ x. replaced-output b settings rules x is mode) (λ x text. replaced-front b settings rules x text is mode) in
-    (m, moved, pieces-within b settings rules m is short, searched, returned, alike m searched (subst (λ (ts : List (List ℕ)). AnswersWriting (replaced_in b ts) (IsReplacedFront b ts) m searched) same a))
+    let within = subst (λ (asked : Mode). AllFit (room_in asked rules) m.pieces) (sym mode) (pieces-within b settings rules m is short) in
+    (m, moved, within, searched, returned, alike m searched (subst (λ (ts : List (List ℕ)). AnswersWriting (replaced_in b ts) (IsReplacedFront b ts) m searched) same a))
 
 -- there was no memory before anything was read
 pub streams-nothing : {R W : Type 0} (remaining : R → Option (List ℕ)) (contents : W → Option (List ℕ)) (settings : Settings) (rules : List Rule) (r : Watched R) (w : Watched W) → Streams remaining contents r r w w (plan_for settings rules) (Err errors.Memory)
@@ -185,7 +187,7 @@ streamed_answer remaining contents plan r r' w w' result accepted streamed (m, m
 
 -- no read gave more than the buffer has room for
 pub streamed_short : {R W : Type 0} (remaining : R → Option (List ℕ)) (contents : W → Option (List ℕ)) (plan : Plan) (r r' : Watched R) (w w' : Watched W) (result : Result (Unit {0}) RunError)
-    → Streams remaining contents r r' w w' plan result → ReadsWithin (stream_room plan.rules) r r'
+    → Streams remaining contents r r' w w' plan result → ReadsWithin (stream_room plan) r r'
 streamed_short remaining contents plan r r' w w' result (m, moved, short, searched, returned, a) = (m.pieces, moved.reader.pieces, short)
 
 -- nothing was read

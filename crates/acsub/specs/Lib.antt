@@ -17,3 +17,4 @@ pub mod Plan
 pub mod Transformed
 pub mod Stream
 pub mod StreamList
+pub mod StreamOverlap

@@ -2,12 +2,12 @@
 use Rattle.std.specs.Prelude.{◌↔◌, ◌≡◌, ◌≢◌, ℕ, Bool, false, ◌+◌, ◌*◌, ◌≤◌, List, [], ◌++◌, length, Result, Option, Ok, Err, OnOk}
 use Rattle.std.specs.List.{concat}
 use Rattle.ac_input.specs.BeginningLaws.{IsBeginning}
-use Rattle.ac_input.specs.Rules.{Rule}
+use Rattle.ac_input.specs.Rules.{IsRuleFile, Rule}
 use Rattle.ac_input.specs.Steps.{looked_of, moved_of, scanned_of}
 use Rattle.ac_input.specs.declared.steps.Steps.{Steps}
 use Rattle.ac_automaton.specs.Moved.{AllFit, AreFilled, AreWhole, Failed, HasMoved, Moved, NoneTouched}
 use Rattle.ac_automaton.specs.Stream.{CanBeCounted, read_again}
-use Rattle.ac_automaton.specs.Watched.{pieces_of}
+use Rattle.ac_automaton.specs.Watched.{pieces_of, taken_of}
 use Rattle.ac_automaton.specs.declared.watched.Watched.{Watched}
 use Rattle.acsub.specs.declared.rules.RuleError.{RuleError}
 use Rattle.acsub.specs.declared.rules.RuleError.TheVariants as rule_errors
@@ -21,6 +21,19 @@ use Rattle.acsub.specs.Plan.{Plan, plan_for}
 use Rattle.acsub.specs.Served.{AreLooksFor, IsBuildable, IsNotBuilt, dictionary_for}
 use Rattle.acsub.specs.Settings.{IsAccepted, IsFirstExclusion}
 use Rattle.acsub.specs.Transformed.{IsOutputFront, IsPrompt, IsStreamed, output_of, stream_room}
+
+-- ---- the text of the whole input
+
+-- Reads returned these pieces: the last one is empty, and no other. The text that the settings and the rules make of them was written.
+pub record WroteText {R W : Type 0} (settings : Settings) (rules : List Rule) (reader_before reader_after : Watched R) (writer_before writer_after : Watched W) : Type 0 where
+  pub pieces : List (List ℕ)
+  pub read : pieces_of reader_after ≡ pieces_of reader_before ++ pieces
+  pub whole : AreWhole pieces
+  pub written : taken_of writer_after ≡ taken_of writer_before ++ output_of settings rules (concat pieces)
+
+-- the same, by the rules of a file
+abbrev pub WroteTextBy : {R W : Type 0} → Settings → List ℕ → Watched R → Watched R → Watched W → Watched W → Type 0
+WroteTextBy settings file reader_before reader_after writer_before writer_after = (rules : List Rule) × IsRuleFile file rules × WroteText settings rules reader_before reader_after writer_before writer_after
 
 -- ---- what a result says of settings and rules
 
@@ -131,16 +144,16 @@ ReadsWithin room before after = (gained : List (List ℕ)) × (pieces_of after �
 
 -- Where the text is written while the input is read, no read gives more than the buffer has room for.
 abbrev pub ReadsByBuffer : {R : Type 0} → Plan → Watched R → Watched R → Type 0
-ReadsByBuffer plan before after = IsStreamed plan → ReadsWithin (stream_room plan.rules) before after
+ReadsByBuffer plan before after = IsStreamed plan → ReadsWithin (stream_room plan) before after
 
 -- for how many bytes a search of a stream looks: for all that were read, and for those that it reads again after matches
-abbrev pub read_in_all : Plan → List ℕ → ℕ
-read_in_all plan x = length x + read_again (dictionary_for plan.settings plan.rules) (length (whole_walk plan x))
+abbrev pub read_for_run : Plan → List ℕ → ℕ
+read_for_run plan x = length x + read_again (dictionary_for plan.settings plan.rules) (length (whole_walk plan x))
 
 -- What it may cost to read these bytes, and to write their text while they are read. The looks depend on the automaton that serves
 -- the plan; no place is scanned, and at most a seventh of the bytes is moved within the buffer.
 pub record IsRunCost (plan : Plan) (x : List ℕ) (before after : Steps) : Type 0 where
-  pub looked : AreLooksFor plan (read_in_all plan x) before after
+  pub looked : AreLooksFor plan (read_for_run plan x) before after
   pub scanned : scanned_of after ≡ scanned_of before
   pub moved : 7 * moved_of after ≤ 7 * moved_of before + length x
 
@@ -198,9 +211,6 @@ pub record CostsIn {R : Type 0} (text : Bool) (plan : List Rule → Plan) (file 
   pub short : IsReadByBufferIn text plan file reader_before reader_after
 
 -- ---- the same of a rule file of hex, where the text isn't asked for while the input is read
-
-abbrev pub AnswersRun : Settings → List ℕ → Moved → Result (Unit {0}) RunError → Type 0
-AnswersRun settings = AnswersIn false (plan_for settings)
 
 abbrev pub Ran : {R W : Type 0} → (R → Option (List ℕ)) → (W → Option (List ℕ)) → Watched R → Watched R → Watched W → Watched W → Settings → List ℕ → Result (Unit {0}) RunError → Type 0
 Ran remaining contents reader_before reader_after writer_before writer_after settings = RanIn false remaining contents reader_before reader_after writer_before writer_after (plan_for settings)

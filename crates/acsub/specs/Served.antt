@@ -8,10 +8,8 @@ use Rattle.ac_input.specs.Steps.{looked_of}
 use Rattle.ac_input.specs.Work.{lookups_per_byte}
 use Rattle.ac_input.specs.declared.search.StartKind.TheVariants as starts
 use Rattle.ac_input.specs.declared.steps.Steps.{Steps}
-use Rattle.ac_noncontiguous.specs.Reads.{dictionary}
 use Rattle.ac_noncontiguous.specs.declared.error.BuildErrorKind.{BuildErrorKind}
 use Rattle.ac_noncontiguous.specs.declared.error.BuildErrorKind.TheVariants as limits
-use Rattle.ac_noncontiguous.specs.declared.nfa.NFA.{NFA}
 use Rattle.aho_corasick.specs.Builder.{FrontSettings, front_default_row_memory}
 use Rattle.aho_corasick.specs.Served.{IsDictionaryRefused, IsServed, TakesDfa}
 use Rattle.aho_corasick.specs.declared.ahocorasick.AhoCorasickKind.{AhoCorasickKind}
@@ -49,7 +47,7 @@ dictionary_for settings rules = record { patterns = rule_patterns rules; pairing
 
 -- the automaton for settings and rules is of this kind
 abbrev pub IsAutomatonFor : Settings → List Rule → AhoCorasickKind → Type 0
-IsAutomatonFor settings rules kind = (from : NFA) × (dictionary from ≡ dictionary_for settings rules) × IsServed (builder_settings settings) from kind
+IsAutomatonFor settings rules kind = IsServed (automaton_named settings.engine) (builder_settings settings) (dictionary_for settings rules) kind
 
 -- ---- the limits
 

@@ -24,12 +24,12 @@ IsExcluded s rules PackedEmpty = (s.engine ≡ Packed) × HasEmptyPattern rules
 IsExcluded s rules PackedCount = (s.engine ≡ Packed) × ((length rules ≡ 0) ⊎ (most_packed < length rules))
 
 -- the order in which reasons are reported
-abbrev pub place_of : SettingError → ℕ
-place_of OverlapLeftmost = 0
-place_of PackedStandard = 1
-place_of PackedFold = 2
-place_of PackedEmpty = 3
-place_of PackedCount = 4
+abbrev pub order_of : SettingError → ℕ
+order_of OverlapLeftmost = 0
+order_of PackedStandard = 1
+order_of PackedFold = 2
+order_of PackedEmpty = 3
+order_of PackedCount = 4
 
 -- nothing excludes the settings
 abbrev pub IsAccepted : Settings → List Rule → Type 0
@@ -37,7 +37,7 @@ IsAccepted s rules = (e : SettingError) → ¬ IsExcluded s rules e
 
 -- the first reason that excludes the settings
 abbrev pub IsFirstExclusion : Settings → List Rule → SettingError → Type 0
-IsFirstExclusion s rules e = IsExcluded s rules e × ((earlier : SettingError) → place_of earlier < place_of e → ¬ IsExcluded s rules earlier)
+IsFirstExclusion s rules e = IsExcluded s rules e × ((earlier : SettingError) → order_of earlier < order_of e → ¬ IsExcluded s rules earlier)
 
 -- whether settings are accepted, with these rules, and if not why
 abbrev pub AnswersCheck : Settings → List Rule → Result (Unit {0}) SettingError → Type 0

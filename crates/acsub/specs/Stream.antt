@@ -32,7 +32,7 @@ IsReturnedAs (Err stream.Position) result = result ≡ Err errors.Position
 -- stream which writes the run's text.
 abbrev pub Streams : {R W : Type 0} → (R → Option (List ℕ)) → (W → Option (List ℕ)) → Watched R → Watched R → Watched W → Watched W → Plan → Result (Unit {0}) RunError → Type 0
 Streams remaining contents reader_before reader_after writer_before writer_after plan result =
-    (m : Moved) × HasMoved remaining contents reader_before reader_after writer_before writer_after m × AllFit (stream_room plan.rules) m.pieces
+    (m : Moved) × HasMoved remaining contents reader_before reader_after writer_before writer_after m × AllFit (stream_room plan) m.pieces
     × (searched : Result (Unit {0}) StreamError) × IsReturnedAs searched result × AnswersWriting (output_of plan.settings plan.rules) (IsOutputFront plan.settings plan.rules) m searched
 
 -- What that cost, by the bytes that were read and by their matches; if it reached the end, each of the bytes was looked at.

@@ -8,7 +8,7 @@ use Rattle.ac_input.specs.Occurrence.{Occurrence, Search}
 use Rattle.ac_input.specs.Rules.{Rule}
 use Rattle.ac_input.specs.Text.{replaced_from, listed}
 use Rattle.ac_input.specs.Work.{longest}
-use Rattle.ac_automaton.specs.Buffer.{kept_for, room_for}
+use Rattle.ac_automaton.specs.Buffer.{kept_for, least_room, room_for}
 use Rattle.ac_automaton.specs.Moved.{Moved}
 use Rattle.ac_automaton.specs.Stream.{Decides, IsFront}
 use Rattle.ac_automaton.specs.StreamAnswer.{WroteEarly}
@@ -37,24 +37,31 @@ output_of settings rules input = text_in settings.mode settings.kind (replacemen
 abbrev pub FindsEarly : Bool → Settings → Type 0
 FindsEarly stream settings = (settings.kind ≡ Standard) ⊎ ((stream ≡ true) × (settings.engine ≢ Packed))
 
--- The text is written while the input is still read: the matches are found by then, the overlapping ones are not requested, and no
--- pattern is empty. Every other text is written after the whole input was read.
+-- The text is written while the input is still read: the matches are found by then; where the overlapping ones are requested, that
+-- was asked for; and no pattern is empty. Every other text is written after the whole input was read.
 abbrev pub IsStreamed : Plan → Type 0
-IsStreamed plan = FindsEarly plan.stream plan.settings × (plan.settings.mode ≢ modes.Overlap) × ¬ HasEmptyPattern plan.rules
+IsStreamed plan = FindsEarly plan.stream plan.settings × ((plan.stream ≡ true) ⊎ (plan.settings.mode ≢ modes.Overlap)) × ¬ HasEmptyPattern plan.rules
 
--- how many bytes the buffer of an input has room for whose text is written while it is read
-abbrev pub stream_room : List Rule → ℕ
-stream_room rules = room_for (kept_for (longest (rule_patterns rules)))
+-- How many bytes the buffer has room for into which an input is read whose text is written meanwhile, by its mode. A search for the
+-- overlapping matches holds no byte once it was searched.
+abbrev pub room_in : Mode → List Rule → ℕ
+room_in modes.Replace rules = room_for (kept_for (longest (rule_patterns rules)))
+room_in modes.List rules = room_for (kept_for (longest (rule_patterns rules)))
+room_in modes.Overlap rules = least_room
+
+abbrev pub stream_room : Plan → ℕ
+stream_room plan = room_in plan.settings.mode plan.rules
 
 -- a line for each match that a text decides: under the standard kind, for all of its matches
 abbrev pub IsDecidedList : Dictionary → List ℕ → List ℕ → Type 0
 IsDecidedList m x text = (os : List Occurrence) × Decides m x os × (text ≡ listed os)
 
 -- The text of the front of an input, as far as it can be written: with matches replaced, up to a cut; or the list of all matches that
--- are decided.
+-- are decided; or that of all that overlap, which what follows can't change.
 pub record IsOutputFront (settings : Settings) (rules : List Rule) (x text : List ℕ) : Type 0 where
   pub replaced : settings.mode ≡ modes.Replace → IsFront (dictionary_for settings rules) (output_of settings rules) x text
   pub listed : settings.mode ≡ modes.List → IsDecidedList (dictionary_for settings rules) x text
+  pub overlapping : settings.mode ≡ modes.Overlap → text ≡ output_of settings rules x
 
 -- at least that was written of an input which could be written before the last of its pieces was read
 abbrev pub IsPrompt : Settings → List Rule → Moved → Type 0

@@ -6,9 +6,9 @@
 //! writes while it reads. Everything that is decided is written before each read; at most as many bytes are held back as the
 //! longest pattern has.
 //!
-//! [`run_rules_streaming`] is asked to do so under every kind. Under a leftmost kind a match is held back until it is decided: no byte
-//! that follows can change it. That is a wish about time: packed search, an empty pattern, and a list of all that overlap hold the
-//! input as before.
+//! [`run_rules_streaming`] is asked to do so under every kind, and for a list of all that overlap. Under a leftmost kind a match is
+//! held back until it is decided: no byte that follows can change it. That is a wish about time: packed search and an empty pattern
+//! hold the input as before.
 //!
 //! Every other run holds its input and writes only after it has read all of it. It takes all the memory that it needs before the
 //! read that finds the end. Then it searches, by packed search if the settings name it and otherwise by an automaton, and writes
@@ -16,11 +16,11 @@
 //!
 //! Either way a run that is out of memory stops before anything is written. The engine and its settings change nothing of the
 //! text, which [`runs_write_alike`] states.
-ghost use Rattle.std.specs.Prelude.{◌≡◌, List, [], false, length};
+ghost use Rattle.std.specs.Prelude.{◌≡◌, List, [], false, length, OnOk};
 ghost use Rattle.ac_automaton.specs.Watched.{has_ended};
 ghost use Rattle.acsub.specs.Matches.{IsHeldCost};
 ghost use Rattle.acsub.specs.Plan.{plan_for, plan_of, streaming_plan_for};
-ghost use Rattle.acsub.specs.Run.{CostsFile, CostsIn, CostsRun, IsReadByBuffer, Prepares, Ran, RanIn, RanPrepared, RanRules, ReadsByBuffer, Refuses, RefusesIn, RefusesRules, RunsOutFirst, not_read};
+ghost use Rattle.acsub.specs.Run.{CostsFile, CostsIn, CostsRun, IsReadByBuffer, Prepares, Ran, RanIn, RanPrepared, RanRules, ReadsByBuffer, Refuses, RefusesIn, RefusesRules, RunsOutFirst, WroteText, WroteTextBy, not_read};
 ghost use Rattle.acsub.specs.RunLaws.{RunsWriteAlike};
 ghost use Rattle.acsub.specs.Sending.{SendsText};
 ghost use Rattle.acsub.specs.Settings.{IsAccepted};
@@ -54,7 +54,10 @@ pub fn run<R: Read, W: Write>(
     writer: &mut Watched<W>,
 ) -> Result<(), RunError>
     requires { has_ended reader.old ≡ false }
-    // What was read and written, and with which result: Ok has written the text of all that was read.
+    // Ok has written the text of all that was read.
+    ensures written { OnOk result (WroteTextBy settings.now rules.now
+        reader.old reader.new writer.old writer.new) }
+    // What was read and written, and with which result.
     ensures answered { Ran R.remaining W.contents reader.old reader.new writer.old writer.new
         settings.now rules.now result }
     // The first bad line is reported whatever memory does, and a refusal has touched nothing.
@@ -77,6 +80,8 @@ pub fn run_counted<R: Read, W: Write>(
     steps: &mut Steps,
 ) -> Result<(), RunError>
     requires { has_ended reader.old ≡ false }
+    ensures written { OnOk result (WroteTextBy settings.now rules.now
+        reader.old reader.new writer.old writer.new) }
     ensures answered { Ran R.remaining W.contents reader.old reader.new writer.old writer.new
         settings.now rules.now result }
     ensures fault { Refuses settings.now rules.now
@@ -121,6 +126,8 @@ pub fn run_rules<R: Read, W: Write>(
     writer: &mut Watched<W>,
 ) -> Result<(), RunError>
     requires { has_ended reader.old ≡ false }
+    ensures written { OnOk result (WroteText settings.now rules.now
+        reader.old reader.new writer.old writer.new) }
     ensures answered { RanRules R.remaining W.contents reader.old reader.new writer.old writer.new
         (plan_for settings.now rules.now) result }
     ensures fault { RefusesRules (plan_for settings.now rules.now)
@@ -141,6 +148,8 @@ pub fn run_rules_counted<R: Read, W: Write>(
     steps: &mut Steps,
 ) -> Result<(), RunError>
     requires { has_ended reader.old ≡ false }
+    ensures written { OnOk result (WroteText settings.now rules.now
+        reader.old reader.new writer.old writer.new) }
     ensures answered { RanRules R.remaining W.contents reader.old reader.new writer.old writer.new
         (plan_for settings.now rules.now) result }
     ensures fault { RefusesRules (plan_for settings.now rules.now)
@@ -152,11 +161,11 @@ pub fn run_rules_counted<R: Read, W: Write>(
     run_plan(alloc, settings, false, rules, reader, writer, steps)
 }
 
-/// The same as [`run_rules`], but writes while it reads under a leftmost kind too, unless packed search finds the matches or a
-/// pattern is empty. It writes the same text.
+/// The same as [`run_rules`], but writes while it reads under a leftmost kind too, and so does a list of all that overlap, unless
+/// packed search finds the matches or a pattern is empty. It writes the same text.
 ///
-/// Before each read it has written everything that is decided. Under a leftmost kind it holds back at most as many bytes as the
-/// longest pattern has; after each match it reads at most so many bytes and one again.
+/// Before each read it has written everything that is decided, of all that overlap each line. Under a leftmost kind it holds back at
+/// most as many bytes as the longest pattern has; after each match it reads at most so many bytes and one again.
 pub fn run_rules_streaming<R: Read, W: Write>(
     alloc: Global,
     settings: &Settings,
@@ -165,6 +174,8 @@ pub fn run_rules_streaming<R: Read, W: Write>(
     writer: &mut Watched<W>,
 ) -> Result<(), RunError>
     requires { has_ended reader.old ≡ false }
+    ensures written { OnOk result (WroteText settings.now rules.now
+        reader.old reader.new writer.old writer.new) }
     ensures answered { RanRules R.remaining W.contents reader.old reader.new writer.old writer.new
         (streaming_plan_for settings.now rules.now) result }
     ensures fault { RefusesRules (streaming_plan_for settings.now rules.now)
@@ -186,6 +197,8 @@ pub fn run_rules_streaming_counted<R: Read, W: Write>(
     steps: &mut Steps,
 ) -> Result<(), RunError>
     requires { has_ended reader.old ≡ false }
+    ensures written { OnOk result (WroteText settings.now rules.now
+        reader.old reader.new writer.old writer.new) }
     ensures answered { RanRules R.remaining W.contents reader.old reader.new writer.old writer.new
         (streaming_plan_for settings.now rules.now) result }
     ensures fault { RefusesRules (streaming_plan_for settings.now rules.now)

@@ -121,12 +121,14 @@ pub fn check(settings: &Settings, rules: &Rules) -> Result<(), SettingError>
     Ok(())
 }
 
-/// Whether the text is written while the input is still read: if matches are found by then, no pattern is empty, and not all that
-/// overlap is listed.
+/// Whether the text is written while the input is still read: if matches are found by then, and no pattern is empty. A list of all
+/// that overlap is so only where that was asked for.
 pub fn is_streamed(settings: &Settings, stream: bool, rules: &Rules) -> bool
     ensures { IsTrue result ↔ IsStreamed (plan_of stream settings.now rules.now) }
 {
-    finds_early(settings, stream) && settings.mode != Mode::Overlap && !has_empty_pattern(rules)
+    finds_early(settings, stream)
+        && (stream || settings.mode != Mode::Overlap)
+        && !has_empty_pattern(rules)
 }
 
 /// Whether matches are found while the input is still read: under the standard kind, where no later byte can change a match; under a

@@ -2,12 +2,13 @@
 //!
 //! Under the standard kind a match that was found is never changed by what is read later. Under a leftmost kind it is held back until
 //! it is decided. All that is decided is written before the next read, so a run over a pipe writes as soon as it can. It holds no more than one buffer of the input and one of the text,
-//! and takes both before the first read.
+//! and takes both before the first read. All that overlap in what was read can't be changed by what is read later, either.
 ghost use Rattle.std.specs.Prelude.{◌≡◌, Err, false};
 ghost use Rattle.ac_input.specs.declared.search.Anchored.TheVariants.{No};
 ghost use Rattle.ac_automaton.specs.Moved.{NoneTouched};
 ghost use Rattle.ac_automaton.specs.Watched.{has_ended};
 ghost use Rattle.acsub.specs.Finder.{IsBuiltFor};
+ghost use Rattle.acsub.specs.Settings.{IsAccepted};
 ghost use Rattle.acsub.specs.Stream.{CostsStreaming, IfMemory, IsNoRefusal, IsReturnedAs, Streams};
 ghost use Rattle.acsub.specs.Transformed.{IsStreamed};
 ghost use Rattle.acsub.specs.declared.settings.Mode.TheVariants.{Replace};
@@ -23,8 +24,10 @@ use std::alloc::Global;
 use std::io::{Read, Write};
 
 mod list;
+mod overlap;
 
 use list::stream_list;
+use overlap::stream_overlapping;
 
 /// Reads the input, and writes its text while it reads.
 pub fn stream_text<A: Search, R: Read, W: Write>(
@@ -36,6 +39,7 @@ pub fn stream_text<A: Search, R: Read, W: Write>(
     steps: &mut Steps,
 ) -> Result<(), RunError>
     requires open { has_ended reader.old ≡ false }
+    requires accepted { IsAccepted prepared.now.settings prepared.now.rules }
     requires built { IsBuiltFor prepared.now (A.built engine.now) }
     requires supports { A.supports engine.now No }
     requires streamed { IsStreamed prepared.now }
@@ -48,7 +52,7 @@ pub fn stream_text<A: Search, R: Read, W: Write>(
     match prepared.mode() {
         Mode::Replace => stream_replaced(alloc, prepared, engine, reader, writer, steps),
         Mode::List => stream_list(alloc, prepared, engine, reader, writer, steps),
-        Mode::Overlap => unreachable!(),
+        Mode::Overlap => stream_overlapping(alloc, prepared, engine, reader, writer, steps),
     }
 }
 

@@ -213,7 +213,7 @@ fn command<'a>(alloc: Global) -> Result<Command<'a>, AllocError>
         .arg(flag(
             alloc,
             "stream",
-            "Write while reading under every kind, where that can be",
+            "Write while reading under every kind and mode, where that can be",
         ))?;
     with_engine(alloc, with_matching(alloc, command)?)
 }

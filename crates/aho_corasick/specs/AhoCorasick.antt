@@ -1,5 +1,5 @@
 -- What an automaton of the front was built as, and what its searches return when they can't fail.
-use Rattle.std.specs.Prelude.{◌≡◌, ℕ, Bool, List, length}
+use Rattle.std.specs.Prelude.{◌≡◌, ℕ, List, length}
 use Rattle.ac_input.specs.declared.search.Anchored.{Anchored}
 use Rattle.ac_input.specs.declared.search.MatchKind.{MatchKind}
 use Rattle.ac_input.specs.declared.search.StartKind.{StartKind}
@@ -13,7 +13,7 @@ use Rattle.ac_automaton.specs.declared.overlapping.OverlappingState.{Overlapping
 use Rattle.ac_automaton.specs.OverlappingIter.{Run, fresh_run, rest_of}
 use Rattle.aho_corasick.specs.declared.ahocorasick.AhoCorasick.{AhoCorasick}
 use Rattle.aho_corasick.specs.declared.engine.Engine.{Engine}
-use Rattle.aho_corasick.specs.Engine.{engine_built_as, IsEngineRead, engine_matches_at, is_engine_start_at, is_engine_special_at}
+use Rattle.aho_corasick.specs.Engine.{engine_built_as, IsEngineRead, engine_matches_at}
 
 -- the automaton that serves
 abbrev pub serving_engine : AhoCorasick → Engine
@@ -45,25 +45,9 @@ start_kind_of ac = ac.start_kind
 abbrev pub supported_by : AhoCorasick → Anchored → Type 0
 supported_by ac anchored = Serves (start_kind_of ac) anchored
 
--- a number is read by a search
-abbrev pub IsFrontRead : AhoCorasick → Anchored → List ℕ → ℕ → Type 0
-IsFrontRead ac anchored text sid = IsEngineRead (serving_engine ac) anchored text sid
-
--- the patterns that match at a number
-abbrev pub front_matches_at : AhoCorasick → ℕ → List ℕ
-front_matches_at ac sid = engine_matches_at (serving_engine ac) sid
-
--- the starts
-abbrev pub is_front_start_at : AhoCorasick → ℕ → Bool
-is_front_start_at ac sid = is_engine_start_at (serving_engine ac) sid
-
--- the states at which a search has more to do than to read on
-abbrev pub is_front_special_at : AhoCorasick → ℕ → Bool
-is_front_special_at ac sid = is_engine_special_at (serving_engine ac) sid
-
 -- an overlapping state is fresh, or came from earlier calls with this automaton and input alone
 abbrev pub CameFromCalls : AhoCorasick → Asked → OverlappingState → Type 0
-CameFromCalls ac asked state = overlapping.CameFrom (as_built ac) (IsFrontRead ac) (front_matches_at ac) asked state
+CameFromCalls ac asked state = overlapping.CameFrom (as_built ac) (λ anchored text sid. IsEngineRead (serving_engine ac) anchored text sid) (λ sid. engine_matches_at (serving_engine ac) sid) asked state
 
 -- one means the same as another: the same automaton serves both, for the same searches
 pub record MeansSame (ac other : AhoCorasick) : Type 0 where

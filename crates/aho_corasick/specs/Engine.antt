@@ -1,8 +1,6 @@
 -- What the automaton that serves was built as, and what is known of its states: what it says of them itself.
 use Rattle.std.specs.Prelude.{ℕ, Bool, List}
 use Rattle.ac_input.specs.declared.search.Anchored.{Anchored}
-use Rattle.ac_input.specs.declared.search.StartKind.{StartKind}
-use Rattle.ac_input.specs.Dfa.{Serves}
 use Rattle.ac_automaton.specs.Automaton.{Built}
 use Rattle.ac_noncontiguous.specs.Reads.{built_as, IsRead, matches_at, is_start_at, is_special_at}
 use Rattle.ac_tables.specs.ContiguousReads.{contiguous_built_as, IsContiguousRead, contiguous_matches_at, is_contiguous_start_at, is_contiguous_special_at}
@@ -53,7 +51,3 @@ abbrev pub is_engine_special_at : Engine → ℕ → Bool
 is_engine_special_at (Noncontiguous nfa) sid = is_special_at nfa sid
 is_engine_special_at (Contiguous nfa) sid = is_contiguous_special_at nfa sid
 is_engine_special_at (Dfa dfa) sid = is_dfa_special_at dfa sid
-
--- it has a start for each search of the start kind
-abbrev pub HasStarts : StartKind → Engine → Type 0
-HasStarts kind engine = (anchored : Anchored) → Serves kind anchored → ∥ engine_supported_by engine anchored ∥₁

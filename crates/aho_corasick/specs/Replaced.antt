@@ -8,19 +8,12 @@ use Rattle.ac_automaton.specs.Replace.{MemoryReplacer, IsReplacedWith, IsBrokenO
 use Rattle.aho_corasick.specs.declared.ahocorasick.AhoCorasick.{AhoCorasick}
 use Rattle.aho_corasick.specs.AhoCorasick.{as_built}
 
--- a text with each of its matches that cut no character exchanged for its pattern's replacement, and bytes with each of theirs
-abbrev pub replaced_text : AhoCorasick → List ℕ → List (List ℕ) → List ℕ
-replaced_text ac haystack replacements = with_replaced haystack replacements (text_matches_in (as_built ac) haystack)
-
-abbrev pub replaced_bytes : AhoCorasick → List ℕ → List (List ℕ) → List ℕ
-replaced_bytes ac haystack replacements = with_replaced haystack replacements (matches_in (as_built ac) haystack)
-
 -- a string that holds the one, and a vector that holds the other
 abbrev pub IsReplacedText : AhoCorasick → List ℕ → List (List ℕ) → String Global → Type 0
-IsReplacedText ac haystack replacements text = string_bytes text ≡ replaced_text ac haystack replacements
+IsReplacedText ac haystack replacements text = string_bytes text ≡ with_replaced haystack replacements (text_matches_in (as_built ac) haystack)
 
 abbrev pub AreReplacedBytes : AhoCorasick → List ℕ → List (List ℕ) → Vec ℕ → Type 0
-AreReplacedBytes ac haystack replacements bytes = bytes.items ≡ replaced_bytes ac haystack replacements
+AreReplacedBytes ac haystack replacements bytes = bytes.items ≡ with_replaced haystack replacements (matches_in (as_built ac) haystack)
 
 -- The destination holds what the closure makes of these matches of the haystack, or what it has made of them when memory ran out.
 abbrev pub Appends : {F D : Type 0} → (D → List ℕ) → MemoryReplacer F D → List ℕ → List Occurrence → F → D → D → Result (Unit {0}) AllocError → Type 0

@@ -10,7 +10,8 @@ use Rattle.ac_automaton.specs.Watched.{inner_of, pieces_of, taken_of}
 use Rattle.ac_automaton.specs.declared.stream.StreamFindIter.{StreamFindIter}
 use Rattle.ac_automaton.specs.declared.watched.Watched.{Watched}
 use Rattle.aho_corasick.specs.declared.ahocorasick.AhoCorasick.{AhoCorasick}
-use Rattle.aho_corasick.specs.Replaced.{replaced_bytes}
+use Rattle.ac_automaton.specs.Replace.{matches_in, with_replaced}
+use Rattle.aho_corasick.specs.AhoCorasick.{as_built}
 
 -- it has read nothing yet, and holds the reader that was lent, by the same reference
 abbrev pub IsStreamOver : {A R : Type 0} → Built → MutBor (Watched R) → StreamFindIter A R → Type 0
@@ -21,5 +22,5 @@ pub record IsStreamReplaced {R W : Type 0} (remaining : R → Option (List ℕ))
   pub pieces : List (List ℕ)
   pub read : pieces_of reader_after ≡ pieces_of reader_before ++ pieces
   pub whole : IfSome (remaining (inner_of reader_before)) (λ text. text ≡ concat pieces)
-  pub taken : taken_of writer_after ≡ taken_of writer_before ++ replaced_bytes ac (concat pieces) replacements
-  pub device : Appends (contents (inner_of writer_before)) (contents (inner_of writer_after)) (replaced_bytes ac (concat pieces) replacements)
+  pub taken : taken_of writer_after ≡ taken_of writer_before ++ with_replaced (concat pieces) replacements (matches_in (as_built ac) (concat pieces))
+  pub device : Appends (contents (inner_of writer_before)) (contents (inner_of writer_after)) (with_replaced (concat pieces) replacements (matches_in (as_built ac) (concat pieces)))

@@ -7,7 +7,9 @@ mod stream;
 
 ghost use Rattle.std.specs.Prelude.{◌≡◌, ◌↔◌, IfOk, IsTrue};
 ghost use Rattle.ac_input.specs.Work.{longest, shortest};
-ghost use Rattle.aho_corasick.specs.Engine.{HasStarts, kind_served};
+ghost use Rattle.aho_corasick.specs.Engine.{kind_served, engine_supported_by};
+ghost use Rattle.ac_input.specs.declared.search.Anchored.{Anchored};
+ghost use Rattle.ac_input.specs.Dfa.{Serves};
 
 use crate::engine::Engine;
 use ac_automaton::automaton::Automaton;
@@ -61,7 +63,7 @@ pub struct AhoCorasick {
     /// The start kind that was set. An NFA has a start for all searches, but runs only these, so that the same searches return an
     /// error whichever automaton serves.
     start_kind: StartKind,
-    ghost starts: { HasStarts start_kind engine.value },
+    ghost starts: { (anchored : Anchored) → Serves start_kind anchored → ∥ engine_supported_by engine.value anchored ∥₁ },
 }
 
 /// The remaining matches of an input. From [`AhoCorasick::find_iter`].

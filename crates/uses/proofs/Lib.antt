@@ -2,6 +2,7 @@ pub mod BuildLemmas
 pub mod NfaLemmas
 pub mod PackedLemmas
 pub mod PushedLemmas
+pub mod PushedTextLemmas
 pub mod StateLemmas
 pub mod StreamLemmas
 pub mod StreamOverlapLemmas

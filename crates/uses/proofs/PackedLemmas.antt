@@ -18,17 +18,17 @@ use Rattle.ac_input.specs.Same.{IsUnpaired}
 use Rattle.ac_input.proofs.BestLemmas.{best-computed, best-unique}
 use Rattle.ac_input.proofs.LiveLemmas.{kind_cases, leftmost-no_later}
 use Rattle.ac_input.proofs.UnpairedLemmas.{best-unpaired}
-use Rattle.ac_literal.specs.Packed.{AreServed, IsBestOf, Packed, added, built, fresh, in_whole, leftmost_first, pattern_at, search_kind}
+use Rattle.ac_literal.specs.Packed.{AreServed, Packed, added, built, fresh, in_whole, leftmost_first, pattern_at, search_kind}
 use Rattle.ac_literal.proofs.PatternLemmas.{built-fresh}
 use Rattle.ac_literal.specs.declared.packed.api.MatchKind as packed
 use Rattle.ac_literal.specs.declared.packed.api.MatchKind.TheVariants as packed_kinds
 use Rattle.uses.specs.Callers.{IsSkip}
 
 -- the match of a searcher that was made so
-pub packed-first : (kind : packed.MatchKind) (patterns : List (List ℕ)) (text : List ℕ) (made : Option Packed) (s : Packed) (r : Option Occurrence) → IfSome made (λ t. t ≡ record { kind = kind; patterns = patterns }) → made ≡ Some s → IsBestOf s text r → r ≡ best_of (search_kind kind) (in_whole patterns text)
+pub packed-first : (kind : packed.MatchKind) (patterns : List (List ℕ)) (text : List ℕ) (made : Option Packed) (s : Packed) (r : Option Occurrence) → IfSome made (λ t. t ≡ record { kind = kind; patterns = patterns }) → made ≡ Some s → IsBest (search_kind s.kind) (in_whole s.patterns text) r → r ≡ best_of (search_kind kind) (in_whole patterns text)
 packed-first kind patterns text made s r value is best =
     let same = subst (λ (m : Option Packed). IfSome m (λ t. t ≡ record { kind = kind; patterns = patterns })) is value in
-    best-computed (search_kind kind) (in_whole patterns text) (omega arith) r (subst (λ (t : Packed). IsBestOf t text r) same best)
+    best-computed (search_kind kind) (in_whole patterns text) (omega arith) r (subst (λ (t : Packed). IsBest (search_kind t.kind) (in_whole t.patterns text) r) same best)
 
 -- one pattern is served, where it is not empty
 one-served : (pattern : List ℕ) → 0 < length pattern → AreServed (pattern ∷ [])
@@ -50,7 +50,7 @@ of-one pattern long =
     some-known (built (added (fresh packed_kinds.LeftmostFirst) pattern).kind (added (fresh packed_kinds.LeftmostFirst) pattern).patterns) (leftmost_first (pattern ∷ [])) (made.0.1 (one-served pattern long)) made.1
 
 -- the match of a searcher is that of a dictionary of its patterns and kind in which nothing is paired
-pub packed-alike : (s : Packed) (m : Dictionary) (text : List ℕ) (one another : Option Occurrence) → search_kind s.kind ≡ m.kind → s.patterns ≡ m.patterns → IsUnpaired m.pairing → IsBestOf s text one → IsBest m.kind (whole m text false) another → one ≡ another
+pub packed-alike : (s : Packed) (m : Dictionary) (text : List ℕ) (one another : Option Occurrence) → search_kind s.kind ≡ m.kind → s.patterns ≡ m.patterns → IsUnpaired m.pairing → IsBest (search_kind s.kind) (in_whole s.patterns text) one → IsBest m.kind (whole m text false) another → one ≡ another
 packed-alike s m text one another kind patterns unpaired best other =
     let by_kind = subst (λ (k : MatchKind). IsBest k (in_whole s.patterns text) one) kind best in
     let by_patterns = subst (λ (ps : List (List ℕ)). IsBest m.kind (in_whole ps text) one) patterns by_kind in

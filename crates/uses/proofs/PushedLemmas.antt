@@ -1,13 +1,27 @@
 -- How a caller gathers the matches of a search whose pieces it pushes.
-use Rattle.std.proofs.Common.{◌≡◌, ◌≢◌, ℕ, ◌+◌, ◌-◌, ◌<◌, ◌≤◌, false, List, [], ◌∷◌, ◌++◌, length, map, get_or, Bor, zero, suc, take, drop, Some, None, sym, ap, ◌∙◌, refl, subst, arith, append_assoc, append-nil, take-append-drop}
+use Rattle.std.proofs.Common.{◌≡◌, ℕ, false, ◌+◌, ◌-◌, ◌<◌, ◌≤◌, List, [], ◌∷◌, ◌++◌, length, map, get_or, Bor, zero, suc, take, drop, Some, None, sym, ap, ◌∙◌, subst, arith, append_assoc, append-nil, take-append-drop}
 use Rattle.std.specs.List.{concat}
 use Rattle.ac_input.specs.Occurrence.{Occurrence}
 use Rattle.ac_automaton.specs.Automaton.{Built}
 use Rattle.ac_automaton.specs.Replace.{matches_in}
 use Rattle.ac_automaton.specs.Stream.{CanBeCounted, FindsHeld, StreamProgress, closed_by, may_wait, read_by}
-use Rattle.ac_automaton.specs.StreamPush.{HasTaken}
+use Rattle.ac_automaton.specs.StreamPush.{TakesBytes}
 use Rattle.ac_automaton.proofs.StreamReplaceLemmas.{each-closed}
-use Rattle.uses.specs.Pushed.{HasGathered, IsGathered, IsPushedTo, IsSame, Pushing, WentOn}
+use Rattle.uses.specs.Pushed.{HasGathered, IsGathered, IsSame, WentOn}
+
+-- of a piece this much is left to push
+pub record Pushing (s t : StreamProgress) (piece rest : List ℕ) (found : List Occurrence) : Type 0 where
+  pub gathered : IsGathered t found
+  pub built : t.built ≡ s.built
+  pub closed : t.closed ≡ s.closed
+  pub left : read_by t ++ rest ≡ read_by s ++ piece
+
+-- this text was pushed to a search by this automaton, and its matches gathered
+pub record IsPushedTo (b : Built) (text : List ℕ) (s : StreamProgress) (found : List Occurrence) : Type 0 where
+  pub gathered : IsGathered s found
+  pub built : s.built ≡ b
+  pub open_ : s.closed ≡ false
+  pub read : read_by s ≡ text
 
 -- one more match
 pub same-more : (s t u : StreamProgress) (found : List Occurrence) (o : Occurrence) → IsSame s t found → FindsHeld t (Some o) u → IsSame s u (found ++ o ∷ [])
@@ -41,7 +55,7 @@ same-all s t u found few same finds = (
 )
 
 -- the first bytes of the rest were pushed, and the matches gathered
-pub pushing-more : (s t u v : StreamProgress) (piece rest : List ℕ) (n : ℕ) (found all : List Occurrence) → Pushing s t piece rest found → HasTaken t u (take n rest) → CanBeCounted (read_by u) → HasGathered u v all → Pushing s v piece (drop n rest) all
+pub pushing-more : (s t u v : StreamProgress) (piece rest : List ℕ) (n : ℕ) (found all : List Occurrence) → Pushing s t piece rest found → TakesBytes t u (take n rest) → CanBeCounted (read_by u) → HasGathered u v all → Pushing s v piece (drop n rest) all
 pushing-more s t u v piece rest n found all is took few more =
     let read : read_by v ≡ read_by u = more.0.read in
     record {

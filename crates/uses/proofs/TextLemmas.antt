@@ -1,6 +1,6 @@
 -- The words of a list that are texts, and the match of texts in a text.
 use Rattle.std.proofs.Common.{◌≡◌, ℕ, zero, suc, ◌<◌, false, eqb, List, [], ◌∷◌, ◌++◌, length, Option, Some, None, Result, Ok, Err, IsCharBoundary, inl, inr, refl, sym, ap, ◌∙◌, subst, arith}
-use Rattle.std.specs.Prelude.{IfOk, option_map, slice_range}
+use Rattle.std.specs.Prelude.{IfOk, option_map, slice_range, Bool}
 use Rattle.std.specs.Borrow.{Bor}
 use Rattle.std.specs.Str.{IsUtf8}
 use Rattle.std.proofs.lemmas.Bool.{eq-eqb, false≢true}
@@ -15,7 +15,7 @@ use Rattle.ac_input.specs.Dictionary.{whole}
 use Rattle.ac_input.specs.Input.{Asked, whole_of}
 use Rattle.ac_input.specs.Occurrence.{Occurrence}
 use Rattle.ac_input.specs.Same.{IsUnpaired}
-use Rattle.ac_input.specs.Utf8Laws.{AreFullTexts, TextOccursBetweenChars, FoldingKeepsChars}
+use Rattle.ac_input.specs.Utf8Laws.{AreFullTexts, TextOccursBetweenChars, KeepsChars}
 use Rattle.ac_literal.specs.Packed.{bytes_of}
 use Rattle.ac_automaton.specs.Automaton.{Built, IsFound}
 use Rattle.ac_noncontiguous.specs.declared.error.BuildErrorKind.{BuildErrorKind}
@@ -24,6 +24,7 @@ use Rattle.aho_corasick.specs.declared.ahocorasick.AhoCorasick.{AhoCorasick}
 use Rattle.aho_corasick.specs.Callers.{first_in}
 use Rattle.aho_corasick.proofs.FindLemmas.{found-first}
 use Rattle.uses.specs.Callers.{FindsTexts, IsFirstPart}
+use Rattle.ac_input.specs.Pairing.{IsFolded}
 
 -- one more text that isn't empty
 full-push : (patterns : List (List ℕ)) (word : List ℕ) → AreFullTexts patterns → IsUtf8 word → 0 < length word → AreFullTexts (patterns ++ word ∷ [])
@@ -45,7 +46,7 @@ full-pushed patterns items word n full utf8 left len pushed =
     subst (λ (ps : List (Bor (List ℕ))). AreFullTexts (bytes_of ps)) (sym pushed) more
 
 -- what is built of texts, and pairs no byte, finds texts
-pub texts-found : (patterns : List (List ℕ)) (r : Result AhoCorasick BuildErrorKind) → FoldingKeepsChars → AreFullTexts patterns → IfOk r (λ ac. patterns_of ac ≡ patterns) → IfOk r (λ ac. IsUnpaired (pairing_of ac)) → IfOk r (λ ac. FindsTexts (as_built ac).dictionary)
+pub texts-found : (patterns : List (List ℕ)) (r : Result AhoCorasick BuildErrorKind) → ((folded : Bool) (pairing : List ℕ) → IsFolded folded pairing → KeepsChars pairing) → AreFullTexts patterns → IfOk r (λ ac. patterns_of ac ≡ patterns) → IfOk r (λ ac. IsUnpaired (pairing_of ac)) → IfOk r (λ ac. FindsTexts (as_built ac).dictionary)
 texts-found patterns (Ok ac) keeps full same unpaired = record {
   patterns = subst AreFullTexts (sym same) full;
   pairing = keeps false (pairing_of ac) unpaired;

@@ -1,7 +1,6 @@
 -- What callers know of a search whose pieces they push.
-use Rattle.std.specs.Prelude.{◌≡◌, false, ℕ, List, ◌++◌}
+use Rattle.std.specs.Prelude.{◌≡◌, ℕ, List, ◌++◌}
 use Rattle.ac_input.specs.Occurrence.{Occurrence}
-use Rattle.ac_automaton.specs.Automaton.{Built}
 use Rattle.ac_automaton.specs.Stream.{AreAllGiven, CanBeCounted, IsSearched, StreamProgress, read_by}
 
 -- everything that was pushed is searched, and the matches that were returned are these
@@ -26,17 +25,3 @@ pub record IsSame (s t : StreamProgress) (found : List Occurrence) : Type 0 wher
 -- and all that are decided were returned
 abbrev pub HasGathered : StreamProgress → StreamProgress → List Occurrence → Type 0
 HasGathered s t found = IsSame s t found × AreAllGiven t
-
--- of a piece this much is left to push
-pub record Pushing (s t : StreamProgress) (piece rest : List ℕ) (found : List Occurrence) : Type 0 where
-  pub gathered : IsGathered t found
-  pub built : t.built ≡ s.built
-  pub closed : t.closed ≡ s.closed
-  pub left : read_by t ++ rest ≡ read_by s ++ piece
-
--- this text was pushed to a search by this automaton, and its matches gathered
-pub record IsPushedTo (b : Built) (text : List ℕ) (s : StreamProgress) (found : List Occurrence) : Type 0 where
-  pub gathered : IsGathered s found
-  pub built : s.built ≡ b
-  pub open_ : s.closed ≡ false
-  pub read : read_by s ≡ text

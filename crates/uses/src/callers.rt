@@ -17,6 +17,7 @@ pub mod owner;
 pub mod packed;
 pub mod plain;
 pub mod pushed;
+pub mod pushed_text;
 pub mod replace;
 pub mod states;
 pub mod stream;

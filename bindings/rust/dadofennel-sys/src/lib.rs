@@ -35,6 +35,7 @@ pub const DADO_EMPTY_PATTERN: dado_status = 20;
 pub const DADO_NO_STREAM: dado_status = 21;
 pub const DADO_FINISHED: dado_status = 22;
 pub const DADO_TOO_MANY_BYTES: dado_status = 23;
+pub const DADO_NO_REPLACER: dado_status = 24;
 
 pub const DADO_STANDARD: u32 = 0;
 pub const DADO_LEFTMOST_FIRST: u32 = 1;
@@ -162,6 +163,13 @@ pub struct dado_held {
     pub cut: usize,
 }
 
+/// A replacement of a text that comes in pieces, which is only pointed to.
+#[repr(C)]
+pub struct dado_replacer {
+    _bytes: [u8; 0],
+    _lent: PhantomData<(*mut u8, PhantomPinned)>,
+}
+
 extern "C" {
     pub fn dado_settings_default() -> dado_settings;
     pub fn dado_build(
@@ -234,6 +242,16 @@ extern "C" {
     pub fn dado_stream_view(stream: *mut *mut dado_stream, held: *mut dado_held) -> dado_status;
     pub fn dado_stream_finish(stream: *mut *mut dado_stream) -> dado_status;
     pub fn dado_stream_free(stream: *mut *mut dado_stream);
+    pub fn dado_replacer_new(ac: *const dado_automaton, replacer: *mut *mut dado_replacer) -> dado_status;
+    pub fn dado_replacer_push(replacer: *mut *mut dado_replacer, piece: *const u8, len: usize, taken: *mut usize) -> dado_status;
+    pub fn dado_replacer_next(
+        replacer: *mut *mut dado_replacer,
+        replacements: *const dado_bytes,
+        count: usize,
+        slice: *mut dado_bytes,
+    ) -> dado_status;
+    pub fn dado_replacer_finish(replacer: *mut *mut dado_replacer) -> dado_status;
+    pub fn dado_replacer_free(replacer: *mut *mut dado_replacer);
     pub fn dado_pattern_len(ac: *const dado_automaton, pattern: u32, len: *mut usize) -> dado_status;
     pub fn dado_pattern_count(ac: *const dado_automaton) -> usize;
     pub fn dado_shortest(ac: *const dado_automaton) -> usize;

@@ -11,7 +11,7 @@
 ghost use Rattle.std.specs.Prelude.{IfOk};
 ghost use Rattle.std.specs.Iterator.{YieldsFirst, item_count};
 ghost use Rattle.ac_automaton.specs.Items.{AreFewForEach, EachLiesWithin};
-ghost use Rattle.ac_automaton.specs.OverlappingIter.{AnswersOverlappingIter, CountsRun, GivesFirst, RunCounts, IsWithinOneWalk, rest_of};
+ghost use Rattle.ac_automaton.specs.OverlappingIter.{AnswersOverlappingIter, CountsRun, RunCounts, IsWithinOneWalk, rest_of, IsRunAfter};
 
 use crate::ahead::Ahead;
 use crate::error::MatchError;
@@ -95,7 +95,7 @@ impl<'a, 'h, A: Search> FindOverlappingIter<'a, 'h, A> {
     /// The next match, as `next` returns it; counts what it does.
     /// A caller: `uses::callers::overlap::pass_occurrences`.
     pub fn next_counted(&mut self, steps: &mut Steps) -> Option<Match>
-        ensures gives { GivesFirst self.old result self.new }
+        ensures gives { YieldsFirst rest_of self.old result self.new × IsRunAfter self.old result self.new }
         ensures sums { RunCounts self.old self.new steps.old steps.new }
         ensures work { IsWithinOneWalk self.new }
         ensures counted { CountsRun self.new result }

@@ -7,7 +7,7 @@
 ghost use Rattle.std.specs.Prelude.{◌≡◌, ◌-◌, ◌≤◌, ◌<◌, ◌↔◌, None, Some, false, true, length, map, IsTrue};
 ghost use Rattle.std.specs.Borrow.{sem};
 ghost use Rattle.ac_automaton.specs.Stream.{AreAllGiven, CanBeCounted, StreamCounts, cut_of, read_by};
-ghost use Rattle.ac_automaton.specs.StreamReplacer.{Advances, AnswersReplacer, CanBeLent, GivesText, IsHandedOut, IsReady, LooksOn, Passes, PushesText, ends_there, finished_by, part_bytes, place_of};
+ghost use Rattle.ac_automaton.specs.StreamReplacer.{FindsPart, AnswersReplacer, CanBeLent, GivesText, IsHandedOut, IsReady, LooksForMatch, TakesPart, PushesText, ends_there, told_the_end, part_bytes, decided_to};
 
 use super::StreamSearch;
 use super::replace::part;
@@ -132,7 +132,7 @@ impl<A: Search> StreamReplacer<A> {
 
     /// Tells the replacement that nothing more comes: [`StreamReplacer::next`] hands out the text to its end.
     pub fn finish(&mut self)
-        ensures { self.new ≡ finished_by self.old }
+        ensures { self.new ≡ told_the_end self.old }
     {
         self.search.finish();
         self.finished = true;
@@ -156,7 +156,7 @@ impl<A: Search> StreamReplacer<A> {
     fn look(&mut self, steps: &mut Steps)
         requires few { CanBeCounted (read_by self.old.search) }
         requires open { self.old.over ≡ false }
-        ensures looks { LooksOn self.old self.new }
+        ensures looks { LooksForMatch self.old self.new }
         ensures counts { StreamCounts self.old.search self.new.search steps.old steps.new }
     {
         if self.met.is_none() {
@@ -167,7 +167,7 @@ impl<A: Search> StreamReplacer<A> {
     /// The place up to which the text is decided.
     fn place(&self) -> usize
         requires few { CanBeCounted (read_by self.now.search) }
-        ensures { result ≡ place_of self.now.search self.now.met self.now.finished }
+        ensures { result ≡ decided_to self.now.search self.now.met self.now.finished }
     {
         match self.met {
             Some(found) => found.start(),
@@ -196,7 +196,7 @@ impl<A: Search> StreamReplacer<A> {
         requires few { CanBeCounted (read_by self.old.search) }
         requires open { self.old.over ≡ false }
         requires all { self.old.met ≡ None → AreAllGiven self.old.search }
-        ensures { Passes self.old self.new result }
+        ensures { TakesPart self.old self.new result }
     {
         let to = self.place();
         let ends = self.ends();
@@ -217,7 +217,7 @@ impl<A: Search> StreamReplacer<A> {
 
     /// Finds the next slice of the text that is decided.
     fn advance(&mut self, steps: &mut Steps) -> Option<Part>
-        ensures advances { Advances self.old self.new result }
+        ensures advances { FindsPart self.old self.new result }
         ensures counts { StreamCounts self.old.search self.new.search steps.old steps.new }
     {
         if self.over || self.search.is_over() {

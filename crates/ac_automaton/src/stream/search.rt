@@ -21,7 +21,7 @@ ghost use Rattle.ac_automaton.specs.StreamPush.{Pushes};
 ghost use Rattle.ac_automaton.specs.StreamSearch.{searched_anew, some_of};
 ghost use Rattle.ac_automaton.specs.StreamWalk.{MayWalk, WalksOn};
 ghost use Rattle.ac_input.specs.Work.{shortest};
-ghost use Rattle.ac_automaton.specs.Stream.{AnswersNew, AnswersNewAnyKind, CanBeCounted, CanStreamAnyKind, IsAnyKindConfigRefusal, IsMemory, closed_by, fresh_progress, may_wait, CanStream, CountsNothing, FindsHeld, GoesOn, HasRoom, IsConfigRefusal, IsOnCourse, IsRolled, IsSearched, ReadsMore, StreamCounts, StreamProgress, cut_of, held_by, read_by};
+ghost use Rattle.ac_automaton.specs.Stream.{AnswersNew, AnswersNewAnyKind, CanBeCounted, CanStreamAnyKind, IsAnyKindConfigRefusal, IsMemory, closed_by, fresh_progress, may_wait, CanStream, CountsNothing, FindsHeld, GoesOn, IsConfigRefusal, IsOnCourse, IsRolled, IsSearched, ReadsMore, StreamCounts, StreamProgress, cut_of, held_by, read_by, room_of};
 ghost use Rattle.ac_automaton.specs.Watched.{has_ended};
 
 mod decide;
@@ -434,7 +434,7 @@ impl<A: Search> StreamSearch<A> {
     /// Moves the bytes after the cut to the front of the buffer, if no room is left.
     fn make_room(&mut self, steps: &mut Steps)
         requires { IsSearched self.old }
-        ensures room { HasRoom self.new }
+        ensures room { length (read_by self.new) < self.new.from + room_of self.new.built }
         ensures same { IsRolled self.old self.new }
         ensures counts { StreamCounts self.old self.new steps.old steps.new }
         ensures kept { IsOnCourse self.new }
@@ -487,7 +487,7 @@ impl<A: Search> StreamSearch<A> {
         requires some { piece.now ≢ [] }
         requires unclosed { self.old.closed ≡ false }
         requires searched { IsSearched self.old }
-        requires room { HasRoom self.old }
+        requires room { length (read_by self.old) < self.old.from + room_of self.old.built }
         ensures pushes { Pushes (IsSearched self.old) self.old self.new piece.now result }
         ensures steps { CountsNothing self.old self.new }
         ensures kept { IsOnCourse self.new }
@@ -528,7 +528,7 @@ impl<A: Search> StreamSearch<A> {
         requires open { has_ended reader.old ≡ false }
         requires unclosed { self.old.closed ≡ false }
         requires searched { IsSearched self.old }
-        requires room { HasRoom self.old }
+        requires room { length (read_by self.old) < self.old.from + room_of self.old.built }
         ensures read { ReadsMore R.remaining self.old self.new reader.old reader.new result }
         ensures steps { CountsNothing self.old self.new }
         ensures from { self.new.from ≡ self.old.from }

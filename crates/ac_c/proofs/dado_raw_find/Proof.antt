@@ -1,6 +1,6 @@
 -- `dado_raw_find` passes on what the pointer lends.
 use Rattle.ac_c.proofs.Lending.{[], ◌∷◌, ◌++◌, refl, List, Bor, named, Val, vptr, never, fst∗, id⊢, ftrue, flft, WpFn, sem, ‵, raw, ◌⊛◌, some, later, prop, ◌$◌, ◌∵◌, !, qed, move, drop, use1, use2, split, join, fsplit, fjoin, feq_i, pick, await, regoal, suffices, frame, group, done, of_opd, addr, stop, no_more, and_then, returns, enter, alloc_all, pass_all, free_all, look_at, get, through, sets, lands_as, fact, tables, u8, u32, usize, plain, RawPtr, SliceRefOf, yes, Is, shows, shared_of, hide, Ptr, in_a_block, block_ptr, null_ptr, block_of, count_of, owns, types_at, rawptr_vals, rawptr_Tells, uint_vals, uint_Tells, shr_slice_vals, shr_slice_Tells, shr_slice_Lawful, heard, nothing, peeks, lent_at, calls_at, Lasts, lasts, triple_of, framed, says, Stays, stay_dropped, walk_of, ends_at, Goes-dropped, proved, R, w32, w64}
-use Rattle.ac_c.specs.Find.{AnswersFind, bounds}
+use Rattle.ac_c.specs.Find.{AnswersFindIn, bounds}
 use Rattle.ac_c.specs.contracts.find.Answer.{the_row as Out}
 use Rattle.ac_c.proofs.find.Answer.TheLaws as laws
 use Rattle.ac_c.specs.contracts.find.find as g
@@ -37,8 +37,8 @@ dado_raw_find_spec 𝓤 𝓛 𝓜 𝓡 wired =
     move ! (4 ∷ []) $ fsplit ! $ drop ! $ move ! (1 ∷ 0 ∷ []) $ fjoin ! $ move ! (2 ∷ 3 ∷ []) $ join ! $ move ! (2 ∷ 0 ∷ []) $ join ! $ join ! $
     nothing ! $ move ! (1 ∷ 0 ∷ []) $ use2 𝓛 (raw (G.pre w)) (id⊢ 𝓤 _) $
     calls_at ! (framed 𝓤 𝓛.H 𝓜 𝓣) G (met 𝓤 𝓛 𝓜 𝓡 (code.calls-ac_c::find::find 𝓡.env wired)) w (and_then ! (get ! refl) (and_then ! (get ! refl) (and_then ! (get ! refl) (and_then ! (get ! refl) (and_then ! (get ! refl) (and_then ! (get ! refl) (no_more !))))))) (λ v.
-    use1 𝓛 (later (some (λ (r : Out.Denot). (toks ⊛ ‵ (Out.own_val r (v ∷ []))) ⊛ some (λ (ws : Lasts g.ended w.0.0 w.0.3). ‵ (lasts g.ended w.0.0 w.0.3 ws) ⊛ raw (fact 𝓤 (AnswersFind l.automaton a.1.0.now (bounds a.1.1.0 a.1.1.1.0 a.1.1.1.1.0 a.1.1.1.1.1.0) r)))))) (id⊢ 𝓤 _) $
-    await ! tt $ pick ! (λ r. split ! $ move ! (1 ∷ []) $ pick ! (λ _. split ! $ drop ! $ heard ! (AnswersFind l.automaton a.1.0.now (bounds a.1.1.0 a.1.1.1.0 a.1.1.1.1.0 a.1.1.1.1.1.0) r) (λ within. split ! $ move ! (1 ∷ []) $
+    use1 𝓛 (later (some (λ (r : Out.Denot). (toks ⊛ ‵ (Out.own_val r (v ∷ []))) ⊛ some (λ (ws : Lasts g.ended w.0.0 w.0.3). ‵ (lasts g.ended w.0.0 w.0.3 ws) ⊛ raw (fact 𝓤 (AnswersFindIn l.automaton a.1.0.now (bounds a.1.1.0 a.1.1.1.0 a.1.1.1.1.0 a.1.1.1.1.1.0) r)))))) (id⊢ 𝓤 _) $
+    await ! tt $ pick ! (λ r. split ! $ move ! (1 ∷ []) $ pick ! (λ _. split ! $ drop ! $ heard ! (AnswersFindIn l.automaton a.1.0.now (bounds a.1.1.0 a.1.1.1.0 a.1.1.1.1.0 a.1.1.1.1.1.0) r) (λ within. split ! $ move ! (1 ∷ []) $
     peeks ! Out (Is Out) (shows 𝓛 Out) r (v ∷ []) (λ is. lands_as ! refl refl ((laws.the_row_laws.lawful 𝓛).typed r _ is).0 $
     returns ! (look_at ! 0 refl) $ free_all ! refl $ move ! (1 ∷ []) $ split ! $
     suffices ! _ (ends_at 𝓛 f.ended stayed c (y (block_ptr b o)) v r (tt, (tt, (tt, (tt, (tt, (tt, tt)))))) (tt, (tt, (tt, (tt, (tt, (tt, tt))))))) $

@@ -2,7 +2,8 @@
 ghost use Rattle.std.specs.Prelude.{◌≡◌, ◌↔◌, ◌≤◌, [], length, IfOk, OnOk, OnErr, IsSome, IfSome};
 ghost use Rattle.std.specs.Iterator.{YieldsFirst, item_count};
 ghost use Rattle.ac_input.specs.Work.{shortest};
-ghost use Rattle.ac_literal.specs.Packed.{fresh, added, added_all, built, bytes_of, leftmost_first, matches_of, HasBeginning, AreServed, IsBestIn, IsBestOf};
+ghost use Rattle.ac_literal.specs.Packed.{fresh, added, added_all, built, bytes_of, leftmost_first, matches_of, HasBeginning, AreServed, IsBestIn, search_kind, in_whole};
+ghost use Rattle.ac_input.specs.Best.{IsBest};
 
 use crate::packed::pattern::Patterns;
 use crate::packed::scanner::{Pace, Scanner};
@@ -288,7 +289,7 @@ impl Searcher {
     /// The first match in the haystack, if it has one. It takes no memory.
     /// A caller: `uses::callers::packed::first_match`.
     pub fn find(&self, haystack: &[u8]) -> Option<Match>
-        ensures best { IsBestOf self.now haystack.now result }
+        ensures best { IsBest (search_kind self.now.kind) (in_whole self.now.patterns haystack.now) result }
         ensures served { AreServed self.now.patterns }
     {
         self.find_in(
@@ -371,13 +372,14 @@ pub struct FindIter<'s, 'h> {
 }
 
 impl<'s, 'h> Model for FindIter<'s, 'h> {
-    ghost use Rattle.std.specs.Prelude.{List, length, ◌≤◌};
+    ghost use Rattle.std.specs.Prelude.{List, None, length, ◌≤◌};
+    ghost use Rattle.ac_input.specs.Computed.{walk_after};
+    ghost use Rattle.ac_literal.specs.Packed.{in_whole, search_kind};
     ghost use Rattle.ac_input.specs.Occurrence.{Occurrence};
-    ghost use Rattle.ac_literal.specs.Packed.{matches_left};
 
     ghost Value = { List Occurrence };
 
-    ghost view = { λ i. matches_left i.searcher.now i.haystack.now i.at };
+    ghost view = { λ i. walk_after (search_kind i.searcher.now.kind) (in_whole i.searcher.now.patterns i.haystack.now) i.at None };
 
     ghost invariant = { λ i. i.at ≤ length i.haystack.now };
 }

@@ -13,10 +13,11 @@
 //! search for a needle costs more than checking some places by the hash. An iterator remembers its pace from match to match, so
 //! that many short searches don't each try anew.
 ghost use Rattle.std.specs.Prelude.{◌≡◌, ◌+◌, ◌<◌, ◌≤◌, length, IfOk};
-ghost use Rattle.ac_literal.specs.Packed.{AreServed, in_span};
-ghost use Rattle.ac_literal.specs.RabinKarp.{NoneBefore};
+ghost use Rattle.ac_literal.specs.Packed.{AreServed, in_span, search_kind};
+ghost use Rattle.ac_literal.specs.RabinKarp.{NoneBefore, IsMatchBefore};
 ghost use Rattle.ac_literal.specs.Teddy.{HasMarks};
-ghost use Rattle.ac_literal.specs.Scanner.{IsScanner, IsScannerOf, IsScannerAnswer, IsScannerAnswerTo, IsSameScanner};
+ghost use Rattle.ac_literal.specs.Scanner.{IsScanner, IsScannerOf, IsSameScanner};
+ghost use Rattle.ac_input.specs.Best.{IsBest};
 
 use crate::packed::api::MatchKind;
 use crate::packed::needle::{clone_needle, find_needle, only_needle};
@@ -153,7 +154,7 @@ impl Scanner {
         requires none { NoneBefore (in_span patterns.now haystack.now span) at }
         requires few { marks < 4294967296 }
         requires marks { HasMarks (in_span patterns.now haystack.now span) at marks }
-        ensures { IsScannerAnswerTo self.now patterns.now haystack.now span (at + 32) result }
+        ensures { IsMatchBefore self.now.table.kind patterns.now haystack.now span (at + 32) result }
     {
         let mut left = marks;
         while left != 0 {
@@ -184,7 +185,7 @@ impl Scanner {
         requires none { NoneBefore (in_span patterns.now haystack.now span) at }
         ensures more { at < result.0 }
         ensures end { result.0 + self.now.table.hash_len ≤ span.end + 1 }
-        ensures found { IsScannerAnswerTo self.now patterns.now haystack.now span result.0 result.1 }
+        ensures found { IsMatchBefore self.now.table.kind patterns.now haystack.now span result.0 result.1 }
     {
         let len = self.table.hash_len();
         let to = span.end - len + 1;
@@ -225,7 +226,7 @@ impl Scanner {
         requires scanner { IsScanner patterns.now self.now }
         requires order { span.start ≤ span.end }
         requires within { span.end ≤ length haystack.now }
-        ensures { IsScannerAnswer self.now patterns.now haystack.now span result }
+        ensures { IsBest (search_kind self.now.table.kind) (in_span patterns.now haystack.now span) result }
     {
         let len = self.table.hash_len();
         if span.end - span.start < len {

@@ -9,8 +9,9 @@ ghost use Rattle.ac_input.specs.Pairing.{IsFolded};
 ghost use Rattle.ac_input.specs.Dictionary.{Dictionary};
 ghost use Rattle.ac_literal.specs.Packed.{search_kind, added};
 ghost use Rattle.ac_literal.specs.Prefilter.{IsDemanded, IsPrefilterOf, MemmemServes};
-ghost use Rattle.ac_literal.specs.Builder.{IsPackedSoFar, IsCollected, AddsMemmem, AddsStart, AddsPattern, BuildsWhere, BuildsPacked, BuildsStartBytes, BuildsRareBytes, TakesOne};
+ghost use Rattle.ac_literal.specs.Builder.{IsPackedSoFar, IsCollected, AddsMemmem, AddsStart, AddsPattern, BuildsWhere, BuildsPacked, BuildsStartBytes, TakesOne};
 ghost use Rattle.ac_input.specs.Limits.{with_pattern};
+ghost use Rattle.ac_literal.specs.Strategy.{AreRareOf};
 
 use crate::packed;
 use crate::prefilter::Prefilter;
@@ -169,7 +170,7 @@ impl Builders {
 
     /// Rare bytes, if a scan for them serves.
     fn build_rare_bytes(&self) -> Option<RareBytes>
-        ensures { BuildsRareBytes self.now result }
+        ensures { (m : Dictionary) → IsCollected m self.now → IfSome result (AreRareOf m) }
     {
         let FewBytes::Some(needles) = self.rare_bytes.few else {
             return None;

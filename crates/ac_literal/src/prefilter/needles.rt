@@ -3,9 +3,9 @@
 //! `memchr` scans for up to three bytes at once. [`Needles`] are such bytes, and [`FewBytes`] collects them one by one until
 //! there are too many.
 ghost use Rattle.std.specs.Prelude.{◌≡◌, ℕ, ◌≤◌, Bool, length, IfSome};
-ghost use Rattle.memchr.specs.Find.{IsFirstByte};
+ghost use Rattle.memchr.specs.Find.{IsFirstByte, Passes, IsFirst};
 ghost use Rattle.ac_input.specs.Steps.{Done};
-ghost use Rattle.ac_literal.specs.Needles.{is_needle, all_ascii, IsFirstNeedle, covered, with_byte, AddsNeedle, few_has, AreFew, AddsByte};
+ghost use Rattle.ac_literal.specs.Needles.{is_needle, all_ascii, covered, with_byte, AddsNeedle, few_has, AreFew, AddsByte};
 
 use ac_input::search::Span;
 use ac_input::steps::Steps;
@@ -38,7 +38,7 @@ impl Needles {
     pub fn scan(&self, haystack: &[u8], span: Span, steps: &mut Steps) -> Option<usize>
         requires ordered { span.start ≤ span.end }
         requires within { span.end ≤ length haystack.now }
-        ensures found { IsFirstNeedle self.now haystack.now span result }
+        ensures found { IsFirst (Passes (is_needle self.now) haystack.now) span.start span.end result }
         ensures counted { Done 0 (covered span result) 0 steps.old steps.new }
     {
         let Some(offset) = self.find(span.of(haystack)) else {

@@ -6,7 +6,7 @@
 ghost use Rattle.std.specs.Prelude.{◌≡◌, ℕ, ◌<◌, length, slice_index};
 ghost use Rattle.ac_input.specs.LiveLaws.{canonical};
 ghost use Rattle.ac_noncontiguous.specs.Numbering.{IsNumbering};
-ghost use Rattle.ac_noncontiguous.specs.Edges.{AreTargets, AreEdgesTo};
+ghost use Rattle.ac_noncontiguous.specs.Edges.{AreTargets, IsEdgeTo};
 
 use crate::compiler::numbering::Numbering;
 use crate::trie::Trie;
@@ -57,7 +57,7 @@ pub(super) fn edges(
     requires numbering { IsNumbering (length trie.now.states.items) numbering.now }
     requires within { state < length numbering.now.at.items }
     requires back { back < length numbering.now.at.items }
-    ensures { AreEdgesTo trie.now numbering.now back state result }
+    ensures { (b : ℕ) → b < 256 → IsEdgeTo trie.now numbering.now back state b (slice_index result b) }
 {
     if state == 0 {
         return filled(StateID::ZERO);

@@ -7,6 +7,10 @@
 //! leads to none; then come the states that match, the unanchored start and the anchored one, and all others. Where the empty
 //! pattern is there, both starts match too.
 ghost use Rattle.std.specs.Prelude.{◌≡◌, ◌<◌, IfOk};
+ghost use Rattle.ac_input.specs.Classes.{ClassesLeadAlike};
+ghost use Rattle.ac_noncontiguous.specs.Reads.{dictionary};
+ghost use Rattle.ac_input.specs.Limits.{IsWithinLimits};
+ghost use Rattle.ac_noncontiguous.specs.ReadCalls.{OfTexts, AreOrdered, StandFor};
 
 use crate::nfa::NFA;
 use crate::nfa::pattern_lens::PatternLens;
@@ -100,7 +104,7 @@ impl NFA {
     ghost use Rattle.ac_input.specs.Pairing.{IsPairing};
     ghost use Rattle.ac_noncontiguous.specs.Reads.{built_as, matches_at};
     ghost use Rattle.ac_automaton.specs.Passing.{AreOpenedBy};
-    ghost use Rattle.ac_noncontiguous.specs.ReadCalls.{AlikeIn, state_len, fail_in, depth_in, edges_in, classes_in, special_in, ClassesAreThose, CountsIn, IsWithin, FailsIn, IsDeepIn, ListsIn, EdgesLeadIn, MayBeMet, LeadsIn, SpecialIn, StandForSome, TextsBegin, AreRead, OrderedIn, IsReadable, IsCopy};
+    ghost use Rattle.ac_noncontiguous.specs.ReadCalls.{state_len, fail_in, depth_in, edges_in, classes_in, special_in, ClassesAreThose, CountsIn, FailsIn, IsDeepIn, ListsIn, EdgesLeadIn, MayBeMet, LeadsIn, SpecialIn, TextsBegin, AreRead, IsReadable, IsCopy};
 
     /// How many states there are.
     /// A caller: `uses::callers::nfa::numbered`.
@@ -179,7 +183,7 @@ impl NFA {
     pub fn byte_classes(&self) -> &ByteClasses
         ensures value { result.now ≡ classes_in self.now }
         ensures classes { ClassesAreThose self.now }
-        ensures alike { AlikeIn self.now }
+        ensures alike { ClassesLeadAlike (dictionary self.now) (classes_in self.now) }
     {
         &self.tables.classes
     }
@@ -216,9 +220,9 @@ impl NFA {
     /// Each state from 2 on stands for a text: canonical bytes that begin an entered pattern. State 1 stands for none.
     /// A caller: `uses::callers::nfa::last_pattern`.
     pub fn states_stand(&self)
-        ensures some { StandForSome self.now }
+        ensures some { ∥ ((text : ℕ → List ℕ) × StandFor self.now text) ∥₁ }
         ensures begin { TextsBegin self.now }
-        ensures within { IsWithin self.now }
+        ensures within { ∥ IsWithinLimits (dictionary self.now) ∥₁ }
     {}
 
     /// Which states are read by searches: those from 2 on by their own texts, and the dead one by dead texts.
@@ -230,7 +234,7 @@ impl NFA {
     /// In which order the states come.
     /// A caller: `uses::callers::nfa::is_deeper`.
     pub fn states_are_ordered(&self)
-        ensures { OrderedIn self.now }
+        ensures { OfTexts self.now (AreOrdered self.now) }
     {}
 
     /// How long the patterns are.

@@ -7,13 +7,14 @@
 //! to do than to read on. Where the patterns are few, a search that stands in the start finds the next place at which one may begin by
 //! its first bytes; where few bytes lead out of the start, it finds the next of these by `memchr`. Elsewhere a search of a stream reads
 //! four parts of its bytes side by side, where there are rows.
-ghost use Rattle.std.specs.Prelude.{false};
+ghost use Rattle.std.specs.Prelude.{false, ◌≡◌};
 ghost use Rattle.ac_automaton.specs.Automaton.{IsReached};
 ghost use Rattle.ac_automaton.specs.Named.{nowhere};
 ghost use Rattle.ac_automaton.specs.ReadOn.{ReadsTo};
 ghost use Rattle.ac_input.specs.Input.{is_anchored};
 ghost use Rattle.ac_tables.specs.ContiguousReads.{contiguous_built_as, IsContiguousRead, IsMet, LooksUp};
-ghost use Rattle.ac_tables.specs.WordReads.{ByteLeadsTo, IsFailOf};
+ghost use Rattle.ac_tables.specs.WordReads.{ByteLeadsTo, IsStateAt};
+ghost use Rattle.ac_tables.specs.Words.{StateParts};
 
 use crate::contiguous::NFA;
 use crate::contiguous::layout::NOWHERE;
@@ -32,7 +33,7 @@ impl NFA {
     #[inline]
     fn fail(&self, sid: StateID) -> StateID
         requires { IsMet self.now false sid }
-        ensures { IsFailOf self.now.table sid result }
+        ensures { (s : StateParts) → IsStateAt self.now.table sid s → result ≡ s.fail }
     {
         StateID::must(self.table.words[sid.as_usize() + 1] as usize)
     }

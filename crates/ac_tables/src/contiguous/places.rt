@@ -6,7 +6,8 @@ ghost use Rattle.std.specs.Prelude.{◌≡◌, ◌≢◌, ℕ, ◌+◌, ◌<◌,
 ghost use Rattle.ac_input.specs.Number.{greatest_number};
 ghost use Rattle.ac_noncontiguous.specs.ReadCalls.{state_len, edges_in};
 ghost use Rattle.ac_tables.specs.ContiguousTable.{len_at};
-ghost use Rattle.ac_tables.specs.ContiguousBuild.{IsLen, ArePlacesIn, IsPlaceAfter, IsPlaceTooGreat, IsRefusedFor};
+ghost use Rattle.ac_tables.specs.Words.{word_count};
+ghost use Rattle.ac_tables.specs.ContiguousBuild.{ArePlacesIn, IsPlaceAfter, IsPlaceTooGreat, IsRefusedFor};
 
 use crate::contiguous::layout::{HEAD, MOST_SPARSE};
 use ac_input::alphabet::ByteClasses;
@@ -19,7 +20,7 @@ use std::alloc::{AllocError, Global};
 fn words_len(shallow: bool, transitions: usize, matches: usize, alphabet_len: usize) -> usize
     requires alphabet { alphabet_len ≤ 256 }
     requires matches { matches ≤ greatest_number + 1 }
-    ensures len { IsLen alphabet_len shallow transitions matches result }
+    ensures len { result ≡ word_count alphabet_len shallow transitions matches }
     ensures fits { result ≤ greatest_number + 300 }
 {
     let list = if matches > 1 { matches + 1 } else { matches };

@@ -70,7 +70,7 @@ impl Rows {
     ghost use Rattle.std.specs.Prelude.{◌<◌, ◌⊎◌, IsTrue, IfOk, IfSome};
     ghost use Rattle.ac_automaton.specs.Ahead.{IsBlank};
     ghost use Rattle.ac_tables.specs.Cut.{AreBelow, AreNotBelow, IsCountBelow};
-    ghost use Rattle.ac_tables.specs.ContiguousRows.{row_len, place_in_row, IsRowIn, IsRowFor, IsPlaceIf, IsLastUpTo, IsNotePlaced, AreRowsBetween, AreSameRows};
+    ghost use Rattle.ac_tables.specs.ContiguousRows.{row_len, place_in_row, IsRowIn, IsLastUpTo, IsNotePlaced, AreRowsBetween, AreSameRows};
 
     /// How many entries a row has.
     #[inline]
@@ -83,7 +83,7 @@ impl Rows {
     /// Where the row begins of this number, if its state stands at the place.
     #[inline]
     fn row_at(&self, row: usize, place: StateID) -> Option<StateID>
-        ensures { IfSome result (IsRowFor self.now place) }
+        ensures { IfSome result (λ row. IsRowIn self.now row × (place_in_row self.now row ≡ place)) }
     {
         let found = *self.places.get(row)?;
         if found != place {
@@ -95,7 +95,7 @@ impl Rows {
     /// Where the row begins of the state at a place, if the index leads to it.
     #[inline]
     pub(super) fn row_of(&self, place: StateID) -> Option<StateID>
-        ensures { IfSome result (IsRowFor self.now place) }
+        ensures { IfSome result (λ row. IsRowIn self.now row × (place_in_row self.now row ≡ place)) }
     {
         let start = self.row_at(self.start.as_usize(), place);
         if start.is_some() {
@@ -213,7 +213,7 @@ impl Rows {
 
     /// The place of the state whose row begins at a number, if some row does.
     fn place_if(&self, row: StateID) -> Option<StateID>
-        ensures { IfSome result (IsPlaceIf self.now row) }
+        ensures { IfSome result (λ place. IsRowIn self.now row × (place ≡ place_in_row self.now row)) }
     {
         let at = row.as_usize() >> self.stride2;
         let place = *self.places.get(at)?;

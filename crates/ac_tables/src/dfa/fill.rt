@@ -33,13 +33,13 @@ impl<'a> Filler<'a> {
     ghost use Rattle.ac_input.specs.Dfa.{Serves, dfa_states};
     ghost use Rattle.ac_noncontiguous.specs.ReadCalls.{state_len, MayBeMet, EdgesLeadIn};
     ghost use Rattle.ac_tables.specs.Filling.{number_in, entry_in, IsRowRight, IsUnwritten, AreRowsFilled, IsMerged};
-    ghost use Rattle.ac_tables.specs.Filler.{plan_of, HasRows, HasRowRoom, IsWrittenOver, IsOnlyRow, IsFailureFilled, IsRowFree, ArePairMet, AreAllRows};
+    ghost use Rattle.ac_tables.specs.Filler.{row_plan_of, HasRows, HasRowRoom, IsWrittenOver, IsOnlyRow, IsFailureFilled, IsRowFree, ArePairMet, AreAllRows};
 
     /// Where the row of a state begins.
     #[inline]
     fn place(&self, anchored: Anchored, sid: StateID) -> usize
         requires { sid < state_len self.now.nfa.now }
-        ensures { result ≡ number_in (plan_of self.now) anchored sid }
+        ensures { result ≡ number_in (row_plan_of self.now) anchored sid }
     {
         self.numbers.number(anchored, sid).as_usize()
     }
@@ -48,7 +48,7 @@ impl<'a> Filler<'a> {
     #[inline]
     fn entry(&self, anchored: Anchored, next: StateID) -> StateID
         requires { next < state_len self.now.nfa.now }
-        ensures { result ≡ entry_in (plan_of self.now) anchored next }
+        ensures { result ≡ entry_in (row_plan_of self.now) anchored next }
     {
         if next.as_usize() == FAIL {
             return StateID::ZERO;
@@ -75,7 +75,7 @@ impl<'a> Filler<'a> {
         requires len { HasRows self.now trans.old }
         requires failure { IsFailureFilled self.now sid trans.old }
         ensures alone { IsOnlyRow self.now No sid trans.old trans.new }
-        ensures right { IsRowRight (plan_of self.now) No sid trans.new }
+        ensures right { IsRowRight (row_plan_of self.now) No sid trans.new }
     {
         let row = self.place(Anchored::No, sid);
         let failure = self.place(Anchored::No, self.nfa.fail(sid));
@@ -89,7 +89,7 @@ impl<'a> Filler<'a> {
         requires len { HasRows self.now trans.old }
         requires blank { IsRowFree self.now sid trans.old }
         ensures alone { IsOnlyRow self.now Yes sid trans.old trans.new }
-        ensures right { IsRowRight (plan_of self.now) Yes sid trans.new }
+        ensures right { IsRowRight (row_plan_of self.now) Yes sid trans.new }
     {
         self.write(Anchored::Yes, sid, trans);
     }
@@ -100,7 +100,7 @@ impl<'a> Filler<'a> {
         requires len { HasRows self.now trans.old }
         requires failure { Serves self.now.numbers.kind No → IsFailureFilled self.now plain trans.old }
         requires blank { Serves self.now.numbers.kind Yes → IsRowFree self.now anchored trans.old }
-        ensures { AreRowsFilled (plan_of self.now) plain anchored trans.old trans.new }
+        ensures { AreRowsFilled (row_plan_of self.now) plain anchored trans.old trans.new }
     {
         match self.numbers.kind {
             StartKind::Unanchored => self.fill_unanchored(plain, trans),

@@ -40,7 +40,7 @@ Options:
           Read RULES as plain text: 'pattern TAB replacement' or 'pattern' a line
 
       --stream
-          Write while reading under every kind, where that can be
+          Write while reading under every kind and mode, where that can be
 
       --kind <K>
           Which of several matches is taken

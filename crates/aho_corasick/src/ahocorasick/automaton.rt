@@ -30,20 +30,21 @@ fn enforce_anchored_consistency(have: StartKind, want: Anchored) -> Result<(), M
 }
 
 impl Automaton for AhoCorasick {
-    ghost use Rattle.aho_corasick.specs.AhoCorasick.{serving_engine, as_built, supported_by, IsFrontRead, front_matches_at, is_front_start_at, is_front_special_at};
+    ghost use Rattle.aho_corasick.specs.AhoCorasick.{serving_engine, as_built, supported_by};
+    ghost use Rattle.aho_corasick.specs.Engine.{IsEngineRead, engine_matches_at, is_engine_special_at, is_engine_start_at};
     ghost use Rattle.aho_corasick.specs.EngineLaws.{read-tells, read-lives, read-pairs, read-stops};
 
     ghost built = { as_built };
 
     ghost supports = { supported_by };
 
-    ghost Reaches = { IsFrontRead };
+    ghost Reaches = { λ ac anchored text sid. IsEngineRead (serving_engine ac) anchored text sid };
 
-    ghost matches = { front_matches_at };
+    ghost matches = { λ ac sid. engine_matches_at (serving_engine ac) sid };
 
-    ghost starts = { is_front_start_at };
+    ghost starts = { λ ac sid. is_engine_start_at (serving_engine ac) sid };
 
-    ghost special = { is_front_special_at };
+    ghost special = { λ ac sid. is_engine_special_at (serving_engine ac) sid };
 
     fn start_state(&self, anchored: Anchored) -> Result<StateID, MatchError> {
         enforce_anchored_consistency(self.start_kind, anchored)?;

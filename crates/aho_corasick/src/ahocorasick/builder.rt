@@ -5,14 +5,14 @@
 //!
 //! A build makes a noncontiguous NFA of the patterns, and from that the automaton that serves. Where none was named it makes a DFA
 //! for few patterns and one start kind; else a contiguous NFA; and it goes on to the next only where one would be too large.
-ghost use Rattle.std.specs.Prelude.{◌≡◌, Some, map, IfOk, IfErr};
+ghost use Rattle.std.specs.Prelude.{◌≡◌, None, Some, map, IfOk, IfErr};
 ghost use Rattle.ac_input.specs.Pairing.{IsFolded};
 ghost use Rattle.ac_input.specs.Same.{IsUnpaired};
 ghost use Rattle.ac_literal.specs.Packed.{bytes_of};
 ghost use Rattle.ac_noncontiguous.specs.declared.error.BuildErrorKind.TheVariants.{Memory};
 ghost use Rattle.aho_corasick.specs.AhoCorasick.{kind_of, pairing_of, patterns_of, start_kind_of};
 ghost use Rattle.aho_corasick.specs.Builder.{AreFrontFirst, noncontiguous_by};
-ghost use Rattle.aho_corasick.specs.Served.{IsFitting, contiguous_by, dfa_by, IsTriedDfa, IsTriedContiguous, IsEngineTaken, IsEngineOf, IsFrontMadeOf, IsNamedRefused, IsFrontBuilt, IsFrontBuildRefused, IsFrontBuiltAtFirst, IsFrontRefusedAtFirst};
+ghost use Rattle.aho_corasick.specs.Served.{IsFitting, contiguous_by, dfa_by, IsTriedDfa, IsTriedContiguous, IsEngineOf, IsFrontMadeOf, IsNotMade, IsFrontBuilt, IsFrontBuildRefused, IsFrontBuiltAtFirst, IsFrontRefusedAtFirst};
 
 use super::{AhoCorasick, AhoCorasickKind};
 use crate::engine::Engine;
@@ -318,7 +318,7 @@ impl AhoCorasickBuilder {
 
     /// The automaton that serves where none is named.
     fn take(&self, alloc: Global, nfa: NFA) -> Result<Engine, BuildError>
-        ensures taken { IfOk result (IsEngineTaken self.now nfa) }
+        ensures taken { IfOk result (IsEngineOf None self.now nfa) }
         ensures refused { IfErr result (λ error. error ≡ Memory) }
     {
         if let Some(dfa) = self.try_dfa(alloc, &nfa)? {
@@ -332,8 +332,8 @@ impl AhoCorasickBuilder {
 
     /// The automaton that serves: the one that was named, or the one that is taken.
     fn serve(&self, alloc: Global, nfa: NFA) -> Result<Engine, BuildError>
-        ensures served { IfOk result (IsEngineOf self.now nfa) }
-        ensures refused { IfErr result (IsNamedRefused self.now.kind self.now nfa) }
+        ensures served { IfOk result (IsEngineOf self.now.kind self.now nfa) }
+        ensures refused { IfErr result (IsNotMade self.now nfa) }
     {
         match self.kind {
             None => self.take(alloc, nfa),
@@ -352,7 +352,7 @@ impl AhoCorasickBuilder {
     /// The automaton over the one that serves.
     fn share(&self, alloc: Global, nfa: NFA) -> Result<AhoCorasick, BuildError>
         ensures made { IfOk result (IsFrontMadeOf self.now nfa) }
-        ensures refused { IfErr result (IsNamedRefused self.now.kind self.now nfa) }
+        ensures refused { IfErr result (IsNotMade self.now nfa) }
     {
         let engine = self.serve(alloc, nfa)?;
         match Arc::new(alloc, engine) {

@@ -5,11 +5,11 @@ use Rattle.ac_c.specs.Found.{shown}
 use Rattle.ac_c.proofs.walk.fill.Given as goal
 
 abbrev pub invariant-loop-at : goal.invariant-loop-at
-invariant-loop-at l = record {
-  rest : left_of l.matches ≡ drop l.at (left_of l.fn.matches);
-  enough : l.at ≤ length (left_of l.fn.matches);
-  given : take l.at l.out ≡ map shown (take l.at (left_of l.fn.matches));
-  built : l.matches.built ≡ l.fn.matches.built;
-  asked : l.matches.asked ≡ l.fn.matches.asked;
-  way : IsOnItsWay l.matches;
+invariant-loop-at g l = let walk = g.W.Walking.walk in record {
+  rest : left_of (walk l.matches) ≡ drop l.at (left_of (walk l.fn.matches));
+  enough : l.at ≤ length (left_of (walk l.fn.matches));
+  given : take l.at l.out ≡ map shown (take l.at (left_of (walk l.fn.matches)));
+  built : (walk l.matches).built ≡ (walk l.fn.matches).built;
+  asked : (walk l.matches).asked ≡ (walk l.fn.matches).asked;
+  way : IsOnItsWay (walk l.matches);
 }

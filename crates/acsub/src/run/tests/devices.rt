@@ -5,6 +5,7 @@
 use super::refusals::reads_where_there_is_memory;
 use super::*;
 use crate::scripted::PLAIN;
+use crate::settings::Mode;
 use crate::settings::Mode::{List, Overlap, Replace};
 use std::test::Fail;
 
@@ -24,20 +25,41 @@ const APPENDED_RULES: &str = "617070656e64\t31\n617070656e64616765\t32\n617070\t
 
 const APPENDED: &[u8] = b"append the app to the appendage";
 
-/// What is listed of it under the standard kind.
-const LINES: &[u8] = b"2 0 3\n2 11 14\n2 22 25\n";
+/// A list of what `APPEND` finds in it under the standard kind: a line is known as soon as its match has ended.
+#[derive(Clone, Copy)]
+struct Lines {
+    mode: Mode,
+    /// Whether the run is asked to write while it reads.
+    stream: bool,
+    text: &'static [u8],
+    /// Up to which byte of the input has to be read for a line, and up to which byte of the text it stands.
+    known: &'static [(usize, usize)],
+}
 
-/// How much can be listed once so many bytes were read: a line as soon as its match has ended.
-fn known_after(read: usize) -> usize {
-    if read < 3 {
-        0
-    } else if read < 14 {
-        6
-    } else if read < 25 {
-        14
-    } else {
-        22
+const LINES: &[Lines] = &[
+    Lines {
+        mode: List,
+        stream: false,
+        text: b"2 0 3\n2 11 14\n2 22 25\n",
+        known: &[(3, 6), (14, 14), (25, 22)],
+    },
+    Lines {
+        mode: Overlap,
+        stream: true,
+        text: b"2 0 3\n0 0 6\n2 11 14\n2 22 25\n0 22 28\n1 22 31\n",
+        known: &[(3, 6), (6, 12), (14, 20), (25, 28), (28, 36), (31, 44)],
+    },
+];
+
+/// How much can be listed once so many bytes were read.
+fn known_after(known: &[(usize, usize)], read: usize) -> usize {
+    let mut len = 0;
+    for (byte, text) in known {
+        if *byte <= read {
+            len = *text;
+        }
     }
+    len
 }
 
 /// How many bytes a read gives.
@@ -105,6 +127,16 @@ const STREAM_FAILS: Row<'static> = Row {
 const STREAM_LISTING: Told = Told {
     kind: MatchKind::LeftmostLongest,
     ..LISTING
+};
+
+/// A list of all that overlap, asked for while it reads.
+const STREAM_OVERLAPS: Row<'static> = Row {
+    told: Told {
+        mode: Overlap,
+        ..PLAIN
+    },
+    rules: APPEND,
+    ..STREAM_FAILS
 };
 
 const ROWS: &[Row<'static>] = &[
@@ -312,6 +344,31 @@ const ROWS: &[Row<'static>] = &[
         lengths: &[22],
         ..STREAM_FAILS
     },
+    // Each occurrence has its line as soon as its last byte was read, also one that a longer one holds.
+    Row {
+        lengths: &[0],
+        ..STREAM_OVERLAPS
+    },
+    Row {
+        input: b"append the app to the appenda",
+        text: b"2 0 3\n0 0 6\n2 11 14\n2 22 25\n0 22 28\n",
+        lengths: &[36],
+        ..STREAM_OVERLAPS
+    },
+    Row {
+        input: b"appendag",
+        stop: Stop::Ends(b"e"),
+        text: b"2 0 3\n0 0 6\n",
+        lengths: &[12],
+        ..STREAM_OVERLAPS
+    },
+    Row {
+        input: b"appendage",
+        stop: Stop::Ends(b"app"),
+        text: b"2 0 3\n0 0 6\n1 0 9\n",
+        lengths: &[18],
+        ..STREAM_OVERLAPS
+    },
     // A match that an empty read cuts off has no line.
     Row {
         told: LISTING,
@@ -380,7 +437,7 @@ struct Held {
     engines: &'static [Engine],
 }
 
-/// Under a leftmost kind, for all that overlap, and where a pattern is empty.
+/// Under a leftmost kind and for all that overlap, unless the text is asked for; by packed search, and where a pattern is empty.
 const HELD: &[Held] = &[
     Held {
         told: Told {
@@ -421,7 +478,7 @@ const HELD: &[Held] = &[
         rules: "\t2d\n",
         engines: AUTOMATA,
     },
-    // Where a text is asked for while the input is read: packed search, all that overlap, and an empty pattern.
+    // Where a text is asked for while the input is read: packed search and an empty pattern.
     Held {
         told: Told {
             kind: MatchKind::LeftmostLongest,
@@ -437,7 +494,7 @@ const HELD: &[Held] = &[
             ..PLAIN
         },
         stream: true,
-        rules: SLOTH,
+        rules: "666f78\t\n\t\n",
         engines: AUTOMATA,
     },
     Held {
@@ -476,19 +533,30 @@ fn writes_nothing_before_the_end(rt: HostRuntime) -> Result<(), Fail> {
     Ok(())
 }
 
-/// Wherever a read fails, the lines of all matches that end before it were written, and no others.
-#[test]
-fn lists_up_to_a_failed_read(rt: HostRuntime) -> Result<(), Fail> {
+/// Asserts that the lines of all matches that end before a read that fails were written, and no others, wherever it fails.
+fn lists_to_a_failed_read(rt: &impl Abort, alloc: Global, lines: &Lines) -> Result<(), Fail> {
     for read in 0..=APPENDED.len() {
         let row = Row {
-            told: LISTING,
+            told: Told {
+                mode: lines.mode,
+                ..PLAIN
+            },
+            stream: lines.stream,
             rules: APPEND,
             input: &APPENDED[..read],
-            text: LINES,
-            lengths: &[known_after(read)],
+            text: lines.text,
+            lengths: &[known_after(lines.known, read)],
             ..FAILS
         };
-        stops_by_each(&rt, rt.alloc(), &row)?;
+        stops_by_each(rt, alloc, &row)?;
+    }
+    Ok(())
+}
+
+#[test]
+fn lists_up_to_a_failed_read(rt: HostRuntime) -> Result<(), Fail> {
+    for lines in LINES {
+        lists_to_a_failed_read(&rt, rt.alloc(), lines)?;
     }
     Ok(())
 }
@@ -588,26 +656,36 @@ fn stops_where_a_write_fails(rt: HostRuntime) -> Result<(), Fail> {
     Ok(())
 }
 
-/// A write that fails, or takes nothing, is made as soon as the line is known: no byte is read that the line doesn't need.
-#[test]
-fn reads_no_further_than_the_line_that_fails(rt: HostRuntime) -> Result<(), Fail> {
-    let settings = LISTING.settings()?;
+/// Asserts that a write that fails, or takes nothing, is made as soon as the line is known: no byte is read that the line doesn't
+/// need.
+fn stops_at_its_line(rt: &impl Abort, alloc: Global, settings: &Settings, lines: &Lines) {
     let case = Case {
-        stream: false,
+        stream: lines.stream,
         rules: APPEND,
         input: APPENDED,
-        writes: LINES,
+        writes: lines.text,
         calls: None,
     };
     for fails in [false, true] {
-        for room in 0..LINES.len() {
+        for room in 0..lines.text.len() {
             for most in [1usize, 5, 64] {
                 let full = Full { room, fails, most };
-                let did = stops_at(&rt, rt.alloc(), &settings, &case, &full);
-                let before = known_after(did.reads.saturating_sub(1));
-                assert!(rt; before <= room && room < known_after(did.reads));
+                let did = stops_at(rt, alloc, settings, &case, &full);
+                let before = known_after(lines.known, did.reads.saturating_sub(1));
+                assert!(rt; before <= room && room < known_after(lines.known, did.reads));
             }
         }
+    }
+}
+
+#[test]
+fn reads_no_further_than_the_line_that_fails(rt: HostRuntime) -> Result<(), Fail> {
+    for lines in LINES {
+        let told = Told {
+            mode: lines.mode,
+            ..PLAIN
+        };
+        stops_at_its_line(&rt, rt.alloc(), &told.settings()?, lines);
     }
     Ok(())
 }
@@ -678,6 +756,7 @@ fn in_memory_that_may_end(rt: HostRuntime) -> Result<(), Fail> {
         (List, longest, false, ENGINES, line, 4),
         (List, longest, true, AUTOMATA, line, 0),
         (Overlap, standard, false, AUTOMATA, line, 4),
+        (Overlap, standard, true, AUTOMATA, line, 0),
     ] {
         let told = Told {
             mode,

@@ -36,6 +36,8 @@ fn push_occurrences(
 #[derive(Clone, Copy)]
 struct Row {
     told: Told,
+    /// Whether the run is asked to write while it reads.
+    stream: bool,
     by: &'static [By],
     rules: Rules,
     input: &'static [Times],
@@ -64,6 +66,7 @@ const LISTED: Row = Row {
         mode: List,
         ..PLAIN
     },
+    stream: false,
     by: &[],
     rules: Rules::File(&[]),
     input: THOUSAND,
@@ -262,6 +265,27 @@ const OCCURRENCES: &[Row] = &[
         },
         ..OVERLAPPING
     },
+    // While it reads, one buffer of 64 KiB after another.
+    Row {
+        stream: true,
+        rules: Rules::Rising(2),
+        input: &[Times(70_000, "a")],
+        most: 70_000,
+        writes: Writes::Occurrences {
+            patterns: 2,
+            lines: 139_999,
+        },
+        ..OVERLAPPING
+    },
+    Row {
+        stream: true,
+        rules: Rules::Rising(129),
+        writes: Writes::Occurrences {
+            patterns: 129,
+            lines: 120744,
+        },
+        ..OVERLAPPING
+    },
     // An occurrence may begin at each place, and one of them ends: 254 or 255 bytes before the byte that decides.
     Row {
         rules: Rules::File(&[Times(254, "61"), Times(1, "7a\t\n")]),
@@ -302,7 +326,7 @@ fn build(rt: &impl Abort, alloc: Global, row: &Row, built: &mut Built) -> Result
 fn writes_built(rt: &impl Abort, alloc: Global, row: &Row, built: &Built) -> Result<(), Fail> {
     let settings = row.told.settings()?;
     let case = Case {
-        stream: false,
+        stream: row.stream,
         rules: built.rules.as_str(),
         input: built.input.as_bytes(),
         writes: built.text.as_bytes(),

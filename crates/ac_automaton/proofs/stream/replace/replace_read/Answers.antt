@@ -4,9 +4,8 @@ use Rattle.std.proofs.lemmas.Result.{err_from_is_err_and}
 use Rattle.ac_automaton.specs.Moved.{HasGiven}
 use Rattle.ac_automaton.specs.Stream.{IsOnCourse, StreamCounts, StreamProgress}
 use Rattle.ac_automaton.specs.Watched.{pieces_of}
-use Rattle.ac_automaton.specs.StreamReplace.{HasReplaced}
 use Rattle.ac_automaton.proofs.StreamCountLemmas.{StreamCounts-none, StreamCounts-then}
-use Rattle.ac_automaton.proofs.StreamReplaceLemmas.{all-filled, all-whole, closing, given-closed, given-more, less-left, on-ok, piece-none, piece-some, read-kept, read-stopped, read-unclosed, reading, reading-more, replaced-fresh, replaced-more, rest-answers, rest-read, sending-stopped, still-open}
+use Rattle.ac_automaton.proofs.StreamReplaceLemmas.{all-filled, all-whole, closing, given-closed, given-more, less-left, on-ok, piece-none, piece-some, read-kept, read-stopped, read-unclosed, reading, reading-more, replaced-fresh, replaced-more, rest-answers, rest-read, sending-stopped, still-open, HasReplaced}
 use Rattle.ac_automaton.proofs.stream.replace.replace_read.Goals as goal
 
 pub loop-stream-init : goal.loop-stream-init

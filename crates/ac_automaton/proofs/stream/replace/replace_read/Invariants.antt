@@ -1,8 +1,8 @@
 use Rattle.std.proofs.Common.{◌≡◌, ◌-◌, [], false, length, map}
 use Rattle.ac_automaton.specs.Stream.{StreamCounts, read_by}
-use Rattle.ac_automaton.specs.StreamReplace.{HasReplaced}
 use Rattle.ac_automaton.specs.Watched.{has_ended}
 use Rattle.ac_automaton.proofs.stream.replace.replace_read.Given as goal
+use Rattle.ac_automaton.proofs.StreamReplaceLemmas.{HasReplaced}
 
 abbrev pub invariant-loop-stream : goal.invariant-loop-stream
 invariant-loop-stream g l = record {

@@ -1,8 +1,8 @@
 use Rattle.std.proofs.Common.{◌≡◌, ◌-◌, false, length}
 use Rattle.ac_automaton.specs.Stream.{read_by}
-use Rattle.ac_automaton.specs.StreamReplaceWith.{HasReplacedWith}
 use Rattle.ac_automaton.specs.Watched.{has_ended}
 use Rattle.ac_automaton.proofs.stream.replace_with.replace_read.Given as goal
+use Rattle.ac_automaton.proofs.StreamWithReadLemmas.{HasReplacedWith}
 
 abbrev pub invariant-loop-stream : goal.invariant-loop-stream
 invariant-loop-stream g l = record {

@@ -2,10 +2,13 @@
 use Rattle.std.proofs.Common.{◌≡◌, ap, subst, ◌∙◌, ℕ, length, arith}
 use Rattle.ac_noncontiguous.specs.declared.trie.State.{State}
 use Rattle.ac_noncontiguous.specs.Tree.{byte}
-use Rattle.ac_noncontiguous.specs.Layout.{AreParted, AreStateEdges}
+use Rattle.ac_noncontiguous.specs.Layout.{AreStateEdges}
 use Rattle.ac_noncontiguous.proofs.RowLemmas.{parted-more, parted-all}
 use Rattle.ac_noncontiguous.proofs.ByteLemmas.{edges-more}
 use Rattle.ac_noncontiguous.proofs.compiler.rows.classes.Goals as goal
+use Rattle.std.specs.Prelude.{◌<◌}
+use Rattle.ac_input.specs.Classes.{IsParted}
+use Rattle.ac_input.specs.Same.{other}
 
 pub loop-id-preserved : goal.loop-id-preserved
 loop-id-preserved c =
@@ -27,7 +30,7 @@ returns-clause-alone c =
     let trie = c.args.trie.now in
     let some = trie.tree.start.0 in
     let all : c.loop-id.id ≡ length trie.states.items = omega (arith, c.len-id-end.ensures) in
-    parted-all trie c.loop-id.set c.byte_classes.result c.byte_classes.ensures (subst (λ (n : ℕ). AreParted trie n c.loop-id.set) all c.loop-id.invariant.parted)
+    parted-all trie c.loop-id.set c.byte_classes.result c.byte_classes.ensures (subst (λ (n : ℕ). ((c′ : ℕ) → 0 < c′ → c′ < n → (byte trie.states.items c′ < 256) × IsParted c.loop-id.set (byte trie.states.items c′) × IsParted c.loop-id.set (other trie.pairing (byte trie.states.items c′)))) all c.loop-id.invariant.parted)
 
 pub returns-clause-made : goal.returns-clause-made
 returns-clause-made c =

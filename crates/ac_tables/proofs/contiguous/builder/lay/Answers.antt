@@ -4,10 +4,10 @@ use Rattle.std.proofs.lemmas.List.{get_or_read}
 use Rattle.ac_noncontiguous.specs.declared.nfa.read.Special.{Special}
 use Rattle.ac_noncontiguous.specs.ReadCalls.{state_len, special_in, SpecialIn}
 use Rattle.ac_tables.specs.declared.contiguous.table.Table.{Table}
-use Rattle.ac_tables.specs.ContiguousBuild.{IsWordTableOf}
 use Rattle.ac_tables.proofs.LaidRowLemmas.{places-rise}
 use Rattle.ac_tables.proofs.WordTableLemmas.{specials-within, places-small, some-states}
 use Rattle.ac_tables.proofs.contiguous.builder.lay.Goals as goal
+use Rattle.ac_tables.proofs.StatesLemmas.{IsWordTableOf}
 
 pub rows_of-requires-clause-rise : goal.rows_of-requires-clause-rise
 rows_of-requires-clause-rise c = places-rise c.args.nfa.now c.args.dense_depth c.args.classes c.in_ok-layout.layout.places.items c.in_ok-layout.ensures.made

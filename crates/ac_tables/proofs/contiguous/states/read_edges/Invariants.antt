@@ -1,7 +1,7 @@
 use Rattle.std.proofs.Common.{length, slice_index}
 use Rattle.ac_noncontiguous.specs.ReadCalls.{edges_in}
-use Rattle.ac_tables.specs.ContiguousBuild.{AreReadTo}
 use Rattle.ac_tables.proofs.contiguous.states.read_edges.Given as goal
+use Rattle.ac_tables.proofs.BuildLemmas.{AreReadTo}
 
 -- those so far, and those that are left
 abbrev pub invariant-loop-byte : goal.invariant-loop-byte

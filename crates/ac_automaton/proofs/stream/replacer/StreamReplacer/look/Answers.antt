@@ -1,7 +1,7 @@
 -- The next match is that of the search, unless one was met.
 use Rattle.std.proofs.Common.{sym, ap, subst, ◌∙◌}
 use Rattle.ac_automaton.specs.Stream.{CanBeCounted, read_by}
-use Rattle.ac_automaton.specs.StreamReplacer.{LooksOn, ReplacerProgress}
+use Rattle.ac_automaton.specs.StreamReplacer.{LooksForMatch, ReplacerProgress}
 use Rattle.ac_automaton.proofs.StreamReplacerLemmas.{come_to, look-on, look-right, none-met}
 use Rattle.ac_automaton.proofs.StreamSearchLemmas.{counts-none}
 use Rattle.ac_automaton.proofs.stream.replacer.StreamReplacer.look.Goals as goal
@@ -15,7 +15,7 @@ invariant_of-self g c =
 pub returns-then-is_none-clause-looks : goal.returns-then-is_none-clause-looks
 returns-then-is_none-clause-looks g c =
     let none = none-met c.self.inside.met c.if-is_none.ensures in
-    subst (λ (r : ReplacerProgress). LooksOn r (record (come_to c.self.inside) { search = c.next_counted-self-inside.new.self; met = c.next_counted-self-inside.result })) c.self.view_is
+    subst (λ (r : ReplacerProgress). LooksForMatch r (record (come_to c.self.inside) { search = c.next_counted-self-inside.new.self; met = c.next_counted-self-inside.result })) c.self.view_is
     (look-on (come_to c.self.inside) c.next_counted-self-inside.new.self c.next_counted-self-inside.result c.self.invariant none (ap (λ (r : ReplacerProgress). r.over) c.self.view_is ∙ c.requires.open)
     (subst (λ (r : ReplacerProgress). CanBeCounted (read_by r.search)) (sym c.self.view_is) c.requires.few) c.next_counted-self-inside.ensures.kept c.next_counted-self-inside.ensures.finds)
 

@@ -1,19 +1,20 @@
 -- The first bytes of a piece are kept after what was held.
 use Rattle.std.proofs.Common.{◌-◌, length, nat_lt, take, ap, subst, sym, ◌∙◌, arith}
 use Rattle.ac_input.specs.declared.search.Anchored.TheVariants.{No}
-use Rattle.ac_automaton.specs.Stream.{HasRoom, IsSearched, StreamProgress}
-use Rattle.ac_automaton.specs.StreamPush.{HasTaken, TakesFront}
+use Rattle.ac_automaton.specs.Stream.{IsSearched, StreamProgress, read_by, room_of}
+use Rattle.ac_automaton.specs.StreamPush.{TakesBytes, TakesFront}
 use Rattle.ac_automaton.proofs.AheadLemmas.{blank-notes}
 use Rattle.ac_automaton.proofs.StreamPushLemmas.{HasPushed, not-empty, push-gave, pushed_by}
 use Rattle.ac_automaton.proofs.stream.search.StreamSearch.append.Given.{Over}
 use Rattle.ac_automaton.proofs.stream.search.StreamSearch.append.Goals as goal
+use Rattle.std.specs.Prelude.{◌+◌, ◌<◌}
 
 -- there are more bytes than places
 past : (g : Over) (c : goal.Then-self g) → HasPushed g.A.Automaton c.self.inside c.and-self-inside.result.items c.take-n.new.self c.args.piece.now c.take-n.result (nat_lt (18446744073709551615 - c.self.inside.progress.from) (length c.held.result.now))
 past g c =
     push-gave g.A.Automaton c.self.inside c.and-self-inside.result.items c.take-n.new.self c.args.piece.now c.take-n.result c.held.result.now
     c.self.invariant.0 (ap (λ (t : StreamProgress). t.closed) c.self.view_is ∙ c.requires.unclosed) (not-empty c.args.piece.now c.requires.some)
-    (subst IsSearched (sym c.self.view_is) c.requires.searched) (subst HasRoom (sym c.self.view_is) c.requires.room)
+    (subst IsSearched (sym c.self.view_is) c.requires.searched) (subst (λ (s : StreamProgress). length (read_by s) < s.from + room_of s.built) (sym c.self.view_is) c.requires.room)
     c.take-n.ensures.many c.take-n.ensures.took c.take-n.ensures.paid c.held.ensures c.and-self-inside.ensures (omega arith)
 
 pub invariant_of-self : goal.invariant_of-self
@@ -22,7 +23,7 @@ invariant_of-self g c = ((past g c).right, blank-notes (g.A.Automaton.Reaches c.
 pub returns-then-self-clause-pushes : goal.returns-then-self-clause-pushes
 returns-then-self-clause-pushes g c = (
   c.take-n.result,
-  subst (λ (s : StreamProgress). HasTaken s (pushed_by g.A.Automaton c.self.inside c.and-self-inside.result.items c.take-n.new.self c.args.piece.now c.take-n.result) (take c.take-n.result c.args.piece.now)) c.self.view_is (past g c).taken,
+  subst (λ (s : StreamProgress). TakesBytes s (pushed_by g.A.Automaton c.self.inside c.and-self-inside.result.items c.take-n.new.self c.args.piece.now c.take-n.result) (take c.take-n.result c.args.piece.now)) c.self.view_is (past g c).taken,
   (past g c).right.uncountable c.if-self.true,
 )
 
@@ -34,7 +35,7 @@ within : (g : Over) (c : goal.Else-self g) → HasPushed g.A.Automaton c.self.in
 within g c =
     push-gave g.A.Automaton c.self.inside c.and-self-inside.result.items c.take-n.new.self c.args.piece.now c.take-n.result c.held.result.now
     c.self.invariant.0 (ap (λ (t : StreamProgress). t.closed) c.self.view_is ∙ c.requires.unclosed) (not-empty c.args.piece.now c.requires.some)
-    (subst IsSearched (sym c.self.view_is) c.requires.searched) (subst HasRoom (sym c.self.view_is) c.requires.room)
+    (subst IsSearched (sym c.self.view_is) c.requires.searched) (subst (λ (s : StreamProgress). length (read_by s) < s.from + room_of s.built) (sym c.self.view_is) c.requires.room)
     c.take-n.ensures.many c.take-n.ensures.took c.take-n.ensures.paid c.held.ensures c.and-self-inside.ensures (omega arith)
 
 pub invariant_of-self-2 : goal.invariant_of-self-2
@@ -44,7 +45,7 @@ pub returns-clause-pushes : goal.returns-clause-pushes
 returns-clause-pushes g c =
     let t = pushed_by g.A.Automaton c.self.inside c.and-self-inside.result.items c.take-n.new.self c.args.piece.now c.take-n.result in
     let all = within g c in (
-      subst (λ (s : StreamProgress). HasTaken s t (take c.take-n.result c.args.piece.now)) c.self.view_is all.taken,
+      subst (λ (s : StreamProgress). TakesBytes s t (take c.take-n.result c.args.piece.now)) c.self.view_is all.taken,
       subst (λ (s : StreamProgress). TakesFront (IsSearched s) s t c.args.piece.now c.take-n.result) c.self.view_is all.front,
       all.right.countable c.if-self.false,
     )

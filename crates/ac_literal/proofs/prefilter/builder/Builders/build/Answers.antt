@@ -3,8 +3,8 @@ use Rattle.std.proofs.Common.{◌≡◌, false, Option, None, Some, sym, subst, 
 use Rattle.std.specs.Option.{is_some}
 use Rattle.std.proofs.lemmas.Bool.{false≢true}
 use Rattle.std.specs.Prelude.{MatchOption}
-use Rattle.ac_literal.specs.Strategy.{AreStarts}
-use Rattle.ac_literal.specs.Prefilter.{IsStrategyOf, MemmemServes, PackedDemand, StartBytesDemand}
+use Rattle.ac_literal.specs.Strategy.{AreStarts, AreFull}
+use Rattle.ac_literal.specs.Prefilter.{IsStrategyOf, MemmemServes, PackedServes, StartBytesServe}
 use Rattle.ac_literal.specs.declared.prefilter.needles.Needles.{Needles}
 use Rattle.ac_literal.specs.declared.prefilter.strategy.Strategy.{Strategy}
 use Rattle.ac_literal.proofs.prefilter.builder.Builders.build.Goals as goal
@@ -18,6 +18,6 @@ pub returns-then-is_none : goal.returns-then-is_none
 returns-then-is_none c =
     λ m e collected demand.
     let several : ¬ MemmemServes m = subst (λ (r : Option Strategy). MatchOption r (¬ MemmemServes m) (IsStrategyOf m)) c.in_default.is (c.in_ok-strategy.ensures m e collected) in
-    let no_packed : ¬ PackedDemand m = subst (λ (r : Option Strategy). MatchOption r (¬ PackedDemand m) (IsStrategyOf m)) c.in_default-2.is (c.in_ok-strategy-2.ensures m several collected) in
-    let no_starts : ¬ StartBytesDemand m = where_none (¬ StartBytesDemand m) (AreStarts m) c.build_start_bytes-starts.result c.if-is_none.ensures (c.build_start_bytes-starts.ensures m collected) in
+    let no_packed : ¬ (AreFull m.patterns × PackedServes m) = subst (λ (r : Option Strategy). MatchOption r (¬ (AreFull m.patterns × PackedServes m)) (IsStrategyOf m)) c.in_default-2.is (c.in_ok-strategy-2.ensures m several collected) in
+    let no_starts : ¬ (AreFull m.patterns × StartBytesServe m) = where_none (¬ (AreFull m.patterns × StartBytesServe m)) (AreStarts m) c.build_start_bytes-starts.result c.if-is_none.ensures (c.build_start_bytes-starts.ensures m collected) in
     elim demand [ inl packed ↦ no_packed packed | inr starts ↦ no_starts starts ]

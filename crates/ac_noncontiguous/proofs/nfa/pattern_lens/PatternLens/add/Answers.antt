@@ -1,9 +1,9 @@
 use Rattle.std.proofs.Common.{ap, sym, ◌∙◌, List, ℕ, ◌∷◌, [], ◌++◌, length, arith}
 use Rattle.ac_input.specs.Work.{longest, shortest}
 use Rattle.ac_literal.proofs.PatternLemmas.{shortest-push}
-use Rattle.ac_noncontiguous.specs.PatternLens.{lens_of}
 use Rattle.ac_noncontiguous.proofs.PatternLensLemmas.{longest-more, lens-more}
 use Rattle.ac_noncontiguous.proofs.nfa.pattern_lens.PatternLens.add.Goals as goal
+use Rattle.std.specs.Prelude.{map}
 
 pub invariant_of-self-2 : goal.invariant_of-self-2
 invariant_of-self-2 c =
@@ -12,7 +12,7 @@ invariant_of-self-2 c =
     let kept = c.self.invariant in
     let new = c.and-self-inside.ensures in
     record {
-      lens = c.in_ok-push.ensures.items ∙ (ap (λ (xs : List ℕ). xs ++ length p ∷ []) kept.lens ∙ sym (ap lens_of new ∙ lens-more old p));
+      lens = c.in_ok-push.ensures.items ∙ (ap (λ (xs : List ℕ). xs ++ length p ∷ []) kept.lens ∙ sym (ap (map (λ p. length p)) new ∙ lens-more old p));
       no_shorter =
           let before = kept.no_shorter in
           let min = c.min-self-inside.ensures in

@@ -5,7 +5,7 @@ use Rattle.ac_input.specs.declared.search.Anchored.TheVariants.{No, Yes}
 use Rattle.ac_input.specs.declared.search.StartKind.{StartKind}
 use Rattle.ac_input.specs.declared.search.StartKind.TheVariants as starts
 use Rattle.ac_input.specs.Dfa.{Serves}
-use Rattle.ac_tables.specs.Filler.{plan_of}
+use Rattle.ac_tables.specs.Filler.{row_plan_of}
 use Rattle.ac_tables.proofs.FilledLemmas.{filled-plain, filled-anchored, filled-both, blank-still}
 use Rattle.ac_tables.proofs.dfa.fill.Filler.fill.Goals as goal
 
@@ -21,26 +21,26 @@ serves-both kind a is = subst (λ (k : StartKind). Serves k a) (sym is) tt
 
 pub fill_anchored-requires-in-Both-clause-blank : goal.fill_anchored-requires-in-Both-clause-blank
 fill_anchored-requires-in-Both-clause-blank c =
-    let p = plan_of c.args.self.now in
+    let p = row_plan_of c.args.self.now in
     let met = c.requires.met in
     blank-still p c.args.plain c.args.anchored c.args.trans.now c.fill_unanchored-in-Both.new.trans c.args.self.now.fit (serves-both p.kind No c.in-Both.is) (serves-both p.kind Yes c.in-Both.is) met.0 met.1 met.2 c.fill_unanchored-in-Both.ensures.alone (c.requires.blank (serves-both p.kind Yes c.in-Both.is))
 
 pub returns-in-Unanchored : goal.returns-in-Unanchored
 returns-in-Unanchored c =
-    let p = plan_of c.args.self.now in
+    let p = row_plan_of c.args.self.now in
     let met = c.requires.met in
     let s = serves-plain p.kind c.in-Unanchored.is in
     filled-plain p c.args.plain c.args.anchored c.args.trans.now c.fill_unanchored.new.trans c.args.self.now.fit s.0 s.1 met.0 met.1 c.fill_unanchored.ensures.alone c.fill_unanchored.ensures.right
 
 pub returns-in-Anchored : goal.returns-in-Anchored
 returns-in-Anchored c =
-    let p = plan_of c.args.self.now in
+    let p = row_plan_of c.args.self.now in
     let met = c.requires.met in
     let s = serves-anchored p.kind c.in-Anchored.is in
     filled-anchored p c.args.plain c.args.anchored c.args.trans.now c.fill_anchored.new.trans c.args.self.now.fit s.0 s.1 met.2 met.3 c.fill_anchored.ensures.alone c.fill_anchored.ensures.right
 
 pub returns-in-Both : goal.returns-in-Both
 returns-in-Both c =
-    let p = plan_of c.args.self.now in
+    let p = row_plan_of c.args.self.now in
     let met = c.requires.met in
     filled-both p c.args.plain c.args.anchored c.args.trans.now c.fill_unanchored-in-Both.new.trans c.fill_anchored-in-Both.new.trans c.args.self.now.fit (serves-both p.kind No c.in-Both.is) (serves-both p.kind Yes c.in-Both.is) met.0 met.1 met.2 met.3 c.fill_unanchored-in-Both.ensures.alone c.fill_unanchored-in-Both.ensures.right c.fill_anchored-in-Both.ensures.alone c.fill_anchored-in-Both.ensures.right

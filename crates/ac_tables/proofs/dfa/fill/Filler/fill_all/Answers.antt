@@ -4,19 +4,19 @@ use Rattle.ac_input.specs.declared.search.Anchored.TheVariants.{No, Yes}
 use Rattle.ac_noncontiguous.specs.declared.nfa.read.Special.{Special}
 use Rattle.ac_noncontiguous.specs.ReadCalls.{special_in, fail_in}
 use Rattle.ac_tables.specs.Filling.{number_in, IsRowRight, IsUnwritten, AreRowsFilled, AreRowsUpTo, IsDone}
-use Rattle.ac_tables.specs.Filler.{plan_of}
+use Rattle.ac_tables.specs.Filler.{row_plan_of}
 use Rattle.ac_tables.proofs.FilledLemmas.{rows-none, rows-starts, rows-low, rows-high, rows-all, fresh-low, fresh-high, failure-right_start, failure-right_low, failure-right_high, met-both, met-start_own}
 use Rattle.ac_tables.proofs.dfa.fill.Filler.fill_all.Goals as goal
 
 pub fill-requires-clause-failure : goal.fill-requires-clause-failure
 fill-requires-clause-failure c serves =
-    let p = plan_of c.args.self.now in
+    let p = row_plan_of c.args.self.now in
     let start = ap (λ (s : Special). s.start_unanchored_id) c.special-special.ensures.value in
     subst (λ (i : ℕ). IsRowRight p No (fail_in p.nfa i) c.args.trans.now) (sym start) (failure-right_start p c.args.trans.now c.special-special.ensures.whole (rows-none p c.args.trans.now c.args.self.now.fit c.requires.len c.requires.blank) serves)
 
 pub fill-requires-clause-blank : goal.fill-requires-clause-blank
 fill-requires-clause-blank c serves =
-    let p = plan_of c.args.self.now in
+    let p = row_plan_of c.args.self.now in
     let s = c.args.self.now.fit.source.starts in
     let start = ap (λ (s : Special). s.start_anchored_id) c.special-special.ensures.value in
     let none = rows-none p c.args.trans.now c.args.self.now.fit c.requires.len c.requires.blank in
@@ -25,7 +25,7 @@ fill-requires-clause-blank c serves =
 
 pub loop-low-init : goal.loop-low-init
 loop-low-init c =
-    let p = plan_of c.args.self.now in
+    let p = row_plan_of c.args.self.now in
     let s = c.args.self.now.fit.source.starts in
     let start : c.special-special.result.start_unanchored_id ≡ (special_in p.nfa).start_unanchored_id = ap (λ (s : Special). s.start_unanchored_id) c.special-special.ensures.value in
     let anchored : c.special-special.result.start_anchored_id ≡ (special_in p.nfa).start_unanchored_id + 1 = ap (λ (s : Special). s.start_anchored_id) c.special-special.ensures.value in
@@ -44,7 +44,7 @@ loop-low-init c =
 
 pub fill-requires-then-is_first_next-clause-failure : goal.fill-requires-then-is_first_next-clause-failure
 fill-requires-then-is_first_next-clause-failure c serves =
-    let p = plan_of c.args.self.now in
+    let p = row_plan_of c.args.self.now in
     let at : c.as_usize-start.result ≡ (special_in p.nfa).start_unanchored_id = c.as_usize-start.ensures.value ∙ ap (λ (s : Special). s.start_unanchored_id) c.special-special.ensures.value in
     let first = c.is_first_next.ensures.yes c.if-is_first_next.true in
     let before : c.loop-low.low < (special_in p.nfa).start_unanchored_id = omega (arith, first.0, c.args.self.now.starts) in
@@ -53,7 +53,7 @@ fill-requires-then-is_first_next-clause-failure c serves =
 
 pub fill-requires-then-is_first_next-clause-blank : goal.fill-requires-then-is_first_next-clause-blank
 fill-requires-then-is_first_next-clause-blank c serves =
-    let p = plan_of c.args.self.now in
+    let p = row_plan_of c.args.self.now in
     let s = c.args.self.now.fit.source.starts in
     let first = c.is_first_next.ensures.yes c.if-is_first_next.true in
     let before : c.loop-low.low < (special_in p.nfa).start_unanchored_id = omega (arith, first.0, c.args.self.now.starts) in
@@ -63,7 +63,7 @@ fill-requires-then-is_first_next-clause-blank c serves =
 
 pub loop-low-preserved-then-is_first_next : goal.loop-low-preserved-then-is_first_next
 loop-low-preserved-then-is_first_next c =
-    let p = plan_of c.args.self.now in
+    let p = row_plan_of c.args.self.now in
     let at : c.as_usize-start.result ≡ (special_in p.nfa).start_unanchored_id = c.as_usize-start.ensures.value ∙ ap (λ (s : Special). s.start_unanchored_id) c.special-special.ensures.value in
     let first = c.is_first_next.ensures.yes c.if-is_first_next.true in
     let before : c.loop-low.low < (special_in p.nfa).start_unanchored_id = omega (arith, first.0, c.args.self.now.starts) in
@@ -80,7 +80,7 @@ loop-low-preserved-then-is_first_next c =
 
 pub fill-requires-else-is_first_next-clause-failure : goal.fill-requires-else-is_first_next-clause-failure
 fill-requires-else-is_first_next-clause-failure c serves =
-    let p = plan_of c.args.self.now in
+    let p = row_plan_of c.args.self.now in
     let at : c.as_usize-start.result ≡ (special_in p.nfa).start_unanchored_id = c.as_usize-start.ensures.value ∙ ap (λ (s : Special). s.start_unanchored_id) c.special-special.ensures.value in
     let later = c.is_first_next.ensures.no c.if-is_first_next.false in
     let i = c.loop-low.invariant in
@@ -89,7 +89,7 @@ fill-requires-else-is_first_next-clause-failure c serves =
 
 pub fill-requires-else-is_first_next-clause-blank : goal.fill-requires-else-is_first_next-clause-blank
 fill-requires-else-is_first_next-clause-blank c serves =
-    let p = plan_of c.args.self.now in
+    let p = row_plan_of c.args.self.now in
     let at : c.as_usize-start.result ≡ (special_in p.nfa).start_unanchored_id = c.as_usize-start.ensures.value ∙ ap (λ (s : Special). s.start_unanchored_id) c.special-special.ensures.value in
     let later = c.is_first_next.ensures.no c.if-is_first_next.false in
     let i = c.loop-low.invariant in
@@ -99,7 +99,7 @@ fill-requires-else-is_first_next-clause-blank c serves =
 
 pub loop-low-preserved : goal.loop-low-preserved
 loop-low-preserved c =
-    let p = plan_of c.args.self.now in
+    let p = row_plan_of c.args.self.now in
     let at : c.as_usize-start.result ≡ (special_in p.nfa).start_unanchored_id = c.as_usize-start.ensures.value ∙ ap (λ (s : Special). s.start_unanchored_id) c.special-special.ensures.value in
     let later = c.is_first_next.ensures.no c.if-is_first_next.false in
     let i = c.loop-low.invariant in
@@ -115,6 +115,6 @@ loop-low-preserved c =
 
 pub returns : goal.returns
 returns c =
-    let p = plan_of c.args.self.now in
+    let p = row_plan_of c.args.self.now in
     let at : c.as_usize-start.result ≡ (special_in p.nfa).start_unanchored_id = c.as_usize-start.ensures.value ∙ ap (λ (s : Special). s.start_unanchored_id) c.special-special.ensures.value in
     rows-all p c.loop-low.low c.loop-low.high c.loop-low.trans (omega (arith, at)) (omega (arith, c.state_len-states.ensures.value)) c.loop-low.invariant.rows

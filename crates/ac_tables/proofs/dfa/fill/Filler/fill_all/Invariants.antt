@@ -1,6 +1,6 @@
 use Rattle.std.proofs.Common.{◌+◌, ◌-◌, ◌≤◌}
 use Rattle.ac_tables.specs.Filling.{AreRowsUpTo}
-use Rattle.ac_tables.specs.Filler.{plan_of}
+use Rattle.ac_tables.specs.Filler.{row_plan_of}
 use Rattle.ac_tables.proofs.dfa.fill.Filler.fill_all.Given as goal
 
 abbrev pub invariant-loop-low : goal.invariant-loop-low
@@ -9,7 +9,7 @@ invariant-loop-low l = record {
   low_in : l.low ≤ l.start;
   high_past : l.start + 2 ≤ l.high;
   high_in : l.high ≤ l.states;
-  rows : AreRowsUpTo (plan_of l.self) l.low l.high l.trans;
+  rows : AreRowsUpTo (row_plan_of l.self) l.low l.high l.trans;
 }
 
 abbrev pub decreases-loop-low : goal.decreases-loop-low

@@ -4,7 +4,7 @@ use Rattle.std.specs.Prelude.{slice_index}
 use Rattle.ac_input.specs.declared.search.Anchored.TheVariants.{No}
 use Rattle.ac_noncontiguous.specs.ReadCalls.{fail_in, edges_in, FailsIn}
 use Rattle.ac_tables.specs.Filling.{number_in, IsEntry, IsChangedIn}
-use Rattle.ac_tables.specs.Filler.{plan_of}
+use Rattle.ac_tables.specs.Filler.{row_plan_of}
 use Rattle.ac_tables.proofs.CellLemmas.{row-plain}
 use Rattle.ac_tables.proofs.WriteLemmas.{changed-on}
 use Rattle.ac_tables.proofs.FilledLemmas.{row-space, number-small, copied-changed, copied-entry}
@@ -14,32 +14,32 @@ pub copy_within-requires-clause-in_bounds : goal.copy_within-requires-clause-in_
 copy_within-requires-clause-in_bounds c =
     let fit = c.args.self.now.fit in
     let f = subst (FailsIn c.args.self.now.nfa.now c.args.sid) c.fail.ensures.value c.fail.ensures.fails in
-    let room = row-space (plan_of c.args.self.now) No (fail_in c.args.self.now.nfa.now c.args.sid) (length c.args.trans.now) fit f.within c.requires.len in
-    let is = ap (number_in (plan_of c.args.self.now) No) c.fail.ensures.value in
+    let room = row-space (row_plan_of c.args.self.now) No (fail_in c.args.self.now.nfa.now c.args.sid) (length c.args.trans.now) fit f.within c.requires.len in
+    let is = ap (number_in (row_plan_of c.args.self.now) No) c.fail.ensures.value in
     omega (arith, room, c.place-failure.ensures, is)
 
 pub overflow_add-failure : goal.overflow_add-failure
 overflow_add-failure c =
     let f = c.args.self.now in
-    let is = ap (number_in (plan_of f) No) c.fail.ensures.value in
-    let low = number-small (plan_of f) No (fail_in f.nfa.now c.args.sid) f.fit (subst (FailsIn f.nfa.now c.args.sid) c.fail.ensures.value c.fail.ensures.fails).within in
+    let is = ap (number_in (row_plan_of f) No) c.fail.ensures.value in
+    let low = number-small (row_plan_of f) No (fail_in f.nfa.now c.args.sid) f.fit (subst (FailsIn f.nfa.now c.args.sid) c.fail.ensures.value c.fail.ensures.fails).within in
     let wide = f.fit.wide in
     omega (arith, low, wide, c.place-failure.ensures, is)
 
 pub copy_within-requires-clause-dest_in_bounds : goal.copy_within-requires-clause-dest_in_bounds
 copy_within-requires-clause-dest_in_bounds c =
-    let room = row-space (plan_of c.args.self.now) No c.args.sid (length c.args.trans.now) c.args.self.now.fit c.requires.met.0.within c.requires.len in
+    let room = row-space (row_plan_of c.args.self.now) No c.args.sid (length c.args.trans.now) c.args.self.now.fit c.requires.met.0.within c.requires.len in
     omega (arith, room, c.place-row.ensures)
 
 pub write-requires-clause-room : goal.write-requires-clause-room
 write-requires-clause-room c =
-    let room = row-space (plan_of c.args.self.now) No c.args.sid (length c.args.trans.now) c.args.self.now.fit c.requires.met.0.within c.requires.len in
+    let room = row-space (row_plan_of c.args.self.now) No c.args.sid (length c.args.trans.now) c.args.self.now.fit c.requires.met.0.within c.requires.len in
     omega (arith, room, c.copy_within.ensures.len)
 
 pub returns-clause-alone : goal.returns-clause-alone
 returns-clause-alone c =
     let f = c.args.self.now in
-    let row = number_in (plan_of f) No c.args.sid in
+    let row = number_in (row_plan_of f) No c.args.sid in
     let stride = f.numbers.stride in
     let n : (c.place-failure.result + stride) - c.place-failure.result ≡ stride = omega arith in
     let b = c.copy_within.ensures.by_index in
@@ -49,7 +49,7 @@ returns-clause-alone c =
 pub returns-clause-right : goal.returns-clause-right
 returns-clause-right c =
     let f = c.args.self.now in
-    let p = plan_of f in
+    let p = row_plan_of f in
     let fail = fail_in f.nfa.now c.args.sid in
     let edges = edges_in f.nfa.now c.args.sid in
     let stride = f.numbers.stride in

@@ -3,7 +3,7 @@ use Rattle.std.proofs.Common.{◌≡◌, [], ◌∷◌, ◌++◌, ◌+◌, ℕ, 
 use Rattle.ac_input.specs.Alphabet.{class}
 use Rattle.ac_noncontiguous.specs.ReadCalls.{edges_in}
 use Rattle.ac_tables.specs.Filling.{number_in, AreWritten}
-use Rattle.ac_tables.specs.Filler.{plan_of}
+use Rattle.ac_tables.specs.Filler.{row_plan_of}
 use Rattle.ac_tables.proofs.WriteLemmas.{written-more, item-at, items-on}
 use Rattle.ac_tables.proofs.dfa.fill.Filler.write.Goals as goal
 
@@ -15,7 +15,7 @@ entry-requires c =
 pub loop-byte-preserved : goal.loop-byte-preserved
 loop-byte-preserved c =
     let f = c.args.self.now in
-    let p = plan_of f in
+    let p = row_plan_of f in
     let edges = edges_in f.nfa.now c.args.sid in
     let at = item-at edges c.loop-byte.yielded c.loop-byte.byte-iterator c.next.new.self (c.in-Some.byte, c.in-Some.next) c.loop-byte.invariant.items c.in-Some.ensures.steps in
     let small = (c.iter_trans-byte-items.ensures.lead.within (length c.loop-byte.yielded) c.in-Some.byte c.in-Some.next at).0 in

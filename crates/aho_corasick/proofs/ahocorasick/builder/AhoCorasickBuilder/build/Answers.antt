@@ -1,5 +1,5 @@
 -- The noncontiguous NFA of the patterns first, then the automaton that serves.
-use Rattle.std.proofs.Common.{◌≡◌, ap, subst, ◌∙◌, inr}
+use Rattle.std.proofs.Common.{◌≡◌, ap, subst, ◌∙◌}
 use Rattle.std.proofs.lemmas.Result.{IfOk-weaker, IfErr-weaker}
 use Rattle.ac_input.specs.Dictionary.{Dictionary}
 use Rattle.ac_literal.specs.Packed.{bytes_of}
@@ -7,9 +7,9 @@ use Rattle.ac_noncontiguous.specs.Builder.{Settings, IsBuiltOf, dictionary_by}
 use Rattle.ac_noncontiguous.specs.Reads.{built_as}
 use Rattle.aho_corasick.specs.AhoCorasick.{as_built}
 use Rattle.aho_corasick.specs.Builder.{front_dictionary}
-use Rattle.aho_corasick.specs.Served.{IsFrontMadeOf, IsNamedRefused}
+use Rattle.aho_corasick.specs.Served.{IsFrontMadeOf, IsNotMade}
 use Rattle.aho_corasick.specs.declared.ahocorasick.AhoCorasick.{AhoCorasick}
-use Rattle.aho_corasick.proofs.ServedLemmas.{front-built, front-dictionary}
+use Rattle.aho_corasick.proofs.ServedLemmas.{dictionary-refused, front-built, front-dictionary}
 use Rattle.aho_corasick.proofs.ahocorasick.builder.AhoCorasickBuilder.build.Goals as goal
 
 pub returns : goal.returns
@@ -28,5 +28,5 @@ returns c =
       served = IfOk-weaker share (IsFrontMadeOf s nfa) _ (λ ac made. front-built s patterns nfa ac own made) c.share.ensures.made;
       refused =
           let from = c.in_ok-nfa.ensures.built.dictionary ∙ ap (λ (t : Settings). dictionary_by t c.args.patterns.now) c.noncontiguous.ensures in
-          IfErr-weaker share (IsNamedRefused s.kind s nfa) _ (λ error refused. inr (nfa, from, refused)) c.share.ensures.refused;
+          IfErr-weaker share (IsNotMade s nfa) _ (λ error refused. dictionary-refused s nfa (front_dictionary s patterns) error from refused) c.share.ensures.refused;
     }

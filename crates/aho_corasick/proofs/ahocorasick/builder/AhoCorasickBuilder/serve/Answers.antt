@@ -1,7 +1,10 @@
 -- The automaton that was named serves.
-use Rattle.std.proofs.Common.{◌≡◌, Some, rules}
+use Rattle.std.proofs.Common.{◌≡◌, Some, rules, subst}
+use Rattle.std.proofs.lemmas.Result.{err_from_is_err_and}
+use Rattle.ac_tables.specs.ContiguousBuilder.{ContiguousSettings, IsRefusedFrom}
+use Rattle.ac_tables.specs.DfaBuild.{DfaSettings, IsDfaRefused}
 use Rattle.aho_corasick.specs.declared.ahocorasick.AhoCorasickKind.TheVariants as kinds
-use Rattle.aho_corasick.proofs.ServedLemmas.{served-contiguous, served-dfa}
+use Rattle.aho_corasick.proofs.ServedLemmas.{named-contiguous, named-dfa, served-contiguous, served-dfa}
 use Rattle.aho_corasick.proofs.ahocorasick.builder.AhoCorasickBuilder.serve.Goals as goal
 
 pub returns-in_ok-made-in-Some-ContiguousNFA-clause-served : goal.returns-in_ok-made-in-Some-ContiguousNFA-clause-served
@@ -15,3 +18,20 @@ returns-in_ok-made-in-Some-DFA-clause-served c =
     let s = c.args.self.now in
     let named : s.kind ≡ Some kinds.DFA = search rules in
     served-dfa s c.args.nfa c.dfa.result c.in_ok-made-in-Some-DFA.made named c.dfa.ensures c.in_ok-made-in-Some-DFA.ensures.built
+
+-- the one that was named isn't made
+pub returns-in_err-made-in-Some-ContiguousNFA-clause-refused : goal.returns-in_err-made-in-Some-ContiguousNFA-clause-refused
+returns-in_err-made-in-Some-ContiguousNFA-clause-refused c =
+    let s = c.args.self.now in
+    let error = c.in_err-made-in-Some-ContiguousNFA.field-0.0 in
+    let named : s.kind ≡ Some kinds.ContiguousNFA = search rules in
+    let p = err_from_is_err_and c.from_residual.result c.from_residual.ensures.1 in
+    rw (p.1, p.2) (named-contiguous s c.args.nfa error named (subst (λ (b : ContiguousSettings). IsRefusedFrom b c.args.nfa error) c.contiguous.ensures c.in_err-made-in-Some-ContiguousNFA.ensures.refused))
+
+pub returns-in_err-made-in-Some-DFA-clause-refused : goal.returns-in_err-made-in-Some-DFA-clause-refused
+returns-in_err-made-in-Some-DFA-clause-refused c =
+    let s = c.args.self.now in
+    let error = c.in_err-made-in-Some-DFA.field-0.0 in
+    let named : s.kind ≡ Some kinds.DFA = search rules in
+    let p = err_from_is_err_and c.from_residual-in_err-made-in-Some-DFA.result c.from_residual-in_err-made-in-Some-DFA.ensures.1 in
+    rw (p.1, p.2) (named-dfa s c.args.nfa error named (subst (λ (b : DfaSettings). IsDfaRefused b c.args.nfa error) c.dfa.ensures c.in_err-made-in-Some-DFA.ensures.refused))

@@ -1,0 +1,103 @@
+//! A replacement of a text that C passes piece by piece: what is behind its handle, and what each call does.
+//!
+//! The library's replacement hands out the replaced text, as far as it is decided, in slices: of the bytes that it holds, and of the
+//! replacements. A call gives C the place and the length of one slice, so no byte is copied again.
+ghost use Rattle.std.specs.Prelude.{◌≡◌, IfErr, IfOk, OnOk};
+ghost use Rattle.ac_automaton.specs.Stream.{CanStreamAnyKind};
+ghost use Rattle.aho_corasick.specs.AhoCorasick.{as_built, supported_by};
+ghost use Rattle.ac_c.specs.Replacing.{IsGivenText, IsPushedOn, IsReplacementOfPieces, ended_by, replacing_by};
+ghost use Rattle.ac_c.specs.Searching.{IsRefusedSearch};
+
+use crate::replace::Length;
+use crate::searching::{Count, shared};
+use crate::status::{FINISHED, NO_MEMORY, NONE, OK, TOO_MANY_BYTES, WRONG_COUNT, refused};
+use ac_automaton::stream::StreamReplacer;
+use aho_corasick::{AhoCorasick, StreamError};
+use std::alloc::Global;
+use std::ptr::NonNull;
+
+/// A replacement of pieces under any kind.
+#[derive(Drop)]
+pub struct Replacing {
+    replacer: StreamReplacer<AhoCorasick>,
+}
+
+/// A replacement of pieces by an automaton, which it shares.
+fn replacer_by(ac: &AhoCorasick, alloc: Global) -> Result<StreamReplacer<AhoCorasick>, u32>
+    ensures { IsReplacementOfPieces ac.now result }
+{
+    let shared = shared(ac, alloc)?;
+    match StreamReplacer::any_kind(shared, alloc) {
+        Ok(replacer) => Ok(replacer),
+        Err(StreamError::Config(error)) => Err(refused(&error)),
+        Err(_) => Err(NO_MEMORY),
+    }
+}
+
+impl Replacing {
+    /// A replacement that was passed nothing yet, in a box.
+    pub fn begin(ac: &AhoCorasick, alloc: Global) -> Result<Box<Replacing, Global>, u32>
+        ensures begun { IfOk result (λ r. replacing_by ac.now ≡ r.value) }
+        ensures can { OnOk result (CanStreamAnyKind (as_built ac.now) (supported_by ac.now)) }
+        ensures refused { IfErr result (IsRefusedSearch ac.now) }
+    {
+        let replacer = replacer_by(ac, alloc)?;
+        match Box::new(alloc, Replacing { replacer }) {
+            Ok(begun) => Ok(begun),
+            Err(_) => Err(NO_MEMORY),
+        }
+    }
+
+    /// Takes the first bytes of a piece.
+    pub fn push(&mut self, piece: &[u8]) -> Count
+        ensures { IsPushedOn self.old piece.now self.new result }
+    {
+        if self.replacer.is_finished() {
+            return Count {
+                count: 0,
+                status: FINISHED,
+            };
+        }
+        match self.replacer.push(piece) {
+            Ok(count) => Count { count, status: OK },
+            Err(_) => Count {
+                count: 0,
+                status: TOO_MANY_BYTES,
+            },
+        }
+    }
+
+    /// The next slice of the text that is decided: where it lies, unless it is empty, and its length.
+    pub fn next(&mut self, replacements: &[&[u8]], at: &mut *const u8) -> Length
+        ensures { IsGivenText self.old replacements.now self.new result }
+    {
+        if replacements.len() != self.replacer.patterns_len() {
+            return Length {
+                len: 0,
+                status: WRONG_COUNT,
+            };
+        }
+        match self.replacer.next(replacements) {
+            None => Length {
+                len: 0,
+                status: NONE,
+            },
+            Some(slice) => {
+                if let Some(first) = slice.first() {
+                    *at = NonNull::from_ref(first).as_ptr();
+                }
+                Length {
+                    len: slice.len(),
+                    status: OK,
+                }
+            }
+        }
+    }
+
+    /// Tells it that no more pieces come, so that all of the text is decided.
+    pub fn finish(&mut self)
+        ensures { self.new ≡ ended_by self.old }
+    {
+        self.replacer.finish();
+    }
+}

@@ -1,0 +1,16 @@
+use Rattle.std.proofs.Common.{◌≡◌, ◌-◌, [], length}
+use Rattle.ac_automaton.specs.StreamListing.{ListingCounts, all_read}
+use Rattle.ac_automaton.specs.StreamOverlappingIter.{listing_of_stream, reader_listed, reader_listed_name}
+use Rattle.acsub.specs.StreamOverlap.{HasListedEach}
+use Rattle.acsub.proofs.stream.overlap.list_each.Given as goal
+
+abbrev pub invariant-loop-next : goal.invariant-loop-next
+invariant-loop-next g l = record {
+  listed : HasListedEach g.R.Read.remaining g.W.Write.contents (listing_of_stream l.fn.occurrences).built (listing_of_stream l.occurrences) (reader_listed l.fn.occurrences) (reader_listed l.occurrences) l.fn.writer l.writer;
+  empty : l.output ≡ [];
+  same_reference : reader_listed_name l.occurrences ≡ reader_listed_name l.fn.occurrences;
+  counted : ListingCounts (listing_of_stream l.fn.occurrences) (listing_of_stream l.occurrences) l.fn.steps l.steps;
+}
+
+abbrev pub decreases-loop-next : goal.decreases-loop-next
+decreases-loop-next g l = 18446744073709551616 - length (all_read (listing_of_stream l.occurrences))

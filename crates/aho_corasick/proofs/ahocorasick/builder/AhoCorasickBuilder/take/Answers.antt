@@ -1,0 +1,15 @@
+-- The contiguous NFA is taken where no DFA is, within its limit.
+use Rattle.std.proofs.Common.{rules}
+use Rattle.ac_noncontiguous.specs.Reads.{dictionary}
+use Rattle.ac_tables.specs.ContiguousBuilder.{IsMadeFrom}
+use Rattle.aho_corasick.specs.Served.{TakesDfa, contiguous_by}
+use Rattle.aho_corasick.proofs.ServedLemmas.{within-contiguous}
+use Rattle.aho_corasick.proofs.ahocorasick.builder.AhoCorasickBuilder.take.Goals as goal
+
+pub returns-in-Some-2-clause-taken : goal.returns-in-Some-2-clause-taken
+returns-in-Some-2-clause-taken c =
+    let s = c.args.self.now in
+    let nfa = c.args.nfa in
+    let made : IsMadeFrom (contiguous_by s) nfa c.in-Some-2.made = search rules in
+    let none : ¬ TakesDfa s (dictionary nfa) = search rules in
+    (made, (none, within-contiguous s nfa c.in-Some-2.made made))

@@ -1,7 +1,8 @@
-"""What `processes` and `large` share: the program, rule files, and how much memory a process has."""
+"""What the tools share: what they need, the program and the library, rule files, and how much memory a process has."""
 import fcntl
 import os
 import re
+import shutil
 import struct
 import subprocess
 import sys
@@ -13,10 +14,51 @@ CRATE = f"{REPOSITORY}/crates/acsub"
 PROGRAM = f"{CRATE}/out/acsub"
 
 
+LEFT_OUT = 77
+"""The status of a tool that can't run here, since something isn't installed."""
+
+NEEDED = {
+    "rt": "the toolchain: put its folder on the path",
+    "dask-scheduler": "Debian's python3-distributed",
+    "dask-worker": "Debian's python3-distributed",
+}
+
+
+def need(*programs):
+    """Ends with a line where one of these programs isn't there."""
+    for name in programs:
+        if not shutil.which(name):
+            said = f"{os.path.basename(sys.argv[0])}: there is no {name}" + (f" ({NEEDED[name]})" if name in NEEDED else "")
+            print(said, file=sys.stderr)
+            sys.exit(LEFT_OUT)
+
+
+def help_asked(page):
+    """Prints the page and ends, where it is asked for."""
+    if sys.argv[1:] in (["-h"], ["--help"]):
+        print(page.strip())
+        sys.exit(0)
+
+
+def library(prefix=None):
+    """Where the library for C is installed: the folder that was given, or bindings/c/out, after it was proved and built there."""
+    if prefix:
+        return os.path.abspath(prefix)
+    need("rt")
+    out = f"{REPOSITORY}/bindings/c/out"
+    if subprocess.run([f"{REPOSITORY}/bindings/c/build", out], stdout=sys.stderr).returncode:
+        sys.exit("the library was not built")
+    return out
+
+
 def programs(given):
     """The paths that were given, or the program of this repository, proved and built."""
+    for path in given:
+        if not os.access(path, os.X_OK):
+            sys.exit(f"{os.path.basename(sys.argv[0])}: {path} is no program")
     if given:
         return [os.path.abspath(path) for path in given]
+    need("rt")
     with open(f"{CRATE}/stdin", "rb") as stdin:
         words = ["rt", "run", "--", "replace", "data/rules.txt"]
         if subprocess.run(words, cwd=CRATE, stdin=stdin, stdout=sys.stderr).returncode:

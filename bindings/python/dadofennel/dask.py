@@ -188,7 +188,7 @@ class _Run:
     """A run over some files: which pieces are at work, which are made, and what was put together of them.
 
     A piece is written to a file of its own, whose name its worker chooses, so what a worker still writes that was taken for
-    dead is never used. The first piece of an input becomes its output; the others are copied behind it by workers, each as soon as
+    dead is never used. The first piece of an input becomes its output; the others are appended to it by workers, each as soon as
     all before it are made, so that their places are known.
     """
 

@@ -144,6 +144,7 @@ front-built s patterns from ac own made =
       within = own.within;
       prefilter = subst (λ (held : Option Filter). IsHeld s.prefilter (front_dictionary s patterns) held) (sym (made-follows s from (serving_engine ac) made.1.0).prefilter) own.prefilter;
       served = subst (λ (m : Dictionary). IsServed s.kind s m (kind_served (serving_engine ac))) own.dictionary made.1.1;
+      made = (from, own, made.1.0);
     }
 
 -- ---- not made

@@ -5,8 +5,8 @@ use Rattle.ac_input.specs.Dfa.{IsDfaTooLarge}
 use Rattle.ac_input.specs.Dictionary.{Dictionary}
 use Rattle.ac_input.specs.Limits.{IsWithinLimits}
 use Rattle.ac_input.specs.Number.{greatest_number}
-use Rattle.ac_noncontiguous.specs.Builder.{IsHeld}
-use Rattle.ac_noncontiguous.specs.Reads.{dictionary}
+use Rattle.ac_noncontiguous.specs.Builder.{IsBuiltBy, IsHeld}
+use Rattle.ac_noncontiguous.specs.Reads.{built_as, dictionary}
 use Rattle.ac_noncontiguous.specs.Standing.{IsBuildRefused}
 use Rattle.ac_noncontiguous.specs.declared.error.BuildErrorKind.{BuildErrorKind}
 use Rattle.ac_noncontiguous.specs.declared.error.BuildErrorKind.TheVariants.{StateIDOverflow, Memory}
@@ -22,7 +22,7 @@ use Rattle.aho_corasick.specs.declared.ahocorasick.AhoCorasickKind.TheVariants.{
 use Rattle.aho_corasick.specs.declared.engine.Engine.{Engine}
 use Rattle.aho_corasick.specs.declared.engine.Engine.TheVariants as engines
 use Rattle.aho_corasick.specs.AhoCorasick.{as_built, serving_engine, start_kind_of}
-use Rattle.aho_corasick.specs.Builder.{FrontSettings, AreFrontFirst, depth_or, front_dictionary}
+use Rattle.aho_corasick.specs.Builder.{FrontSettings, AreFrontFirst, noncontiguous_by, depth_or, front_dictionary}
 use Rattle.aho_corasick.specs.Engine.{kind_served}
 
 -- ---- the settings of each automaton
@@ -65,13 +65,20 @@ IsServed None s m NoncontiguousNFA = (¬ TakesDfa s m) × IsTooLargeFor s m Cont
 
 -- ---- what is built
 
--- The automaton is built of the patterns, which are within the limits of a build. It holds a prefilter as one is wanted, and is of
--- the kind that serves.
+-- An automaton is made by the settings: it is the noncontiguous NFA, or a contiguous one or a DFA that is made of it.
+abbrev pub IsMadeBy : FrontSettings → NFA → Engine → Type 0
+IsMadeBy s from (engines.Noncontiguous nfa) = nfa ≡ from
+IsMadeBy s from (engines.Contiguous made) = IsMadeFrom (contiguous_by s) from made
+IsMadeBy s from (engines.Dfa dfa) = IsDfaOf (dfa_by s) from dfa
+
+-- The automaton is built of the patterns, which are within the limits of a build. It holds a prefilter as one is wanted, is of the
+-- kind that serves, and is made by the settings of a noncontiguous NFA of these patterns.
 pub record IsFrontBuilt (s : FrontSettings) (patterns : List (List ℕ)) (ac : AhoCorasick) : Type 0 where
   pub dictionary : (as_built ac).dictionary ≡ front_dictionary s patterns
   pub within : IsWithinLimits (front_dictionary s patterns)
   pub prefilter : IsHeld s.prefilter (front_dictionary s patterns) (as_built ac).prefilter
   pub served : IsServed s.kind s (front_dictionary s patterns) (kind_served (serving_engine ac))
+  pub made : (from : NFA) × IsBuiltBy (noncontiguous_by s) (front_dictionary s patterns) (built_as from) × IsMadeBy s from (serving_engine ac)
 
 -- the automaton that was named would be too large for a dictionary
 pub record IsNamedTooLarge (s : FrontSettings) (m : Dictionary) (error : BuildErrorKind) : Type 0 where
@@ -109,12 +116,6 @@ IsTriedDfa s from None = ¬ TakesDfa s (dictionary from)
 abbrev pub IsTriedContiguous : FrontSettings → NFA → Option Contiguous → Type 0
 IsTriedContiguous s from (Some made) = IsMadeFrom (contiguous_by s) from made
 IsTriedContiguous s from None = IsTooLargeFor s (dictionary from) ContiguousNFA
-
--- An automaton is made by the settings: it is the noncontiguous NFA, or a contiguous one or a DFA that is made of it.
-abbrev pub IsMadeBy : FrontSettings → NFA → Engine → Type 0
-IsMadeBy s from (engines.Noncontiguous nfa) = nfa ≡ from
-IsMadeBy s from (engines.Contiguous made) = IsMadeFrom (contiguous_by s) from made
-IsMadeBy s from (engines.Dfa dfa) = IsDfaOf (dfa_by s) from dfa
 
 -- it is the one that serves where this one is named, or none is
 abbrev pub IsEngineOf : Option AhoCorasickKind → FrontSettings → NFA → Engine → Type 0
